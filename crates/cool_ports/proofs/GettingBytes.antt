@@ -1,0 +1,47 @@
+-- What a sink holds, over several puts.
+use Rattle.std.proofs.Common.{◌≡◌, ℕ, List, [], ◌++◌, refl, sym, ◌∙◌, ap, append_assoc, append-nil}
+use Rattle.std.specs.Prelude.{Option, Some, None}
+use Rattle.cool_ports.specs.SinkBytes.{appended, GotUpTo, GotPrefix}
+
+-- no bytes change nothing
+pub appended-nil : (held : Option (List ℕ)) → appended held [] ≡ held
+unfolding appended
+appended-nil None = refl
+appended-nil (Some held) = ap Some (append-nil held)
+
+-- some bytes and then more are all of them at once
+pub appended-appended : (held : Option (List ℕ)) (a b : List ℕ) → appended (appended held a) b ≡ appended held (a ++ b)
+unfolding appended
+appended-appended None a b = refl
+appended-appended (Some held) a b = ap Some (append_assoc held a b)
+
+-- at the start all bytes are still to come
+pub got_none : (held : Option (List ℕ)) (bytes : List ℕ) → GotUpTo held bytes bytes held
+got_none held bytes = record { front = []; cut = refl; got = sym (appended-nil held) }
+
+-- a piece that was put is no longer to come
+pub got_more : (before mid after : Option (List ℕ)) (bytes rest piece behind : List ℕ) → GotUpTo before bytes rest mid → piece ++ behind ≡ rest → after ≡ appended mid piece → GotUpTo before bytes behind after
+got_more before mid after bytes rest piece behind h s e = record {
+  front = h.front ++ piece;
+  cut = h.cut ∙ ap (λ xs. h.front ++ xs) (sym s) ∙ sym (append_assoc h.front piece behind);
+  got = e ∙ ap (λ held. appended held piece) h.got ∙ appended-appended before h.front piece;
+}
+
+-- where no byte is still to come, all came
+pub got_all : (before after : Option (List ℕ)) (bytes : List ℕ) → GotUpTo before bytes [] after → after ≡ appended before bytes
+got_all before after bytes h = h.got ∙ ap (appended before) (sym (append-nil h.front) ∙ sym h.cut)
+
+-- a prefix of a piece, behind the pieces before it, is a prefix of all
+pub got_prefix : (before mid after : Option (List ℕ)) (bytes rest piece behind : List ℕ) → GotUpTo before bytes rest mid → piece ++ behind ≡ rest → GotPrefix mid piece after → GotPrefix before bytes after
+got_prefix before mid after bytes rest piece behind h s (more, p) = (
+  more ++ behind,
+  record {
+    front = h.front ++ p.front;
+    cut = h.cut ∙ ap (λ xs. h.front ++ xs) (sym s) ∙ ap (λ xs. h.front ++ (xs ++ behind)) p.cut ∙ ap (λ xs. h.front ++ xs) (append_assoc p.front more behind) ∙ sym (append_assoc h.front p.front (more ++ behind));
+    got = p.got ∙ ap (λ held. appended held p.front) h.got ∙ appended-appended before h.front p.front;
+  },
+)
+
+-- what came so far is a prefix
+pub got_so_far : (before after : Option (List ℕ)) (bytes rest : List ℕ) → GotUpTo before bytes rest after → GotPrefix before bytes after
+got_so_far before after bytes rest h = (rest, h)

@@ -1,0 +1,15 @@
+-- How often an object of the outside has failed: a number that never falls, and that stands still at its last value.
+use Rattle.std.specs.Prelude.{ℕ, ◌<◌, ◌≤◌}
+
+-- the last value of a count
+abbrev pub last_count : ℕ
+last_count = 18446744073709551615
+
+-- The count goes on: it does not fall, and does not pass its last value.
+pub record GoesOn (before after : ℕ) : Type 0 where
+  pub no_less : before ≤ after
+  pub bounded : after ≤ last_count
+
+-- The count rose. At its last value it cannot be seen to rise, and is taken as one that rose.
+abbrev pub Rose : ℕ → ℕ → Type 0
+Rose before after = before < last_count → before < after

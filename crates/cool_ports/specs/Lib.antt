@@ -1,0 +1,6 @@
+pub mod Counts
+pub mod SinkBytes
+pub mod SourceBytes
+pub mod ShelfFiles
+pub mod MemoryObjects
+pub mod MemoryShelf

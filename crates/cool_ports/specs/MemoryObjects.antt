@@ -1,0 +1,43 @@
+-- What a contract sees of the objects in memory.
+use Rattle.std.specs.Prelude.{ℕ, ◌+◌, min, List, ◌++◌, [], ◌∷◌, Contains}
+use Rattle.cool_ports.specs.Counts.{last_count}
+
+-- Which calls are to fail, by their numbers from 1, how many were made, and how many of them failed.
+pub record Schedule : Type 0 where
+  pub failing : List ℕ
+  pub calls : ℕ
+  pub faults : ℕ
+
+-- no call is to fail, and none was made
+abbrev pub no_faults : Schedule
+no_faults = record { failing = []; calls = 0; faults = 0 }
+
+-- the number of the next call; numbers stand still at their type's end
+abbrev pub next_call : Schedule → ℕ
+next_call s = min (s.calls + 1) last_count
+
+abbrev pub IsToFail : Schedule → Type 0
+IsToFail s = Contains s.failing (next_call s)
+
+-- after a call
+abbrev pub called : Schedule → Schedule
+called s = record { failing = s.failing; calls = next_call s; faults = s.faults }
+
+-- after one more fault
+abbrev pub faulted : Schedule → Schedule
+faulted s = record { failing = s.failing; calls = s.calls; faults = min (s.faults + 1) last_count }
+
+-- with one more call that is to fail
+abbrev pub failing_at : Schedule → ℕ → Schedule
+failing_at s number = record { failing = s.failing ++ number ∷ []; calls = s.calls; faults = s.faults }
+
+-- A sink in memory: the bytes that it holds, and the most that it can hold.
+pub record SinkState : Type 0 where
+  pub held : List ℕ
+  pub room : ℕ
+  pub schedule : Schedule
+
+-- A source in memory: the bytes that are left.
+pub record SourceState : Type 0 where
+  pub left : List ℕ
+  pub schedule : Schedule

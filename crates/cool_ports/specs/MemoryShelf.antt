@@ -1,0 +1,13 @@
+-- What a contract sees of a shelf in memory.
+use Rattle.std.specs.Prelude.{List, ℕ, Option, option_map}
+use Rattle.std.specs.BTreeMap.{get_by_text}
+use Rattle.cool_ports.specs.declared.mem_shelf.MemShelf.{MemShelf}
+use Rattle.cool_ports.specs.MemoryObjects.{Schedule}
+
+-- the bytes of the file of this name
+abbrev pub file_of : MemShelf → List ℕ → Option (List ℕ)
+file_of shelf name = option_map (λ file. file.items) (get_by_text shelf.contents name)
+
+-- which calls are to fail, and what came so far
+abbrev pub schedule_of : MemShelf → Schedule
+schedule_of shelf = shelf.schedule

@@ -1,0 +1,23 @@
+-- The files of a shelf. `Some` is the map from names to bytes of a shelf that tells it, and `None` is a shelf that
+-- does not tell.
+use Rattle.std.specs.Prelude.{◌≡◌, List, ℕ, ◌<◌, length, Option, Some, None}
+use Rattle.cool_ports.specs.Counts.{Rose}
+
+abbrev pub FileMap : Type 0
+FileMap = List ℕ → Option (List ℕ)
+
+-- the file of this name has these bytes, as far as the shelf tells
+abbrev pub MayHold : Option FileMap → List ℕ → List ℕ → Type 0
+MayHold None name bytes = Unit {0}
+MayHold (Some files) name bytes = files name ≡ Some bytes
+
+-- There is no such file: so says the map and no fault rose, or the shelf does not tell and one rose.
+abbrev pub IsMissing : Option FileMap → List ℕ → ℕ → ℕ → Type 0
+IsMissing None name before after = Rose before after
+IsMissing (Some files) name before after = (files name ≡ None) × (after ≡ before)
+
+-- The file is longer than this: so says the map and no fault rose, or the shelf does not tell and one rose.
+abbrev pub IsLonger : Option FileMap → List ℕ → ℕ → ℕ → ℕ → Type 0
+IsLonger None name most before after = Rose before after
+IsLonger (Some files) name most before after =
+    (bytes : List ℕ) × (files name ≡ Some bytes) × (most < length bytes) × (after ≡ before)

@@ -1,0 +1,17 @@
+-- What a sink holds. `Some` are the bytes of a sink that tells them, and `None` is a sink that does not tell.
+use Rattle.std.specs.Prelude.{◌≡◌, List, ℕ, ◌++◌, Option, Some, None}
+
+-- what a sink holds after these bytes
+unfoldable pub appended : Option (List ℕ) → List ℕ → Option (List ℕ)
+appended None bytes = None
+appended (Some held) bytes = Some (held ++ bytes)
+
+-- A sink that held `before` got of `bytes` all but `rest`, and holds `after`.
+pub record GotUpTo (before : Option (List ℕ)) (bytes rest : List ℕ) (after : Option (List ℕ)) : Type 0 where
+  pub front : List ℕ
+  pub cut : bytes ≡ front ++ rest
+  pub got : after ≡ appended before front
+
+-- A sink that held `before` got a prefix of the bytes, and holds `after`.
+abbrev pub GotPrefix : Option (List ℕ) → List ℕ → Option (List ℕ) → Type 0
+GotPrefix before bytes after = (rest : List ℕ) × GotUpTo before bytes rest after

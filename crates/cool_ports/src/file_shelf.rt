@@ -1,0 +1,68 @@
+//! A shelf over the files of the system.
+
+ghost use Rattle.std.specs.Prelude.{◌<◌, ◌≤◌, ◌^◌, IfOk, None, vec_len};
+
+use crate::{Shelf, ShelfFault};
+use std::alloc::Global;
+use std::fs::File;
+use std::io;
+use std::io::{ErrorKind, Read};
+use std::rt::Files;
+
+/// A shelf over the files of the system. It tells nothing of what they hold, and counts each `Err` as a fault.
+#[derive(Drop)]
+pub struct FileShelf<R> {
+    files: R,
+    faults: u64,
+}
+
+impl<R: Files> FileShelf<R> {
+    /// A shelf over the files that this runtime opens.
+    pub fn new(files: R) -> FileShelf<R> {
+        FileShelf { files, faults: 0 }
+    }
+}
+
+impl<R: Files> Shelf for FileShelf<R> {
+    ghost faults = { λ shelf. shelf.faults };
+
+    ghost files = { λ _. None };
+
+    fn read(&mut self, alloc: Global, name: &str, most: u64) -> Result<Vec<u8>, ShelfFault> {
+        let faults = self.faults;
+        let read = read_file(&self.files, alloc, name, most);
+        if read.is_err() {
+            self.faults = faults.saturating_add(1);
+        }
+        read
+    }
+}
+
+/// All bytes of a file; no more than `most + 1` are taken.
+fn read_file<R: Files>(
+    files: &R,
+    alloc: Global,
+    name: &str,
+    most: u64,
+) -> Result<Vec<u8>, ShelfFault>
+    requires { most < 2 ^ 40 }
+    ensures within { IfOk result (λ bytes. vec_len bytes ≤ most) }
+{
+    let file = File::open(files, name).map_err(|e| fault_of(&e))?;
+    let mut bytes = Vec::new(alloc);
+    file.take(most + 1)
+        .read_to_end(&mut bytes)
+        .map_err(|e| fault_of(&e))?;
+    if bytes.len() as u64 > most {
+        return Err(ShelfFault::TooLarge);
+    }
+    Ok(bytes)
+}
+
+fn fault_of(error: &io::Error) -> ShelfFault {
+    match error.kind() {
+        ErrorKind::NotFound => ShelfFault::Missing,
+        ErrorKind::OutOfMemory => ShelfFault::Memory,
+        _ => ShelfFault::Failed,
+    }
+}

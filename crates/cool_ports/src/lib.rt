@@ -1,0 +1,34 @@
+//! The outside of the program: files, input and output.
+//!
+//! Comes in: what std's files and streams give, or bytes in memory. Goes out: three traits, `Shelf`, `Source` and
+//! `Sink`, whose contracts say what is read and written, and count every failure. `specs/` defines the words.
+#![tactic(auto)]
+
+mod fault_schedule;
+mod file_shelf;
+mod mem_shelf;
+mod mem_sink;
+mod mem_source;
+mod pieces;
+mod shelf;
+mod sink;
+mod source;
+mod std_sink;
+mod std_source;
+#[cfg(test)]
+mod tests;
+
+pub use file_shelf::FileShelf;
+pub use mem_shelf::MemShelf;
+pub use mem_sink::MemSink;
+pub use mem_source::MemSource;
+pub use pieces::put_pieces;
+pub use shelf::{Shelf, ShelfFault};
+pub use sink::Sink;
+pub use source::Source;
+pub use std_sink::StdSink;
+pub use std_source::StdSource;
+
+/// A read or a write of the outside failed.
+#[derive(Clone, Copy, Debug, PartialEq, Eq)]
+pub struct Failed;

@@ -1,0 +1,88 @@
+//! A source in memory.
+
+ghost use Rattle.std.specs.Prelude.{◌≡◌, ◌<◌, ◌↔◌, IfOk, IsErr, OnOk, OnErr, Some, length};
+ghost use Rattle.cool_ports.specs.Counts.{GoesOn, Rose};
+ghost use Rattle.cool_ports.specs.SourceBytes.{Takes, Spends};
+ghost use Rattle.cool_ports.specs.MemoryObjects.{no_faults, IsToFail, called, faulted, failing_at};
+
+use crate::fault_schedule::FaultSchedule;
+use crate::{Failed, Source};
+use std::alloc::{AllocError, Global};
+use std::marker::Model;
+
+/// A source that gives bytes of memory.
+#[derive(Drop)]
+pub struct MemSource {
+    bytes: Vec<u8>,
+    taken: usize,
+    schedule: FaultSchedule,
+}
+
+impl Model for MemSource {
+    ghost use Rattle.std.specs.Prelude.{drop};
+    ghost use Rattle.cool_ports.specs.MemoryObjects.{SourceState};
+
+    ghost Value = { SourceState };
+
+    ghost view = { λ s. record { left = drop s.taken s.bytes.items; schedule = s.schedule } };
+}
+
+impl MemSource {
+    /// A source of these bytes, of which no call is to fail.
+    pub fn new(alloc: Global, bytes: Vec<u8>) -> MemSource
+        ensures { result ≡ record { left = bytes.items; schedule = no_faults } }
+    {
+        MemSource {
+            bytes,
+            taken: 0,
+            schedule: FaultSchedule::new(alloc),
+        }
+    }
+
+    /// Makes the `take` of this number fail, the first being 1. An `Err` comes only for want of memory, and changes
+    /// nothing.
+    pub fn fail_call(&mut self, number: u64) -> Result<(), AllocError>
+        ensures ok { OnOk result (self.new ≡ record self.old { schedule = failing_at self.old.schedule number }) }
+        ensures err { OnErr result (self.new ≡ self.old) }
+    {
+        self.schedule.fail_call(number)
+    }
+}
+
+impl Source for MemSource {
+    ghost use Rattle.std.specs.Prelude.{refl};
+
+    ghost faults = { λ source. source.schedule.faults };
+
+    ghost left = { λ source. Some source.left };
+
+    ghost room = { λ source. length source.left };
+
+    /// Takes no memory. `Failed` comes exactly where the number of this call was given to `fail_call`.
+    #[tactic(auto, unfolding(crate::specs::SourceBytes::put_back))]
+    fn take(&mut self) -> Result<Option<u8>, Failed>
+        ensures taken { IfOk result (λ first. Takes (Some self.old.left) first (Some self.new.left)) }
+        ensures no_fault { OnOk result (self.new.schedule.faults ≡ self.old.schedule.faults) }
+        ensures failed { OnErr result (Rose self.old.schedule.faults self.new.schedule.faults) }
+        ensures kept { OnErr result (Some self.new.left ≡ Some self.old.left) }
+        ensures count { GoesOn self.old.schedule.faults self.new.schedule.faults }
+        ensures room { Spends (length self.old.left) result (length self.new.left) }
+        ensures when { IsErr result ↔ IsToFail self.old.schedule }
+        ensures refused { OnErr result (self.new ≡ record self.old { schedule = faulted (called self.old.schedule) }) }
+    {
+        if self.schedule.begin_call() {
+            self.schedule.count_fault();
+            return Err(Failed);
+        }
+        match self.bytes.get(self.taken) {
+            Some(byte) => {
+                let byte = *byte;
+                self.taken += 1;
+                Ok(Some(byte))
+            }
+            None => Ok(None),
+        }
+    }
+
+    ghost told_room = { λ source. refl };
+}

@@ -1,0 +1,33 @@
+//! What gives input.
+
+ghost use Rattle.std.specs.Prelude.{◌≡◌, ℕ, List, IfOk, OnOk, OnErr, Option};
+ghost use Rattle.cool_ports.specs.Counts.{GoesOn, Rose};
+ghost use Rattle.cool_ports.specs.SourceBytes.{Takes, Spends, HasRoomFor};
+
+use crate::Failed;
+
+/// A place from which bytes are taken, one after another.
+pub trait Source {
+    /// How often it has failed.
+    ghost faults: { Self → ℕ };
+
+    /// The bytes that are left, where it tells them.
+    ghost left: { Self → Option (List ℕ) };
+
+    /// How many bytes it can still give, at the most.
+    ghost room: { Self → ℕ };
+
+    /// Takes the next byte, or answers `None` where nothing is left.
+    ///
+    /// `Failed` comes only where the count of faults rose; then the bytes left are as before.
+    fn take(&mut self) -> Result<Option<u8>, Failed>
+        ensures taken { IfOk result (λ first. Takes (left self.old) first (left self.new)) }
+        ensures no_fault { OnOk result (faults self.new ≡ faults self.old) }
+        ensures failed { OnErr result (Rose (faults self.old) (faults self.new)) }
+        ensures kept { OnErr result (left self.new ≡ left self.old) }
+        ensures count { GoesOn (faults self.old) (faults self.new) }
+        ensures room { Spends (room self.old) result (room self.new) };
+
+    /// A told source has room for just the bytes that are left.
+    ghost told_room: { (source : Self) → HasRoomFor (left source) (room source) };
+}
