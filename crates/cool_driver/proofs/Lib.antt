@@ -1,0 +1,9 @@
+pub mod ReadingCalls
+pub mod ReadingLexemes
+pub mod ReadingStrings
+pub mod SpelledCalls
+pub mod ReadingIsSimple
+pub mod RunningPrints
+pub mod PlainStrings
+pub mod DueTasks
+pub mod EndsOfDue

@@ -1,0 +1,81 @@
+//! Compiles strings to a program that prints them.
+
+ghost use Rattle.std.specs.Prelude.{◌≡◌, ◌<◌, ◌^◌, [], ◌∷◌, ◌++◌, length, IfOk, OnOk};
+ghost use Rattle.std.specs.List.{concat, AllByRecursion};
+ghost use Rattle.cool_driver.specs.Tasks.{Prints};
+ghost use Rattle.cool_driver.specs.SimpleReading.{texts};
+ghost use Rattle.cool_driver.specs.Emitted.{HasNoZero, print_words, text_of, data_of};
+
+use std::alloc::{AllocError, Global};
+
+/// Where the data begins.
+const DATA_START: u32 = 0x1000_0000;
+
+/// `lui $a0, 0`
+const LUI_A0: u32 = 0x3c04_0000;
+
+/// `ori $a0, $a0, 0`
+const ORI_A0: u32 = 0x3484_0000;
+
+/// `lui $v0, 0`
+const LUI_V0: u32 = 0x3c02_0000;
+
+/// `ori $v0, $v0, 0`
+const ORI_V0: u32 = 0x3442_0000;
+
+const SYSCALL: u32 = 12;
+
+/// The system call that prints a string.
+const PRINT_STRING: u32 = 4;
+
+/// The system call that ends the run.
+const EXIT: u32 = 10;
+
+/// Words of a text, and the bytes of its data.
+#[derive(Drop)]
+pub struct Program {
+    pub text: Vec<u32>,
+    pub bytes: Vec<u8>,
+}
+
+/// A program that prints these strings in order, and exits. `Err` comes only for want of memory.
+pub fn compile(alloc: Global, strings: &[Vec<u8>]) -> Result<Program, AllocError>
+    requires plain { AllByRecursion HasNoZero (texts strings.now) }
+    requires small { length (data_of (texts strings.now)) < 2 ^ 28 }
+    ensures prints { IfOk result (λ program. Prints program (concat (texts strings.now))) }
+    ensures text { IfOk result (λ program. program.text.items ≡ text_of (texts strings.now)) }
+    ensures bytes { IfOk result (λ program. program.bytes.items ≡ data_of (texts strings.now)) }
+{
+    let mut text = Vec::new(alloc);
+    let mut bytes = Vec::new(alloc);
+    for string in strings {
+        let address = DATA_START + bytes.len() as u32;
+        push_print(&mut text, address)?;
+        push_string(&mut bytes, string)?;
+    }
+    text.extend_from_slice(&[LUI_V0, ORI_V0 | EXIT, SYSCALL])?;
+    Ok(Program { text, bytes })
+}
+
+/// Adds the words that print the string at an address.
+fn push_print(text: &mut Vec<u32>, address: u32) -> Result<(), AllocError>
+    ensures { OnOk result (text.new.items ≡ text.old.items ++ print_words address) }
+{
+    let words = [
+        LUI_A0 | address >> 16,
+        ORI_A0 | address & 0xffff,
+        LUI_V0,
+        ORI_V0 | PRINT_STRING,
+        SYSCALL,
+    ];
+    text.extend_from_slice(&words)
+}
+
+/// Adds a string and a zero.
+fn push_string(bytes: &mut Vec<u8>, string: &[u8]) -> Result<(), AllocError>
+    ensures { OnOk result (bytes.new.items ≡ bytes.old.items ++ (string.now ++ 0 ∷ [])) }
+{
+    bytes.extend_from_slice(string)?;
+    bytes.push(0)?;
+    Ok(())
+}
