@@ -1,0 +1,4 @@
+pub mod JoiningFields
+pub mod WordsAreDecoded
+pub mod DecodedIsItsWord
+pub mod DecodingWords

@@ -1,0 +1,25 @@
+//! Images: what a machine loads.
+
+use std::marker::Model;
+
+/// The words of a text, from address 0x00400000 on, the bytes of the data, from 0x10000000 on, and the address at which
+/// a run begins.
+///
+/// There are 1 to 66,060,288 words and at most 268,435,456 bytes, and the entry is the address of a word of the text. A
+/// contract sees lists.
+#[derive(Debug, Drop)]
+pub struct Image {
+    pub entry: u32,
+    pub text: Vec<u32>,
+    pub bytes: Vec<u8>,
+}
+
+impl Model for Image {
+    ghost use Rattle.mips_isa.specs.ImageBounds.{ImageParts, IsImage};
+
+    ghost Value = { ImageParts };
+
+    ghost view = { λ i. record { entry = i.entry; text = i.text.items; bytes = i.bytes.items } };
+
+    ghost invariant = { λ i. IsImage (record { entry = i.entry; text = i.text.items; bytes = i.bytes.items }) };
+}

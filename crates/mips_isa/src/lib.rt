@@ -1,0 +1,23 @@
+//! The instructions of the integer R2000, as values and as words, and the lines of assembly.
+//!
+//! Comes in: words, or instructions. Goes out: the other of the two. It meets `specs/Words.antt`, the one table that the
+//! encoder, the decoder and everything about emitted code reads.
+#![tactic(auto)]
+
+mod decoding;
+mod encoding;
+mod image;
+mod instr;
+mod line;
+mod reg;
+#[cfg(test)]
+mod tests;
+
+pub use decoding::decode;
+pub use encoding::encode;
+pub use image::Image;
+pub use instr::{
+    FromOp, ImmOp, Instr, JumpOp, MemOp, MulDivOp, OneOp, ShiftOp, ShiftRegOp, ThreeOp, ToOp, TwoOp,
+};
+pub use line::{AsmFault, AsmKind, Label, Line, OrderOp, Statement, WordItem, ZeroOp};
+pub use reg::Reg;
