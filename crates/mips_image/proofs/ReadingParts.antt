@@ -1,0 +1,34 @@
+-- The parts of an image are read from bytes without a fault.
+use Rattle.std.proofs.Common.{◌≡◌, ℕ, suc, zero, ◌+◌, ◌-◌, ◌*◌, ◌%◌, ◌<◌, ◌≤◌, true, List, [], ◌∷◌, ◌++◌, length, drop, refl, ◌∙◌, ap, append_assoc, arith}
+use Rattle.mips_isa.specs.ImageBounds.{ImageParts, IsImage, text_start}
+use Rattle.mips_image.specs.ImageReading.{word_at, words_at, are_sizes}
+
+-- one more number
+pub words_at-turn : (count turn : ℕ) (words rest behind : List ℕ) (word : ℕ) (all : List ℕ) → turn < count → behind ≡ drop 4 rest → word ≡ word_at rest 0 → words ++ words_at (count - turn) rest ≡ all → (words ++ word ∷ []) ++ words_at (count - (turn + 1)) behind ≡ all
+words_at-turn count turn words rest behind word all h b w so_far =
+    let left : count - turn ≡ suc (count - (turn + 1)) = omega arith in
+    let more : words ++ words_at (suc (count - (turn + 1))) rest ≡ all = rw left at so_far in
+    append_assoc words (word ∷ []) (words_at (count - (turn + 1)) behind) ∙ rw (b, w) more
+
+-- as many as were asked for
+pub length-words_at : (n : ℕ) (bytes : List ℕ) → length (words_at n bytes) ≡ n
+length-words_at zero bytes = refl
+length-words_at (suc n) bytes = ap suc (length-words_at n (drop 4 bytes))
+
+-- what the test of the sizes says
+pub sizes_hold : (words data_bytes entry : ℕ) → are_sizes words data_bytes entry ≡ true → (1 ≤ words) × (words ≤ 66060288) × (data_bytes ≤ 268435456) × (entry % 4 ≡ 0) × (text_start ≤ entry) × (entry < text_start + 4 * words)
+sizes_hold words data_bytes entry h =
+    (grind arith, grind arith, grind arith, grind arith, grind arith, grind arith)
+
+-- parts of these sizes are an image
+pub sizes_of_image : (i : ImageParts) (words data_bytes : ℕ) → are_sizes words data_bytes i.entry ≡ true → length i.text ≡ words → length i.bytes ≡ data_bytes → IsImage i
+sizes_of_image i words data_bytes h t d =
+    let sizes = sizes_hold words data_bytes i.entry h in
+    record {
+      some_text = omega (arith, sizes.0, t);
+      text = omega (arith, sizes.1, t);
+      bytes = omega (arith, sizes.2, d);
+      even = sizes.3;
+      from = sizes.4;
+      to = omega (arith, sizes.5, t);
+    }
