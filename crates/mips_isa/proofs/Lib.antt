@@ -2,3 +2,4 @@ pub mod JoiningFields
 pub mod WordsAreDecoded
 pub mod DecodedIsItsWord
 pub mod DecodingWords
+pub mod RunsInParts

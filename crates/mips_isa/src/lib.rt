@@ -12,6 +12,7 @@ mod line;
 mod reg;
 #[cfg(test)]
 mod tests;
+mod trap;
 
 pub use decoding::decode;
 pub use encoding::encode;
@@ -21,3 +22,4 @@ pub use instr::{
 };
 pub use line::{AsmFault, AsmKind, Label, Line, OrderOp, Statement, WordItem, ZeroOp};
 pub use reg::Reg;
+pub use trap::{Trap, TrapKind};

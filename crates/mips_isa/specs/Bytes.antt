@@ -1,0 +1,70 @@
+-- The bytes of a machine by their addresses, and the segments in which they lie. Numbers are little endian.
+use Rattle.std.specs.Prelude.{ℕ, ◌+◌, ◌-◌, ◌*◌, ◌/◌, ◌%◌, Bool, ◌&&◌, ◌||◌, ◌==◌, nat_le, nat_lt, if◌then◌else◌, length, get_or}
+use Rattle.mips_isa.specs.ImageBounds.{ImageParts, text_start}
+
+abbrev pub Bytes : Type 0
+Bytes = ℕ → ℕ
+
+unfoldable pub half : Bytes → ℕ → ℕ
+half m a = m a + 256 * m (a + 1)
+
+unfoldable pub word : Bytes → ℕ → ℕ
+word m a = m a + 256 * m (a + 1) + 65536 * m (a + 2) + 16777216 * m (a + 3)
+
+abbrev pub set_byte : Bytes → ℕ → ℕ → Bytes
+set_byte m a v = λ q. if q == a then v else m q
+
+unfoldable pub set_half : Bytes → ℕ → ℕ → Bytes
+set_half m a v = set_byte (set_byte m a (v % 256)) (a + 1) (v / 256 % 256)
+
+unfoldable pub set_word : Bytes → ℕ → ℕ → Bytes
+set_word m a v =
+    set_byte (set_byte (set_byte (set_byte m a (v % 256)) (a + 1) (v / 256 % 256)) (a + 2) (v / 65536 % 256)) (a + 3) (v / 16777216 % 256)
+
+-- Where the segments begin and end.
+pub record Segments : Type 0 where
+  pub text_end : ℕ
+  pub data_end : ℕ
+  pub heap_end : ℕ
+  pub stack_low : ℕ
+
+abbrev pub data_start : ℕ
+data_start = 0x10000000
+
+abbrev pub heap_start : ℕ
+heap_start = 0x20000000
+
+abbrev pub stack_end : ℕ
+stack_end = 0x80000000
+
+-- the bytes from a on lie between two addresses
+abbrev pub lies : ℕ → ℕ → ℕ → ℕ → Bool
+lies low end a size = nat_le low a && nat_le (a + size) end
+
+-- so many bytes from a on may be stored: they are data, heap or stack
+abbrev pub writable : Segments → ℕ → ℕ → Bool
+writable s a size = lies data_start s.data_end a size || (lies heap_start s.heap_end a size || lies s.stack_low stack_end a size)
+
+-- so many bytes from a on may be loaded: they may be stored, or are text
+abbrev pub readable : Segments → ℕ → ℕ → Bool
+readable s a size = lies text_start s.text_end a size || writable s a size
+
+-- an image with so many bytes of heap and of stack
+abbrev pub segments_of : ImageParts → ℕ → ℕ → Segments
+segments_of image heap stack = record {
+  text_end = text_start + 4 * length image.text;
+  data_end = data_start + (length image.bytes + 3) / 4 * 4;
+  heap_end = heap_start + heap;
+  stack_low = stack_end - stack;
+}
+
+-- the byte of a word at this offset
+abbrev pub byte_of_word : ℕ → ℕ → ℕ
+byte_of_word w offset =
+    if offset == 0 then w % 256 else (if offset == 1 then w / 256 % 256 else (if offset == 2 then w / 65536 % 256 else w / 16777216 % 256))
+
+-- the bytes of a machine that was loaded: text, data, and zeros
+abbrev pub bytes_of_image : ImageParts → Bytes
+bytes_of_image image = λ a.
+    if nat_lt a data_start then byte_of_word (get_or image.text ((a - text_start) / 4) 0) ((a - text_start) % 4)
+    else (if nat_lt a heap_start then get_or image.bytes (a - data_start) 0 else 0)
