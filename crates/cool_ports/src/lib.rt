@@ -15,6 +15,8 @@ mod sink;
 mod source;
 mod std_sink;
 mod std_source;
+mod sure_sink;
+mod sure_source;
 #[cfg(test)]
 mod tests;
 
@@ -28,6 +30,8 @@ pub use sink::Sink;
 pub use source::Source;
 pub use std_sink::StdSink;
 pub use std_source::StdSource;
+pub use sure_sink::SureSink;
+pub use sure_source::SureSource;
 
 /// A read or a write of the outside failed.
 #[derive(Clone, Copy, Debug, PartialEq, Eq)]

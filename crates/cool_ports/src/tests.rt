@@ -2,7 +2,7 @@
 
 use crate::{
     Failed, FileShelf, MemShelf, MemSink, MemSource, Shelf, ShelfFault, Sink, Source, StdSink,
-    StdSource, put_pieces,
+    StdSource, SureSink, SureSource, put_pieces,
 };
 use std::fs;
 use std::test::Fail;
@@ -115,4 +115,17 @@ fn sink_of_a_writer(rt: HostRuntime) {
     assert_eq!(rt; sink.put(b"de"), Err(Failed));
     drop(sink);
     assert_eq!(rt; held, *b"abcd");
+}
+
+#[test]
+fn source_and_sink_that_never_fail(rt: HostRuntime) -> Result<(), Fail> {
+    let mut source = SureSource::new(Vec::from_slice(rt.alloc(), b"ab")?);
+    assert_eq!(rt; source.take(), Ok(Some(b'a')));
+    assert_eq!(rt; source.take(), Ok(Some(b'b')));
+    assert_eq!(rt; source.take(), Ok(None));
+    assert_eq!(rt; source.take(), Ok(None));
+    let mut sink = SureSink::new();
+    assert_eq!(rt; sink.put(b"ab"), Ok(()));
+    assert_eq!(rt; sink.put(b"c"), Ok(()));
+    Ok(())
 }
