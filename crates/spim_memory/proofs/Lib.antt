@@ -1,0 +1,5 @@
+pub mod StoringBytes
+pub mod MakingBytes
+pub mod LoadingBytes
+pub mod LoadsAnswer
+pub mod StringsOfBytes

@@ -1,0 +1,26 @@
+-- The bytes of a memory that is made are those of its image.
+use Rattle.std.proofs.Common.{◌≡◌, ℕ, ◌-◌, List, length, get_or, ◌++◌, replicate, arith}
+use Rattle.std.proofs.Math.Path.{fun_ext}
+use Rattle.std.proofs.Math.ListN.{get_or-append, get_or-eq_default}
+use Rattle.std.proofs.Math.Seq.{get_or-append_right}
+use Rattle.std.proofs.lemmas.List.{get_or-replicate, length-replicate}
+use Rattle.mips_isa.specs.ImageBounds.{ImageParts}
+use Rattle.mips_isa.specs.Bytes.{data_start, heap_start, stack_end, bytes_of_image}
+use Rattle.spim_memory.specs.Memory.{bytes_of}
+use Rattle.spim_memory.specs.Places.{whole_words}
+
+-- zeros, and nothing behind them
+zeros : (n i : ℕ) → get_or {A = ℕ} (replicate n 0) i 0 ≡ 0
+zeros n i = grind (arith, get_or-replicate, get_or-eq_default, length-replicate)
+
+-- zeros behind a list change nothing
+padded : (l : List ℕ) (n i : ℕ) → get_or (l ++ replicate n 0) i 0 ≡ get_or l i 0
+padded l n i = grind (arith, zeros, get_or-append, get_or-append_right, get_or-eq_default)
+
+-- the bytes of a memory of such lists
+made_of_zeros : (i : ImageParts) (pad heap stack : ℕ) → bytes_of (record { text = i.text; static_bytes = i.bytes ++ replicate pad 0; heap = replicate heap 0; stack = replicate stack 0 }) ≡ bytes_of_image i
+made_of_zeros i pad heap stack = fun_ext (λ q. rw (padded i.bytes pad (q - data_start), zeros heap (q - heap_start), zeros stack (q - (stack_end - length (replicate {A = ℕ} stack 0)))) (grind arith))
+
+-- the bytes of a memory that is made
+pub made : (i : ImageParts) (t d h s : List ℕ) (heap stack : ℕ) → t ≡ i.text → d ≡ whole_words i.bytes → h ≡ replicate heap 0 → s ≡ replicate stack 0 → bytes_of (record { text = t; static_bytes = d; heap = h; stack = s }) ≡ bytes_of_image i
+made i t d h s heap stack e f g k = rw (e, f, g, k) (made_of_zeros i _ heap stack)

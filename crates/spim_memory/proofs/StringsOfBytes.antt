@@ -1,0 +1,157 @@
+-- A string ends at its first 0, and a buffer may be stored where each of its bytes may be.
+use Rattle.std.proofs.Common.{◌≡◌, ◌∙◌, refl, sym, ap, ℕ, zero, suc, ◌+◌, ◌-◌, ◌<◌, ◌≤◌, Bool, true, false, Option, Some, None, arith}
+use Rattle.std.specs.Prelude.{is_some, ◌==◌, ◌&&◌, ◌||◌, if◌then◌else◌}
+use Rattle.mips_isa.specs.ImageBounds.{text_start}
+use Rattle.mips_isa.specs.Bytes.{Bytes, Segments, data_start, heap_start, stack_end, lies, writable, readable}
+use Rattle.mips_isa.specs.Calls.{segment_end, up_to_zero, string_at, all_writable}
+use Rattle.spim_memory.specs.Memory.{MemoryParts, IsMemory, segments}
+use Rattle.spim_memory.specs.Places.{IsPlace}
+use Rattle.spim_memory.specs.declared.memory.Place.{Place}
+use Rattle.spim_memory.specs.declared.memory.Place.TheVariants.{StaticBytes, Heap, Stack}
+use Rattle.spim_memory.specs.Strings.{bytes_from}
+
+-- none of so many bytes from an address on is 0
+abbrev pub HasNoZero : Bytes → ℕ → ℕ → Type 0
+HasNoZero m a n = (i : ℕ) → i < n → (m (a + i) == 0) ≡ false
+
+-- each of so many bytes from an address on may be stored
+abbrev pub MayStore : Segments → ℕ → ℕ → Type 0
+MayStore s a n = (i : ℕ) → i < n → writable s (a + i) 1 ≡ true
+
+-- one more byte
+pub no_zero-turn : (m : Bytes) (a n : ℕ) → HasNoZero m a n → (m (a + n) == 0) ≡ false → HasNoZero m a (n + 1)
+no_zero-turn m a n before last i within = grind (arith, before i, last)
+
+pub may_store-turn : (s : Segments) (a n : ℕ) → MayStore s a n → writable s (a + n) 1 ≡ true → MayStore s a (n + 1)
+may_store-turn s a n before last i within = grind (arith, before i, last)
+
+-- the first byte
+plus_zero : (a : ℕ) → a + 0 ≡ a
+plus_zero a = omega arith
+
+first_not_zero : (m : Bytes) (a n : ℕ) → HasNoZero m a (suc n) → (m a == 0) ≡ false
+first_not_zero m a n each = ap (λ q. m q == 0) (sym (plus_zero a)) ∙ each 0 (omega arith)
+
+first_may : (s : Segments) (a n : ℕ) → MayStore s a (suc n) → writable s a 1 ≡ true
+first_may s a n each = ap (λ q. writable s q 1) (sym (plus_zero a)) ∙ each 0 (omega arith)
+
+-- the bytes behind the first
+no_zero-behind : (m : Bytes) (a n : ℕ) → HasNoZero m a (suc n) → HasNoZero m (a + 1) n
+no_zero-behind m a n each i within =
+    let next : a + 1 + i ≡ a + (i + 1) = omega arith in
+    rw next (each (i + 1) (omega (arith, within)))
+
+may_store-behind : (s : Segments) (a n : ℕ) → MayStore s a (suc n) → MayStore s (a + 1) n
+may_store-behind s a n each i within =
+    let next : a + 1 + i ≡ a + (i + 1) = omega arith in
+    rw next (each (i + 1) (omega (arith, within)))
+
+-- the string up to the first 0
+pub first_zero : (m : Bytes) (a k n : ℕ) → k < n → (m (a + k) == 0) ≡ true → HasNoZero m a k → up_to_zero m a n ≡ Some (bytes_from m a k)
+first_zero m a k zero within ends each = grind (arith, within)
+first_zero m a zero (suc n) within ends each =
+    let now : (m a == 0) ≡ true = ap (λ q. m q == 0) (sym (plus_zero a)) ∙ ends in
+    rw now refl
+first_zero m a (suc k) (suc n) within ends each =
+    let next : a + suc k ≡ a + 1 + k = omega arith in
+    let last : (m (a + 1 + k) == 0) ≡ true = rw next at ends in
+    rw (first_not_zero m a k each, first_zero m (a + 1) k n (omega (arith, within)) last (no_zero-behind m a k each)) refl
+
+-- no string
+pub no_zero : (m : Bytes) (a n : ℕ) → HasNoZero m a n → up_to_zero m a n ≡ None
+no_zero m a zero each = refl
+no_zero m a (suc n) each = rw (first_not_zero m a n each, no_zero m (a + 1) n (no_zero-behind m a n each)) refl
+
+-- a later byte before the end lies there, too
+lies_on : (low end a k : ℕ) → lies low end a 1 ≡ true → a + k < end → lies low end (a + k) 1 ≡ true
+lies_on low end a k is within = grind arith
+
+second : (b c : Bool) → (b || (true || c)) ≡ true
+second true c = refl
+second false c = refl
+
+third : (b c d : Bool) → (b || (c || (true || d))) ≡ true
+third true c d = refl
+third false c d = second c d
+
+or_true : (b : Bool) → (b || true) ≡ true
+or_true true = refl
+or_true false = refl
+
+fourth : (b c d : Bool) → (b || (c || (d || true))) ≡ true
+fourth true c d = refl
+fourth false true d = refl
+fourth false false d = or_true d
+
+-- the bytes of a segment may be loaded
+load_within_at : (s : Segments) (a k end : ℕ) (t d h w : Bool) → lies text_start s.text_end a 1 ≡ t → lies data_start s.data_end a 1 ≡ d → lies heap_start s.heap_end a 1 ≡ h → lies s.stack_low stack_end a 1 ≡ w → (if t then Some s.text_end else (if d then Some s.data_end else (if h then Some s.heap_end else (if w then Some stack_end else None)))) ≡ Some end → a + k < end → readable s (a + k) 1 ≡ true
+load_within_at s a k end true d h w it id ih iw is within =
+    let last : s.text_end ≡ end = cc in
+    rw (lies_on text_start s.text_end a k it (omega (arith, within, last))) refl
+load_within_at s a k end false true h w it id ih iw is within =
+    let last : s.data_end ≡ end = cc in
+    rw (lies_on data_start s.data_end a k id (omega (arith, within, last))) (second (lies text_start s.text_end (a + k) 1) (lies heap_start s.heap_end (a + k) 1 || lies s.stack_low stack_end (a + k) 1))
+load_within_at s a k end false false true w it id ih iw is within =
+    let last : s.heap_end ≡ end = cc in
+    rw (lies_on heap_start s.heap_end a k ih (omega (arith, within, last))) (third (lies text_start s.text_end (a + k) 1) (lies data_start s.data_end (a + k) 1) (lies s.stack_low stack_end (a + k) 1))
+load_within_at s a k end false false false true it id ih iw is within =
+    let last : stack_end ≡ end = cc in
+    rw (lies_on s.stack_low stack_end a k iw (omega (arith, within, last))) (fourth (lies text_start s.text_end (a + k) 1) (lies data_start s.data_end (a + k) 1) (lies heap_start s.heap_end (a + k) 1))
+load_within_at s a k end false false false false it id ih iw is within = cc
+
+pub load_within : (s : Segments) (a k end : ℕ) → segment_end s a ≡ Some end → a + k < end → readable s (a + k) 1 ≡ true
+load_within s a k end is within = load_within_at s a k end _ _ _ _ refl refl refl refl is within
+
+-- a byte of the segment is a 0 where the memory has a 0 that may be loaded
+is_zero_at : (may zero_there : Bool) → (may && zero_there) ≡ true → zero_there ≡ true
+is_zero_at true zero_there both = both
+is_zero_at false true both = refl
+is_zero_at false false both = both
+
+pub string_found : (s : Segments) (m : Bytes) (a k end : ℕ) → Some end ≡ segment_end s a → a + k < end → (readable s (a + k) 1 && (m (a + k) == 0)) ≡ true → HasNoZero m a k → string_at s m a ≡ Some (bytes_from m a k)
+string_found s m a k end is within ends each =
+    rw (sym is) (first_zero m a k (end - a) (omega (arith, within)) (is_zero_at (readable s (a + k) 1) (m (a + k) == 0) ends) each)
+
+pub string_goes_on : (s : Segments) (m : Bytes) (a k end : ℕ) → Some end ≡ segment_end s a → a + k < end → (readable s (a + k) 1 && (m (a + k) == 0)) ≡ false → HasNoZero m a k → HasNoZero m a (k + 1)
+string_goes_on s m a k end is within other each =
+    let last : (m (a + k) == 0) ≡ false = rw (load_within s a k end (sym is) within) at other in
+    no_zero-turn m a k each last
+
+pub string_missing : (s : Segments) (m : Bytes) (a end : ℕ) → Some end ≡ segment_end s a → HasNoZero m a (end - a) → string_at s m a ≡ None
+string_missing s m a end is each = rw (sym is) (no_zero m a (end - a) each)
+
+-- each byte may be stored, or one may not
+pub all_may : (s : Segments) (a n : ℕ) → MayStore s a n → all_writable s a n ≡ true
+all_may s a zero each = refl
+all_may s a (suc n) each = rw (first_may s a n each, all_may s (a + 1) n (may_store-behind s a n each)) refl
+
+and_false : (b : Bool) → (b && false) ≡ false
+and_false true = refl
+and_false false = refl
+
+pub one_may_not : (s : Segments) (a k n : ℕ) → k < n → writable s (a + k) 1 ≡ false → all_writable s a n ≡ false
+one_may_not s a k zero within ends = grind (arith, within)
+one_may_not s a zero (suc n) within ends =
+    let now : writable s a 1 ≡ false = ap (λ q. writable s q 1) (sym (plus_zero a)) ∙ ends in
+    rw now refl
+one_may_not s a (suc k) (suc n) within ends =
+    let next : a + suc k ≡ a + 1 + k = omega arith in
+    let last : writable s (a + 1 + k) 1 ≡ false = rw next at ends in
+    rw (one_may_not s (a + 1) k n (omega (arith, within)) last) (and_false _)
+
+-- a byte that has a place may be stored
+pub may_place : (m : MemoryParts) (a byte : ℕ) (found : Option Place) (b : Bool) → IsMemory m → byte ≡ a → IsPlace m byte found → b ≡ is_some found → b ≡ writable (segments m) a 1
+may_place m a byte None b is same at holds = grind (arith, same, at, holds)
+may_place m a byte (Some (StaticBytes i)) b is same at holds =
+    let may : writable (segments m) a 1 ≡ true = grind (arith, same, at.0, at.1) in
+    holds ∙ sym may
+may_place m a byte (Some (Heap i)) b is same at holds =
+    let may : writable (segments m) a 1 ≡ true = grind (arith, same, at.0, at.1) in
+    holds ∙ sym may
+may_place m a byte (Some (Stack i)) b is same at holds =
+    let may : writable (segments m) a 1 ≡ true = grind (arith, same, at.0, at.1, is.stack) in
+    holds ∙ sym may
+
+-- no byte behind the last address may be stored
+pub may_not_behind : (m : MemoryParts) (a : ℕ) → IsMemory m → 4294967296 ≤ a → false ≡ writable (segments m) a 1
+may_not_behind m a is far = grind (arith, is.static_bytes, is.heap)

@@ -1,0 +1,7 @@
+use Rattle.spim_memory.specs.Memory.{segments}
+use Rattle.spim_memory.proofs.StringsOfBytes.{MayStore}
+use Rattle.spim_memory.proofs.memory.Memory.may_store.Given as goal
+
+-- each byte so far may be stored
+abbrev pub invariant-loop-k : goal.invariant-loop-k
+invariant-loop-k l = MayStore (segments l.self) l.a l.k

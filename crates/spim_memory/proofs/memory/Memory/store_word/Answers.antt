@@ -1,0 +1,39 @@
+use Rattle.std.proofs.Common.{ap, length, ◌-◌, ◌∙◌, arith}
+use Rattle.mips_isa.specs.Bytes.{data_start, heap_start, stack_end}
+use Rattle.spim_memory.specs.Memory.{bytes_of}
+use Rattle.spim_memory.specs.Places.{set_four}
+use Rattle.spim_memory.proofs.StoringBytes.{writes_static, writes_heap, writes_stack, stored_word, written, length_four}
+use Rattle.spim_memory.proofs.memory.Memory.store_word.Goals as goal
+
+pub returns-in-Some-StaticBytes-clause-stored : goal.returns-in-Some-StaticBytes-clause-stored
+returns-in-Some-StaticBytes-clause-stored c =
+    let found = c.in-Some-StaticBytes in
+    let at = rw found.field-0-is at found.ensures in
+    let m = c.self.inside in
+    let size = ap (λ parts. length parts.static_bytes) c.self.view_is in
+    let same = c.deref_mut.ensures.value in
+    let new = written m.static_bytes _ _ _ same c.write_word.ensures (length_four _ found.offset c.args.v) ∙ ap (λ bytes. set_four bytes found.offset c.args.v) same in
+    stored_word (λ d. bytes_of (record { text = m.text.items; static_bytes = d; heap = m.heap.items; stack = m.stack.items })) data_start m.static_bytes.items _ _ c.args.a found.offset c.args.v
+    (writes_static m.text.items m.heap.items m.stack.items _ c.self.invariant.static_bytes) (ap bytes_of c.self.view_is) (omega (arith, at.0, size)) (omega (arith, at.0, at.1, size, c.if-a-ne0.false, c.self.invariant.static_words)) new
+
+pub returns-in-Some-Heap-clause-stored : goal.returns-in-Some-Heap-clause-stored
+returns-in-Some-Heap-clause-stored c =
+    let found = c.in-Some-Heap in
+    let at = rw found.field-0-is at found.ensures in
+    let m = c.self.inside in
+    let size = ap (λ parts. length parts.heap) c.self.view_is in
+    let same = c.deref_mut-in-Some-Heap.ensures.value in
+    let new = written m.heap _ _ _ same c.write_word-in-Some-Heap.ensures (length_four _ found.offset c.args.v) ∙ ap (λ bytes. set_four bytes found.offset c.args.v) same in
+    stored_word (λ h. bytes_of (record { text = m.text.items; static_bytes = m.static_bytes.items; heap = h; stack = m.stack.items })) heap_start m.heap.items _ _ c.args.a found.offset c.args.v
+    (writes_heap m.text.items m.static_bytes.items m.stack.items _ c.self.invariant.heap c.self.invariant.stack) (ap bytes_of c.self.view_is) (omega (arith, at.0, size)) (omega (arith, at.0, at.1, size, c.if-a-ne0.false, c.self.invariant.heap_words)) new
+
+pub returns-in-Some-Stack-clause-stored : goal.returns-in-Some-Stack-clause-stored
+returns-in-Some-Stack-clause-stored c =
+    let found = c.in-Some-Stack in
+    let at = rw found.field-0-is at found.ensures in
+    let m = c.self.inside in
+    let size = ap (λ parts. length parts.stack) c.self.view_is in
+    let same = c.deref_mut-in-Some-Stack.ensures.value in
+    let new = written m.stack _ _ _ same c.write_word-in-Some-Stack.ensures (length_four _ found.offset c.args.v) ∙ ap (λ bytes. set_four bytes found.offset c.args.v) same in
+    stored_word (λ s. bytes_of (record { text = m.text.items; static_bytes = m.static_bytes.items; heap = m.heap.items; stack = s })) (stack_end - length m.stack.items) m.stack.items _ _ c.args.a found.offset c.args.v
+    (writes_stack m.text.items m.static_bytes.items m.heap.items _ c.self.invariant.stack) (ap bytes_of c.self.view_is) (omega (arith, at.0, size)) (omega (arith, at.0, at.1, size, c.if-a-ne0.false, c.self.invariant.stack_words)) new

@@ -1,0 +1,54 @@
+-- What a contract sees of a memory: the words of the text, and the bytes of the other segments. From these come the bytes
+-- by their addresses, and where the segments begin and end.
+use Rattle.std.specs.Prelude.{◌≡◌, ℕ, ◌+◌, ◌-◌, ◌*◌, ◌/◌, ◌%◌, ◌≤◌, ◌==◌, nat_lt, not, Bool, if◌then◌else◌, List, length, get_or, Result, Ok, Err}
+use Rattle.mips_isa.specs.ImageBounds.{text_start}
+use Rattle.mips_isa.specs.Bytes.{Bytes, Segments, data_start, heap_start, stack_end, byte_of_word}
+use Rattle.spim_memory.specs.declared.fault.MemFault.{MemFault}
+use Rattle.spim_memory.specs.declared.fault.MemFault.TheVariants.{Unaligned, BadAddress}
+
+pub record MemoryParts : Type 0 where
+  pub text : List ℕ
+  pub static_bytes : List ℕ
+  pub heap : List ℕ
+  pub stack : List ℕ
+
+abbrev pub segments : MemoryParts → Segments
+segments m = record {
+  text_end = text_start + 4 * length m.text;
+  data_end = data_start + length m.static_bytes;
+  heap_end = heap_start + length m.heap;
+  stack_low = stack_end - length m.stack;
+}
+
+-- No segment reaches the next one, and each is made of words.
+pub record IsMemory (m : MemoryParts) : Type 0 where
+  pub text : length m.text ≤ 66060288
+  pub static_bytes : length m.static_bytes ≤ 268435456
+  pub heap : length m.heap ≤ 268435456
+  pub stack : length m.stack ≤ 67108864
+  pub static_words : length m.static_bytes % 4 ≡ 0
+  pub heap_words : length m.heap % 4 ≡ 0
+  pub stack_words : length m.stack % 4 ≡ 0
+
+-- The byte at an address. Between the segments and behind the stack there is 0, and below the text its first byte, none of which
+-- may be loaded.
+abbrev pub bytes_of : MemoryParts → Bytes
+bytes_of m = λ a.
+    if nat_lt a data_start then byte_of_word (get_or m.text ((a - text_start) / 4) 0) ((a - text_start) % 4)
+    else (if nat_lt a heap_start then get_or m.static_bytes (a - data_start) 0
+    else (if nat_lt a (stack_end - length m.stack) then get_or m.heap (a - heap_start) 0
+    else get_or m.stack (a - (stack_end - length m.stack)) 0))
+
+-- what an access of this size at a answers: v, or why it may not be
+abbrev pub accessed : {V : Type 0} → ℕ → Bool → ℕ → V → Result V MemFault
+accessed size may a v =
+    if not (a % size == 0) then Err (Unaligned a) else (if not may then Err (BadAddress a) else Ok v)
+
+-- Sizes of heap and stack, in bytes: multiples of 1,024 from 4,096 on, up to 256 MiB and 64 MiB.
+pub record IsLimits (heap stack : ℕ) : Type 0 where
+  pub heap_unit : heap % 1024 ≡ 0
+  pub heap_least : 4096 ≤ heap
+  pub heap_most : heap ≤ 268435456
+  pub stack_unit : stack % 1024 ≡ 0
+  pub stack_least : 4096 ≤ stack
+  pub stack_most : stack ≤ 67108864

@@ -1,0 +1,20 @@
+-- Strings in a memory: the bytes that stand one after another, and those that may be loaded, as SPIM's system call
+-- print_string takes them.
+use Rattle.std.specs.Prelude.{◌≡◌, refl, ℕ, zero, suc, ◌+◌, ◌%◌, ◌<◌, true, List, [], ◌∷◌}
+use Rattle.mips_isa.specs.Bytes.{Bytes, Segments, readable}
+
+-- so many bytes from an address on
+abbrev pub bytes_from : Bytes → ℕ → ℕ → List ℕ
+bytes_from m a zero = []
+bytes_from m a (suc n) = m a ∷ bytes_from m (a + 1) n
+
+-- each of so many bytes from an address on may be loaded
+abbrev pub MayLoad : Segments → ℕ → ℕ → Type 0
+MayLoad s a n = (k : ℕ) → k < n → readable s (a + k) 1 ≡ true
+
+-- Worked examples, where each byte is the last digit of its address.
+three_bytes : bytes_from (λ a. a % 10) 1028 3 ≡ 8 ∷ 9 ∷ 0 ∷ []
+three_bytes = refl
+
+no_bytes : bytes_from (λ a. a % 10) 1028 0 ≡ []
+no_bytes = refl

@@ -1,0 +1,10 @@
+//! Why an access may not be.
+
+/// Why an access may not be, with its address.
+#[derive(Clone, Copy, Debug, PartialEq, Eq)]
+pub enum MemFault {
+    /// The address is no multiple of the size.
+    Unaligned(u32),
+    /// The access lies in no segment that it may touch.
+    BadAddress(u32),
+}

@@ -1,0 +1,16 @@
+//! The segments of a machine.
+//!
+//! Comes in: an image and the sizes of heap and stack, then addresses and numbers. Goes out: numbers, or why an access may
+//! not be. It meets `specs/Memory.antt`, and with it the bytes of the machine in `mips_isa`.
+#![tactic(auto)]
+
+mod fault;
+mod limits;
+mod little_endian;
+mod memory;
+#[cfg(test)]
+mod tests;
+
+pub use fault::MemFault;
+pub use limits::Limits;
+pub use memory::Memory;

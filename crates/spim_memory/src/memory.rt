@@ -1,0 +1,256 @@
+//! Loads and stores.
+
+ghost use Rattle.std.specs.Prelude.{◌≡◌, ◌<◌, replicate, IfOk, IfSome, OnOk, OnErr};
+ghost use Rattle.mips_isa.specs.ImageBounds.{text_start};
+ghost use Rattle.mips_isa.specs.Bytes.{half, word, set_byte, set_half, set_word, readable, writable, lies, data_start, segments_of, bytes_of_image};
+ghost use Rattle.mips_isa.specs.Machine.{word_of_text};
+ghost use Rattle.spim_memory.specs.Memory.{segments, bytes_of, accessed, IsLimits};
+ghost use Rattle.spim_memory.specs.Places.{IsPlace, IsTextWord, IsTextFrom, whole_words};
+
+mod strings;
+
+use crate::little_endian::{read_half, read_word, write_half, write_word};
+use crate::{Limits, MemFault};
+use mips_isa::Image;
+use std::alloc::{AllocError, Global};
+use std::marker::Model;
+
+/// Where the text begins in the machine.
+const TEXT_START: u32 = 0x0040_0000;
+
+/// Where the data begins.
+const DATA_START: u32 = 0x1000_0000;
+
+/// Where the heap begins.
+const HEAP_START: u32 = 0x2000_0000;
+
+/// Where the stack ends.
+const STACK_END: u32 = 0x8000_0000;
+
+/// The segments: text that is only read, and bytes of data, heap and stack.
+#[derive(Drop)]
+pub struct Memory {
+    text: Vec<u32>,
+    static_bytes: Vec<u8>,
+    heap: Vec<u8>,
+    stack: Vec<u8>,
+}
+
+impl Model for Memory {
+    ghost use Rattle.spim_memory.specs.Memory.{MemoryParts, IsMemory};
+
+    ghost Value = { MemoryParts };
+
+    ghost view = { λ m. record { text = m.text.items; static_bytes = m.static_bytes.items; heap = m.heap.items; stack = m.stack.items } };
+
+    ghost invariant = { λ m. IsMemory (record { text = m.text.items; static_bytes = m.static_bytes.items; heap = m.heap.items; stack = m.stack.items }) };
+}
+
+/// A segment that may be stored, and an offset in it.
+#[derive(Clone, Copy)]
+enum Place {
+    StaticBytes(usize),
+    Heap(usize),
+    Stack(usize),
+}
+
+/// So many zeros.
+fn zeros(alloc: Global, count: usize) -> Result<Vec<u8>, AllocError>
+    ensures { IfOk result (λ bytes. bytes.items ≡ replicate count 0) }
+{
+    Ok(vec![in alloc; 0; count]?)
+}
+
+/// The bytes, and zeros up to a whole word.
+fn padded(alloc: Global, bytes: &[u8]) -> Result<Vec<u8>, AllocError>
+    ensures { IfOk result (λ words. words.items ≡ whole_words bytes.now) }
+{
+    let size = (bytes.len() + 3) / 4 * 4;
+    let mut words = Vec::with_capacity(alloc, size)?;
+    words.extend_from_slice(bytes)?;
+    words.extend_from_slice(&zeros(alloc, size - bytes.len())?)?;
+    Ok(words)
+}
+
+impl Memory {
+    /// The memory of an image: its text, its data, padded with zeros to a word, and a heap and a stack of zeros.
+    ///
+    /// All memory of a run is taken here. `Err` comes only for want of it.
+    pub fn make(alloc: Global, image: &Image, limits: Limits) -> Result<Memory, AllocError>
+        requires { IsLimits limits.heap limits.stack }
+        ensures text { IfOk result (λ memory. memory.text ≡ image.now.text) }
+        ensures segments { IfOk result (λ memory. segments memory ≡ segments_of image.now limits.heap limits.stack) }
+        ensures bytes { IfOk result (λ memory. bytes_of memory ≡ bytes_of_image image.now) }
+    {
+        Ok(Memory {
+            text: Vec::from_slice(alloc, &image.text)?,
+            static_bytes: padded(alloc, &image.bytes)?,
+            heap: zeros(alloc, limits.heap as usize)?,
+            stack: zeros(alloc, limits.stack as usize)?,
+        })
+    }
+
+    /// The segment of data, heap or stack that has the byte at an address.
+    fn place(&self, a: u32) -> Option<Place>
+        ensures { IsPlace self.now a result }
+    {
+        let offset = a.wrapping_sub(DATA_START) as usize;
+        if offset < self.static_bytes.len() {
+            return Some(Place::StaticBytes(offset));
+        }
+        let offset = a.wrapping_sub(HEAP_START) as usize;
+        if offset < self.heap.len() {
+            return Some(Place::Heap(offset));
+        }
+        let low = STACK_END - self.stack.len() as u32;
+        let offset = a.wrapping_sub(low) as usize;
+        if offset < self.stack.len() {
+            return Some(Place::Stack(offset));
+        }
+        None
+    }
+
+    /// The word of the text that has the byte at an address, moved to the right so that this byte comes first.
+    fn text_from(&self, a: u32) -> Result<u32, MemFault>
+        ensures { IsTextFrom self.now a result }
+    {
+        match self.text_word(a) {
+            Some(word) => Ok(word >> (8 * (a % 4))),
+            None => Err(MemFault::BadAddress(a)),
+        }
+    }
+
+    /// The word of the text that has the byte at an address.
+    fn text_word(&self, a: u32) -> Option<u32>
+        ensures word { IsTextWord self.now a result }
+        ensures below { IfSome result (λ _. a < data_start) }
+    {
+        let index = a.wrapping_sub(TEXT_START) as usize / 4;
+        self.text.get(index).copied()
+    }
+
+    /// The word of the text at an address.
+    ///
+    /// `Unaligned` comes where the address is no multiple of 4, and `BadAddress` where no word of the text is.
+    pub fn fetch(&self, a: u32) -> Result<u32, MemFault>
+        ensures word { result ≡ accessed 4 (lies text_start (segments self.now).text_end a 4) a (word_of_text self.now.text a) }
+        ensures below { OnOk result (a < data_start) }
+    {
+        if a % 4 != 0 {
+            return Err(MemFault::Unaligned(a));
+        }
+        match self.text_word(a) {
+            Some(word) => Ok(word),
+            None => Err(MemFault::BadAddress(a)),
+        }
+    }
+
+    /// The byte at an address. `BadAddress` comes where no segment is.
+    pub fn load_byte(&self, a: u32) -> Result<u8, MemFault>
+        ensures { result ≡ accessed 1 (readable (segments self.now) a 1) a (bytes_of self.now a) }
+    {
+        match self.place(a) {
+            Some(Place::StaticBytes(offset)) => Ok(self.static_bytes[offset]),
+            Some(Place::Heap(offset)) => Ok(self.heap[offset]),
+            Some(Place::Stack(offset)) => Ok(self.stack[offset]),
+            None => Ok((self.text_from(a)? % 0x100) as u8),
+        }
+    }
+
+    /// The half at an address.
+    ///
+    /// `Unaligned` comes where the address is no multiple of 2, and `BadAddress` where no segment is.
+    pub fn load_half(&self, a: u32) -> Result<u16, MemFault>
+        ensures { result ≡ accessed 2 (readable (segments self.now) a 2) a (half (bytes_of self.now) a) }
+    {
+        if a % 2 != 0 {
+            return Err(MemFault::Unaligned(a));
+        }
+        match self.place(a) {
+            Some(Place::StaticBytes(offset)) => Ok(read_half(&self.static_bytes, offset)),
+            Some(Place::Heap(offset)) => Ok(read_half(&self.heap, offset)),
+            Some(Place::Stack(offset)) => Ok(read_half(&self.stack, offset)),
+            None => Ok((self.text_from(a)? % 0x1_0000) as u16),
+        }
+    }
+
+    /// The word at an address.
+    ///
+    /// `Unaligned` comes where the address is no multiple of 4, and `BadAddress` where no segment is.
+    pub fn load_word(&self, a: u32) -> Result<u32, MemFault>
+        ensures { result ≡ accessed 4 (readable (segments self.now) a 4) a (word (bytes_of self.now) a) }
+    {
+        if a % 4 != 0 {
+            return Err(MemFault::Unaligned(a));
+        }
+        match self.place(a) {
+            Some(Place::StaticBytes(offset)) => Ok(read_word(&self.static_bytes, offset)),
+            Some(Place::Heap(offset)) => Ok(read_word(&self.heap, offset)),
+            Some(Place::Stack(offset)) => Ok(read_word(&self.stack, offset)),
+            None => self.text_from(a),
+        }
+    }
+
+    /// Stores a byte. `BadAddress` comes where no data, heap or stack is. A refused store changes nothing.
+    pub fn store_byte(&mut self, a: u32, v: u8) -> Result<(), MemFault>
+        ensures answer { result ≡ accessed 1 (writable (segments self.old) a 1) a tt }
+        ensures stored { OnOk result (bytes_of self.new ≡ set_byte (bytes_of self.old) a v) }
+        ensures text { self.new.text ≡ self.old.text }
+        ensures segments { segments self.new ≡ segments self.old }
+        ensures kept { OnErr result (self.new ≡ self.old) }
+    {
+        match self.place(a) {
+            Some(Place::StaticBytes(offset)) => self.static_bytes[offset] = v,
+            Some(Place::Heap(offset)) => self.heap[offset] = v,
+            Some(Place::Stack(offset)) => self.stack[offset] = v,
+            None => return Err(MemFault::BadAddress(a)),
+        }
+        Ok(())
+    }
+
+    /// Stores a half.
+    ///
+    /// `Unaligned` comes where the address is no multiple of 2, and `BadAddress` where no data, heap or stack is. A refused
+    /// store changes nothing.
+    pub fn store_half(&mut self, a: u32, v: u16) -> Result<(), MemFault>
+        ensures answer { result ≡ accessed 2 (writable (segments self.old) a 2) a tt }
+        ensures stored { OnOk result (bytes_of self.new ≡ set_half (bytes_of self.old) a v) }
+        ensures text { self.new.text ≡ self.old.text }
+        ensures segments { segments self.new ≡ segments self.old }
+        ensures kept { OnErr result (self.new ≡ self.old) }
+    {
+        if a % 2 != 0 {
+            return Err(MemFault::Unaligned(a));
+        }
+        match self.place(a) {
+            Some(Place::StaticBytes(offset)) => write_half(&mut self.static_bytes, offset, v),
+            Some(Place::Heap(offset)) => write_half(&mut self.heap, offset, v),
+            Some(Place::Stack(offset)) => write_half(&mut self.stack, offset, v),
+            None => return Err(MemFault::BadAddress(a)),
+        }
+        Ok(())
+    }
+
+    /// Stores a word.
+    ///
+    /// `Unaligned` comes where the address is no multiple of 4, and `BadAddress` where no data, heap or stack is. A refused
+    /// store changes nothing.
+    pub fn store_word(&mut self, a: u32, v: u32) -> Result<(), MemFault>
+        ensures answer { result ≡ accessed 4 (writable (segments self.old) a 4) a tt }
+        ensures stored { OnOk result (bytes_of self.new ≡ set_word (bytes_of self.old) a v) }
+        ensures text { self.new.text ≡ self.old.text }
+        ensures segments { segments self.new ≡ segments self.old }
+        ensures kept { OnErr result (self.new ≡ self.old) }
+    {
+        if a % 4 != 0 {
+            return Err(MemFault::Unaligned(a));
+        }
+        match self.place(a) {
+            Some(Place::StaticBytes(offset)) => write_word(&mut self.static_bytes, offset, v),
+            Some(Place::Heap(offset)) => write_word(&mut self.heap, offset, v),
+            Some(Place::Stack(offset)) => write_word(&mut self.stack, offset, v),
+            None => return Err(MemFault::BadAddress(a)),
+        }
+        Ok(())
+    }
+}

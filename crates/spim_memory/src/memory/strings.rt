@@ -1,0 +1,79 @@
+//! Strings and buffers, of which SPIM's system calls `print_string` and `read_string` ask.
+
+ghost use Rattle.std.specs.Prelude.{◌≡◌, ◌+◌, ◌<◌, ◌≤◌, ◌==◌, ◌&&◌, Some, None, IfSome, IfNone};
+ghost use Rattle.mips_isa.specs.Bytes.{readable, writable, stack_end};
+ghost use Rattle.mips_isa.specs.Calls.{segment_end, string_at, all_writable};
+ghost use Rattle.spim_memory.specs.Memory.{segments, bytes_of};
+ghost use Rattle.spim_memory.specs.Strings.{bytes_from, MayLoad};
+
+use super::{DATA_START, HEAP_START, Memory, Place, STACK_END, TEXT_START};
+
+impl Memory {
+    /// The end of the segment that has the byte at an address. `None` comes where no segment is.
+    fn segment_end(&self, a: u32) -> Option<u32>
+        ensures end { result ≡ segment_end (segments self.now) a }
+        ensures behind { IfSome result (λ end. a < end) }
+        ensures below { IfSome result (λ end. end ≤ stack_end) }
+    {
+        match self.place(a) {
+            Some(Place::StaticBytes(_)) => Some(DATA_START + self.static_bytes.len() as u32),
+            Some(Place::Heap(_)) => Some(HEAP_START + self.heap.len() as u32),
+            Some(Place::Stack(_)) => Some(STACK_END),
+            None => {
+                self.text_word(a)?;
+                Some(TEXT_START + 4 * self.text.len() as u32)
+            }
+        }
+    }
+
+    /// Whether a 0 stands at an address.
+    fn has_zero(&self, a: u32) -> bool
+        ensures { result ≡ (readable (segments self.now) a 1 && (bytes_of self.now a == 0)) }
+    {
+        matches!(self.load_byte(a), Ok(0))
+    }
+
+    /// How many bytes stand from an address on up to a 0: the length of the string that SPIM's `print_string` writes.
+    ///
+    /// `None` comes where no segment is, and where the segment ends before a 0 comes. The text is a segment, too.
+    pub fn string_length(&self, a: u32) -> Option<u32>
+        ensures found { IfSome result (λ n. string_at (segments self.now) (bytes_of self.now) a ≡ Some (bytes_from (bytes_of self.now) a n)) }
+        ensures none { IfNone result (string_at (segments self.now) (bytes_of self.now) a ≡ None) }
+        ensures inside { IfSome result (λ n. MayLoad (segments self.now) a n) }
+        ensures below { IfSome result (λ n. a + n < stack_end) }
+    {
+        let room = self.segment_end(a)? - a;
+        for k in 0..room {
+            if self.has_zero(a + k) {
+                return Some(k);
+            }
+        }
+        None
+    }
+
+    /// Whether the byte that lies so far behind an address may be stored. The sum does not wrap.
+    fn may_store_byte(&self, a: u32, offset: u32) -> bool
+        ensures { result ≡ writable (segments self.now) (a + offset) 1 }
+    {
+        // A use of a field: it tells the proof that no segment reaches the last address.
+        let _ = &self.text;
+        match a.checked_add(offset) {
+            Some(byte) => self.place(byte).is_some(),
+            None => false,
+        }
+    }
+
+    /// Whether each of `count` bytes from an address on may be stored: the buffer that SPIM's `read_string` fills.
+    ///
+    /// An address does not wrap: no byte behind the last address may be stored.
+    pub fn may_store(&self, a: u32, count: u32) -> bool
+        ensures { result ≡ all_writable (segments self.now) a count }
+    {
+        for k in 0..count {
+            if !self.may_store_byte(a, k) {
+                return false;
+            }
+        }
+        true
+    }
+}
