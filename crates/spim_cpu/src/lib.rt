@@ -1,0 +1,14 @@
+//! The processor of the integer R2000.
+//!
+//! Comes in: the memory of an image. Goes out: the state after each instruction, or why it stops. It meets `Machine.antt` of
+//! `mips_isa`.
+#![tactic(auto)]
+
+mod arithmetic;
+mod cpu;
+mod step;
+#[cfg(test)]
+mod tests;
+
+pub use cpu::Cpu;
+pub use step::Step;

@@ -1,0 +1,14 @@
+//! What an instruction leads to.
+
+use mips_isa::Trap;
+
+/// What an instruction leads to.
+#[derive(Clone, Copy, Debug, PartialEq, Eq)]
+pub enum Step {
+    /// The next instruction.
+    Next,
+    /// A system call; pc stands behind it.
+    Call,
+    /// A trap, which changed nothing.
+    Trap(Trap),
+}

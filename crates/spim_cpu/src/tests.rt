@@ -1,0 +1,4 @@
+//! The processor.
+
+mod instructions;
+mod operations;
