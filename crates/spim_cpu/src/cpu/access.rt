@@ -1,8 +1,9 @@
 //! Loads and stores.
 
-ghost use Rattle.std.specs.Prelude.{◌≡◌, ◌<◌};
+ghost use Rattle.std.specs.Prelude.{◌≡◌, ◌<◌, OnOk, OnErr};
+ghost use Rattle.mips_isa.specs.Bytes.{writable, set_byte};
 ghost use Rattle.mips_isa.specs.Machine as machine;
-ghost use Rattle.spim_memory.specs.Memory.{segments};
+ghost use Rattle.spim_memory.specs.Memory.{segments, accessed};
 ghost use Rattle.spim_cpu.specs.Cpu.{core_of, trap_of, KeepsSegments, Stepped, put_loaded, after_store};
 
 use crate::arithmetic::{signed_byte, signed_half};
@@ -29,6 +30,16 @@ pub(crate) fn trap_of(fault: MemFault, pc: u32) -> Trap
 }
 
 impl Cpu {
+    /// Stores a byte, as a system call does. `BadAddress` comes where no data, heap or stack is, and then nothing changes.
+    pub fn store_byte(&mut self, a: u32, v: u8) -> Result<(), MemFault>
+        ensures answer { result ≡ accessed 1 (writable (segments self.old.memory) a 1) a tt }
+        ensures stored { OnOk result (core_of self.new ≡ record (core_of self.old) { memory = set_byte (core_of self.old).memory a v }) }
+        ensures kept { OnErr result (self.new ≡ self.old) }
+        ensures segments { KeepsSegments self.old.memory self.new.memory }
+    {
+        self.memory.store_byte(a, v)
+    }
+
     /// A load into a register, or a store of one, at an address.
     pub(crate) fn access(&mut self, op: MemOp, r: Reg, a: u32) -> Step
         requires { self.old.pc < 268435456 }
@@ -56,9 +67,9 @@ impl Cpu {
                 let loaded = self.memory.load_half(a).map(u32::from);
                 self.put_loaded(r, loaded)
             }
-            MemOp::Sb => self.store_byte(r, a),
-            MemOp::Sh => self.store_half(r, a),
-            MemOp::Sw => self.store_word(r, a),
+            MemOp::Sb => self.execute_sb(r, a),
+            MemOp::Sh => self.execute_sh(r, a),
+            MemOp::Sw => self.execute_sw(r, a),
         }
     }
 
@@ -73,7 +84,7 @@ impl Cpu {
         }
     }
 
-    fn store_byte(&mut self, r: Reg, a: u32) -> Step
+    fn execute_sb(&mut self, r: Reg, a: u32) -> Step
         requires { self.old.pc < 268435456 }
         ensures stepped { Stepped (machine.mem (segments self.old.memory) MemOp.Sb (core_of self.old) r a) result self.old self.new }
         ensures segments { KeepsSegments self.old.memory self.new.memory }
@@ -83,7 +94,7 @@ impl Cpu {
         self.after_store(stored)
     }
 
-    fn store_half(&mut self, r: Reg, a: u32) -> Step
+    fn execute_sh(&mut self, r: Reg, a: u32) -> Step
         requires { self.old.pc < 268435456 }
         ensures stepped { Stepped (machine.mem (segments self.old.memory) MemOp.Sh (core_of self.old) r a) result self.old self.new }
         ensures segments { KeepsSegments self.old.memory self.new.memory }
@@ -93,7 +104,7 @@ impl Cpu {
         self.after_store(stored)
     }
 
-    fn store_word(&mut self, r: Reg, a: u32) -> Step
+    fn execute_sw(&mut self, r: Reg, a: u32) -> Step
         requires { self.old.pc < 268435456 }
         ensures stepped { Stepped (machine.mem (segments self.old.memory) MemOp.Sw (core_of self.old) r a) result self.old self.new }
         ensures segments { KeepsSegments self.old.memory self.new.memory }

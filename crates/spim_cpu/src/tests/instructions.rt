@@ -3,7 +3,7 @@
 
 use crate::{Cpu, Step};
 use mips_isa::{Image, Reg, Trap, TrapKind};
-use spim_memory::{Limits, Memory};
+use spim_memory::{Limits, MemFault, Memory};
 use std::test::Fail;
 
 /// The data of each program.
@@ -549,5 +549,17 @@ fn traps(rt: HostRuntime) -> Result<(), Fail> {
         assert_eq!(rt; cpu.step(), Step::Trap(trap));
         assert_eq!(rt; cpu.pc(), 0x0040_0000);
     }
+    Ok(())
+}
+
+#[test]
+fn byte_of_a_system_call(rt: HostRuntime) -> Result<(), Fail> {
+    // lbu $3,1($4)
+    let mut cpu = processor(&rt, &[0x9083_0001], 0x1000_0000, 0)?;
+    assert_eq!(rt; cpu.store_byte(0x1000_0001, 7), Ok(()));
+    let text = cpu.store_byte(0x0040_0000, 7);
+    assert_eq!(rt; text, Err(MemFault::BadAddress(0x0040_0000)));
+    assert_eq!(rt; cpu.step(), Step::Next);
+    assert_eq!(rt; cpu.register(Reg::new(3)), 7);
     Ok(())
 }
