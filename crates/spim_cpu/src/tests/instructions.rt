@@ -1,5 +1,7 @@
-//! One row or more for each instruction. The words are those of GNU as (mipsel, -mips1); the results are those of the R2000's
-//! manual.
+//! One row or more for each instruction.
+//!
+//! The words are those of GNU as (mipsel, -mips1), but for `j`, `jal`, `jalr` with one register twice, and the words that are
+//! no instruction, which are put together by hand. The results are those of another interpreter of the same instructions.
 
 use crate::{Cpu, Step};
 use mips_isa::{Image, Reg, Trap, TrapKind};
