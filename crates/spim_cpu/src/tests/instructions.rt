@@ -1,7 +1,8 @@
 //! One row or more for each instruction.
 //!
-//! The words are those of GNU as (mipsel, -mips1), but for `j`, `jal`, `jalr` with one register twice, and the words that are
-//! no instruction, which are put together by hand. The results are those of another interpreter of the same instructions.
+//! The words are those of GNU as (mipsel, -mips1), and the results those of another interpreter of the same instructions.
+//! Put together by hand are the rows of `j` and `jal`, the one of `jalr` with one register twice, the words that are no
+//! instruction, and the test of a system call's byte.
 
 use crate::{Cpu, Step};
 use mips_isa::{Image, Reg, Trap, TrapKind};
