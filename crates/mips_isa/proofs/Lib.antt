@@ -3,3 +3,5 @@ pub mod WordsAreDecoded
 pub mod DecodedIsItsWord
 pub mod DecodingWords
 pub mod RunsInParts
+pub mod OutputGrows
+pub mod WalkingText

@@ -38,12 +38,12 @@ taken (suc n) (b ∷ rest) =
     else (let t : Taken = taken n rest in record t { got = b ∷ t.got }))
 
 -- where the end was answered, it is not asked for again
-abbrev pub asked : State → ℕ → Taken
-asked s n = if s.ended then record { got = []; rest = s.input; ended = true } else taken n s.input
+abbrev pub asked : Bool → ℕ → List ℕ → Taken
+asked ended n input = if ended then record { got = []; rest = input; ended = true } else taken n input
 
 -- a whole line: more bytes than there are
-abbrev pub asked_line : State → Taken
-asked_line s = asked s (suc (length s.input))
+abbrev pub asked_line : Bool → List ℕ → Taken
+asked_line ended input = asked ended (suc (length input)) input
 
 -- a number at the front of a line: blanks and tabs, an optional minus sign, digits; its low 32 bits
 
@@ -150,7 +150,7 @@ store_string s t =
 abbrev pub read_string : Segments → State → Outcome
 read_string b s =
     if is_negative (a1 s) || a1 s == 0 then Running s
-    else (if not (all_writable b (a0 s) (a1 s)) then bad_address s else store_string s (asked s (a1 s - 1)))
+    else (if not (all_writable b (a0 s) (a1 s)) then bad_address s else store_string s (asked s.ended (a1 s - 1) s.input))
 
 abbrev pub sbrk : Segments → State → Outcome
 sbrk b s =
@@ -162,12 +162,12 @@ abbrev pub call : Segments → State → Outcome
 call b s =
     if v0 s == 1 then print s (signed_decimal (signed (a0 s)))
     else (if v0 s == 4 then print_string s (string_at b s.core.memory (a0 s))
-    else (if v0 s == 5 then read_int s (asked_line s)
+    else (if v0 s == 5 then read_int s (asked_line s.ended s.input)
     else (if v0 s == 8 then read_string b s
     else (if v0 s == 9 then sbrk b s
     else (if v0 s == 10 then Exited 0 s
     else (if v0 s == 11 then print s (a0 s % 256 ∷ [])
-    else (if v0 s == 12 then read_char s (asked s 1)
+    else (if v0 s == 12 then read_char s (asked s.ended 1 s.input)
     else (if v0 s == 17 then Exited (a0 s) s
     else bad_call s))))))))
 

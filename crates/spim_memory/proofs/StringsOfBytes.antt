@@ -155,3 +155,7 @@ may_place m a byte (Some (Stack i)) b is same at holds =
 -- no byte behind the last address may be stored
 pub may_not_behind : (m : MemoryParts) (a : ℕ) → IsMemory m → 4294967296 ≤ a → false ≡ writable (segments m) a 1
 may_not_behind m a is far = grind (arith, is.static_bytes, is.heap)
+
+-- a byte that may be stored lies below the stack's end
+pub may_below : (m : MemoryParts) (a : ℕ) → IsMemory m → writable (segments m) a 1 ≡ true → a < stack_end
+may_below m a is may = grind (arith, is.static_bytes, is.heap, may)

@@ -90,6 +90,13 @@ impl Memory {
         })
     }
 
+    /// Where the heap ends.
+    pub fn heap_end(&self) -> u32
+        ensures { result ≡ (segments self.now).heap_end }
+    {
+        HEAP_START + self.heap.len() as u32
+    }
+
     /// The segment of data, heap or stack that has the byte at an address.
     fn place(&self, a: u32) -> Option<Place>
         ensures { IsPlace self.now a result }

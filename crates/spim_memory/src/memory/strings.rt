@@ -1,6 +1,6 @@
 //! Strings and buffers, of which SPIM's system calls `print_string` and `read_string` ask.
 
-ghost use Rattle.std.specs.Prelude.{◌≡◌, ◌+◌, ◌<◌, ◌≤◌, ◌==◌, ◌&&◌, Some, None, IfSome, IfNone};
+ghost use Rattle.std.specs.Prelude.{◌≡◌, ◌+◌, ◌<◌, ◌≤◌, ◌==◌, ◌&&◌, true, Some, None, IfSome, IfNone};
 ghost use Rattle.mips_isa.specs.Bytes.{readable, writable, stack_end};
 ghost use Rattle.mips_isa.specs.Calls.{segment_end, string_at, all_writable};
 ghost use Rattle.spim_memory.specs.Memory.{segments, bytes_of};
@@ -53,7 +53,8 @@ impl Memory {
 
     /// Whether the byte that lies so far behind an address may be stored. The sum does not wrap.
     fn may_store_byte(&self, a: u32, offset: u32) -> bool
-        ensures { result ≡ writable (segments self.now) (a + offset) 1 }
+        ensures writable { result ≡ writable (segments self.now) (a + offset) 1 }
+        ensures below { result ≡ true → a + offset < stack_end }
     {
         // A use of a field: it tells the proof that no segment reaches the last address.
         let _ = &self.text;
@@ -67,7 +68,8 @@ impl Memory {
     ///
     /// An address does not wrap: no byte behind the last address may be stored.
     pub fn may_store(&self, a: u32, count: u32) -> bool
-        ensures { result ≡ all_writable (segments self.now) a count }
+        ensures writable { result ≡ all_writable (segments self.now) a count }
+        ensures below { result ≡ true → 0 < count → a + count ≤ stack_end }
     {
         for k in 0..count {
             if !self.may_store_byte(a, k) {
