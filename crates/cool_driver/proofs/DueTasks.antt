@@ -1,38 +1,61 @@
 -- What is left to do is what is due.
-use Rattle.std.proofs.Common.{◌≡◌, ℕ, ◌<◌, List, [], ◌++◌, length, Some, refl, arith}
-use Rattle.std.specs.Prelude.{codes}
-use Rattle.std.specs.List.{concat}
+use Rattle.std.proofs.Common.{◌≡◌, ◌≢◌, ℕ, ◌<◌, ◌≤◌, List, [], ◌++◌, length, Some, refl, sym, subst, arith}
+use Rattle.std.specs.Prelude.{codes, Option, Result, Ok, Err, IfOk}
 use Rattle.std.proofs.Math.ListN.{length-append}
 use Rattle.cool_ports.specs.Counts.{Rose}
-use Rattle.cool_ports.specs.ShelfFiles.{IsMissing, IsLonger}
+use Rattle.cool_ports.specs.ShelfFiles.{FileMap, MayHold, IsMissing, IsLonger}
 use Rattle.cool_ports.specs.declared.shelf.ShelfFault.{ShelfFault}
 use Rattle.cool_ports.specs.declared.shelf.ShelfFault.TheVariants as faults
-use Rattle.cool_driver.specs.CommandLine.{plan_of}
-use Rattle.cool_driver.specs.Ends.{Request, Due, IsRead, end_text, missing_note, unread_note}
-use Rattle.cool_driver.specs.Ends.Due.{ran, refused, missing, unread, too_large}
-use Rattle.cool_driver.specs.Tasks.{fault_note, IsTaskOf, IsDue}
+use Rattle.mips_image.specs.declared.image_error.ImageError.{ImageError}
+use Rattle.cool_driver.specs.CommandLine.{plan_of, most_bytes}
+use Rattle.cool_driver.specs.Notes.{refused_note, missing_note, unread_note, too_large_note, image_fault, image_note}
+use Rattle.cool_driver.specs.Ends.{Request, Due, IsRead}
+use Rattle.cool_driver.specs.Ends.Due.{refused, unfit, missing, unread, too_large}
+use Rattle.cool_driver.specs.Tasks.{code_of, fault_note, IsTaskOf, IsDue, IsFileTask}
+use Rattle.cool_driver.specs.declared.command_line.Command.{Command}
+use Rattle.cool_driver.specs.declared.command_line.Command.TheVariants as command
+use Rattle.cool_driver.specs.declared.status.Status.TheVariants as statuses
 use Rattle.cool_driver.specs.declared.task.Task.{Task}
-use Rattle.cool_driver.specs.declared.task.Task.TheVariants.{Note, Run}
-use Rattle.cool_driver.specs.declared.TheConstants.{MOST_SOURCE_BYTES}
+use Rattle.cool_driver.specs.declared.task.Task.TheVariants.{Note, Run, Execute}
 
--- a note with a text behind it is not empty
-some_note : (front : List ℕ) (n : ℕ) (back : List ℕ) → 0 < length back → 0 < length (front ++ back)
-some_note front n back h = omega (arith, length-append front back)
+-- the notes of a file that was read are not empty
+some_refused : (name : List ℕ) → 0 < length (refused_note name)
+some_refused name = omega (arith, length-append name (codes ":1: N1: not yet\n"))
+
+some_unfit : (name : List ℕ) (fault : ImageError) → 0 < length (image_note name fault)
+some_unfit name fault = omega (arith, length-append name (codes ": " ++ image_fault fault))
 
 -- for a file that was read
-pub task_due : (r : Request) (name bytes : List ℕ) (task : Task) → IsRead r name bytes → r.faults_after ≡ r.faults_before → IsTaskOf name bytes task → IsDue r task
-task_due r name bytes (Note status text) read calm h = rw (h.0, h.1) (refused name bytes read calm h.2, omega (arith, length-append name (codes ":1: N1: not yet\n")))
-task_due r name bytes (Run program) read calm h = (concat h.0 ++ end_text, ran name bytes h.0 read calm h.1, h.2)
+task_due : (r : Request) (asked : Command) (name bytes : List ℕ) (task : Task) → IsRead r asked name bytes → IsTaskOf asked name bytes task → IsDue r task
+task_due r command.Run name bytes (Note status text) read h = rw (h.0, h.1) (refused name bytes read h.2, some_refused name, λ e. omega (arith, e))
+task_due r command.Run name bytes (Run image) read h = (name, bytes, h.0, read, h.1, h.2)
+task_due r command.Run name bytes (Execute image) read h = absurd h
+task_due r command.Exec name bytes (Note status text) read h = rw (h.0, h.1.1) (unfit name bytes h.1.0 read h.1.2, some_unfit name h.1.0, λ e. omega (arith, e))
+task_due r command.Exec name bytes (Run image) read h = absurd h
+task_due r command.Exec name bytes (Execute image) read h = (name, bytes, read, h)
+
+-- for a file that was read, for any words that ask for it and over any input
+pub file_task : {E : Type 0} (files : Option FileMap) (before after most : ℕ) (asked taken : Command) (name bytes given : List ℕ) (result : Result Task E)
+    → asked ≡ taken → most ≡ most_bytes asked → given ≡ bytes → MayHold files name bytes → length bytes ≤ most → after ≡ before
+    → IfOk result (IsTaskOf taken name given) → IfOk result (IsFileTask files before after asked name)
+file_task files before after most asked taken name bytes given (Err e) same limit whole held within calm h = tt
+file_task files before after most asked taken name bytes given (Ok task) same limit whole held within calm h = λ words input plan.
+    let r : Request = record { words = words; files = files; faults_before = before; faults_after = after; input = input } in
+    let read : IsRead r asked name bytes = record { plan = plan; held = held; within = omega (arith, within, limit); calm = calm } in
+    task_due r asked name bytes task read (subst (λ (c : Command). IsTaskOf c name bytes task) (sym same) (subst (λ (bs : List ℕ). IsTaskOf taken name bs task) whole h))
 
 -- for a file that was not read
-pub fault_due : (r : Request) (name : List ℕ) (fault : ShelfFault) (note : List ℕ) → plan_of r.words ≡ Some name → fault_note name fault ≡ Some note → (fault ≡ faults.Missing → IsMissing r.files name r.faults_before r.faults_after) → (fault ≡ faults.TooLarge → IsLonger r.files name MOST_SOURCE_BYTES r.faults_before r.faults_after) → (fault ≡ faults.Failed → Rose r.faults_before r.faults_after) → Due r 10 [] note × (0 < length note)
-fault_due r name faults.Missing note p e gone long failed =
+pub fault_due : (r : Request) (asked : Command) (most : ℕ) (name : List ℕ) (fault : ShelfFault) (note : List ℕ) → plan_of r.words ≡ Some (asked, name) → most ≡ most_bytes asked
+    → fault_note name fault ≡ Some note → (fault ≡ faults.Missing → IsMissing r.files name r.faults_before r.faults_after)
+    → (fault ≡ faults.TooLarge → IsLonger r.files name most r.faults_before r.faults_after) → (fault ≡ faults.Failed → Rose r.faults_before r.faults_after)
+    → Due r 10 [] note r.input × (0 < length note) × (code_of statuses.FileFault ≢ 7)
+fault_due r asked most name faults.Missing note p limit e gone long failed =
     let same : missing_note name ≡ note = cc in
-    rw (← same) (missing name p (gone refl), omega arith)
-fault_due r name faults.Failed note p e gone long failed =
+    rw (← same) (missing asked name p (gone refl), omega arith, λ e. omega (arith, e))
+fault_due r asked most name faults.Failed note p limit e gone long failed =
     let same : unread_note name ≡ note = cc in
-    rw (← same) (unread name p (failed refl), omega arith)
-fault_due r name faults.TooLarge note p e gone long failed =
-    let same : codes "cool: files too large\n" ≡ note = cc in
-    rw (← same) (too_large name p (long refl), omega arith)
-fault_due r name faults.Memory note p e gone long failed = absurd cc
+    rw (← same) (unread asked name p (failed refl), omega arith, λ e. omega (arith, e))
+fault_due r asked most name faults.TooLarge note p limit e gone long failed =
+    let same : too_large_note ≡ note = cc in
+    rw (← same) (too_large asked name p (subst (λ (n : ℕ). IsLonger r.files name n r.faults_before r.faults_after) limit (long refl)), omega arith, λ e. omega (arith, e))
+fault_due r asked most name faults.Memory note p limit e gone long failed = absurd cc

@@ -6,4 +6,12 @@ pub mod ReadingIsSimple
 pub mod RunningPrints
 pub mod PlainStrings
 pub mod DueTasks
+pub mod Findings
 pub mod EndsOfDue
+pub mod EndsOfTasks
+pub mod RunsByDefault
+pub mod SimpleRuns
+pub mod EndsOfRuns
+pub mod HexDigits
+pub mod EmittedImages
+pub mod LoadingImages

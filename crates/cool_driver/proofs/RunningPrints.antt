@@ -1,92 +1,187 @@
 -- The words that print strings print just them, in order, and then exit.
-use Rattle.std.proofs.Common.{◌≡◌, ℕ, ◌+◌, ◌-◌, ◌*◌, ◌/◌, ◌%◌, ◌<◌, true, false, cond, not, List, [], ◌∷◌, ◌++◌, length, Some, refl, sym, ◌∙◌, ap, append_assoc, arith}
-use Rattle.std.specs.Prelude.{◌==◌, nat_lt, bit_or}
-use Rattle.std.specs.List.{prefix_len, AllByRecursion, concat}
-use Rattle.std.proofs.Math.Seq.{take-append_seam, drop-append_seam}
+use Rattle.std.proofs.Common.{◌≡◌, ◌∙◌, ap, arith, refl, sym, cond, not, ℕ, zero, suc, ◌+◌, ◌-◌, ◌*◌, ◌/◌, ◌%◌, ◌<◌, ◌≤◌, true, false, List, [], ◌∷◌, ◌++◌, length, drop, get_or, append_assoc, append-nil}
+use Rattle.std.specs.Prelude.{◌==◌, Some, bit_or, flat_map, IsTrue, nat_le, nat_lt, pos}
+use Rattle.std.specs.List.{AllByRecursion, concat}
 use Rattle.std.proofs.Math.ListN.{length-append}
+use Rattle.std.proofs.Math.Seq.{drop-append_seam, get_or-append_seam}
+use Rattle.std.proofs.lemmas.List.{get_or-append-add, get_or_append_left}
 use Rattle.std.proofs.lemmas.Nat.{or_shifted}
-use Rattle.spim_machine.specs.declared.instruction.Register.TheVariants.{A0}
-use Rattle.spim_machine.specs.declared.instruction.Registers.{Registers}
-use Rattle.spim_machine.specs.declared.instruction.Instruction.TheVariants.{Lui, Ori}
-use Rattle.spim_machine.specs.Words.{decoded}
-use Rattle.spim_machine.specs.SmallRun.{up_to_zero, string_at, printing, run_from, small_run}
+use Rattle.mips_isa.specs.ImageBounds.{ImageParts, text_start}
+use Rattle.mips_isa.specs.Bytes.{Bytes, Segments, lies, data_start, heap_start, segments_of, bytes_of_image}
+use Rattle.mips_isa.specs.Decoding.{decoded}
+use Rattle.mips_isa.specs.Words.{fields, InRange}
+use Rattle.mips_isa.specs.declared.instr.Instr.{Instr}
+use Rattle.mips_isa.specs.declared.instr.Instr.TheVariants.{Imm, Lui, Syscall}
+use Rattle.mips_isa.specs.declared.instr.ImmOp.TheVariants.{Ori}
+use Rattle.mips_isa.specs.Machine.{Core, Next, On, Call, Registers, set_register, step, act}
+use Rattle.mips_isa.specs.Calls.{State, Outcome, Running, Exited, call, string_at, string_in, up_to_zero, segment_end, print_string}
+use Rattle.mips_isa.specs.Run.{after, and_then, run, start, start_core}
+use Rattle.mips_isa.proofs.WordsAreDecoded.{decoded-word_of}
+use Rattle.mips_isa.proofs.WalkingText.{drop_one_more, text_step, run_on, run_call}
 use Rattle.cool_driver.specs.Emitted.{HasNoZero, print_words, exit_words, prints, data_of, text_of}
 
-zero_after : (string rest : List ℕ) → HasNoZero string → prefix_len (λ b. not (b == 0)) (string ++ 0 ∷ rest) ≡ length string
-zero_after [] rest h = refl
-zero_after (b ∷ string) rest h = ap (λ t. cond t (1 + prefix_len (λ c. not (c == 0)) (string ++ 0 ∷ rest)) 0) h.0 ∙ omega (arith, zero_after string rest h.1)
+-- the words of these instructions
+lui_word : (k n : ℕ) → k < 32 → n < 65536 → decoded (1006632960 + k * 65536 + n) ≡ Some (Lui k (pos n))
+lui_word k n low small =
+    let range : InRange (Lui k (pos n)) = (low, small) in
+    let same : 1006632960 + k * 65536 + n ≡ fields 15 0 k (n % 65536) = omega (arith, small) in
+    ap decoded same ∙ decoded-word_of (Lui k (pos n)) range
 
--- a string that a zero ends is found
-up_to_zero-string : (string rest : List ℕ) → HasNoZero string → up_to_zero (string ++ 0 ∷ rest) ≡ Some string
-up_to_zero-string string rest h =
-    let before : nat_lt (length string) (length (string ++ 0 ∷ rest)) ≡ true = grind (arith, length-append string (0 ∷ rest)) in
-    rw (zero_after string rest h, before) (ap Some (take-append_seam string (0 ∷ rest)))
+ori_word : (k n : ℕ) → k < 32 → n < 65536 → decoded (872415232 + k * 2097152 + k * 65536 + n) ≡ Some (Imm Ori k k (pos n))
+ori_word k n low small =
+    let range : InRange (Imm Ori k k (pos n)) = (low, low, small) in
+    let same : 872415232 + k * 2097152 + k * 65536 + n ≡ fields 13 k k (n % 65536) = omega (arith, small) in
+    ap decoded same ∙ decoded-word_of (Imm Ori k k (pos n)) range
 
--- the string behind other data is found at its address
-string_at-data : (front string rest : List ℕ) → HasNoZero string → string_at (front ++ (string ++ 0 ∷ rest)) (268435456 + length front) ≡ Some string
-unfolding string_at
-string_at-data front string rest h =
-    let inside : nat_lt (268435456 + length front) 268435456 ≡ false = grind arith in
-    let offset : 268435456 + length front - 268435456 ≡ length front = omega arith in
-    rw (inside, offset, drop-append_seam front (string ++ 0 ∷ rest)) (up_to_zero-string string rest h)
-
--- the words, decoded
-decoded-lui : (n : ℕ) → n < 65536 → decoded (0x3c040000 + n) ≡ Some (Lui A0 n)
+syscall_word : decoded 12 ≡ Some Syscall
 unfolding decoded
-decoded-lui n h =
-    let other : (0x3c040000 + n == 12) ≡ false = grind arith in
-    let op : (0x3c040000 + n) / 67108864 ≡ 15 = omega arith in
-    let rs : (0x3c040000 + n) / 2097152 % 32 ≡ 0 = omega arith in
-    let rt : (0x3c040000 + n) / 65536 % 32 ≡ 4 = omega arith in
-    let imm : (0x3c040000 + n) % 65536 ≡ n = omega arith in
-    rw (other, op, rs, rt, imm)
+syscall_word = refl
 
-decoded-ori : (n : ℕ) → n < 65536 → decoded (0x34840000 + n) ≡ Some (Ori A0 A0 n)
-unfolding decoded
-decoded-ori n h =
-    let other : (0x34840000 + n == 12) ≡ false = grind arith in
-    let op : (0x34840000 + n) / 67108864 ≡ 13 = omega arith in
-    let rs : (0x34840000 + n) / 2097152 % 32 ≡ 4 = omega arith in
-    let rt : (0x34840000 + n) / 65536 % 32 ≡ 4 = omega arith in
-    let imm : (0x34840000 + n) % 65536 ≡ n = omega arith in
-    rw (other, op, rs, rt, imm)
+-- a number's two halves are the number
+halves : (n : ℕ) → n < 4294967296 → bit_or (n / 65536 * 65536 % 4294967296) (n % 65536) ≡ n
+halves n small =
+    let upper : n / 65536 * 65536 % 4294967296 ≡ n / 65536 * 65536 = omega (arith, small) in
+    rw upper (or_shifted (n / 65536) 16 (n % 65536) (omega arith) ∙ omega arith)
 
--- the two halves of an address are the address
-halves : (address : ℕ) → bit_or (address / 65536 * 65536) (address % 65536) ≡ address
-halves address = or_shifted (address / 65536) 16 (address % 65536) (omega arith) ∙ omega arith
+-- the state behind lui and ori, which put a number into a register
+abbrev with_number : ℕ → ℕ → State → State
+with_number k n s = record s { core = record s.core { registers = set_register (set_register s.core.registers k (n / 65536 * 65536 % 4294967296)) k n; pc = s.core.pc + 4 + 4 } }
+
+set_same : (r : Registers) (i v : ℕ) → 0 < i → set_register r i v i ≡ v
+set_same r i v some = grind (arith, some)
+
+abbrev with_register : ℕ → ℕ → State → State
+with_register i v s = record s { core = record s.core { registers = set_register s.core.registers i v; pc = s.core.pc + 4 } }
+
+number_loaded : (text rest : List ℕ) (b : Segments) (n k i lower : ℕ) (s : State) → 0 < i → i < 32 → n < 4294967296
+    → b.text_end ≡ text_start + 4 * length text → drop k text ≡ (1006632960 + i * 65536 + n / 65536) ∷ (872415232 + i * 2097152 + i * 65536 + n % 65536) ∷ rest
+    → s.core.pc ≡ text_start + 4 * k → run text b (suc (suc lower)) s ≡ run text b lower (with_number i n s)
+number_loaded text rest b n k i lower s some low small end there at =
+    let upper = n / 65536 * 65536 % 4294967296 in
+    let half = with_register i upper s in
+    let first : step text b s.core ≡ On half.core = text_step text k _ _ b s.core (Lui i (pos (n / 65536))) end there at (lui_word i (n / 65536) low (omega (arith, small))) in
+    let second = text_step text (suc k) _ _ b half.core (Imm Ori i i (pos (n % 65536))) end (drop_one_more k text _ _ there) (omega (arith, at)) (ori_word i (n % 65536) low (omega arith)) in
+    let value : bit_or (half.core.registers i) (n % 65536) ≡ n = rw (set_same s.core.registers i upper some) (halves n small) in
+    run_on text b (suc lower) s half.core first ∙ run_on text b lower half _ second ∙ ap (λ v. run text b lower (with_register i v half)) value
 
 -- the words of a print, whatever follows
-run_from-print_words : (bytes : List ℕ) (r : Registers) (address : ℕ) (string rest : List ℕ) → address < 4294967296 → string_at bytes address ≡ Some string → run_from bytes r (print_words address ++ rest) ≡ printing (Some string) (run_from bytes (record { v0 = 4; a0 = address }) rest)
-unfolding decoded
-run_from-print_words bytes r address string rest fits found =
-    rw (decoded-lui (address / 65536) (omega arith), decoded-ori (address % 65536) (omega arith), halves address, found)
+abbrev printed : ℕ → List ℕ → State → State
+printed address string s =
+    record s {
+      core = record s.core {
+        registers = set_register (set_register (set_register (set_register s.core.registers 4 (address / 65536 * 65536 % 4294967296)) 4 address) 2 0) 2 4;
+        pc = s.core.pc + 4 + 4 + 4 + 4 + 4;
+      };
+      output = s.output ++ string;
+    }
 
--- a string and its zero, between other data
-regrouped : (front string : List ℕ) (more : List ℕ) → front ++ ((string ++ 0 ∷ []) ++ more) ≡ (front ++ (string ++ 0 ∷ [])) ++ more
-regrouped front string more = sym (append_assoc front (string ++ 0 ∷ []) more)
+print_run : (text rest : List ℕ) (b : Segments) (k n address : ℕ) (string : List ℕ) (s : State) → address < 4294967296 → b.text_end ≡ text_start + 4 * length text
+    → drop k text ≡ print_words address ++ rest → s.core.pc ≡ text_start + 4 * k → string_at b s.core.memory address ≡ Some string
+    → run text b (suc (suc (suc (suc (suc n))))) s ≡ run text b n (printed address string s)
+print_run text rest b k n address string s small end there at found =
+    let behind_two = drop_one_more (suc k) text _ _ (drop_one_more k text _ _ there) in
+    let behind_four = drop_one_more (suc (suc (suc k))) text _ _ (drop_one_more (suc (suc k)) text _ _ behind_two) in
+    let s4 = with_number 4 address s in
+    let s2 = with_number 2 4 s4 in
+    let core : Core = record s2.core { pc = s2.core.pc + 4 } in
+    let call_it : step text b s2.core ≡ Call core = text_step text (suc (suc (suc (suc k)))) 12 rest b s2.core Syscall end behind_four (omega (arith, at)) syscall_word in
+    number_loaded text _ b address k 4 (suc (suc (suc n))) s (omega arith) (omega arith) small end there at
+    ∙ number_loaded text _ b 4 (suc (suc k)) 2 (suc n) s4 (omega arith) (omega arith) (omega arith) end behind_two (omega (arith, at))
+    ∙ run_call text b n s2 core _ call_it (ap (print_string (record s2 { core = core })) found)
 
--- the same with the zero before the other data
-zero_first : (front string : List ℕ) (more : List ℕ) → front ++ ((string ++ 0 ∷ []) ++ more) ≡ front ++ (string ++ 0 ∷ more)
-zero_first front string more = ap (λ xs. front ++ xs) (append_assoc string (0 ∷ []) more)
+-- the words of an exit
+exit_run : (text rest : List ℕ) (b : Segments) (k n : ℕ) (s : State) → b.text_end ≡ text_start + 4 * length text
+    → drop k text ≡ exit_words ++ rest → s.core.pc ≡ text_start + 4 * k
+    → (end : State) × (run text b (suc (suc (suc n))) s ≡ Exited 0 end) × (end.output ≡ s.output) × (end.input ≡ s.input)
+exit_run text rest b k n s end there at =
+    let behind_two = drop_one_more (suc k) text _ _ (drop_one_more k text _ _ there) in
+    let s2 = with_number 2 10 s in
+    let core : Core = record s2.core { pc = s2.core.pc + 4 } in
+    let call_it : step text b s2.core ≡ Call core = text_step text (suc (suc k)) 12 rest b s2.core Syscall end behind_two (omega (arith, at)) syscall_word in (
+      record s2 { core = core },
+      number_loaded text _ b 10 k 2 (suc n) s (omega arith) (omega arith) (omega arith) end there at ∙ run_call text b n s2 core _ call_it refl,
+      refl,
+      refl,
+    )
 
--- behind other data, the words that print strings print them, and exit
-runs_behind : (strings : List (List ℕ)) (front : List ℕ) (r : Registers) → AllByRecursion HasNoZero strings → length front + length (data_of strings) < 268435456 → run_from (front ++ data_of strings) r (prints (268435456 + length front) strings ++ exit_words) ≡ record { output = concat strings; exits = true }
-unfolding decoded
-runs_behind [] front r h small = refl
-runs_behind (string ∷ strings) front r h small =
+-- a string in the data, and the zero behind it
+string_here : (m : Bytes) (string : List ℕ) (a n : ℕ) → HasNoZero string → length string < n
+    → ((i : ℕ) → i < length string → m (a + i) ≡ get_or string i 0) → m (a + length string) ≡ 0 → up_to_zero m a n ≡ Some string
+string_here m string a zero plain room each ends = absurd (omega (arith, room))
+string_here m [] a (suc n) plain room each ends =
+    let here : m a ≡ 0 = ap m (omega arith) ∙ ends in
+    rw here refl
+string_here m (c ∷ string) a (suc n) plain room each ends =
+    let here : m a ≡ c = ap m (omega arith) ∙ each 0 (omega arith) in
+    let some : (c == 0) ≡ false = grind (arith, plain.0) in
+    let further : (q : ℕ) → a + 1 + q ≡ a + suc q = λ q. omega arith in
+    let rest = string_here m string (a + 1) n plain.1 (omega (arith, room))
+    (λ i within. ap m (further i) ∙ each (suc i) (omega (arith, within))) (ap m (further (length string)) ∙ ends) in
+    rw (here, some, rest) refl
+
+-- a byte of the data, in the memory of an image
+data_byte : (image : ImageParts) (i : ℕ) → i < 268435456 → bytes_of_image image (data_start + i) ≡ get_or image.bytes i 0
+data_byte image i small =
+    let behind_text : nat_lt (data_start + i) data_start ≡ false = grind arith in
+    let before_heap : nat_lt (data_start + i) heap_start ≡ true = grind (arith, small) in
+    let offset : data_start + i - data_start ≡ i = omega arith in
+    rw (behind_text, before_heap, offset) refl
+
+-- the string behind other data is found at its address
+string_found : (image : ImageParts) (heap stack : ℕ) (front string rest : List ℕ) → length image.text ≤ 66060288 → length image.bytes ≤ 268435456
+    → image.bytes ≡ front ++ (string ++ 0 ∷ rest) → HasNoZero string
+    → string_at (segments_of image heap stack) (bytes_of_image image) (data_start + length front) ≡ Some string
+string_found image heap stack front string rest few small split plain =
+    let b = segments_of image heap stack in
+    let a = data_start + length front in
+    let size : length image.bytes ≡ length front + (length string + suc (length rest)) = ap length split ∙ length-append front (string ++ 0 ∷ rest) ∙ ap (λ n. length front + n) (length-append string (0 ∷ rest)) in
+    let not_text : lies text_start b.text_end a 1 ≡ false = grind (arith, few) in
+    let in_data : lies data_start b.data_end a 1 ≡ true = grind (arith, size) in
+    let room : length string < b.data_end - a = omega (arith, size) in
+    let place : (i : ℕ) → a + i ≡ data_start + (length front + i) = λ i. omega arith in
+    let each : (i : ℕ) → i < length string → bytes_of_image image (a + i) ≡ get_or string i 0
+    = λ i within. ap (bytes_of_image image) (place i) ∙ data_byte image (length front + i) (omega (arith, size, small, within)) ∙ ap (λ l. get_or l (length front + i) 0) split ∙ get_or-append-add front (string ++ 0 ∷ rest) i 0 ∙ get_or_append_left string (0 ∷ rest) 0 i within in
+    let ends : bytes_of_image image (a + length string) ≡ 0
+    = ap (bytes_of_image image) (place (length string)) ∙ data_byte image (length front + length string) (omega (arith, size, small)) ∙ ap (λ l. get_or l (length front + length string) 0) split ∙ get_or-append-add front (string ++ 0 ∷ rest) (length string) 0 ∙ get_or-append_seam string 0 rest 0 in
+    rw (not_text, in_data) (string_here (bytes_of_image image) string a (b.data_end - a) plain room each ends)
+
+-- how a run that prints ends
+abbrev Printed : State → List ℕ → Outcome → Type 0
+Printed s output o = (end : State) × (o ≡ Exited 0 end) × (end.output ≡ s.output ++ output) × (end.input ≡ s.input)
+
+-- the run of the words that are left, behind those of other strings, whose data stands in front
+runs_behind : (strings : List (List ℕ)) (image : ImageParts) (heap stack : ℕ) (front : List ℕ) (k n : ℕ) (s : State)
+    → length image.text ≤ 66060288 → length image.bytes ≤ 268435456 → image.bytes ≡ front ++ data_of strings
+    → drop k image.text ≡ prints (data_start + length front) strings ++ exit_words → s.core.pc ≡ text_start + 4 * k → s.core.memory ≡ bytes_of_image image
+    → AllByRecursion HasNoZero strings → 5 * length strings + 3 ≤ n
+    → Printed s (concat strings) (run image.text (segments_of image heap stack) n s)
+runs_behind [] image heap stack front k n s few small split there at same plain enough =
+    let three : n ≡ suc (suc (suc (n - 3))) = omega (arith, enough) in
+    let b = segments_of image heap stack in
+    let exit = exit_run image.text [] b k (n - 3) s refl there at in
+    (exit.0, ap (λ m. run image.text b m s) three ∙ exit.1, exit.2 ∙ sym (append-nil s.output), exit.3)
+runs_behind (string ∷ strings) image heap stack front k n s few small split there at same plain enough =
+    let b = segments_of image heap stack in
+    let address = data_start + length front in
+    let five : n ≡ suc (suc (suc (suc (suc (n - 5))))) = omega (arith, enough) in
+    let whole : image.bytes ≡ front ++ (string ++ 0 ∷ data_of strings) = split ∙ ap (λ l. front ++ l) (append_assoc string (0 ∷ []) (data_of strings)) in
     let next = front ++ (string ++ 0 ∷ []) in
-    let all = front ++ ((string ++ 0 ∷ []) ++ data_of strings) in
-    let address = 268435456 + length front in
-    let printed : Registers = record { v0 = 4; a0 = address } in
-    let size : length next ≡ length front + (length string + 1) = simp length-append in
-    let sizes : length ((string ++ 0 ∷ []) ++ data_of strings) ≡ length string + 1 + length (data_of strings) = simp length-append in
-    let found : string_at all address ≡ Some string = rw zero_first (string_at-data front string (data_of strings) h.0) in
-    let behind : address + (length string + 1) ≡ 268435456 + length next = omega arith in
-    let more : run_from all printed (prints (address + (length string + 1)) strings ++ exit_words) ≡ record { output = concat strings; exits = true } =
-    rw (regrouped front string (data_of strings), behind) (runs_behind strings next printed h.1 (omega arith)) in
-    let rest = prints (address + (length string + 1)) strings ++ exit_words in
-    run_from-print_words all r address string rest (omega arith) found ∙ ap (λ run. printing (Some string) run) more
+    let size : length next ≡ length front + (length string + 1) = length-append front (string ++ 0 ∷ []) ∙ ap (λ m. length front + m) (length-append string (0 ∷ [])) in
+    let sizes : length image.bytes ≡ length front + (length string + suc (length (data_of strings))) = ap length whole ∙ length-append front (string ++ 0 ∷ data_of strings) ∙ ap (λ m. length front + m) (length-append string (0 ∷ data_of strings)) in
+    let again : image.bytes ≡ next ++ data_of strings = split ∙ sym (append_assoc front (string ++ 0 ∷ []) (data_of strings)) in
+    let grouped : drop k image.text ≡ print_words address ++ (prints (address + (length string + 1)) strings ++ exit_words) = there in
+    let address_next : address + (length string + 1) ≡ data_start + length next = omega (arith, size) in
+    let there_next : drop (suc (suc (suc (suc (suc k))))) image.text ≡ prints (data_start + length next) strings ++ exit_words
+    = drop_one_more (suc (suc (suc (suc k)))) image.text _ _ (drop_one_more (suc (suc (suc k))) image.text _ _ (drop_one_more (suc (suc k)) image.text _ _ (drop_one_more (suc k) image.text _ _ (drop_one_more k image.text _ _ grouped)))) ∙ ap (λ q. prints q strings ++ exit_words) address_next in
+    let found : string_at b s.core.memory address ≡ Some string = ap (λ m. string_at b m address) same ∙ string_found image heap stack front string (data_of strings) few small whole plain.0 in
+    let one = print_run image.text _ b k (n - 5) address string s (omega (arith, sizes, small)) refl grouped at found in
+    let more = runs_behind strings image heap stack next (suc (suc (suc (suc (suc k))))) (n - 5) (printed address string s) few small again there_next (omega (arith, at)) same plain.1 (omega (arith, enough)) in
+    (more.0, ap (λ m. run image.text b m s) five ∙ one ∙ more.1, more.2 ∙ append_assoc s.output string (concat strings), more.3)
 
 -- the words that print strings print them, and exit
-pub small_run-text_of : (strings : List (List ℕ)) → AllByRecursion HasNoZero strings → length (data_of strings) < 268435456 → small_run (data_of strings) (text_of strings) ≡ record { output = concat strings; exits = true }
-small_run-text_of strings h small = runs_behind strings [] (record { v0 = 0; a0 = 0 }) h (omega arith)
+pub text_prints : (strings : List (List ℕ)) (image : ImageParts) (heap stack n : ℕ) (input : List ℕ)
+    → image.entry ≡ text_start → image.text ≡ text_of strings → image.bytes ≡ data_of strings
+    → length image.text ≤ 66060288 → length image.bytes ≤ 268435456 → AllByRecursion HasNoZero strings → 5 * length strings + 3 ≤ n
+    → (end : State) × (run image.text (segments_of image heap stack) n (start image (segments_of image heap stack) input) ≡ Exited 0 end) × (end.output ≡ concat strings) × (end.input ≡ input)
+text_prints strings image heap stack n input entry text bytes few small plain enough =
+    runs_behind strings image heap stack [] 0 n (start image (segments_of image heap stack) input) few small bytes text (entry ∙ omega arith) refl plain enough

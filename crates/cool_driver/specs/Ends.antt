@@ -1,59 +1,67 @@
--- How a call of `cool` ends: what is due for the words over the shelf's files, and what came of it.
-use Rattle.std.specs.Prelude.{◌≡◌, ◌≢◌, ℕ, ◌<◌, ◌≤◌, ◌⊎◌, List, [], ◌++◌, length, codes, Option, Some, None}
+-- How a call of `cool` ends: what is due for the words over the shelf's files and the input, and what came of it.
+use Rattle.std.specs.Prelude.{◌≡◌, ◌≢◌, ℕ, ◌<◌, ◌≤◌, ◌⊎◌, List, [], ◌++◌, length, Option, Some, None}
 use Rattle.std.specs.List.{concat}
 use Rattle.cool_syntax.specs.SimpleForm.{Simple}
 use Rattle.cool_ports.specs.Counts.{last_count, Rose}
 use Rattle.cool_ports.specs.ShelfFiles.{FileMap, MayHold, IsMissing, IsLonger}
 use Rattle.cool_ports.specs.SinkBytes.{appended, GotPrefix}
-use Rattle.cool_driver.specs.CommandLine.{plan_of}
-use Rattle.cool_driver.specs.declared.TheConstants.{MOST_SOURCE_BYTES}
+use Rattle.mips_isa.specs.ImageBounds.{ImageParts}
+use Rattle.mips_isa.specs.Calls.{State, call, print}
+use Rattle.mips_image.specs.ImageReading.{first_fault}
+use Rattle.mips_image.specs.declared.image_error.ImageError.{ImageError}
+use Rattle.spim_machine.specs.Ends.{FailsReading, call_with}
+use Rattle.cool_driver.specs.CommandLine.{plan_of, most_bytes}
+use Rattle.cool_driver.specs.Notes.{end_text, refused_note, usage_note, missing_note, unread_note, too_large_note, read_fault_note, image_note}
+use Rattle.cool_driver.specs.Execution.{IsImageOf, segments_by_default, run_of, ComesTo, left_by, status_of, note_of, IsEnd}
+use Rattle.cool_driver.specs.declared.command_line.Command.{Command}
+use Rattle.cool_driver.specs.declared.command_line.Command.TheVariants.{Run, Exec}
 
--- what is written at the end of a run that ended well
-abbrev pub end_text : List ℕ
-end_text = codes "COOL program successfully executed\n"
-
--- the notes
-abbrev pub refused_note : List ℕ → List ℕ
-refused_note name = name ++ codes ":1: N1: not yet\n"
-
-abbrev pub usage_note : List ℕ
-usage_note = codes "cool: bad command line\n"
-
-abbrev pub missing_note : List ℕ → List ℕ
-missing_note name = codes "cool: " ++ (name ++ codes ": missing\n")
-
-abbrev pub unread_note : List ℕ → List ℕ
-unread_note name = codes "cool: " ++ (name ++ codes ": read failed\n")
-
-abbrev pub too_large_note : List ℕ
-too_large_note = codes "cool: files too large\n"
-
--- What a call was asked: its words, the files that the shelf tells, and the shelf's count of faults before and after.
+-- What a call was asked: its words, the files that the shelf tells, the shelf's count of faults before and after, and what the
+-- input tells that it has left at first.
 pub record Request : Type 0 where
   pub words : List (List ℕ)
   pub files : Option FileMap
   pub faults_before : ℕ
   pub faults_after : ℕ
+  pub input : Option (List ℕ)
 
 -- the bytes are no program of the simple form
 abbrev pub NotSimple : List ℕ → Type 0
 NotSimple bytes = (strings : List (List ℕ)) → Simple bytes strings → ⊥
 
--- The file that the words name has these bytes, as far as the shelf tells, and is not too large.
-pub record IsRead (r : Request) (name bytes : List ℕ) : Type 0 where
-  pub plan : plan_of r.words ≡ Some name
+-- The file that the words name for this command has these bytes, as far as the shelf tells, and is not too large; no fault came.
+pub record IsRead (r : Request) (command : Command) (name bytes : List ℕ) : Type 0 where
+  pub plan : plan_of r.words ≡ Some (command, name)
   pub held : MayHold r.files name bytes
-  pub within : length bytes ≤ MOST_SOURCE_BYTES
+  pub within : length bytes ≤ most_bytes command
+  pub calm : r.faults_after ≡ r.faults_before
 
--- What is due: the status, the output and the note.
-pub data Due (r : Request) : ℕ → List ℕ → List ℕ → Type 0 where
-  -- the strings of the program in order, and the end text
-  ran : (name bytes : List ℕ) (strings : List (List ℕ)) → IsRead r name bytes → r.faults_after ≡ r.faults_before → Simple bytes strings → Due r 0 (concat strings ++ end_text) []
-  refused : (name bytes : List ℕ) → IsRead r name bytes → r.faults_after ≡ r.faults_before → NotSimple bytes → Due r 1 [] (refused_note name)
-  usage : plan_of r.words ≡ None → r.faults_after ≡ r.faults_before → Due r 2 [] usage_note
-  missing : (name : List ℕ) → plan_of r.words ≡ Some name → IsMissing r.files name r.faults_before r.faults_after → Due r 10 [] (missing_note name)
-  unread : (name : List ℕ) → plan_of r.words ≡ Some name → Rose r.faults_before r.faults_after → Due r 10 [] (unread_note name)
-  too_large : (name : List ℕ) → plan_of r.words ≡ Some name → IsLonger r.files name MOST_SOURCE_BYTES r.faults_before r.faults_after → Due r 10 [] too_large_note
+-- What is due: the status, the output, the note, and what is left of the input.
+pub data Due (r : Request) : ℕ → List ℕ → List ℕ → Option (List ℕ) → Type 0 where
+  -- `run`: the strings of the program in order, and the end text
+  ran : (name bytes : List ℕ) (strings : List (List ℕ)) → IsRead r Run name bytes → Simple bytes strings → Due r 0 (concat strings ++ end_text) [] r.input
+  refused : (name bytes : List ℕ) → IsRead r Run name bytes → NotSimple bytes → Due r 1 [] (refused_note name) r.input
+  -- `exec`: as the run of the image ends
+  executed : (name bytes : List ℕ) (image : ImageParts) (input : List ℕ) → IsRead r Exec name bytes → IsImageOf image bytes → r.input ≡ Some input
+      → Due r (status_of (run_of image input)) (left_by (run_of image input)).output (note_of (run_of image input)) (Some (left_by (run_of image input)).input)
+  -- `exec`: the run comes to a call that fails to read, over what is left
+  unread_input : (name bytes : List ℕ) (image : ImageParts) (input : List ℕ) (at : State) (output : List ℕ) (left : Option (List ℕ))
+      → IsRead r Exec name bytes → IsImageOf image bytes → r.input ≡ Some input
+      → ComesTo image input at → FailsReading (call_with (segments_by_default image) at) at (Some []) left (Some output)
+      → Due r 7 output read_fault_note left
+  unfit : (name bytes : List ℕ) (fault : ImageError) → IsRead r Exec name bytes → first_fault bytes ≡ Some fault → Due r 12 [] (image_note name fault) r.input
+  -- both
+  usage : plan_of r.words ≡ None → r.faults_after ≡ r.faults_before → Due r 2 [] usage_note r.input
+  missing : (command : Command) (name : List ℕ) → plan_of r.words ≡ Some (command, name) → IsMissing r.files name r.faults_before r.faults_after → Due r 10 [] (missing_note name) r.input
+  unread : (command : Command) (name : List ℕ) → plan_of r.words ≡ Some (command, name) → Rose r.faults_before r.faults_after → Due r 10 [] (unread_note name) r.input
+  too_large : (command : Command) (name : List ℕ) → plan_of r.words ≡ Some (command, name) → IsLonger r.files name (most_bytes command) r.faults_before r.faults_after → Due r 10 [] too_large_note r.input
+
+-- What is written when a write of the output fails: what was written before, what is being written, and what is left of the input.
+pub data Writing (r : Request) : List ℕ → List ℕ → Option (List ℕ) → Type 0 where
+  by_run : (name bytes : List ℕ) (strings : List (List ℕ)) → IsRead r Run name bytes → Simple bytes strings → Writing r [] (concat strings ++ end_text) r.input
+  -- the run of the image comes to a call that prints these bytes
+  by_exec : (name bytes : List ℕ) (image : ImageParts) (input : List ℕ) (at : State) (printed : List ℕ) → IsRead r Exec name bytes → IsImageOf image bytes → r.input ≡ Some input
+      → ComesTo image input at → call (segments_by_default image) at ≡ print at printed → Writing r at.output printed (Some at.input)
 
 -- What a sink held, and its count of faults, before a call and after it.
 pub record SinkUse : Type 0 where
@@ -66,19 +74,42 @@ pub record SinkUse : Type 0 where
 abbrev pub Got : SinkUse → List ℕ → Type 0
 Got s bytes = (s.held_after ≡ appended s.held_before bytes) × (s.faults_after ≡ s.faults_before)
 
--- a prefix of these bytes came
-abbrev pub GotSome : SinkUse → List ℕ → Type 0
-GotSome s bytes = GotPrefix s.held_before bytes s.held_after
+-- a write failed: these bytes came, and of these a prefix
+abbrev pub GotPart : SinkUse → List ℕ → List ℕ → Type 0
+GotPart s bytes more = GotPrefix (appended s.held_before bytes) more s.held_after × Rose s.faults_before s.faults_after
 
--- A call of `cool`: what it was asked, and how its output and its notes fared.
+-- A call of `cool`: what it was asked, how its output and its notes fared, what the input tells that it has left, and the input's
+-- count of faults.
 pub record Call : Type 0 where
   pub request : Request
   pub out : SinkUse
   pub notes : SinkUse
+  pub left : Option (List ℕ)
+  pub input_before : ℕ
+  pub input_after : ℕ
+
+-- a write of the output failed: the bytes before it came, and of its own a prefix
+abbrev pub FailedOutput : Call → Type 0
+FailedOutput c = (bytes : List ℕ) × (more : List ℕ) × Writing c.request bytes more c.left × GotPart c.out bytes more × Got c.notes []
+
+-- the write of the note failed: all else is as what is due
+abbrev pub FailedNote : Call → Type 0
+FailedNote c = (due : ℕ) × (output : List ℕ) × (note : List ℕ) × Due c.request due output note c.left × Got c.out output × GotPart c.notes [] note
+
+-- The input does not tell what it has left. So of the run of an image no more is said than that its status and note are those of
+-- some end of a run, or of a read that failed.
+abbrev pub EndsUntold : Call → ℕ → Type 0
+EndsUntold c status =
+    (name : List ℕ) × (bytes : List ℕ) × (image : ImageParts) × IsRead c.request Exec name bytes × IsImageOf image bytes × (c.request.input ≡ None)
+    × (note : List ℕ) × (IsEnd status note ⊎ ((status ≡ 7) × (note ≡ read_fault_note))) × Got c.notes note
 
 -- the shelf tells these files, and no fault of it can have come
 abbrev pub Told : Request → FileMap → Type 0
 Told r files = (r.files ≡ Some files) × (r.faults_before < last_count) × (r.faults_after ≡ r.faults_before)
+
+-- the input tells what it has left, where the command takes of it
+abbrev pub TellsInput : Request → Type 0
+TellsInput r = (name : List ℕ) → plan_of r.words ≡ Some (Exec, name) → (input : List ℕ) × (r.input ≡ Some input)
 
 -- so it is, unless a write failed or memory ran out
 abbrev pub Unless : ℕ → Type 0 → Type 0
@@ -87,24 +118,31 @@ Unless status fact = status ≢ 8 → status ≢ 9 → fact
 -- How a call ends with a status.
 pub record Ends (c : Call) (status : ℕ) : Type 0 where
   -- no other status comes
-  pub statuses : (status ≡ 0) ⊎ (status ≡ 1) ⊎ (status ≡ 2) ⊎ (status ≡ 8) ⊎ (status ≡ 9) ⊎ (status ≡ 10)
-  -- the status is the one due, and what is due was written, and nothing else
-  pub written : Unless status ((output : List ℕ) × (note : List ℕ) × Due c.request status output note × Got c.out output × Got c.notes note)
-  -- status 8: a write failed, and a prefix of what was due came
+  pub statuses : status ≤ 12
+  -- the status is the one due, what is due was written and nothing else, and what is due is left of the input
+  pub written : Unless status (((output : List ℕ) × (note : List ℕ) × Due c.request status output note c.left × Got c.out output × Got c.notes note) ⊎ EndsUntold c status)
+  -- status 8: a write failed
   pub write_fault : status ≡ 8 → Rose c.out.faults_before c.out.faults_after ⊎ Rose c.notes.faults_before c.notes.faults_after
-  pub prefixes : status ≡ 8 → (due : ℕ) × (output : List ℕ) × (note : List ℕ) × Due c.request due output note × GotSome c.out output × GotSome c.notes note
-  -- status 9: nothing was written
-  pub want_of_memory : status ≡ 9 → Got c.out [] × Got c.notes []
+  pub prefixes : TellsInput c.request → status ≡ 8 → FailedOutput c ⊎ FailedNote c
+  -- status 9: nothing was written or taken
+  pub want_of_memory : status ≡ 9 → Got c.out [] × Got c.notes [] × (c.left ≡ c.request.input) × (c.input_after ≡ c.input_before)
+  -- status 7 comes only where the input failed
+  pub read_fault : status ≡ 7 → Rose c.input_before c.input_after
   -- status 2 comes where there is no plan, and only there
   pub usage_only : status ≡ 2 → plan_of c.request.words ≡ None
   pub usage_exactly : plan_of c.request.words ≡ None → Unless status (status ≡ 2)
   -- status 10 comes where the named file is missing or too large, and else only where the shelf failed
-  pub missing_exactly : (files : FileMap) (name : List ℕ) → Told c.request files → plan_of c.request.words ≡ Some name → files name ≡ None → Unless status (status ≡ 10)
-  pub too_large_exactly : (files : FileMap) (name bytes : List ℕ) → Told c.request files → plan_of c.request.words ≡ Some name → files name ≡ Some bytes → MOST_SOURCE_BYTES < length bytes → Unless status (status ≡ 10)
-  -- status 1 comes where the file was read and is no program of the simple form, and status 0 where it is one
-  pub refused_exactly : (files : FileMap) (name bytes : List ℕ) → Told c.request files → IsRead c.request name bytes → NotSimple bytes → Unless status (status ≡ 1)
-  pub ran_exactly : (files : FileMap) (name bytes : List ℕ) (strings : List (List ℕ)) → Told c.request files → IsRead c.request name bytes → Simple bytes strings → Unless status (status ≡ 0)
+  pub missing_exactly : (files : FileMap) (command : Command) (name : List ℕ) → Told c.request files → plan_of c.request.words ≡ Some (command, name) → files name ≡ None → Unless status (status ≡ 10)
+  pub too_large_exactly : (files : FileMap) (command : Command) (name bytes : List ℕ) → Told c.request files → plan_of c.request.words ≡ Some (command, name) → files name ≡ Some bytes → most_bytes command < length bytes → Unless status (status ≡ 10)
+  -- `run`: status 1 comes where the file was read and is no program of the simple form, and status 0 where it is one
+  pub refused_exactly : (files : FileMap) (name bytes : List ℕ) → Told c.request files → IsRead c.request Run name bytes → NotSimple bytes → Unless status (status ≡ 1)
+  pub ran_exactly : (files : FileMap) (name bytes : List ℕ) (strings : List (List ℕ)) → Told c.request files → IsRead c.request Run name bytes → Simple bytes strings → Unless status (status ≡ 0)
+  -- `exec`: status 12 comes where the file was read and is no image, and the status of the run's end where it is one
+  pub unfit_exactly : (files : FileMap) (name bytes : List ℕ) → Told c.request files → IsRead c.request Exec name bytes → ((image : ImageParts) → IsImageOf image bytes → ⊥) → Unless status (status ≡ 12)
+  pub executed_exactly : (files : FileMap) (name bytes : List ℕ) (image : ImageParts) (input : List ℕ) → Told c.request files → IsRead c.request Exec name bytes → IsImageOf image bytes → c.request.input ≡ Some input
+      → Unless status ((status ≡ 7) ⊎ (status ≡ status_of (run_of image input)))
   -- no fault is passed over
   pub out_fault : c.out.faults_before < c.out.faults_after → status ≡ 8
   pub notes_fault : c.notes.faults_before < c.notes.faults_after → status ≡ 8
+  pub input_fault : c.input_before < c.input_after → (status ≡ 7) ⊎ (status ≡ 8)
   pub shelf_fault : c.request.faults_before < c.request.faults_after → (status ≡ 8) ⊎ (status ≡ 9) ⊎ (status ≡ 10)

@@ -1,5 +1,7 @@
 pub mod SimpleReading
 pub mod Emitted
 pub mod CommandLine
+pub mod Notes
+pub mod Execution
 pub mod Ends
 pub mod Tasks

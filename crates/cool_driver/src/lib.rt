@@ -6,10 +6,13 @@
 ghost use Rattle.std.specs.Prelude.{◌≡◌, ◌⊎◌};
 ghost use Rattle.cool_ports.specs.Counts.{Rose};
 ghost use Rattle.cool_ports.specs.SinkBytes.{appended};
-ghost use Rattle.cool_driver.specs.CommandLine.{words_of};
-ghost use Rattle.cool_driver.specs.Ends.{Ends, usage_note};
+ghost use Rattle.cool_driver.specs.CommandLine.{words_of, TakesNoInput};
+ghost use Rattle.cool_driver.specs.Notes.{usage_note};
+ghost use Rattle.cool_driver.specs.Ends.{Ends};
 
 mod command_line;
+mod execution;
+mod notes;
 mod program;
 mod simple_form;
 mod status;
@@ -18,13 +21,26 @@ mod task;
 mod tests;
 
 use cool_ports::{Failed, Shelf, Sink, Source};
-use spim_machine::{SmallHalt, run_small};
+use execution::{execute, run_simple};
+use notes::tell;
 pub use status::Status;
 use std::alloc::{AllocError, Global};
 use task::{Task, find_task};
 
 /// The most bytes of all source files of a command.
 pub const MOST_SOURCE_BYTES: u64 = 1_048_576;
+
+/// The most bytes of a file for `exec`: those of the greatest image.
+pub const MOST_IMAGE_BYTES: u64 = 532_676_628;
+
+/// The bytes of the heap of a run: 32,768 KiB.
+pub const DEFAULT_HEAP: u32 = 33_554_432;
+
+/// The bytes of the stack of a run: 8,192 KiB.
+pub const DEFAULT_STACK: u32 = 8_388_608;
+
+/// The most instructions of a run.
+pub const DEFAULT_STEPS: u64 = 1_000_000_000;
 
 /// Does what the words ask, and answers the exit status. The words are those after the program's own name.
 pub fn cool<F: Shelf, I: Source, O: Sink, E: Sink>(
@@ -35,8 +51,8 @@ pub fn cool<F: Shelf, I: Source, O: Sink, E: Sink>(
     out: &mut O,
     notes: &mut E,
 ) -> u8
-    // The input is not touched.
-    ensures input { input.new ≡ input.old }
+    // Only `exec` takes of the input.
+    ensures input { TakesNoInput (words_of words.now) → input.new ≡ input.old }
 
     // How it ends, by its status.
     ensures ends { Ends (record {
@@ -45,6 +61,7 @@ pub fn cool<F: Shelf, I: Source, O: Sink, E: Sink>(
         files = F.files files.old;
         faults_before = F.faults files.old;
         faults_after = F.faults files.new;
+        input = I.left input.old;
       };
       out = record {
         held_before = O.held out.old;
@@ -58,19 +75,16 @@ pub fn cool<F: Shelf, I: Source, O: Sink, E: Sink>(
         faults_before = E.faults notes.old;
         faults_after = E.faults notes.new;
       };
+      left = I.left input.new;
+      input_before = I.faults input.old;
+      input_after = I.faults input.new;
     }) result }
 {
     let status = match find_task(alloc, words, files) {
         Err(AllocError) => Status::Memory,
-        Ok(Task::Note(status, note)) => match notes.put(note.as_bytes()) {
-            Ok(()) => status,
-            Err(Failed) => Status::WriteFault,
-        },
-        Ok(Task::Run(program)) => match run_small(&program.text, &program.bytes, out) {
-            SmallHalt::Exit => Status::Done,
-            SmallHalt::WriteFault => Status::WriteFault,
-            SmallHalt::Stuck => unreachable!(),
-        },
+        Ok(Task::Note(status, note)) => tell(notes, status, note.as_bytes()),
+        Ok(Task::Run(image)) => run_simple(alloc, &image, out),
+        Ok(Task::Execute(image)) => execute(alloc, &image, input, out, notes),
     };
     status.code()
 }

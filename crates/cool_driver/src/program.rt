@@ -1,12 +1,21 @@
 //! Compiles strings to a program that prints them.
 
-ghost use Rattle.std.specs.Prelude.{◌≡◌, ◌<◌, ◌^◌, [], ◌∷◌, ◌++◌, length, IfOk, OnOk};
+ghost use Rattle.std.specs.Prelude.{◌≡◌, ◌<◌, ◌≤◌, ◌^◌, [], ◌∷◌, ◌++◌, length, IfOk, OnOk};
 ghost use Rattle.std.specs.List.{concat, AllByRecursion};
+ghost use Rattle.mips_isa.specs.ImageBounds.{text_start};
 ghost use Rattle.cool_driver.specs.Tasks.{Prints};
 ghost use Rattle.cool_driver.specs.SimpleReading.{texts};
 ghost use Rattle.cool_driver.specs.Emitted.{HasNoZero, print_words, text_of, data_of};
 
+use cool_syntax::MOST_CALLS;
+use mips_isa::Image;
 use std::alloc::{AllocError, Global};
+
+/// The most strings of a program: those of its calls, and the end text.
+const MOST_STRINGS: usize = MOST_CALLS + 1;
+
+/// Where the text begins.
+const TEXT_START: u32 = 0x0040_0000;
 
 /// Where the data begins.
 const DATA_START: u32 = 0x1000_0000;
@@ -31,20 +40,15 @@ const PRINT_STRING: u32 = 4;
 /// The system call that ends the run.
 const EXIT: u32 = 10;
 
-/// Words of a text, and the bytes of its data.
-#[derive(Drop)]
-pub struct Program {
-    pub text: Vec<u32>,
-    pub bytes: Vec<u8>,
-}
-
-/// A program that prints these strings in order, and exits. `Err` comes only for want of memory.
-pub fn compile(alloc: Global, strings: &[Vec<u8>]) -> Result<Program, AllocError>
+/// The image of a program that prints these strings in order, and exits. `Err` comes only for want of memory.
+pub fn compile(alloc: Global, strings: &[Vec<u8>]) -> Result<Image, AllocError>
+    requires few { length strings.now ≤ MOST_STRINGS }
     requires plain { AllByRecursion HasNoZero (texts strings.now) }
     requires small { length (data_of (texts strings.now)) < 2 ^ 28 }
-    ensures prints { IfOk result (λ program. Prints program (concat (texts strings.now))) }
-    ensures text { IfOk result (λ program. program.text.items ≡ text_of (texts strings.now)) }
-    ensures bytes { IfOk result (λ program. program.bytes.items ≡ data_of (texts strings.now)) }
+    ensures prints { IfOk result (λ image. Prints image (concat (texts strings.now))) }
+    ensures entry { IfOk result (λ image. image.entry ≡ text_start) }
+    ensures text { IfOk result (λ image. image.text ≡ text_of (texts strings.now)) }
+    ensures bytes { IfOk result (λ image. image.bytes ≡ data_of (texts strings.now)) }
 {
     let mut text = Vec::new(alloc);
     let mut bytes = Vec::new(alloc);
@@ -54,7 +58,11 @@ pub fn compile(alloc: Global, strings: &[Vec<u8>]) -> Result<Program, AllocError
         push_string(&mut bytes, string)?;
     }
     text.extend_from_slice(&[LUI_V0, ORI_V0 | EXIT, SYSCALL])?;
-    Ok(Program { text, bytes })
+    Ok(Image {
+        entry: TEXT_START,
+        text,
+        bytes,
+    })
 }
 
 /// Adds the words that print the string at an address.

@@ -12,12 +12,26 @@ pub enum Status {
     Refused = 1,
     /// The words are no command line.
     Usage = 2,
+    /// The program exited with a code that is none of 0, 4 and 5.
+    Failed = 3,
+    /// The program ended at its heap's limit.
+    HeapLimit = 4,
+    /// The program ended at its stack's limit.
+    StackLimit = 5,
+    /// The machine did not end within its steps.
+    StepLimit = 6,
+    /// The input failed.
+    ReadFault = 7,
     /// A write failed.
     WriteFault = 8,
     /// Memory ran out.
     Memory = 9,
     /// The file was not read.
     FileFault = 10,
+    /// The machine trapped.
+    Trapped = 11,
+    /// The file is no image.
+    Unfit = 12,
 }
 
 impl Status {

@@ -1,19 +1,22 @@
 //! What is left to do once the words and the file were read.
 
-ghost use Rattle.std.specs.Prelude.{◌≡◌, ◌+◌, ◌<◌, ◌≤◌, ◌^◌, ◌++◌, length, IfOk, Some, string_bytes, true, vec_len};
+ghost use Rattle.std.specs.Prelude.{◌≡◌, ◌≢◌, ◌+◌, ◌<◌, ◌≤◌, ◌^◌, ◌++◌, length, IfOk, List, ℕ, Option, Some, string_bytes};
 ghost use Rattle.std.specs.List.{concat, AllByRecursion};
 ghost use Rattle.cool_driver.specs.CommandLine.{words_of};
 ghost use Rattle.cool_driver.specs.SimpleReading.{texts};
 ghost use Rattle.cool_driver.specs.Emitted.{HasNoZero, data_of};
-ghost use Rattle.cool_driver.specs.Ends.{end_text};
+ghost use Rattle.cool_syntax.specs.declared.TheConstants.{MOST_CALLS};
+ghost use Rattle.cool_driver.specs.declared.TheConstants.{MOST_SOURCE_BYTES};
+ghost use Rattle.cool_driver.specs.Notes.{end_text, image_note};
 ghost use Rattle.cool_driver.specs.Tasks.{fault_note, Prints, IsTaskOf, IsDue, IsFileTask};
 
-use crate::MOST_SOURCE_BYTES;
-use crate::command_line::plan;
-use crate::program::{Program, compile};
+use crate::command_line::{Command, read_words};
+use crate::program::compile;
 use crate::simple_form::{SimpleError, read_program};
 use crate::status::Status;
 use cool_ports::{Shelf, ShelfFault};
+use mips_image::{ImageError, read_image};
+use mips_isa::Image;
 use std::alloc::{AllocError, Global};
 
 /// What is left to do.
@@ -21,8 +24,10 @@ use std::alloc::{AllocError, Global};
 pub enum Task {
     /// To write this note, and end with this status.
     Note(Status, String),
-    /// To run this program.
-    Run(Program),
+    /// To run the image of a program of the simple form.
+    Run(Image),
+    /// To run this image over the input.
+    Execute(Image),
 }
 
 /// What is left to do for a command line. `Err` comes only for want of memory.
@@ -31,15 +36,16 @@ pub fn find_task<F: Shelf>(
     words: &[String],
     files: &mut F,
 ) -> Result<Task, AllocError>
-    ensures { IfOk result (λ task. IsDue (record {
+    ensures { (input : Option (List ℕ)) → IfOk result (λ task. IsDue (record {
       words = words_of words.now;
       files = F.files files.old;
       faults_before = F.faults files.old;
       faults_after = F.faults files.new;
+      input = input;
     }) task) }
 {
-    match plan(words) {
-        Some(name) => find_file_task(alloc, name, files),
+    match read_words(words) {
+        Some(plan) => find_file_task(alloc, plan.command, plan.name, files),
         None => {
             let note = String::from_str(alloc, "cool: bad command line\n")?;
             Ok(Task::Note(Status::Usage, note))
@@ -48,11 +54,19 @@ pub fn find_task<F: Shelf>(
 }
 
 /// What is left to do for a file of this name. `Err` comes only for want of memory.
-fn find_file_task<F: Shelf>(alloc: Global, name: &str, files: &mut F) -> Result<Task, AllocError>
-    ensures { IfOk result (IsFileTask (F.files files.old) (F.faults files.old) (F.faults files.new) name.now) }
+fn find_file_task<F: Shelf>(
+    alloc: Global,
+    command: Command,
+    name: &str,
+    files: &mut F,
+) -> Result<Task, AllocError>
+    ensures { IfOk result (IsFileTask (F.files files.old) (F.faults files.old) (F.faults files.new) command name.now) }
 {
-    match files.read(alloc, name, MOST_SOURCE_BYTES) {
-        Ok(bytes) => accept(alloc, name, &bytes),
+    match files.read(alloc, name, command.most_bytes()) {
+        Ok(bytes) => match command {
+            Command::Run => accept(alloc, name, &bytes),
+            Command::Exec => load(alloc, name, &bytes),
+        },
         Err(fault) => {
             let note = note_of_fault(alloc, name, fault)?;
             Ok(Task::Note(Status::FileFault, note))
@@ -60,10 +74,10 @@ fn find_file_task<F: Shelf>(alloc: Global, name: &str, files: &mut F) -> Result<
     }
 }
 
-/// What is left to do for a file of this name that has these bytes.
+/// What is left to do to run a file of this name that has these bytes.
 fn accept(alloc: Global, name: &str, bytes: &[u8]) -> Result<Task, AllocError>
     requires { length bytes.now ≤ MOST_SOURCE_BYTES }
-    ensures { IfOk result (IsTaskOf name.now bytes.now) }
+    ensures { IfOk result (IsTaskOf Command.Run name.now bytes.now) }
 {
     match read_program(alloc, bytes) {
         Ok(strings) => Ok(Task::Run(compile_with_end(alloc, strings)?)),
@@ -75,11 +89,40 @@ fn accept(alloc: Global, name: &str, bytes: &[u8]) -> Result<Task, AllocError>
     }
 }
 
-/// A program that prints the strings and then the end text.
-fn compile_with_end(alloc: Global, strings: Vec<Vec<u8>>) -> Result<Program, AllocError>
+/// What is left to do to execute a file of this name that has these bytes.
+fn load(alloc: Global, name: &str, bytes: &[u8]) -> Result<Task, AllocError>
+    ensures { IfOk result (IsTaskOf Command.Exec name.now bytes.now) }
+{
+    match read_image(alloc, bytes) {
+        Ok(image) => Ok(Task::Execute(image)),
+        Err(fault) => {
+            let note = image_note(alloc, name, fault)?;
+            Ok(Task::Note(Status::Unfit, note))
+        }
+    }
+}
+
+/// The note of a file that is no image.
+fn image_note(alloc: Global, name: &str, fault: ImageError) -> Result<String, AllocError>
+    ensures note { IfOk result (λ note. string_bytes note ≡ image_note name.now fault) }
+    ensures fault { IfOk result (λ _. fault ≢ ImageError.Memory) }
+{
+    match fault {
+        ImageError::Memory => Err(AllocError),
+        ImageError::I1 => format!(in alloc; "{name}: I1: wrong magic\n"),
+        ImageError::I2 => format!(in alloc; "{name}: I2: unknown version\n"),
+        ImageError::I3 => format!(in alloc; "{name}: I3: too short\n"),
+        ImageError::I4 => format!(in alloc; "{name}: I4: sizes out of range\n"),
+        ImageError::I5 => format!(in alloc; "{name}: I5: bytes after the end\n"),
+    }
+}
+
+/// The image of a program that prints the strings and then the end text.
+fn compile_with_end(alloc: Global, strings: Vec<Vec<u8>>) -> Result<Image, AllocError>
+    requires few { length strings.items ≤ MOST_CALLS }
     requires plain { AllByRecursion HasNoZero (texts strings.items) }
     requires small { length (data_of (texts strings.items)) + 36 < 2 ^ 28 }
-    ensures { IfOk result (λ program. Prints program (concat (texts strings.items) ++ end_text)) }
+    ensures { IfOk result (λ image. Prints image (concat (texts strings.items) ++ end_text)) }
 {
     let mut strings = strings;
     let end = Vec::from_slice(alloc, b"COOL program successfully executed\n")?;

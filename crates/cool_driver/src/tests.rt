@@ -1,7 +1,9 @@
 //! Whole calls over objects in memory.
 
 use crate::cool;
-use cool_ports::{MemShelf, MemSink, MemSource};
+use cool_ports::{MemShelf, MemSink, MemSource, Source};
+use mips_image::write_image;
+use mips_isa::Image;
 use std::alloc::Global;
 use std::process::Abort;
 use std::test::Fail;
@@ -26,6 +28,13 @@ impl World {
             out: MemSink::new(alloc, 1_000_000)?,
             notes: MemSink::new(alloc, 10_000)?,
         })
+    }
+
+    /// The same, with this input.
+    fn with_input(alloc: Global, name: &str, bytes: &[u8], input: &[u8]) -> Result<World, Fail> {
+        let mut world = World::new(alloc, name, bytes)?;
+        world.input = MemSource::new(alloc, Vec::from_slice(alloc, input)?);
+        Ok(world)
     }
 
     /// The words are what stands between single blanks; an empty line has none.
@@ -61,6 +70,22 @@ impl World {
         assert_eq!(rt; self.notes.held(), notes);
         Ok(())
     }
+}
+
+/// The bytes of an image without data: at least one word and at most 60, and an entry that is the address of one.
+fn image_file(alloc: Global, text: &[u32], entry: u32) -> Result<Vec<u8>, Fail> {
+    if text.is_empty() || 60 < text.len() || entry % 4 != 0 || entry < 0x0040_0000 {
+        return Err(Fail::from("no such image"));
+    }
+    if (entry - 0x0040_0000) / 4 >= text.len() as u32 {
+        return Err(Fail::from("no such entry"));
+    }
+    let image = Image {
+        entry,
+        text: Vec::from_slice(alloc, text)?,
+        bytes: Vec::new(alloc),
+    };
+    Ok(write_image(alloc, &image)?)
 }
 
 fn program(alloc: Global, calls: &str) -> Result<String, Fail> {
@@ -239,6 +264,243 @@ fn large_files(rt: HostRuntime) -> Result<(), Fail> {
     Ok(())
 }
 
+/// The texts of these programs were assembled by another assembler, and what they answer was taken from another interpreter.
+#[test]
+fn images(rt: HostRuntime) -> Result<(), Fail> {
+    let alloc = rt.alloc();
+    let rows: [(&[u32], u32, &str, u8, &str, &str, &str); 12] = [
+        // The number at the front of a line.
+        (
+            &[
+                0x3c020000, 0x34420005, 0x0000000c, 0x00402021, 0x3c020000, 0x34420001, 0x0000000c,
+                0x03e00008, 0x0c100000, 0x3402000a, 0x0000000c,
+            ],
+            0x00400020,
+            "  -7x\nrest",
+            0,
+            "-7",
+            "",
+            "rest",
+        ),
+        // Exit code 3.
+        (
+            &[
+                0x3c040000, 0x34840003, 0x3c020000, 0x34420011, 0x0000000c, 0x0c100000, 0x3402000a,
+                0x0000000c,
+            ],
+            0x00400014,
+            "",
+            3,
+            "",
+            "",
+            "",
+        ),
+        // Exit code 4.
+        (
+            &[
+                0x3c040000, 0x34840004, 0x3c020000, 0x34420011, 0x0000000c, 0x0c100000, 0x3402000a,
+                0x0000000c,
+            ],
+            0x00400014,
+            "",
+            4,
+            "",
+            "cool: heap limit\n",
+            "",
+        ),
+        // Exit code 5.
+        (
+            &[
+                0x3c040000, 0x34840005, 0x3c020000, 0x34420011, 0x0000000c, 0x0c100000, 0x3402000a,
+                0x0000000c,
+            ],
+            0x00400014,
+            "",
+            5,
+            "",
+            "cool: stack limit\n",
+            "",
+        ),
+        // Exit code 6.
+        (
+            &[
+                0x3c040000, 0x34840006, 0x3c020000, 0x34420011, 0x0000000c, 0x0c100000, 0x3402000a,
+                0x0000000c,
+            ],
+            0x00400014,
+            "",
+            3,
+            "",
+            "",
+            "",
+        ),
+        // A break moved by 4096.
+        (
+            &[
+                0x3c040000, 0x34841000, 0x3c020000, 0x34420009, 0x0000000c, 0x00402021, 0x3c020000,
+                0x34420001, 0x0000000c, 0x03e00008, 0x0c100000, 0x3402000a, 0x0000000c,
+            ],
+            0x00400028,
+            "",
+            0,
+            "536870912",
+            "",
+            "",
+        ),
+        // A break moved by 0x7fffffff.
+        (
+            &[
+                0x3c047fff, 0x3484ffff, 0x3c020000, 0x34420009, 0x0000000c, 0x00402021, 0x3c020000,
+                0x34420001, 0x0000000c, 0x03e00008, 0x0c100000, 0x3402000a, 0x0000000c,
+            ],
+            0x00400028,
+            "",
+            0,
+            "-1",
+            "",
+            "",
+        ),
+        // A sum that overflows.
+        (
+            &[
+                0x3c087fff, 0x3508ffff, 0x01084020, 0x0c100000, 0x3402000a, 0x0000000c,
+            ],
+            0x0040000c,
+            "",
+            11,
+            "",
+            "trap: overflow at 0x00400008, pc 0x00400008\n",
+            "",
+        ),
+        // An unaligned load.
+        (
+            &[
+                0x3c081000, 0x35080001, 0x8d090000, 0x0c100000, 0x3402000a, 0x0000000c,
+            ],
+            0x0040000c,
+            "",
+            11,
+            "",
+            "trap: unaligned address at 0x10000001, pc 0x00400008\n",
+            "",
+        ),
+        // A load of no segment.
+        (
+            &[
+                0x3c08ffff, 0x3508fffc, 0x8d090000, 0x0c100000, 0x3402000a, 0x0000000c,
+            ],
+            0x0040000c,
+            "",
+            11,
+            "",
+            "trap: bad address at 0xfffffffc, pc 0x00400008\n",
+            "",
+        ),
+        // A number of no call.
+        (
+            &[
+                0x3c020000, 0x3442010a, 0x0000000c, 0x0c100000, 0x3402000a, 0x0000000c,
+            ],
+            0x0040000c,
+            "",
+            11,
+            "",
+            "trap: bad call at 0x00400008, pc 0x00400008\n",
+            "",
+        ),
+        // A word of no row.
+        (
+            &[0xffffffff],
+            0x00400000,
+            "",
+            11,
+            "",
+            "trap: no instruction at 0x00400000, pc 0x00400000\n",
+            "",
+        ),
+    ];
+    for (text, entry, input, status, out, notes, left) in rows {
+        let file = image_file(alloc, text, entry)?;
+        let mut world = World::with_input(alloc, "p.img", &file, input.as_bytes())?;
+        assert_eq!(rt; world.call(alloc, "exec p.img")?, status);
+        assert_eq!(rt; world.out.held(), out.as_bytes());
+        assert_eq!(rt; world.notes.held(), notes.as_bytes());
+        for byte in left.bytes() {
+            assert_eq!(rt; world.input.take(), Ok(Some(byte)));
+        }
+        assert_eq!(rt; world.input.take(), Ok(None));
+    }
+    Ok(())
+}
+
+#[test]
+fn files_that_are_no_image(rt: HostRuntime) -> Result<(), Fail> {
+    let alloc = rt.alloc();
+    let image = image_file(alloc, &[0xffff_ffff], 0x0040_0000)?;
+    let mut longer = Vec::from_slice(alloc, &image)?;
+    longer.push(0)?;
+    let (_, shorter) = image.split_last().ok_or("no bytes")?;
+    let rows = [
+        (shorter, "p.img: I3: too short\n"),
+        (&longer, "p.img: I5: bytes after the end\n"),
+        (
+            b"main: li $v0, 10\n      syscall\n",
+            "p.img: I1: wrong magic\n",
+        ),
+        (b"", "p.img: I3: too short\n"),
+    ];
+    for (file, note) in rows {
+        World::new(alloc, "p.img", file)?.ends(&rt, alloc, "exec p.img", 12, b"", note.as_bytes())?;
+    }
+    Ok(())
+}
+
+#[test]
+fn executions_that_fail(rt: HostRuntime) -> Result<(), Fail> {
+    let alloc = rt.alloc();
+    // print_char of 0x41; read_char; exit with 4: a put, a take, and a note.
+    let words = [
+        0x3404_0041,
+        0x3402_000b,
+        0x0000_000c,
+        0x3402_000c,
+        0x0000_000c,
+        0x3404_0004,
+        0x3402_0011,
+        0x0000_000c,
+    ];
+    let file = image_file(alloc, &words, 0x0040_0000)?;
+    // Which put, take and note is to fail, or 0 for none.
+    let rows = [
+        (0, 0, 0, 4, "A", "cool: heap limit\n"),
+        (1, 0, 0, 8, "", ""),
+        (0, 1, 0, 7, "A", "cool: read fault\n"),
+        (0, 0, 1, 8, "A", ""),
+        (0, 1, 1, 8, "A", ""),
+    ];
+    for (put, take, note, status, out, notes) in rows {
+        let mut world = World::with_input(alloc, "p.img", &file, b"x")?;
+        if put != 0 {
+            world.out.fail_call(put)?;
+        }
+        if take != 0 {
+            world.input.fail_call(take)?;
+        }
+        if note != 0 {
+            world.notes.fail_call(note)?;
+        }
+        world.ends(
+            &rt,
+            alloc,
+            "exec p.img",
+            status,
+            out.as_bytes(),
+            notes.as_bytes(),
+        )?;
+    }
+    Ok(())
+}
+
 #[test]
 fn command_lines(rt: HostRuntime) -> Result<(), Fail> {
     let alloc = rt.alloc();
@@ -249,6 +511,9 @@ fn command_lines(rt: HostRuntime) -> Result<(), Fail> {
         "run",
         "run p.cl q.cl",
         "run -p.cl",
+        "exec",
+        "exec p.img q.img",
+        "exec -p.img",
         "run p\0.cl",
     ] {
         World::new(alloc, "p.cl", b"")?.ends(&rt, alloc, line, 2, b"", note)?;

@@ -1,1 +1,16 @@
-pub mod RunSteps
+pub mod GivingBytes
+pub mod TakingBytes
+pub mod ReadingNumbers
+pub mod ReadingCalls
+pub mod FillingBuffers
+pub mod KeepingParts
+pub mod ReadingStrings
+pub mod PiecesOfBytes
+pub mod PartsOfMachines
+pub mod Printing
+pub mod SignedDecimals
+pub mod MovingBreak
+pub mod CallsByNumber
+pub mod Cycles
+pub mod RunsGoOn
+pub mod RunsByCycles

@@ -1,2 +1,4 @@
-pub mod Words
-pub mod SmallRun
+pub mod Input
+pub mod Numbers
+pub mod Machine
+pub mod Ends

@@ -1,12 +1,18 @@
-//! The machine that runs compiled programs.
+//! The machine: a processor with SPIM's system calls, and its runs.
 //!
-//! Comes in: the words of a text and the bytes of the data. Goes out: what they print, into a sink, and how the run
-//! ends. It meets `specs/SmallRun.antt`.
+//! Comes in: an image, the sizes of heap and stack, a source and a sink. Goes out: what the program prints, and how its run
+//! ends. It meets `Calls.antt` and `Run.antt` of `mips_isa`, by `specs/Ends.antt`.
 #![tactic(auto)]
 
-mod instruction;
-mod small_run;
+mod halt;
+mod input;
+mod laws;
+mod machine;
+mod number;
+mod output;
 #[cfg(test)]
 mod tests;
 
-pub use small_run::{SmallHalt, run_small};
+pub use halt::Halt;
+pub use laws::law_two_budgets;
+pub use machine::Machine;

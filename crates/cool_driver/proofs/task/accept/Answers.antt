@@ -1,8 +1,13 @@
 use Rattle.std.proofs.Common.{refl, arith}
+use Rattle.std.proofs.lemmas.List.{length-map}
 use Rattle.cool_driver.specs.SimpleReading.{texts}
 use Rattle.cool_driver.proofs.ReadingIsSimple.{program_is_simple, not_simple}
 use Rattle.cool_driver.proofs.PlainStrings.{plain_have_no_zero, plain_are_small}
 use Rattle.cool_driver.proofs.task.accept.Goals as goal
+
+pub compile_with_end-requires-clause-few : goal.compile_with_end-requires-clause-few
+compile_with_end-requires-clause-few c =
+    omega (arith, (program_is_simple _ _ c.in-Ok.ensures).most, length-map c.in-Ok.strings.items (λ string. string.items))
 
 pub compile_with_end-requires-clause-plain : goal.compile_with_end-requires-clause-plain
 compile_with_end-requires-clause-plain c = plain_have_no_zero _ (program_is_simple _ _ c.in-Ok.ensures).plain

@@ -2,7 +2,7 @@ use Rattle.std.proofs.Common.{◌≡◌, [], ◌∷◌, ◌++◌, ◌∙◌, ap}
 use Rattle.std.proofs.lemmas.List.{map_push}
 use Rattle.std.specs.List.{concat}
 use Rattle.cool_driver.specs.SimpleReading.{texts}
-use Rattle.cool_driver.specs.Ends.{end_text}
+use Rattle.cool_driver.specs.Notes.{end_text}
 use Rattle.cool_driver.proofs.PlainStrings.{concat-push}
 use Rattle.cool_driver.proofs.task.compile_with_end.Goals as goal
 

@@ -1,0 +1,49 @@
+-- What `exec` does with the bytes of a file: the image that they are, its run, and how that ends.
+use Rattle.std.specs.Prelude.{◌≡◌, ℕ, ◌==◌, if◌then◌else◌, List, []}
+use Rattle.mips_isa.specs.ImageBounds.{ImageParts, IsImage}
+use Rattle.mips_isa.specs.Bytes.{Segments, segments_of}
+use Rattle.mips_isa.specs.Calls.{State, Outcome, Running, Exited, Trapped}
+use Rattle.mips_isa.specs.Run.{run, start}
+use Rattle.mips_image.specs.ImageBytes.{image_bytes, HasWords}
+use Rattle.spim_machine.specs.Ends.{ComesToCall}
+use Rattle.cool_driver.specs.declared.TheConstants.{DEFAULT_HEAP, DEFAULT_STACK, DEFAULT_STEPS}
+use Rattle.cool_driver.specs.Notes.{heap_limit_note, stack_limit_note, step_limit_note, trap_note}
+
+-- The bytes are those of this image.
+pub record IsImageOf (image : ImageParts) (bytes : List ℕ) : Type 0 where
+  pub bounds : IsImage image
+  pub words : HasWords image
+  pub bytes_are : bytes ≡ image_bytes image
+
+-- the segments with the default limits
+abbrev pub segments_by_default : ImageParts → Segments
+segments_by_default image = segments_of image DEFAULT_HEAP DEFAULT_STACK
+
+-- the run of an image over an input, within the default limits
+unfoldable pub run_of : ImageParts → List ℕ → Outcome
+run_of image input = run image.text (segments_by_default image) DEFAULT_STEPS (start image (segments_by_default image) input)
+
+-- this run comes to a system call in this state
+abbrev pub ComesTo : ImageParts → List ℕ → State → Type 0
+ComesTo image input at = ComesToCall image.text (segments_by_default image) DEFAULT_STEPS (start image (segments_by_default image) input) at
+
+-- the state that a run left
+abbrev pub left_by : Outcome → State
+left_by (Running s) = s
+left_by (Exited code s) = s
+left_by (Trapped trap s) = s
+
+-- 0, 4 and 5 are exit codes of their own, every other one is 3
+abbrev pub status_of : Outcome → ℕ
+status_of (Running s) = 6
+status_of (Exited code s) = if code == 0 then 0 else (if code == 4 then 4 else (if code == 5 then 5 else 3))
+status_of (Trapped trap s) = 11
+
+abbrev pub note_of : Outcome → List ℕ
+note_of (Running s) = step_limit_note
+note_of (Exited code s) = if code == 4 then heap_limit_note else (if code == 5 then stack_limit_note else [])
+note_of (Trapped trap s) = trap_note trap
+
+-- some end of a run has this status and this note
+abbrev pub IsEnd : ℕ → List ℕ → Type 0
+IsEnd status note = (end : Outcome) × (status ≡ status_of end) × (note ≡ note_of end)

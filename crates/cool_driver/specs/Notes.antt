@@ -1,0 +1,66 @@
+-- The texts that are written: the end of a run, and the notes.
+use Rattle.std.specs.Prelude.{ℕ, List, [], ◌++◌, codes}
+use Rattle.std.specs.Int.{w32, to_be_bytes}
+use Rattle.hex.specs.Hex.{encode_lower}
+use Rattle.mips_isa.specs.declared.trap.Trap.{Trap}
+use Rattle.mips_isa.specs.declared.trap.TrapKind.{TrapKind}
+use Rattle.mips_isa.specs.declared.trap.TrapKind.TheVariants.{BadAddress, Unaligned, Overflow, NoInstruction, BadCall}
+use Rattle.mips_image.specs.declared.image_error.ImageError.{ImageError}
+use Rattle.mips_image.specs.declared.image_error.ImageError.TheVariants.{Memory, I1, I2, I3, I4, I5}
+
+-- what is written at the end of a run that ended well
+abbrev pub end_text : List ℕ
+end_text = codes "COOL program successfully executed\n"
+
+abbrev pub refused_note : List ℕ → List ℕ
+refused_note name = name ++ codes ":1: N1: not yet\n"
+
+abbrev pub usage_note : List ℕ
+usage_note = codes "cool: bad command line\n"
+
+abbrev pub missing_note : List ℕ → List ℕ
+missing_note name = codes "cool: " ++ (name ++ codes ": missing\n")
+
+abbrev pub unread_note : List ℕ → List ℕ
+unread_note name = codes "cool: " ++ (name ++ codes ": read failed\n")
+
+abbrev pub too_large_note : List ℕ
+too_large_note = codes "cool: files too large\n"
+
+abbrev pub heap_limit_note : List ℕ
+heap_limit_note = codes "cool: heap limit\n"
+
+abbrev pub stack_limit_note : List ℕ
+stack_limit_note = codes "cool: stack limit\n"
+
+abbrev pub step_limit_note : List ℕ
+step_limit_note = codes "cool: step limit\n"
+
+abbrev pub read_fault_note : List ℕ
+read_fault_note = codes "cool: read fault\n"
+
+-- a fault of an image; want of memory is none
+abbrev pub image_fault : ImageError → List ℕ
+image_fault I1 = codes "I1: wrong magic\n"
+image_fault I2 = codes "I2: unknown version\n"
+image_fault I3 = codes "I3: too short\n"
+image_fault I4 = codes "I4: sizes out of range\n"
+image_fault I5 = codes "I5: bytes after the end\n"
+image_fault Memory = []
+
+abbrev pub image_note : List ℕ → ImageError → List ℕ
+image_note name fault = name ++ (codes ": " ++ image_fault fault)
+
+abbrev pub trap_words : TrapKind → List ℕ
+trap_words BadAddress = codes "bad address"
+trap_words Unaligned = codes "unaligned address"
+trap_words Overflow = codes "overflow"
+trap_words NoInstruction = codes "no instruction"
+trap_words BadCall = codes "bad call"
+
+-- an address as eight digits
+abbrev pub digits : ℕ → List ℕ
+digits a = encode_lower (to_be_bytes w32 a)
+
+abbrev pub trap_note : Trap → List ℕ
+trap_note t = codes "trap: " ++ (trap_words t.kind ++ (codes " at 0x" ++ (digits t.address ++ (codes ", pc 0x" ++ (digits t.pc ++ codes "\n")))))

@@ -1,0 +1,90 @@
+//! Runs of images within the default limits.
+
+ghost use Rattle.std.specs.Prelude.{◌≡◌, List, ℕ};
+ghost use Rattle.cool_driver.specs.Execution.{IsImageOf};
+ghost use Rattle.cool_driver.specs.Ends.{Request, IsRead, Ends};
+ghost use Rattle.cool_driver.specs.Tasks.{code_of, Prints, RunsSimple};
+ghost use Rattle.cool_driver.specs.declared.command_line.Command.TheVariants as command;
+
+use crate::notes::{tell, trap_note};
+use crate::status::Status;
+use crate::{DEFAULT_HEAP, DEFAULT_STACK, DEFAULT_STEPS};
+use cool_ports::{Sink, Source, SureSource};
+use mips_isa::Image;
+use spim_machine::{Halt, Machine};
+use spim_memory::Limits;
+use std::alloc::{AllocError, Global};
+
+/// The default limits.
+fn default_limits() -> Limits
+    ensures heap { result.heap ≡ DEFAULT_HEAP }
+    ensures stack { result.stack ≡ DEFAULT_STACK }
+{
+    Limits {
+        heap: DEFAULT_HEAP,
+        stack: DEFAULT_STACK,
+    }
+}
+
+/// Runs the image of a program of the simple form, which takes no input.
+pub fn run_simple<O: Sink>(alloc: Global, image: &Image, out: &mut O) -> Status
+    requires { (output : List ℕ) × Prints image.now output }
+    ensures { (output : List ℕ) → Prints image.now output → RunsSimple (record {
+      held_before = O.held out.old;
+      held_after = O.held out.new;
+      faults_before = O.faults out.old;
+      faults_after = O.faults out.new;
+    }) output result }
+{
+    let Ok(mut machine) = Machine::load(alloc, image, default_limits()) else {
+        return Status::Memory;
+    };
+    let mut nothing = SureSource::new(Vec::new(alloc));
+    match machine.run(DEFAULT_STEPS, &mut nothing, out) {
+        Halt::Exit(_) => Status::Done,
+        Halt::WriteFault => Status::WriteFault,
+        _ => unreachable!(),
+    }
+}
+
+/// Runs an image over the input, and writes how its run ended.
+pub fn execute<I: Source, O: Sink, E: Sink>(
+    alloc: Global,
+    image: &Image,
+    input: &mut I,
+    out: &mut O,
+    notes: &mut E,
+) -> Status
+    ensures ends { (r : Request) (name bytes : List ℕ) → IsRead r command.Exec name bytes → IsImageOf image.now bytes → r.input ≡ I.left input.old → Ends (record {
+      request = r;
+      out = record {
+        held_before = O.held out.old;
+        held_after = O.held out.new;
+        faults_before = O.faults out.old;
+        faults_after = O.faults out.new;
+      };
+      notes = record {
+        held_before = E.held notes.old;
+        held_after = E.held notes.new;
+        faults_before = E.faults notes.old;
+        faults_after = E.faults notes.new;
+      };
+      left = I.left input.new;
+      input_before = I.faults input.old;
+      input_after = I.faults input.new;
+    }) (code_of result) }
+{
+    let Ok(mut machine) = Machine::load(alloc, image, default_limits()) else {
+        return Status::Memory;
+    };
+    match machine.run(DEFAULT_STEPS, input, out) {
+        Halt::Exit(0) => Status::Done,
+        Halt::Exit(4) => tell(notes, Status::HeapLimit, b"cool: heap limit\n"),
+        Halt::Exit(5) => tell(notes, Status::StackLimit, b"cool: stack limit\n"),
+        Halt::Exit(_) => Status::Failed,
+        Halt::Trap(trap) => tell(notes, Status::Trapped, trap_note(trap).as_str().as_bytes()),
+        Halt::StepLimit => tell(notes, Status::StepLimit, b"cool: step limit\n"),
+        Halt::ReadFault => tell(notes, Status::ReadFault, b"cool: read fault\n"),
+        Halt::WriteFault => Status::WriteFault,
+    }
+}

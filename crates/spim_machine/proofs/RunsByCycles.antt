@@ -1,0 +1,76 @@
+-- A run, instruction by instruction, of a machine that keeps its text and its segments.
+use Rattle.std.proofs.Common.{◌≡◌, ◌∙◌, refl, subst, ℕ, ◌+◌, ◌<◌, List, Option, Some}
+use Rattle.std.specs.Prelude.{Result, Ok, Err}
+use Rattle.mips_isa.specs.Bytes.{Segments}
+use Rattle.mips_isa.specs.Calls.{State}
+use Rattle.spim_memory.specs.Memory.{MemoryParts, segments}
+use Rattle.spim_cpu.specs.Cpu.{KeepsSegments}
+use Rattle.spim_machine.specs.declared.halt.Halt.{Halt}
+use Rattle.spim_machine.specs.declared.halt.Halt.TheVariants as halts
+use Rattle.spim_machine.specs.Machine.{MachineParts, IsIn, Keeps, halted_by}
+use Rattle.spim_machine.specs.Ends.{Counted, CountedIf, Cycled, Ran}
+use Rattle.spim_machine.proofs.RunsGoOn.{run_next, ran_ends}
+
+-- what a machine keeps over two steps
+pub kept_on : (old mid new : MachineParts) → Keeps old mid → Keeps mid new → Keeps old new
+kept_on old mid new before behind = record {
+  memory = record {
+    text = behind.memory.text ∙ before.memory.text;
+    segments = behind.memory.segments ∙ before.memory.segments;
+  };
+  halted = behind.halted ∙ before.halted;
+}
+
+-- what came of an instruction, by the text and the segments at the run's start
+cycled_as : (old now : MemoryParts) (t : State) (first : Option (List ℕ)) (result : Result Unit Halt) (m : MachineParts) (left held : Option (List ℕ)) → KeepsSegments old now → Cycled now.text (segments now) t first result m left held → Cycled old.text (segments old) t first result m left held
+cycled_as old now t first result m left held kept cycled =
+    subst (λ (b : Segments). Cycled old.text b t first result m left held) kept.segments
+    (subst (λ (text : List ℕ). Cycled text (segments now) t first result m left held) kept.text cycled)
+
+-- one more instruction
+pub ran_next : (old now : MemoryParts) (k : ℕ) (s : State) (first : Option (List ℕ)) (mid m : MachineParts) (left held left' held' : Option (List ℕ)) → KeepsSegments old now
+    → Ran old.text (segments old) k s first halts.StepLimit mid left held
+    → ((t : State) → IsIn first t mid left held → Cycled now.text (segments now) t first (Ok tt) m left' held')
+    → Ran old.text (segments old) (k + 1) s first halts.StepLimit m left' held'
+ran_next old now k s first mid m left held left' held' kept (t, runs, is) cycled =
+    let turn = cycled_as old now t first (Ok tt) m left' held' kept (cycled t is) in
+    (turn.0, run_next old.text (segments old) k s t turn.0 runs turn.1, turn.2)
+
+-- the last instruction
+pub ran_to_end : (old now : MemoryParts) (k n : ℕ) (s : State) (first : Option (List ℕ)) (halt : Halt) (mid m : MachineParts) (left held left' held' : Option (List ℕ)) → KeepsSegments old now → k < n
+    → Ran old.text (segments old) k s first halts.StepLimit mid left held
+    → ((t : State) → IsIn first t mid left held → Cycled now.text (segments now) t first (Err halt) m left' held')
+    → Ran old.text (segments old) n s first halt m left' held'
+ran_to_end old now k n s first halt mid m left held left' held' kept below (t, runs, is) cycled =
+    ran_ends old.text (segments old) k n s t first halt m left' held' runs below (cycled_as old now t first (Err halt) m left' held' kept (cycled t is))
+
+-- a machine that notes how its run ended is in the same state, and its run ended the same
+noted : (first : Option (List ℕ)) (s : State) (m : MachineParts) (left held : Option (List ℕ)) (halted : Option Halt) → IsIn first s m left held → IsIn first s (record m { halted = halted }) left held
+noted first s m left held halted is = record { core = is.core; heap_break = is.heap_break; ended = is.ended; input = is.input; output = is.output }
+
+pub ran_noted : (text : List ℕ) (b : Segments) (n : ℕ) (s : State) (first : Option (List ℕ)) (halt : Halt) (m : MachineParts) (left held : Option (List ℕ)) (halted : Option Halt) → Ran text b n s first halt m left held → Ran text b n s first halt (record m { halted = halted }) left held
+ran_noted text b n s first (halts.Exit code) m left held halted (end, ends, is) = (end, ends, noted first end m left held halted is)
+ran_noted text b n s first (halts.Trap trap) m left held halted (end, ends, is) = (end, ends, noted first end m left held halted is)
+ran_noted text b n s first halts.StepLimit m left held halted (end, ends, is) = (end, ends, noted first end m left held halted is)
+ran_noted text b n s first halts.ReadFault m left held halted ran = ran
+ran_noted text b n s first halts.WriteFault m left held halted ran = ran
+
+-- the faults of the last instruction are those of the run
+pub counted_on : (halt : Halt) (s mid s' k mid' k' : ℕ) → mid ≡ s → mid' ≡ k → Counted halt mid s' mid' k' → Counted halt s s' k k'
+counted_on halt s mid s' k mid' k' source sink counted =
+    subst (λ (i : ℕ). Counted halt i s' k k') source (subst (λ (j : ℕ). Counted halt mid s' j k') sink counted)
+
+-- an end is no spent budget: it is what a further run answers
+pub halted_is : (halt : Halt) (s s' k k' : ℕ) → CountedIf (Err halt) s s' k k' → Some halt ≡ halted_by halt
+halted_is (halts.Exit code) s s' k k' counted = refl
+halted_is (halts.Trap trap) s s' k k' counted = refl
+halted_is halts.StepLimit s s' k k' counted = absurd counted
+halted_is halts.ReadFault s s' k k' counted = refl
+halted_is halts.WriteFault s s' k k' counted = refl
+
+pub counted_end : (halt : Halt) (s s' k k' : ℕ) → CountedIf (Err halt) s s' k k' → Counted halt s s' k k'
+counted_end (halts.Exit code) s s' k k' counted = counted
+counted_end (halts.Trap trap) s s' k k' counted = counted
+counted_end halts.StepLimit s s' k k' counted = absurd counted
+counted_end halts.ReadFault s s' k k' counted = counted
+counted_end halts.WriteFault s s' k k' counted = counted

@@ -1,0 +1,59 @@
+use Rattle.std.proofs.Common.{arith, refl, ◌≡◌, ◌∙◌, ap, false}
+use Rattle.std.specs.Prelude.{◌==◌}
+use Rattle.std.proofs.lemmas.Result.{err_from_is_err_and}
+use Rattle.mips_isa.specs.Bytes.{writable}
+use Rattle.spim_memory.specs.Memory.{segments}
+use Rattle.spim_machine.proofs.KeepingParts.{keeps_same, keeps_both}
+use Rattle.spim_machine.proofs.TakingBytes.{still_ended}
+use Rattle.spim_machine.proofs.FillingBuffers.{may_store_at, stored_none, stored_byte, stored_newline, stored_end, stored_failed}
+use Rattle.spim_machine.proofs.machine.Machine.store_line.Goals as goal
+
+pub loop-end-init : goal.loop-end-init
+loop-end-init g c = record {
+  ended = refl;
+  stored = stored_none _ _ _ _ _;
+  heap_break = refl;
+  keeps = keeps_same _;
+  no_fault = refl;
+}
+
+pub returns-in_err-byte-clause-some : goal.returns-in_err-byte-clause-some
+returns-in_err-byte-clause-some g c =
+    let p = err_from_is_err_and c.from_residual.result c.from_residual.ensures.1 in
+    let is = ap (λ m. m.ended) c.self.view_is ∙ c.loop-end.invariant.ended in
+    let gave = rw is at c.in_err-byte.ensures.gave in
+    rw p.1 (stored_failed _ _ _ _ _ _ _ _ _ _ _ c.loop-end.invariant.stored c.loop-end-test.true gave)
+
+pub returns-in_default-clause-all : goal.returns-in_default-clause-all
+returns-in_default-clause-all g c =
+    let is = ap (λ m. m.ended) c.self.view_is ∙ c.loop-end.invariant.ended in
+    let gave = rw (is, c.in_default.is) at c.in_ok-byte.ensures.gave in
+    let stored = rw (← c.self.view_is) at c.loop-end.invariant.stored in
+    stored_end _ _ _ _ _ _ _ _ _ _ stored c.loop-end-test.true gave
+
+pub store-requires : goal.store-requires
+store-requires g c =
+    let keeps = rw (← c.self.view_is) at c.loop-end.invariant.keeps in
+    ap (λ s. writable s c.loop-end.end 1) keeps.memory.segments ∙ may_store_at (segments c.args.self.now.cpu.memory) c.args.address c.args.most c.loop-end.end c.requires.writable (omega (arith, c.loop-end.auto.end)) (omega (arith, c.loop-end-test.true))
+
+pub returns-then-byte-eq10-clause-all : goal.returns-then-byte-eq10-clause-all
+returns-then-byte-eq10-clause-all g c =
+    let is = ap (λ m. m.ended) c.self.view_is ∙ c.loop-end.invariant.ended in
+    let gave = rw (is, c.in-Some.is) at c.in_ok-byte.ensures.gave in
+    let stored = rw (← c.self.view_is) at c.loop-end.invariant.stored in
+    rw c.store.ensures.ended (stored_newline _ _ _ _ _ _ _ _ _ _ _ _ stored c.loop-end-test.true gave c.if-byte-eq10.true c.store.ensures.core)
+
+pub loop-end-preserved : goal.loop-end-preserved
+loop-end-preserved g c =
+    let is = ap (λ m. m.ended) c.self.view_is ∙ c.loop-end.invariant.ended in
+    let gave = rw (is, c.in-Some.is) at c.in_ok-byte.ensures.gave in
+    let stored = rw (← c.self.view_is) at c.loop-end.invariant.stored in
+    let keeps = rw (← c.self.view_is) at c.loop-end.invariant.keeps in
+    let other : (c.in-Some.byte == 10) ≡ false = grind (arith, c.if-byte-eq10.false) in
+    record {
+      ended = c.store.ensures.ended ∙ still_ended _ _ _ _ _ gave;
+      stored = stored_byte _ _ _ _ _ _ _ _ _ _ _ _ stored c.loop-end-test.true gave other c.store.ensures.core;
+      heap_break = c.store.ensures.heap_break ∙ ap (λ m. m.heap_break) c.self.view_is ∙ c.loop-end.invariant.heap_break;
+      keeps = keeps_both _ _ _ c.store.ensures.keeps keeps.memory keeps.halted;
+      no_fault = c.in_ok-byte.ensures.no_fault ∙ c.loop-end.invariant.no_fault;
+    }

@@ -1,0 +1,16 @@
+use Rattle.std.proofs.Common.{◌≡◌}
+use Rattle.spim_machine.proofs.ReadingNumbers.{ReadUpTo}
+use Rattle.spim_machine.proofs.number.read_number.Given as goal
+
+-- a number was read as far as the line came, and no take failed
+abbrev pub invariant-loop-byte : goal.invariant-loop-byte
+invariant-loop-byte g l =
+    let s = g.S.Source in
+    record {
+      ended : l.ended ≡ l.fn.ended;
+      reads : ReadUpTo l.fn.ended (s.left l.fn.source) (s.left l.source) l.number;
+      no_fault : s.faults l.source ≡ s.faults l.fn.source;
+    }
+
+abbrev pub decreases-loop-byte : goal.decreases-loop-byte
+decreases-loop-byte g l = g.S.Source.room l.source

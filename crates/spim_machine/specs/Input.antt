@@ -1,0 +1,34 @@
+-- What calls take of a source: bytes one after another, of which those that are 0 are dropped.
+use Rattle.std.specs.Prelude.{◌≡◌, ℕ, ◌<◌, Bool, true, false, List, [], ◌∷◌, ◌++◌, replicate, Option, Some, None, Result, Ok, Err}
+use Rattle.cool_ports.specs.declared.Failed.{Failed}
+use Rattle.cool_ports.specs.SourceBytes.{IsAtEnd}
+use Rattle.mips_isa.specs.Calls.{Taken}
+
+-- what a source had left before it gave these bytes
+abbrev pub with_front : List ℕ → Option (List ℕ) → Option (List ℕ)
+with_front front None = None
+with_front front (Some rest) = Some (front ++ rest)
+
+-- The next byte other than 0 was asked for, where the end was answered before or not: it came behind zeros, or the end was
+-- answered, or a take failed. Where the end was answered before, the source is not asked.
+abbrev pub GaveByte : Bool → Option (List ℕ) → Result (Option ℕ) Failed → Bool → Option (List ℕ) → Type 0
+GaveByte true before (Ok None) ended after = (ended ≡ true) × (after ≡ before)
+GaveByte true before (Ok (Some byte)) ended after = ⊥
+GaveByte true before (Err failed) ended after = ⊥
+GaveByte false before (Ok None) ended after =
+    (ended ≡ true) × IsAtEnd after × ((zeros : ℕ) × (before ≡ with_front (replicate zeros 0) after))
+GaveByte false before (Ok (Some byte)) ended after =
+    (ended ≡ false) × (0 < byte) × ((zeros : ℕ) × (before ≡ with_front (replicate zeros 0 ++ byte ∷ []) after))
+GaveByte false before (Err failed) ended after = (ended ≡ false) × ((zeros : ℕ) × (before ≡ with_front (replicate zeros 0) after))
+
+-- A call that takes `ask input` of an input took all that it asks for.
+pub record TookAll (ask : List ℕ → Taken) (got : List ℕ) (before : Option (List ℕ)) (ended : Bool) (after : Option (List ℕ)) : Type 0 where
+  pub front : List ℕ
+  pub gave : before ≡ with_front front after
+  pub asked : (rest : List ℕ) → after ≡ Some rest → ask (front ++ rest) ≡ record { got = got; rest = rest; ended = ended }
+
+-- It took these bytes and asked for one more: of these alone it would have met the end.
+pub record TookSome (ask : List ℕ → Taken) (before after : Option (List ℕ)) : Type 0 where
+  pub front : List ℕ
+  pub gave : before ≡ with_front front after
+  pub asks : (ask front).ended ≡ true

@@ -1,0 +1,20 @@
+//! Laws on runs.
+
+ghost use Rattle.std.specs.Prelude.{◌≡◌, ◌≢◌, ◌+◌, List, ℕ, Option};
+ghost use Rattle.mips_isa.specs.Bytes.{Segments};
+ghost use Rattle.mips_isa.specs.Calls.{State};
+ghost use Rattle.spim_machine.specs.Machine.{MachineParts, IsIn};
+ghost use Rattle.spim_machine.specs.Ends.{Ran};
+ghost use Rattle.spim_machine.specs.declared.halt.Halt.{Halt};
+ghost use Rattle.spim_machine.specs.declared.halt.Halt.TheVariants.{StepLimit};
+
+/// A run with two budgets, one after the other, is a run with their sum: where the first one is spent, the second run ends as
+/// the run of both, and where it is not, so ends the run of both.
+pub fn law_two_budgets()
+    ensures spent { (text : List ℕ) (b : Segments) (m n : ℕ) (s : State) (first : Option (List ℕ)) (middle last : MachineParts) (halt : Halt) (left held left' held' : Option (List ℕ))
+        → Ran text b m s first StepLimit middle left held
+        → ((t : State) → IsIn first t middle left held → Ran text b n t first halt last left' held')
+        → Ran text b (m + n) s first halt last left' held' }
+    ensures ended { (text : List ℕ) (b : Segments) (m n : ℕ) (s : State) (first : Option (List ℕ)) (last : MachineParts) (halt : Halt) (left held : Option (List ℕ))
+        → halt ≢ StepLimit → Ran text b m s first halt last left held → Ran text b (m + n) s first halt last left held }
+{}

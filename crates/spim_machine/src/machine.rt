@@ -1,0 +1,111 @@
+//! The machine, and its runs.
+
+ghost use Rattle.std.specs.Prelude.{◌≡◌, List, ℕ, Option, Some, None, [], IfOk};
+ghost use Rattle.mips_isa.specs.Bytes.{segments_of};
+ghost use Rattle.mips_isa.specs.Calls.{State};
+ghost use Rattle.mips_isa.specs.Run.{start};
+ghost use Rattle.spim_memory.specs.Memory.{segments, IsLimits};
+ghost use Rattle.spim_machine.specs.Machine.{state_of, IsIn, Keeps, halted_by};
+ghost use Rattle.spim_machine.specs.Ends.{Counted, CountedIf, Cycled, Ran};
+ghost use Rattle.spim_cpu.specs.Cpu.{KeepsSegments};
+
+mod calls;
+
+use crate::Halt;
+use cool_ports::{Sink, Source};
+use mips_isa::Image;
+use spim_cpu::{Cpu, Step};
+use spim_memory::{Limits, Memory};
+use std::alloc::{AllocError, Global};
+use std::marker::Model;
+
+/// Where the heap begins.
+const HEAP_START: u32 = 0x2000_0000;
+
+/// A processor, the end of what `sbrk` gave, whether the end of the input was answered, and how the last run ended, unless
+/// it may go on.
+#[derive(Drop)]
+pub struct Machine {
+    cpu: Cpu,
+    heap_break: u32,
+    ended: bool,
+    halted: Option<Halt>,
+}
+
+impl Model for Machine {
+    ghost use Rattle.spim_machine.specs.Machine.{MachineParts};
+
+    ghost Value = { MachineParts };
+
+    ghost view = { λ m. record { cpu = m.cpu; heap_break = m.heap_break; ended = m.ended; halted = m.halted } };
+}
+
+impl Machine {
+    /// A machine at the start of a run of this image.
+    ///
+    /// All memory of its runs is taken here: the text, the data padded with zeros to a word, heap and stack. `Err` comes only
+    /// for want of it.
+    pub fn load(alloc: Global, image: &Image, limits: Limits) -> Result<Machine, AllocError>
+        requires limits { IsLimits limits.heap limits.stack }
+        ensures state { IfOk result (λ machine. (input : List ℕ) → state_of machine input [] ≡ start image.now (segments_of image.now limits.heap limits.stack) input) }
+        ensures text { IfOk result (λ machine. machine.cpu.memory.text ≡ image.now.text) }
+        ensures segments { IfOk result (λ machine. segments machine.cpu.memory ≡ segments_of image.now limits.heap limits.stack) }
+        ensures goes_on { IfOk result (λ machine. machine.halted ≡ None) }
+    {
+        let memory = Memory::make(alloc, image, limits)?;
+        Ok(Machine {
+            cpu: Cpu::new(memory, image, limits),
+            heap_break: HEAP_START,
+            ended: false,
+            halted: None,
+        })
+    }
+
+    /// Executes at most `budget` instructions, with the system calls that they are. It takes no memory.
+    ///
+    /// `Exit` and `Trap` come exactly as the definition of the machine ends, and `StepLimit` exactly where it has not ended
+    /// after `budget` instructions; a further run goes on from there. `ReadFault` comes at the first `take` that fails, and
+    /// `WriteFault` at the first `put`. After all but `StepLimit` a further run answers the same, and touches nothing.
+    pub fn run<S: Source, K: Sink>(&mut self, budget: u64, source: &mut S, sink: &mut K) -> Halt
+        // How it ends, from any state that the machine is in, where the source tells what it has left.
+        ensures ran { (first : Option (List ℕ)) (s : State) → self.old.halted ≡ None → IsIn first s self.old (S.left source.old) (K.held sink.old)
+            → Ran self.old.cpu.memory.text (segments self.old.cpu.memory) budget s first result self.new (S.left source.new) (K.held sink.new) }
+        ensures counts { self.old.halted ≡ None → Counted result (S.faults source.old) (S.faults source.new) (K.faults sink.old) (K.faults sink.new) }
+        ensures halted { self.old.halted ≡ None → self.new.halted ≡ halted_by result }
+        ensures memory { KeepsSegments self.old.cpu.memory self.new.cpu.memory }
+
+        // After an end.
+        ensures again { (halt : Halt) → self.old.halted ≡ Some halt → result ≡ halt }
+        ensures machine { (halt : Halt) → self.old.halted ≡ Some halt → self.new ≡ self.old }
+        ensures source { (halt : Halt) → self.old.halted ≡ Some halt → source.new ≡ source.old }
+        ensures sink { (halt : Halt) → self.old.halted ≡ Some halt → sink.new ≡ sink.old }
+    {
+        if let Some(halt) = self.halted {
+            return halt;
+        }
+        for _ in 0..budget {
+            match self.cycle(source, sink) {
+                Ok(()) => {}
+                Err(halt) => {
+                    self.halted = Some(halt);
+                    return halt;
+                }
+            }
+        }
+        Halt::StepLimit
+    }
+
+    /// Executes an instruction, and the system call that it may be. `Err` comes where the run ends.
+    fn cycle<S: Source, K: Sink>(&mut self, source: &mut S, sink: &mut K) -> Result<(), Halt>
+        ensures cycled { (first : Option (List ℕ)) (s : State) → IsIn first s self.old (S.left source.old) (K.held sink.old)
+            → Cycled self.old.cpu.memory.text (segments self.old.cpu.memory) s first result self.new (S.left source.new) (K.held sink.new) }
+        ensures counts { CountedIf result (S.faults source.old) (S.faults source.new) (K.faults sink.old) (K.faults sink.new) }
+        ensures keeps { Keeps self.old self.new }
+    {
+        match self.cpu.step() {
+            Step::Next => Ok(()),
+            Step::Call => self.call(source, sink),
+            Step::Trap(trap) => Err(Halt::Trap(trap)),
+        }
+    }
+}

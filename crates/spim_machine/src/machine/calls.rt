@@ -1,0 +1,282 @@
+//! SPIM's system calls: one function for each.
+
+ghost use Rattle.std.specs.Prelude.{◌≡◌, ◌+◌, ◌-◌, ◌%◌, ◌<◌, ◌≤◌, List, ℕ, length, Option, Ok, IfOk, OnOk, OnErr, true, false, ◌++◌, [], ◌∷◌};
+ghost use Rattle.std.specs.Fmt.{signed_decimal};
+ghost use Rattle.cool_ports.specs.Counts.{Rose};
+ghost use Rattle.mips_isa.specs.Bytes.{stack_end, writable, set_byte};
+ghost use Rattle.mips_isa.specs.Machine.{set_register};
+ghost use Rattle.mips_isa.specs.Calls as calls;
+ghost use Rattle.spim_memory.specs.Memory.{segments, bytes_of};
+ghost use Rattle.spim_cpu.specs.Cpu.{core_of};
+ghost use Rattle.spim_machine.specs.Input.{TookAll, TookSome};
+ghost use Rattle.spim_machine.specs.Machine.{Keeps};
+ghost use Rattle.spim_machine.specs.Ends.{CountedIf, Does};
+
+use super::Machine;
+use crate::Halt;
+use crate::input::{next_byte, read_char};
+use crate::number::read_number;
+use crate::output::put_string;
+use cool_ports::{Failed, Sink, Source};
+use mips_isa::{Reg, Trap, TrapKind};
+
+/// What `sbrk` answers where the heap is too small: -1.
+const NO_ROOM: u32 = 0xffff_ffff;
+
+impl Machine {
+    /// The system call whose number is in `$v0`; pc stands behind it.
+    ///
+    /// `Exit` comes at exit and exit2. `Trap` comes at a number of no call, and at an address that the call may not touch;
+    /// then nothing was read or written.
+    pub(super) fn call<S: Source, K: Sink>(
+        &mut self,
+        source: &mut S,
+        sink: &mut K,
+    ) -> Result<(), Halt>
+        ensures does { Does (calls.call (segments self.old.cpu.memory)) self.old (S.left source.old) (K.held sink.old) result self.new (S.left source.new) (K.held sink.new) }
+        ensures counts { CountedIf result (S.faults source.old) (S.faults source.new) (K.faults sink.old) (K.faults sink.new) }
+        ensures keeps { Keeps self.old self.new }
+    {
+        match self.v0() {
+            1 => self.print_int(sink),
+            4 => self.print_string(sink),
+            5 => self.read_int(source),
+            8 => self.read_string(source),
+            9 => {
+                self.sbrk();
+                Ok(())
+            }
+            10 => Err(Halt::Exit(0)),
+            11 => self.print_char(sink),
+            12 => self.read_char(source),
+            17 => Err(Halt::Exit(self.a0())),
+            _ => Err(self.bad_call()),
+        }
+    }
+
+    /// Puts `$a0` as a signed decimal.
+    fn print_int<K: Sink>(&self, sink: &mut K) -> Result<(), Halt>
+        ensures does { (left : Option (List ℕ)) → Does (λ s. calls.print s (signed_decimal (calls.signed (calls.a0 s)))) self.now left (K.held sink.old) result self.now left (K.held sink.new) }
+        ensures counts { CountedIf result 0 0 (K.faults sink.old) (K.faults sink.new) }
+    {
+        let mut buffer = itoa::Buffer::new();
+        let decimal = buffer.format(self.a0().cast_signed());
+        match sink.put(decimal.as_bytes()) {
+            Ok(()) => Ok(()),
+            Err(Failed) => Err(Halt::WriteFault),
+        }
+    }
+
+    /// Puts the bytes from `$a0` on up to a 0, in pieces of 64 bytes.
+    fn print_string<K: Sink>(&self, sink: &mut K) -> Result<(), Halt>
+        ensures does { (left : Option (List ℕ)) → Does (λ s. calls.print_string s (calls.string_at (segments self.now.cpu.memory) s.core.memory (calls.a0 s))) self.now left (K.held sink.old) result self.now left (K.held sink.new) }
+        ensures counts { CountedIf result 0 0 (K.faults sink.old) (K.faults sink.new) }
+    {
+        let address = self.a0();
+        let memory = self.cpu.memory();
+        let Some(length) = memory.string_length(address) else {
+            return Err(self.bad_address());
+        };
+        match put_string(memory, address, length, sink) {
+            Ok(()) => Ok(()),
+            Err(Failed) => Err(Halt::WriteFault),
+        }
+    }
+
+    /// Puts the low byte of `$a0`.
+    fn print_char<K: Sink>(&self, sink: &mut K) -> Result<(), Halt>
+        ensures does { (left : Option (List ℕ)) → Does (λ s. calls.print s (calls.a0 s % 256 ∷ [])) self.now left (K.held sink.old) result self.now left (K.held sink.new) }
+        ensures counts { CountedIf result 0 0 (K.faults sink.old) (K.faults sink.new) }
+    {
+        match sink.put(&[(self.a0() % 0x100) as u8]) {
+            Ok(()) => Ok(()),
+            Err(Failed) => Err(Halt::WriteFault),
+        }
+    }
+
+    /// Takes a line; the number at its front goes to `$v0`.
+    fn read_int<S: Source>(&mut self, source: &mut S) -> Result<(), Halt>
+        ensures does { (held : Option (List ℕ)) → Does (λ s. calls.read_int s (calls.asked_line s.ended s.input)) self.old (S.left source.old) held result self.new (S.left source.new) held }
+        ensures counts { CountedIf result (S.faults source.old) (S.faults source.new) 0 0 }
+        ensures keeps { Keeps self.old self.new }
+    {
+        match read_number(&mut self.ended, source) {
+            Ok(number) => {
+                self.answer(number);
+                Ok(())
+            }
+            Err(Failed) => Err(Halt::ReadFault),
+        }
+    }
+
+    /// Takes a byte, which goes to `$v0`, or -1 at the end of the input.
+    fn read_char<S: Source>(&mut self, source: &mut S) -> Result<(), Halt>
+        ensures does { (held : Option (List ℕ)) → Does (λ s. calls.read_char s (calls.asked s.ended 1 s.input)) self.old (S.left source.old) held result self.new (S.left source.new) held }
+        ensures counts { CountedIf result (S.faults source.old) (S.faults source.new) 0 0 }
+        ensures keeps { Keeps self.old self.new }
+    {
+        match read_char(&mut self.ended, source) {
+            Ok(number) => {
+                self.answer(number);
+                Ok(())
+            }
+            Err(Failed) => Err(Halt::ReadFault),
+        }
+    }
+
+    /// Fills the buffer at `$a0` of `$a1` bytes, of which the last is a 0. Below 1 it does nothing.
+    ///
+    /// `Trap` comes where not all of its bytes may be stored.
+    fn read_string<S: Source>(&mut self, source: &mut S) -> Result<(), Halt>
+        ensures does { (held : Option (List ℕ)) → Does (calls.read_string (segments self.old.cpu.memory)) self.old (S.left source.old) held result self.new (S.left source.new) held }
+        ensures counts { CountedIf result (S.faults source.old) (S.faults source.new) 0 0 }
+        ensures keeps { Keeps self.old self.new }
+    {
+        let address = self.a0();
+        let size = self.a1();
+        if size.cast_signed() < 1 {
+            return Ok(());
+        }
+        if !self.cpu.memory().may_store(address, size) {
+            return Err(self.bad_address());
+        }
+        match self.fill(address, size - 1, source) {
+            Ok(()) => Ok(()),
+            Err(Failed) => Err(Halt::ReadFault),
+        }
+    }
+
+    /// Stores at most so many bytes of the input at an address, up to a newline, and a 0 behind them.
+    fn fill<S: Source>(&mut self, address: u32, most: u32, source: &mut S) -> Result<(), Failed>
+        requires writable { calls.all_writable (segments self.old.cpu.memory) address (most + 1) ≡ true }
+        requires below { address + most < stack_end }
+        ensures all { OnOk result ((got : List ℕ) × TookAll (calls.asked self.old.ended most) got (S.left source.old) self.new.ended (S.left source.new) × (core_of self.new.cpu ≡ record (core_of self.old.cpu) { memory = calls.set_bytes (core_of self.old.cpu).memory address (got ++ 0 ∷ []) })) }
+        ensures some { OnErr result ((self.old.ended ≡ false) × TookSome (calls.asked self.old.ended most) (S.left source.old) (S.left source.new)) }
+        ensures heap_break { self.new.heap_break ≡ self.old.heap_break }
+        ensures no_fault { OnOk result (S.faults source.new ≡ S.faults source.old) }
+        ensures failed { OnErr result (Rose (S.faults source.old) (S.faults source.new)) }
+        ensures keeps { Keeps self.old self.new }
+    {
+        let end = self.store_line(address, most, source)?;
+        self.store(end, 0);
+        Ok(())
+    }
+
+    /// Stores at most so many bytes of the input at an address, up to a newline, and answers the address behind them.
+    fn store_line<S: Source>(
+        &mut self,
+        address: u32,
+        most: u32,
+        source: &mut S,
+    ) -> Result<u32, Failed>
+        requires writable { calls.all_writable (segments self.old.cpu.memory) address most ≡ true }
+        requires below { address + most < stack_end }
+        ensures all { IfOk result (λ end. (got : List ℕ) × TookAll (calls.asked self.old.ended most) got (S.left source.old) self.new.ended (S.left source.new) × (end ≡ address + length got) × (length got ≤ most) × (core_of self.new.cpu ≡ record (core_of self.old.cpu) { memory = calls.set_bytes (core_of self.old.cpu).memory address got })) }
+        ensures some { OnErr result ((self.old.ended ≡ false) × TookSome (calls.asked self.old.ended most) (S.left source.old) (S.left source.new)) }
+        ensures heap_break { self.new.heap_break ≡ self.old.heap_break }
+        ensures no_fault { OnOk result (S.faults source.new ≡ S.faults source.old) }
+        ensures failed { OnErr result (Rose (S.faults source.old) (S.faults source.new)) }
+        ensures keeps { Keeps self.old self.new }
+    {
+        for end in address..address + most {
+            let Some(byte) = next_byte(&mut self.ended, source)? else {
+                return Ok(end);
+            };
+            self.store(end, byte);
+            if byte == b'\n' {
+                return Ok(end + 1);
+            }
+        }
+        Ok(address + most)
+    }
+
+    /// Stores a byte where it may be stored.
+    fn store(&mut self, address: u32, byte: u8)
+        requires { writable (segments self.old.cpu.memory) address 1 ≡ true }
+        ensures core { core_of self.new.cpu ≡ record (core_of self.old.cpu) { memory = set_byte (core_of self.old.cpu).memory address byte } }
+        ensures heap_break { self.new.heap_break ≡ self.old.heap_break }
+        ensures ended { self.new.ended ≡ self.old.ended }
+        ensures keeps { Keeps self.old self.new }
+    {
+        match self.cpu.store_byte(address, byte) {
+            Ok(()) => {}
+            Err(_) => unreachable!(),
+        }
+    }
+
+    /// Moves the break by `$a0`, and answers the old one in `$v0`; -1 where it would pass the heap's end.
+    fn sbrk(&mut self)
+        ensures does { (left held : Option (List ℕ)) → Does (calls.sbrk (segments self.old.cpu.memory)) self.old left held (Ok tt) self.new left held }
+        ensures keeps { Keeps self.old self.new }
+    {
+        let old = self.heap_break;
+        let heap_end = self.cpu.memory().heap_end();
+        match old.checked_add(self.a0()) {
+            Some(new) if new <= heap_end => {
+                self.heap_break = new;
+                self.answer(old);
+            }
+            _ => self.answer(NO_ROOM),
+        }
+    }
+
+    /// A call that may not touch the address in `$a0`.
+    fn bad_address(&self) -> Halt
+        ensures { result ≡ Halt.Trap (record { kind = TrapKind.BadAddress; address = (core_of self.now.cpu).registers 4; pc = self.now.cpu.pc - 4 }) }
+    {
+        Halt::Trap(Trap {
+            kind: TrapKind::BadAddress,
+            address: self.a0(),
+            pc: self.call_pc(),
+        })
+    }
+
+    /// A number of no call.
+    fn bad_call(&self) -> Halt
+        ensures { result ≡ Halt.Trap (record { kind = TrapKind.BadCall; address = self.now.cpu.pc - 4; pc = self.now.cpu.pc - 4 }) }
+    {
+        Halt::Trap(Trap {
+            kind: TrapKind::BadCall,
+            address: self.call_pc(),
+            pc: self.call_pc(),
+        })
+    }
+
+    /// The call's number.
+    fn v0(&self) -> u32
+        ensures { result ≡ (core_of self.now.cpu).registers 2 }
+    {
+        self.cpu.register(Reg::new(2))
+    }
+
+    /// The call's first argument.
+    fn a0(&self) -> u32
+        ensures { result ≡ (core_of self.now.cpu).registers 4 }
+    {
+        self.cpu.register(Reg::new(4))
+    }
+
+    /// The call's second argument.
+    fn a1(&self) -> u32
+        ensures { result ≡ (core_of self.now.cpu).registers 5 }
+    {
+        self.cpu.register(Reg::new(5))
+    }
+
+    /// Puts the call's answer into `$v0`.
+    fn answer(&mut self, v: u32)
+        ensures core { core_of self.new.cpu ≡ record (core_of self.old.cpu) { registers = set_register (core_of self.old.cpu).registers 2 v } }
+        ensures heap_break { self.new.heap_break ≡ self.old.heap_break }
+        ensures ended { self.new.ended ≡ self.old.ended }
+        ensures keeps { Keeps self.old self.new }
+    {
+        self.cpu.set_register(Reg::new(2), v);
+    }
+
+    /// The address of the call, behind which pc stands.
+    fn call_pc(&self) -> u32
+        ensures { result ≡ self.now.cpu.pc - 4 }
+    {
+        self.cpu.pc().saturating_sub(4)
+    }
+}
