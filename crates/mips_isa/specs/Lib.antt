@@ -5,3 +5,5 @@ pub mod Bytes
 pub mod Machine
 pub mod Calls
 pub mod Run
+pub mod Lines
+pub mod Assembly

@@ -9,6 +9,7 @@ mod encoding;
 mod image;
 mod instr;
 mod line;
+mod place;
 mod reg;
 #[cfg(test)]
 mod tests;
@@ -20,6 +21,7 @@ pub use image::Image;
 pub use instr::{
     FromOp, ImmOp, Instr, JumpOp, MemOp, MulDivOp, OneOp, ShiftOp, ShiftRegOp, ThreeOp, ToOp, TwoOp,
 };
-pub use line::{AsmFault, AsmKind, Label, Line, OrderOp, Statement, WordItem, ZeroOp};
+pub use line::{AsmError, AsmFault, AsmKind, Label, Line, OrderOp, Statement, WordItem, ZeroOp};
+pub use place::{Place, Segment};
 pub use reg::Reg;
 pub use trap::{Trap, TrapKind};

@@ -1,9 +1,10 @@
 //! Lines of assembly.
 
 ghost use Rattle.std.specs.Prelude.{◌≡◌, IfOk};
+ghost use Rattle.mips_isa.specs.declared.line.AsmError.TheVariants.{Memory};
 
 use crate::{Instr, JumpOp, OneOp, Reg, TwoOp};
-use std::alloc::{AllocError, Global};
+use std::alloc::{AllocError, AllocFailed, Global};
 use std::marker::Model;
 
 /// The name of a place. A contract sees the list of its bytes.
@@ -167,4 +168,29 @@ pub enum AsmKind {
 pub struct AsmFault {
     pub kind: AsmKind,
     pub line: u32,
+}
+
+/// Why no lines were read, or no image was made of them.
+#[derive(Clone, Copy, Debug, PartialEq, Eq)]
+pub enum AsmError {
+    /// Memory ran out.
+    Memory,
+    /// A line is at fault.
+    Fault(AsmFault),
+}
+
+impl From<AllocError> for AsmError {
+    ghost from_gives = { λ _ e. e ≡ Memory };
+
+    fn from(_error: AllocError) -> AsmError {
+        AsmError::Memory
+    }
+}
+
+impl<T: Drop> From<AllocFailed<T>> for AsmError {
+    ghost from_gives = { λ _ e. e ≡ Memory };
+
+    fn from(_error: AllocFailed<T>) -> AsmError {
+        AsmError::Memory
+    }
 }

@@ -1,0 +1,15 @@
+//! Where the labels of assembly are.
+
+/// A segment that assembly fills.
+#[derive(Clone, Copy, Debug, PartialEq, Eq)]
+pub enum Segment {
+    Text,
+    Data,
+}
+
+/// The place of a label: its segment, and its address.
+#[derive(Clone, Copy, Debug, PartialEq, Eq)]
+pub struct Place {
+    pub segment: Segment,
+    pub address: u32,
+}
