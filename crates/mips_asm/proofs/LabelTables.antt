@@ -1,0 +1,82 @@
+-- The table of labels, and the labels of a line that are put into it.
+use Rattle.std.specs.Prelude.{◌≡◌, ℕ, ◌||◌, Bool, true, false, List, [], ◌∷◌, ◌++◌, Some, None, is_some, refl, bytes_eq}
+use Rattle.std.specs.Map.{lookup}
+use Rattle.std.specs.HashMap.{get}
+use Rattle.std.proofs.Common.{ap, sym, ◌∙◌, append_assoc, append-nil, cond}
+use Rattle.std.proofs.Math.Bool.{or_comm}
+use Rattle.std.proofs.lemmas.List.{map-append}
+use Rattle.std.proofs.lemmas.List.Folds.{list_any-append}
+use denote.Ref.{Bor}
+use Rattle.indexmap.specs.IndexMap.{IndexMap, insert_entry}
+use Rattle.indexmap.proofs.CallerLemmas.{insert_entry-new}
+use Rattle.mips_isa.specs.Lines.{Name}
+use Rattle.mips_isa.specs.Assembly.{has, any_twice}
+use Rattle.mips_asm.specs.Passes.{shown, names_of, numbered}
+
+-- names are compared byte by byte, behind references
+abbrev pub same_name : Bor Name → Bor Name → Bool
+same_name x y = bytes_eq x.now y.now
+
+-- a look-up finds a name where the table has it
+pub found_as_has : (name : Name) (entries : List (Bor Name × ℕ)) → is_some (lookup (λ key. bytes_eq name key.now) entries) ≡ has (names_of (shown entries)) name
+found_as_has name [] = refl
+found_as_has name (entry ∷ rest) = by (bytes_eq name entry.0.now) (found_as_has name rest)
+  where
+    by : (b : Bool) → is_some (lookup (λ key. bytes_eq name key.now) rest) ≡ has (names_of (shown rest)) name
+        → is_some (cond b (Some entry.1) (lookup (λ key. bytes_eq name key.now) rest)) ≡ (b || has (names_of (shown rest)) name)
+    by true h = refl
+    by false h = h
+
+-- the names that were seen before count, and not their order
+pub any_twice_same : (s t : List Name) (labels : List Name) → ((q : Name) → has s q ≡ has t q) → any_twice s labels ≡ any_twice t labels
+any_twice_same s t [] same = refl
+any_twice_same s t (label ∷ rest) same =
+    let here : has s label ≡ has t label = same label in
+    let next : any_twice (label ∷ s) rest ≡ any_twice (label ∷ t) rest = any_twice_same (label ∷ s) (label ∷ t) rest (λ q. ap (λ b. bytes_eq q label || b) (same q)) in
+    ap (λ b. b || any_twice (label ∷ s) rest) here ∙ ap (λ b. has t label || b) next
+
+-- a name is added in front, or behind
+or_false : (b : Bool) → (b || false) ≡ b
+or_false true = refl
+or_false false = refl
+
+pub has_behind : (s : List Name) (label q : Name) → has (label ∷ s) q ≡ has (s ++ label ∷ []) q
+has_behind s label q =
+    or_comm (bytes_eq q label) (has s q) ∙ ap (λ b. has s q || b) (sym (or_false (bytes_eq q label))) ∙ sym (list_any-append (bytes_eq q) s (label ∷ []))
+
+-- The labels of a line are put into the table one by one.
+pub record Defining (old now : List (Name × ℕ)) (labels rest : List Name) (index : ℕ) : Type 0 where
+  pub twice : any_twice (names_of now) rest ≡ any_twice (names_of old) labels
+  pub entries : now ++ numbered index rest ≡ old ++ numbered index labels
+
+-- none yet
+pub defining_start : (old : List (Name × ℕ)) (labels : List Name) (index : ℕ) → Defining old old labels labels index
+defining_start old labels index = record { twice = refl; entries = refl }
+
+-- one more
+pub defining_step : (old now : List (Name × ℕ)) (labels : List Name) (label : Name) (rest : List Name) (index : ℕ)
+    → Defining old now labels (label ∷ rest) index → has (names_of now) label ≡ false → Defining old (now ++ (label, index) ∷ []) labels rest index
+defining_step old now labels label rest index d new = record {
+  twice =
+      ap (λ names. any_twice names rest) (map-append (λ (entry : Name × ℕ). entry.0) now ((label, index) ∷ []))
+      ∙ any_twice_same (names_of now ++ label ∷ []) (label ∷ names_of now) rest (λ q. sym (has_behind (names_of now) label q))
+      ∙ sym (ap (λ b. b || any_twice (label ∷ names_of now) rest) new)
+      ∙ d.twice;
+  entries = append_assoc now ((label, index) ∷ []) (numbered index rest) ∙ d.entries;
+}
+
+-- one that was there
+pub defining_twice : (old now : List (Name × ℕ)) (labels : List Name) (label : Name) (rest : List Name) (index : ℕ)
+    → Defining old now labels (label ∷ rest) index → has (names_of now) label ≡ true → any_twice (names_of old) labels ≡ true
+defining_twice old now labels label rest index d there = sym d.twice ∙ ap (λ b. b || any_twice (label ∷ names_of now) rest) there
+
+-- all
+pub defining_end : (old now : List (Name × ℕ)) (labels : List Name) (index : ℕ)
+    → Defining old now labels [] index → (any_twice (names_of old) labels ≡ false) × (now ≡ old ++ numbered index labels)
+defining_end old now labels index d = (sym d.twice, sym (append-nil now) ∙ d.entries)
+
+-- what a table has after a new name is put into it
+pub shown_after : {S : Type 0} (m : IndexMap (Bor Name) ℕ S) (key : Bor Name) (index : ℕ)
+    → get same_name m key ≡ None → shown (insert_entry same_name m.entries key index) ≡ shown m.entries ++ (key.now, index) ∷ []
+shown_after m key index none =
+    ap shown (insert_entry-new same_name m key index none) ∙ map-append (λ (entry : Bor Name × ℕ). (entry.0.now, entry.1)) m.entries ((key, index) ∷ [])

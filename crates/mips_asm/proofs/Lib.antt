@@ -1,0 +1,10 @@
+pub mod SmallUnits
+pub mod LabelTables
+pub mod LoopRests
+pub mod FirstPasses
+pub mod LinePlaces
+pub mod Completions
+pub mod Targets
+pub mod ItemsLeft
+pub mod Assembled
+pub mod AllAssembled

@@ -1,0 +1,32 @@
+-- What a loop over a list has left.
+use Rattle.std.proofs.Common.{◌≡◌, ℕ, zero, suc, ◌+◌, ◌<◌, List, [], ◌∷◌, length, drop, get_or, ap, sym, ◌∙◌, Option, Some, None, is_some, false, refl, true≢false, arith, nat_lt, IfSome, slice_get}
+use Rattle.std.specs.Option.{option_copied}
+use Rattle.std.proofs.lemmas.Option.{slice_get_past, slice_get-get_or}
+use Rattle.std.proofs.lemmas.Bool.{ltb-false}
+use borrow.Author.Tests.{ltb-true}
+use denote.Ref.{Bor}
+use Rattle.std.proofs.Math.Seq.{drop-cons}
+
+-- the item, and the rest behind it
+pub rest_here : {X : Type 0} (xs : List X) (i : ℕ) (x : X) → i < length xs → x ≡ get_or xs i x → drop i xs ≡ x ∷ drop (i + 1) xs
+rest_here {X} xs i x h is =
+    let e : drop i xs ≡ get_or xs i x ∷ drop (suc i) xs = drop-cons xs i x h in
+    let f : suc i ≡ i + 1 = omega arith in
+    e ∙ ap (λ (y : X). y ∷ drop (suc i) xs) (sym is) ∙ ap (λ (j : ℕ). x ∷ drop j xs) f
+
+-- a test that fails finds nothing
+pub none_there : {X : Type 0} (o : Option X) → is_some o ≡ false → o ≡ None
+none_there None h = refl
+none_there (Some x) h = absurd (true≢false h)
+
+-- within a list the default is not read
+pub get_or_same : {X : Type 0} (xs : List X) (i : ℕ) (d e : X) → i < length xs → get_or xs i d ≡ get_or xs i e
+get_or_same [] i d e h = absurd (omega arith)
+get_or_same (x ∷ xs) zero d e h = refl
+get_or_same (x ∷ xs) (suc i) d e h = let less : i < length xs = omega arith in get_or_same xs i d e less
+
+-- an element that is looked up, and copied
+pub copied_there : {X : Type 0} (r : Option (Bor X)) (xs : List X) (i : ℕ) → is_some r ≡ nat_lt i (length xs) → IfSome r (λ x. x.now ≡ get_or xs i x.now)
+    → option_copied r ≡ slice_get xs i
+copied_there None xs i some at = sym (slice_get_past xs i (ltb-false i (length xs) (sym some)))
+copied_there (Some x) xs i some at = ap Some at ∙ sym (slice_get-get_or xs i x.now (ltb-true i (length xs) (sym some)))

@@ -1,0 +1,158 @@
+-- The parts of which a line is assembled.
+use Rattle.std.specs.Prelude.{◌≡◌, ℕ, ◌+◌, ◌*◌, ◌%◌, ◌≤◌, true, if◌then◌else◌, List, [], ◌∷◌, ◌++◌, map, replicate, Option, Some, None, Result, Ok, Err}
+use Rattle.mips_isa.specs.declared.instr.Instr.{Instr}
+use Rattle.mips_isa.specs.declared.place.Place.{Place}
+use Rattle.mips_isa.specs.declared.line.AsmKind.{AsmKind}
+use Rattle.mips_isa.specs.declared.line.AsmKind.TheVariants.{A6, A7}
+use Rattle.mips_isa.specs.declared.line.AsmError.{AsmError}
+use Rattle.mips_isa.specs.declared.line.AsmError.TheVariants.{Memory, Fault}
+use Rattle.mips_isa.specs.Words.{bits_of, word_of}
+use Rattle.mips_isa.specs.declared.place.Segment.{Segment}
+use Rattle.mips_isa.specs.declared.place.Segment.TheVariants.{Text, Data}
+use Rattle.mips_isa.specs.Lines.{Name, Line, WordItem, Number, Address, Statement, Empty, Plain, ToTwo, ToOne, ToJump, La, Li, Move, Neg, Nop, B, BranchZero, BranchOrder, Mul, ToText, ToData, Globl, Word, Byte, Ascii, Asciiz, Space, Align}
+use Rattle.mips_isa.specs.Assembly as assembly
+use Rattle.mips_isa.specs.ImageBounds.{ImageParts, text_start}
+use Rattle.mips_isa.specs.Assembly.{Need, need, padding_to, instructions, item_bytes, address_or_zero, is_text, reaches, any_without_place, names_of_items, fault_or, start_fault, start_name, start_position, second_pass, place_of, image_of_all}
+use Rattle.mips_asm.specs.declared.target.Target.{Target}
+use Rattle.mips_asm.specs.declared.target.Target.TheVariants.{Unused, Missing, Found}
+use Rattle.mips_asm.specs.declared.expansion.Expansion.{Expansion}
+use Rattle.mips_asm.specs.declared.expansion.Expansion.TheVariants.{Nothing, One, Two}
+
+-- where the label of an instruction is
+
+abbrev pub found : Option Place → Target
+found None = Missing
+found (Some place) = Found place
+
+abbrev pub target_in : (Name → Option Place) → Statement → Target
+target_in place Empty = Unused
+target_in place (Plain i) = Unused
+target_in place (ToTwo op rs rt target) = found (place target)
+target_in place (ToOne op rs target) = found (place target)
+target_in place (ToJump op target) = found (place target)
+target_in place (La rd label) = found (place label)
+target_in place (Li rd value) = Unused
+target_in place (Move rd rs) = Unused
+target_in place (Neg rd rs) = Unused
+target_in place Nop = Unused
+target_in place (B target) = found (place target)
+target_in place (BranchZero op rs target) = found (place target)
+target_in place (BranchOrder op rs rt target) = found (place target)
+target_in place (Mul rd rs rt) = Unused
+target_in place ToText = Unused
+target_in place ToData = Unused
+target_in place (Globl name) = Unused
+target_in place (Word list) = Unused
+target_in place (Byte list) = Unused
+target_in place (Ascii bytes) = Unused
+target_in place (Asciiz bytes) = Unused
+target_in place (Space n) = Unused
+target_in place (Align n) = Unused
+
+-- the instructions of an expansion
+abbrev pub expanded : Expansion → List Instr
+expanded Nothing = []
+expanded (One i) = i ∷ []
+expanded (Two i j) = i ∷ j ∷ []
+
+-- what is wrong with the target of an instruction
+
+abbrev pub target_fault : ℕ → Statement → Target → Option AsmKind
+target_fault at statement Unused = None
+target_fault at statement Missing = Some A6
+target_fault at statement (Found place) = if reaches (λ _. Some place) at statement then None else Some A7
+
+abbrev pub instruction_fault : (Name → Option Place) → ℕ → Statement → Option AsmKind
+instruction_fault place at statement = target_fault at statement (target_in place statement)
+
+-- An error is this fault on this line, unless memory ran out.
+abbrev pub IsError : ℕ → Option AsmKind → AsmError → Type 0
+IsError number kind Memory = Unit {0}
+IsError number kind (Fault fault) = fault_or number kind None ≡ Some fault
+
+-- the address of a target, or 0
+abbrev pub target_address : Target → ℕ
+target_address Unused = 0
+target_address Missing = 0
+target_address (Found place) = place.address
+
+-- the word of an item, if its label has a place
+
+abbrev pub address_if : Option Place → Option ℕ
+address_if None = None
+address_if (Some place) = Some place.address
+
+abbrev pub word_in : (Name → Option Place) → WordItem → Option ℕ
+word_in place (Number n) = Some (bits_of n)
+word_in place (Address label) = address_if (place label)
+
+-- what is wrong with the items of `.word`, and with those of a statement
+
+abbrev pub items_fault : (Name → Option Place) → List WordItem → Option AsmKind
+items_fault place items = if any_without_place place (names_of_items items) then Some A6 else None
+
+abbrev pub item_fault : (Name → Option Place) → Statement → Option AsmKind
+item_fault place Empty = None
+item_fault place (Plain i) = None
+item_fault place (ToTwo op rs rt target) = None
+item_fault place (ToOne op rs target) = None
+item_fault place (ToJump op target) = None
+item_fault place (La rd label) = None
+item_fault place (Li rd value) = None
+item_fault place (Move rd rs) = None
+item_fault place (Neg rd rs) = None
+item_fault place Nop = None
+item_fault place (B target) = None
+item_fault place (BranchZero op rs target) = None
+item_fault place (BranchOrder op rs rt target) = None
+item_fault place (Mul rd rs rt) = None
+item_fault place ToText = None
+item_fault place ToData = None
+item_fault place (Globl name) = None
+item_fault place (Word list) = items_fault place list
+item_fault place (Byte list) = None
+item_fault place (Ascii bytes) = None
+item_fault place (Asciiz bytes) = None
+item_fault place (Space n) = None
+item_fault place (Align n) = None
+
+-- the zeros before an item, where a segment is open and the data has so many bytes
+abbrev pub zeros : Need → Segment → ℕ → ℕ
+zeros assembly.Nothing segment n = 0
+zeros (assembly.Words count) segment n = 0
+zeros (assembly.Item unit size) segment n = padding_to Data unit n
+zeros (assembly.Switch other) segment n = 0
+zeros (assembly.Padding unit) segment n = padding_to segment unit n
+
+-- what is wrong with a statement behind so many words
+
+abbrev pub kind_or : Option AsmKind → Option AsmKind → Option AsmKind
+kind_or None other = other
+kind_or (Some kind) other = Some kind
+
+abbrev pub statement_fault : (Name → Option Place) → ℕ → Statement → Option AsmKind
+statement_fault place words statement = kind_or (instruction_fault place (text_start + 4 * words) statement) (item_fault place statement)
+
+-- what a statement is assembled to behind so many words, and behind so many bytes
+
+abbrev pub words_of_statement : (Name → Option Place) → ℕ → Statement → List ℕ
+words_of_statement place words statement = map word_of (instructions (λ name. address_or_zero (place name)) (text_start + 4 * words) statement)
+
+abbrev pub bytes_of_statement : (Name → Option Place) → Segment → ℕ → Statement → List ℕ
+bytes_of_statement place segment n statement =
+    replicate (zeros (need statement) segment n) 0 ++ item_bytes (λ name. address_or_zero (place name)) statement
+
+-- what is wrong behind the last line, where there are so many words
+abbrev pub last_fault : (Name → Option Place) → ℕ → Option AsmKind
+last_fault place words = start_fault (place start_name) (record { words = words; bytes = 0; segment = Text })
+
+-- A place in text is the address of a word.
+abbrev pub IsWordPlace : Option Place → Type 0
+IsWordPlace None = Unit {0}
+IsWordPlace (Some place) = is_text place.segment ≡ true → (place.address % 4 ≡ 0) × (text_start ≤ place.address)
+
+-- What the second pass answers for lines with no fault in the first.
+abbrev pub IsImageOrFault : List Line → Result ImageParts AsmError → Type 0
+IsImageOrFault lines (Ok image) = (second_pass (place_of lines) start_position 1 lines ≡ None) × (image ≡ image_of_all lines)
+IsImageOrFault lines (Err Memory) = Unit {0}
+IsImageOrFault lines (Err (Fault fault)) = second_pass (place_of lines) start_position 1 lines ≡ Some fault

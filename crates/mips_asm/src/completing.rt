@@ -1,0 +1,115 @@
+//! The lines that are added where `main` is defined, and `__start` is not.
+
+ghost use Rattle.std.specs.Prelude.{◌≡◌, ◌&&◌, ◌++◌, not, is_some, IfOk, pos};
+ghost use Rattle.mips_isa.specs.Lines.{line_of, lines_of, statement_of};
+ghost use Rattle.mips_isa.specs.Assembly.{has, need, place_of, in_text, start_name, main_name, added_lines, completed, unlabelled};
+ghost use Rattle.mips_isa.specs.declared.instr.Instr.TheVariants.{Imm};
+ghost use Rattle.mips_isa.specs.declared.instr.ImmOp.TheVariants.{Ori};
+ghost use Rattle.mips_isa.specs.declared.place.Segment.TheVariants.{Text};
+ghost use Rattle.mips_asm.specs.Completing.{segment_behind, segment_of_name, is_text_segment as in_text_segment};
+
+use mips_isa::{ImmOp, Instr, JumpOp, Label, Line, Reg, Segment, Statement};
+use std::alloc::{AllocError, Global};
+
+/// The lines that complete lines: a call of `main` and an exit, or none.
+pub fn missing_lines(alloc: Global, lines: &[Line]) -> Result<Vec<Line>, AllocError>
+    ensures { IfOk result (λ added. lines_of lines.now ++ lines_of added.items ≡ completed (lines_of lines.now)) }
+{
+    if lacks_start(lines) {
+        start_lines(alloc)
+    } else {
+        Ok(Vec::new(alloc))
+    }
+}
+
+/// Whether no `__start` is defined, and `main` is a label in text.
+fn lacks_start(lines: &[Line]) -> bool
+    ensures { result ≡ (not (is_some (place_of (lines_of lines.now) start_name)) && in_text (place_of (lines_of lines.now) main_name)) }
+{
+    match segment_of(lines, b"__start") {
+        Some(_) => false,
+        None => is_text_segment(segment_of(lines, b"main")),
+    }
+}
+
+/// Whether the segment of a label, if there is one, is the text.
+fn is_text_segment(segment: Option<Segment>) -> bool
+    ensures { result ≡ in_text_segment segment }
+{
+    matches!(segment, Some(Segment::Text))
+}
+
+/// The segment of the first label of this name.
+fn segment_of(lines: &[Line], name: &[u8]) -> Option<Segment>
+    ensures { result ≡ segment_of_name Text (lines_of lines.now) name.now }
+{
+    let mut segment = Segment::Text;
+    for line in lines {
+        if is_labelled(line, name) {
+            return Some(segment);
+        }
+        segment = segment_after(&line.statement, segment);
+    }
+    None
+}
+
+/// Whether a line has a label of this name.
+fn is_labelled(line: &Line, name: &[u8]) -> bool
+    ensures { result ≡ has (line_of line.now).labels name.now }
+{
+    line.labels.iter().any(|label| name == label.as_slice())
+}
+
+/// The segment that is open behind a statement.
+pub fn segment_after(statement: &Statement, segment: Segment) -> Segment
+    ensures { result ≡ segment_behind (need (statement_of statement.now)) segment }
+{
+    match statement {
+        Statement::ToText => Segment::Text,
+        Statement::ToData => Segment::Data,
+        _ => segment,
+    }
+}
+
+/// A line without a label.
+fn without_label(alloc: Global, statement: Statement) -> Line
+    ensures { line_of result ≡ unlabelled (statement_of statement) }
+{
+    Line {
+        labels: Vec::new(alloc),
+        statement,
+    }
+}
+
+/// The instruction that puts the number of the exit into `$v0`.
+fn exit_number() -> Instr
+    ensures { result ≡ Imm Ori 2 0 (pos 10) }
+{
+    Instr::Imm {
+        op: ImmOp::Ori,
+        rt: Reg::new(2),
+        rs: Reg::new(0),
+        imm: 10,
+    }
+}
+
+/// The call of `main`, and an exit.
+fn start_lines(alloc: Global) -> Result<Vec<Line>, AllocError>
+    ensures { IfOk result (λ added. lines_of added.items ≡ added_lines) }
+{
+    let mut labels = Vec::new(alloc);
+    labels.push(Label::new(alloc, b"__start")?)?;
+    let call = Line {
+        labels,
+        statement: Statement::ToJump {
+            op: JumpOp::Jal,
+            target: Label::new(alloc, b"main")?,
+        },
+    };
+    let mut lines = Vec::new(alloc);
+    lines.push(without_label(alloc, Statement::ToText))?;
+    lines.push(call)?;
+    lines.push(without_label(alloc, Statement::Plain(exit_number())))?;
+    lines.push(without_label(alloc, Statement::Plain(Instr::Syscall)))?;
+    Ok(lines)
+}

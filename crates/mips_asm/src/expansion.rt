@@ -1,0 +1,191 @@
+//! The instructions of statements.
+
+ghost use Rattle.std.specs.Prelude.{◌≡◌, ◌≤◌, ◌/◌, [], ◌∷◌};
+ghost use Rattle.mips_isa.specs.declared.instr.Instr.TheVariants as instr;
+ghost use Rattle.mips_isa.specs.declared.instr.ShiftOp.TheVariants.{Sll};
+ghost use Rattle.mips_isa.specs.declared.instr.MulDivOp.TheVariants.{Mult};
+ghost use Rattle.mips_isa.specs.declared.instr.FromOp.TheVariants.{Mflo};
+ghost use Rattle.mips_isa.specs.Words.{bits_of};
+ghost use Rattle.mips_isa.specs.Lines.{statement_of, IsInRange, IsWord};
+ghost use Rattle.mips_isa.specs.Assembly.{instructions, load_address, zero_branch, order_branch};
+ghost use Rattle.mips_asm.specs.Parts.{expanded};
+
+use crate::target::words_to;
+use mips_isa::{
+    FromOp, ImmOp, Instr, JumpOp, MulDivOp, OneOp, OrderOp, Reg, ShiftOp, Statement, ThreeOp,
+    TwoOp, ZeroOp,
+};
+
+/// The instructions of a statement.
+#[derive(Clone, Copy, Debug)]
+pub enum Expansion {
+    /// The statement is no instruction.
+    Nothing,
+    /// It is one instruction.
+    One(Instr),
+    /// It is two instructions.
+    Two(Instr, Instr),
+}
+
+/// The instructions of a statement that stands at an address and whose label has an address.
+pub fn expand(statement: &Statement, at: u32, address: u32) -> Expansion
+    requires early { at ≤ 268435456 }
+    requires ranges { IsInRange (statement_of statement.now) }
+    ensures { expanded result ≡ instructions (λ _. address) at (statement_of statement.now) }
+{
+    let zero = Reg::new(0);
+    let words = words_to(at, address);
+    match statement {
+        Statement::Plain(i) => Expansion::One(*i),
+        Statement::ToTwo { op, rs, rt, .. } => Expansion::One(branch(*op, *rs, *rt, words)),
+        Statement::ToOne { op, rs, .. } => Expansion::One(branch_one(*op, *rs, words)),
+        Statement::ToJump { op, .. } => Expansion::One(jump(*op, address)),
+        Statement::La { rd, .. } => load(*rd, address),
+        Statement::Li { rd, value } => load(*rd, word_bits(*value)),
+        Statement::Move { rd, rs } => Expansion::One(three(ThreeOp::Addu, *rd, *rs, zero)),
+        Statement::Neg { rd, rs } => Expansion::One(three(ThreeOp::Sub, *rd, zero, *rs)),
+        Statement::Nop => Expansion::One(no_operation()),
+        Statement::B { .. } => Expansion::One(branch(TwoOp::Beq, zero, zero, words)),
+        Statement::BranchZero { op, rs, .. } => zero_test(*op, *rs, words),
+        Statement::BranchOrder { op, rs, rt, .. } => compare(
+            *op,
+            *rs,
+            *rt,
+            words_to(at + 4, address),
+        ),
+        Statement::Mul { rd, rs, rt } => multiply(*rd, *rs, *rt),
+        Statement::Empty
+        | Statement::ToText
+        | Statement::ToData
+        | Statement::Globl(_)
+        | Statement::Word(_)
+        | Statement::Byte(_)
+        | Statement::Ascii(_)
+        | Statement::Asciiz(_)
+        | Statement::Space(_)
+        | Statement::Align(_) => Expansion::Nothing,
+    }
+}
+
+fn branch(op: TwoOp, rs: Reg, rt: Reg, imm: i32) -> Instr
+    ensures { result ≡ instr.BranchTwo op rs rt imm }
+{
+    Instr::BranchTwo { op, rs, rt, imm }
+}
+
+fn branch_one(op: OneOp, rs: Reg, imm: i32) -> Instr
+    ensures { result ≡ instr.BranchOne op rs imm }
+{
+    Instr::BranchOne { op, rs, imm }
+}
+
+/// The jump to an address.
+fn jump(op: JumpOp, address: u32) -> Instr
+    ensures { result ≡ instr.Jump op (address / 4) }
+{
+    Instr::Jump {
+        op,
+        index: address / 4,
+    }
+}
+
+fn three(op: ThreeOp, rd: Reg, rs: Reg, rt: Reg) -> Instr
+    ensures { result ≡ instr.Three op rd rs rt }
+{
+    Instr::Three { op, rd, rs, rt }
+}
+
+fn no_operation() -> Instr
+    ensures { result ≡ instr.Shift Sll 0 0 0 }
+{
+    let zero = Reg::new(0);
+    Instr::Shift {
+        op: ShiftOp::Sll,
+        rd: zero,
+        rt: zero,
+        sh: 0,
+    }
+}
+
+/// The two instructions that put a word into a register.
+fn load(rd: Reg, word: u32) -> Expansion
+    ensures { expanded result ≡ load_address rd word }
+{
+    Expansion::Two(
+        Instr::Lui {
+            rt: rd,
+            imm: (word / 65536) as i32,
+        },
+        Instr::Imm {
+            op: ImmOp::Ori,
+            rt: rd,
+            rs: rd,
+            imm: (word % 65536) as i32,
+        },
+    )
+}
+
+fn multiply(rd: Reg, rs: Reg, rt: Reg) -> Expansion
+    ensures { expanded result ≡ instr.MulDiv Mult rs rt ∷ instr.MoveFrom Mflo rd ∷ [] }
+{
+    Expansion::Two(
+        Instr::MulDiv {
+            op: MulDivOp::Mult,
+            rs,
+            rt,
+        },
+        Instr::MoveFrom {
+            op: FromOp::Mflo,
+            rd,
+        },
+    )
+}
+
+/// The order is put into $at, and the branch goes by that.
+fn compare(op: OrderOp, rs: Reg, rt: Reg, imm: i32) -> Expansion
+    ensures { expanded result ≡ order_branch op rs rt imm }
+{
+    let at = Reg::new(1);
+    let zero = Reg::new(0);
+    match op {
+        OrderOp::Bgt => Expansion::Two(
+            three(ThreeOp::Slt, at, rt, rs),
+            branch(TwoOp::Bne, at, zero, imm),
+        ),
+        OrderOp::Bge => Expansion::Two(
+            three(ThreeOp::Slt, at, rs, rt),
+            branch(TwoOp::Beq, at, zero, imm),
+        ),
+        OrderOp::Blt => Expansion::Two(
+            three(ThreeOp::Slt, at, rs, rt),
+            branch(TwoOp::Bne, at, zero, imm),
+        ),
+        OrderOp::Ble => Expansion::Two(
+            three(ThreeOp::Slt, at, rt, rs),
+            branch(TwoOp::Beq, at, zero, imm),
+        ),
+    }
+}
+
+/// The branch on a comparison with zero.
+fn zero_test(op: ZeroOp, rs: Reg, imm: i32) -> Expansion
+    ensures { expanded result ≡ instr.BranchTwo (zero_branch op) rs 0 imm ∷ [] }
+{
+    let zero = Reg::new(0);
+    match op {
+        ZeroOp::Beqz => Expansion::One(branch(TwoOp::Beq, rs, zero, imm)),
+        ZeroOp::Bnez => Expansion::One(branch(TwoOp::Bne, rs, zero, imm)),
+    }
+}
+
+/// The 32 bits of a number.
+pub fn word_bits(value: i64) -> u32
+    requires { IsWord value }
+    ensures { result ≡ bits_of value }
+{
+    if value < 0 {
+        (value + 4294967296) as u32
+    } else {
+        value as u32
+    }
+}

@@ -1,0 +1,164 @@
+//! How far the segments are filled.
+
+ghost use Rattle.std.specs.Prelude.{◌≡◌, ◌+◌, ◌-◌, ◌*◌, ◌/◌, ◌<◌, ◌≤◌, MatchOption, true, false};
+ghost use Rattle.mips_isa.specs.Lines.{statement_of, IsInRange};
+ghost use Rattle.mips_isa.specs.Assembly.{need, behind, is_wrong, item_or, up};
+ghost use Rattle.mips_asm.specs.Passes.{position_of, need_of, IsSmall, Fits, IsBehind};
+
+use mips_isa::{Segment, Statement};
+
+/// How far the segments are filled, and which one is open.
+#[derive(Clone, Copy, Debug, PartialEq, Eq)]
+pub struct Position {
+    pub words: u32,
+    pub bytes: u32,
+    pub segment: Segment,
+}
+
+/// What a statement needs.
+#[derive(Clone, Copy, Debug, PartialEq, Eq)]
+pub enum Need {
+    /// Nothing.
+    Nothing,
+    /// Words of text.
+    Words(u32),
+    /// Words of data, which begin at a multiple of four.
+    WordItems(usize),
+    /// Bytes of data.
+    Bytes(usize),
+    /// To go on in a segment.
+    Switch(Segment),
+    /// To fill the data up to a multiple of a unit.
+    Padding(u32),
+}
+
+/// What a statement needs.
+pub fn need_of_statement(statement: &Statement) -> Need
+    requires { IsInRange (statement_of statement.now) }
+    ensures exact { need_of result ≡ need (statement_of statement.now) }
+    ensures small { IsSmall result }
+{
+    match statement {
+        Statement::Empty | Statement::Globl(_) => Need::Nothing,
+        Statement::Plain(_)
+        | Statement::ToTwo { .. }
+        | Statement::ToOne { .. }
+        | Statement::ToJump { .. }
+        | Statement::Move { .. }
+        | Statement::Neg { .. }
+        | Statement::Nop
+        | Statement::B { .. }
+        | Statement::BranchZero { .. } => Need::Words(1),
+        Statement::La { .. }
+        | Statement::Li { .. }
+        | Statement::BranchOrder { .. }
+        | Statement::Mul { .. } => Need::Words(2),
+        Statement::ToText => Need::Switch(Segment::Text),
+        Statement::ToData => Need::Switch(Segment::Data),
+        Statement::Word(items) => Need::WordItems(items.len()),
+        Statement::Byte(numbers) => Need::Bytes(numbers.len()),
+        Statement::Ascii(bytes) => Need::Bytes(bytes.len()),
+        Statement::Asciiz(bytes) => Need::Bytes(bytes.len() + 1),
+        Statement::Space(size) => Need::Bytes(*size as usize),
+        Statement::Align(exponent) => Need::Padding(1 << *exponent),
+    }
+}
+
+/// A number filled up to a multiple of a unit.
+fn up_to_multiple(unit: u32, number: u32) -> u32
+    requires unit { (0 < unit) × (unit ≤ 4096) }
+    requires number { number ≤ 268435456 }
+    ensures exact { result ≡ up unit number }
+    ensures bound { result ≤ number + unit }
+{
+    (number + (unit - 1)) / unit * unit
+}
+
+/// Whether a statement that needs this belongs into the other segment.
+pub fn is_in_wrong_segment(need: Need, segment: Segment) -> bool
+    ensures { result ≡ is_wrong (need_of need) segment }
+{
+    match (need, segment) {
+        (Need::Words(_), Segment::Data) => true,
+        (Need::WordItems(_) | Need::Bytes(_), Segment::Text) => true,
+        (Need::Padding(unit), Segment::Text) => unit > 4,
+        _ => false,
+    }
+}
+
+/// The position after a number of bytes that begin at a place of the data, unless the data are then too large.
+fn behind_bytes(position: Position, first: u32, count: usize, unit: u32) -> Option<Position>
+    requires first { first ≤ 268439552 }
+    requires unit { (0 < unit) × (unit ≤ 4) }
+    ensures { MatchOption result (268435456 < first + unit * count) (λ p. (p ≡ record position { bytes = first + unit * count }) × (first + unit * count ≤ 268435456)) }
+{
+    if count > 268_435_456 {
+        return None;
+    }
+    let bytes = first as usize + unit as usize * count;
+    if bytes > 268_435_456 {
+        return None;
+    }
+    Some(Position {
+        words: position.words,
+        bytes: bytes as u32,
+        segment: position.segment,
+    })
+}
+
+/// The position behind a statement that needs this, unless a segment is then too large.
+pub fn behind_need(need: Need, position: Position) -> Option<Position>
+    requires fits { Fits position.words position.bytes }
+    requires small { IsSmall need }
+    ensures { IsBehind need position result }
+{
+    match need {
+        Need::Nothing => Some(position),
+        Need::Words(count) => behind_words(position, count),
+        Need::WordItems(count) => {
+            behind_bytes(position, up_to_multiple(4, position.bytes), count, 4)
+        }
+        Need::Bytes(count) => {
+            behind_bytes(position, up_to_multiple(1, position.bytes), count, 1)
+        }
+        Need::Switch(segment) => Some(Position {
+            words: position.words,
+            bytes: position.bytes,
+            segment,
+        }),
+        Need::Padding(unit) => match position.segment {
+            Segment::Text => Some(position),
+            Segment::Data => { behind_bytes(position, up_to_multiple(unit, position.bytes), 0, 1) }
+        },
+    }
+}
+
+/// The position after a number of words of text, unless the text is then too large.
+fn behind_words(position: Position, count: u32) -> Option<Position>
+    requires words { position.words ≤ 66060288 }
+    requires count { count ≤ 2 }
+    ensures { MatchOption result (66060288 < position.words + count) (λ p. (p ≡ record position { words = position.words + count }) × (position.words + count ≤ 66060288)) }
+{
+    let words = position.words + count;
+    if words > 66_060_288 {
+        return None;
+    }
+    Some(Position {
+        words,
+        bytes: position.bytes,
+        segment: position.segment,
+    })
+}
+
+/// Where an item of a statement that needs this begins, or else another place.
+pub fn place_of_item(need: Need, position: Position, other: u32) -> u32
+    requires fits { Fits position.words position.bytes }
+    ensures exact { result ≡ item_or (need_of need) (position_of position) other }
+    ensures bound { other ≤ 268435460 → result ≤ 268435460 }
+{
+    match need {
+        Need::WordItems(_) => up_to_multiple(4, position.bytes),
+        Need::Bytes(_) => up_to_multiple(1, position.bytes),
+        Need::Nothing | Need::Words(_) | Need::Switch(_) | Need::Padding(_) => other,
+    }
+}

@@ -1,0 +1,155 @@
+//! The second pass of the assembler.
+
+ghost use Rattle.std.specs.Prelude.{◌≡◌, ◌≤◌, ◌<◌, ◌+◌, ◌*◌, [], ◌++◌, List, length, map, Option, Some, None, OnOk, IfOk, IfErr};
+ghost use Rattle.std.specs.List.{AllByRecursion};
+ghost use Rattle.mips_isa.specs.Words.{word_of, InRange};
+ghost use Rattle.mips_isa.specs.ImageBounds.{text_start};
+ghost use Rattle.mips_isa.specs.Lines.{line_of, statement_of, IsInRange, AreInRange};
+ghost use Rattle.mips_isa.specs.Assembly.{instructions, address_or_zero, need, first_pass, start_position, start_name, place_of};
+ghost use Rattle.mips_asm.specs.Places.{places_of};
+ghost use Rattle.mips_asm.specs.Completing.{segment_behind};
+ghost use Rattle.mips_asm.specs.Parts.{expanded, instruction_fault, target_in, target_address, IsError, statement_fault, words_of_statement, bytes_of_statement, last_fault, IsWordPlace, IsImageOrFault};
+ghost use Rattle.mips_isa.specs.declared.line.AsmError.TheVariants.{Memory};
+
+use crate::completing::segment_after;
+use crate::expansion::{Expansion, expand};
+use crate::items::{add_item, fault};
+use crate::labels::Labels;
+use crate::target::{Target, is_of_text, may_reach, target_of};
+use mips_isa::{AsmError, AsmKind, Image, Line, Segment, Statement, encode};
+use std::alloc::Global;
+
+/// What lines are assembled to so far, and the segment that is open.
+#[derive(Debug, Drop)]
+struct Output {
+    text: Vec<u32>,
+    bytes: Vec<u8>,
+    segment: Segment,
+}
+
+/// The image of lines whose labels have these places, or the first fault of the second pass.
+///
+/// Lines are counted from 1. A fault on a line whose number has no 32 bits is reported as want of memory.
+pub fn second_pass(alloc: Global, lines: &[&Line], labels: &Labels) -> Result<Image, AsmError>
+    requires few { length lines.now < 4294967300 }
+    requires ranges { AreInRange (map (λ line. line_of line.now) lines.now) }
+    requires first { first_pass [] start_position 1 (map (λ line. line_of line.now) lines.now) ≡ None }
+    requires places { places_of labels.now ≡ place_of (map (λ line. line_of line.now) lines.now) }
+    ensures { IsImageOrFault (map (λ line. line_of line.now) lines.now) result }
+{
+    let mut output = Output {
+        text: Vec::new(alloc),
+        bytes: Vec::new(alloc),
+        segment: Segment::Text,
+    };
+    for (index, line) in lines.iter().enumerate() {
+        output.add(labels, &line.statement, index + 1)?;
+    }
+    output.finish(labels, lines.len() + 1)
+}
+
+impl Output {
+    /// Assembles a statement.
+    fn add(&mut self, labels: &Labels, statement: &Statement, number: usize) -> Result<(), AsmError>
+        requires words { length self.old.text.items ≤ 66060288 }
+        requires bytes { length self.old.bytes.items ≤ 268435456 }
+        requires ranges { IsInRange (statement_of statement.now) }
+        ensures checked { OnOk result (statement_fault (places_of labels.now) (length self.old.text.items) (statement_of statement.now) ≡ None) }
+        ensures text { OnOk result (self.new.text.items ≡ self.old.text.items ++ words_of_statement (places_of labels.now) (length self.old.text.items) (statement_of statement.now)) }
+        ensures bytes { OnOk result (self.new.bytes.items ≡ self.old.bytes.items ++ bytes_of_statement (places_of labels.now) self.old.segment (length self.old.bytes.items) (statement_of statement.now)) }
+        ensures segment { OnOk result (self.new.segment ≡ segment_behind (need (statement_of statement.now)) self.old.segment) }
+        ensures error { IfErr result (IsError number (statement_fault (places_of labels.now) (length self.old.text.items) (statement_of statement.now))) }
+    {
+        add_instructions(&mut self.text, labels, statement, number)?;
+        add_item(&mut self.bytes, self.segment, labels, statement, number)?;
+        self.segment = segment_after(statement, self.segment);
+        Ok(())
+    }
+
+    /// The image, if `__start` is the label of a word.
+    fn finish(self, labels: &Labels, number: usize) -> Result<Image, AsmError>
+        requires words { length self.text.items ≤ 66060288 }
+        requires bytes { length self.bytes.items ≤ 268435456 }
+        requires start { IsWordPlace (places_of labels.now start_name) }
+        ensures checked { OnOk result (last_fault (places_of labels.now) (length self.text.items) ≡ None) }
+        ensures image { IfOk result (λ image. image ≡ record { entry = address_or_zero (places_of labels.now start_name); text = self.text.items; bytes = self.bytes.items }) }
+        ensures error { IfErr result (IsError number (last_fault (places_of labels.now) (length self.text.items))) }
+    {
+        let end = 0x0040_0000 + 4 * self.text.len() as u32;
+        match labels.place(b"__start") {
+            Some(place) => {
+                if is_of_text(place.segment) && place.address < end {
+                    Ok(Image {
+                        entry: place.address,
+                        text: self.text,
+                        bytes: self.bytes,
+                    })
+                } else {
+                    Err(fault(AsmKind::A6, number))
+                }
+            }
+            None => Err(fault(AsmKind::A6, number)),
+        }
+    }
+}
+
+/// Adds the words of a statement.
+fn add_instructions(
+    text: &mut Vec<u32>,
+    labels: &Labels,
+    statement: &Statement,
+    number: usize,
+) -> Result<(), AsmError>
+    requires small { length text.old.items ≤ 66060288 }
+    requires ranges { IsInRange (statement_of statement.now) }
+    ensures checked { OnOk result (instruction_fault (places_of labels.now) (text_start + 4 * length text.old.items) (statement_of statement.now) ≡ None) }
+    ensures added { OnOk result (text.new.items ≡ text.old.items ++ map word_of (instructions (λ name. address_or_zero (places_of labels.now name)) (text_start + 4 * length text.old.items) (statement_of statement.now))) }
+    ensures error { IfErr result (IsError number (instruction_fault (places_of labels.now) (text_start + 4 * length text.old.items) (statement_of statement.now))) }
+{
+    let at = 0x0040_0000 + 4 * text.len() as u32;
+    let address = target_address(labels, statement, at, number)?;
+    add_expansion(text, expand(statement, at, address))?;
+    Ok(())
+}
+
+/// The address of the target of an instruction, or 0 for a statement that has none.
+fn target_address(
+    labels: &Labels,
+    statement: &Statement,
+    at: u32,
+    number: usize,
+) -> Result<u32, AsmError>
+    requires { at ≤ 268435456 }
+    ensures checked { OnOk result (instruction_fault (places_of labels.now) at (statement_of statement.now) ≡ None) }
+    ensures address { IfOk result (λ address. address ≡ target_address (target_in (places_of labels.now) (statement_of statement.now))) }
+    ensures error { IfErr result (IsError number (instruction_fault (places_of labels.now) at (statement_of statement.now))) }
+{
+    match target_of(labels, statement) {
+        Target::Unused => Ok(0),
+        Target::Missing => Err(fault(AsmKind::A6, number)),
+        Target::Found(place) => {
+            if may_reach(statement, at, place) {
+                Ok(place.address)
+            } else {
+                Err(fault(AsmKind::A7, number))
+            }
+        }
+    }
+}
+
+/// Adds the words of instructions.
+fn add_expansion(text: &mut Vec<u32>, expansion: Expansion) -> Result<(), AsmError>
+    requires { AllByRecursion InRange (expanded expansion) }
+    ensures added { OnOk result (text.new.items ≡ text.old.items ++ map word_of (expanded expansion)) }
+    ensures error { IfErr result (λ e. e ≡ Memory) }
+{
+    match expansion {
+        Expansion::Nothing => {}
+        Expansion::One(only) => text.push(encode(only))?,
+        Expansion::Two(first, second) => {
+            text.push(encode(first))?;
+            text.push(encode(second))?;
+        }
+    }
+    Ok(())
+}
