@@ -1,0 +1,2 @@
+pub mod ReadingTables
+pub mod SpellingRows

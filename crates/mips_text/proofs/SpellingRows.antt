@@ -1,0 +1,64 @@
+-- Rows as they are printed, operand by operand.
+use Rattle.std.proofs.Common.{◌≡◌, ℕ, List, [], ◌∷◌, ◌++◌, ◌+◌, refl, sym, ap, ◌∙◌, append_assoc, length, drop, map, get_or, ◌<◌, ◌≤◌, add-one, add-zero, suc, arith, Result, Ok, Err, OnOk, is_ok, if◌then◌else◌}
+use Rattle.std.proofs.lemmas.List.{append-nil, drop_all, length-map}
+use Rattle.std.proofs.Math.Seq.{drop-cons}
+use Rattle.mips_text.specs.Spelling.{gap_text, operands_text, register_operand}
+
+-- the same bytes, grouped from the right
+regroup : (a b c d : List ℕ) → ((a ++ b) ++ c) ++ d ≡ a ++ (b ++ (c ++ d))
+regroup a b c d = simp append_assoc
+
+-- what the registers from an index on are printed as
+abbrev pub registers_left : ℕ → List ℕ → List ℕ
+registers_left index registers = operands_text index (map register_operand (drop index registers))
+
+-- one more register was written
+pub register_written : (out total registers : List ℕ) (index register : ℕ) → index < length registers → register ≡ get_or registers index register → out ++ registers_left index registers ≡ total → ((out ++ gap_text index) ++ register_operand register) ++ registers_left (index + 1) registers ≡ total
+register_written out total registers index register h e inv =
+    let cut = drop-cons registers index register h ∙ ap (λ (r : ℕ). r ∷ drop (suc index) registers) (sym e) in
+    let split = ap (λ (rs : List ℕ). out ++ operands_text index (map register_operand rs)) cut in
+    rw add-one (regroup out (gap_text index) (register_operand register) (registers_left (suc index) registers) ∙ (sym split ∙ inv))
+
+-- all registers were written
+pub registers_written : (out old start name registers : List ℕ) (index : ℕ) → length registers ≤ index → start ≡ old ++ name → out ++ registers_left index registers ≡ start ++ registers_left 0 registers → out ≡ old ++ (name ++ registers_left 0 registers)
+registers_written out old start name registers index h e inv =
+    let done = ap (λ (rs : List ℕ). out ++ operands_text index (map register_operand rs)) (drop_all index registers h) in
+    sym (append-nil out) ∙ (sym done ∙ (inv ∙ (ap (λ (s : List ℕ). s ++ registers_left 0 registers) e ∙ append_assoc old name (registers_left 0 registers))))
+
+-- the same bytes, grouped from the right
+regroup_behind : (a b c d : List ℕ) → (a ++ (b ++ c)) ++ d ≡ a ++ (b ++ (c ++ d))
+regroup_behind a b c d = simp append_assoc
+
+-- an operand behind the others
+pub operands_snoc : (index : ℕ) (operands : List (List ℕ)) (last : List ℕ) → operands_text index (operands ++ last ∷ []) ≡ operands_text index operands ++ (gap_text (index + length operands) ++ last)
+operands_snoc index [] last = rw (append-nil last, add-zero index) refl
+operands_snoc index (operand ∷ operands) last =
+    let n : suc index + length operands ≡ index + length (operand ∷ operands) = omega arith in
+    let behind = operands_snoc (suc index) operands last ∙ ap (λ (k : ℕ). operands_text (suc index) operands ++ (gap_text k ++ last)) n in
+    ap (λ (t : List ℕ). gap_text index ++ (operand ++ t)) behind ∙ sym (regroup_behind (gap_text index) operand (operands_text (suc index) operands) (gap_text (index + length (operand ∷ operands)) ++ last))
+
+-- the same bytes, grouped from the right
+regroup_row : (old name left gap last : List ℕ) → ((old ++ (name ++ left)) ++ gap) ++ last ≡ old ++ (name ++ (left ++ (gap ++ last)))
+regroup_row old name left gap last = simp append_assoc
+
+-- a row of registers, and a last operand
+pub row_ended : (old name last registers : List ℕ) → ((old ++ (name ++ operands_text 0 (map register_operand registers))) ++ gap_text (length registers)) ++ last ≡ old ++ (name ++ operands_text 0 (map register_operand registers ++ last ∷ []))
+row_ended old name last registers =
+    let n : length registers ≡ 0 + length (map register_operand registers) = omega (arith, length-map registers register_operand) in
+    let behind = ap (λ (k : ℕ). operands_text 0 (map register_operand registers) ++ (gap_text k ++ last)) n ∙ sym (operands_snoc 0 (map register_operand registers) last) in
+    regroup_row old name (operands_text 0 (map register_operand registers)) (gap_text (length registers)) last ∙ ap (λ (t : List ℕ). old ++ (name ++ t)) behind
+
+-- the same, step by step
+pub row_finished : (old named parted out name last registers : List ℕ) (count : ℕ) → named ≡ old ++ (name ++ operands_text 0 (map register_operand registers)) → count ≡ length registers → parted ≡ named ++ gap_text count → out ≡ parted ++ last → out ≡ old ++ (name ++ operands_text 0 (map register_operand registers ++ last ∷ []))
+row_finished old named parted out name last registers count e n p o =
+    o ∙ (ap (λ (t : List ℕ). t ++ last) (p ∙ (ap (λ (t : List ℕ). t ++ gap_text count) e ∙ ap (λ (k : ℕ). (old ++ (name ++ operands_text 0 (map register_operand registers))) ++ gap_text k) n)) ∙ row_ended old name last registers)
+
+-- what a call gave, carried on to the result
+pub then_ok : {A E P Q : Type 0} → (r : Result A E) → (P → Q) → OnOk r P → OnOk r Q
+then_ok (Ok x) f h = f h
+then_ok (Err e) f h = h
+
+-- what an appending call gave
+pub appended : {A E : Type 0} → (r : Result A E) (out old all : List ℕ) → out ≡ (if is_ok r then all else old) → OnOk r (out ≡ all)
+appended (Ok x) out old all h = h
+appended (Err e) out old all h = tt

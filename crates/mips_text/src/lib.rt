@@ -1,0 +1,25 @@
+//! Assembly as text.
+//!
+//! Comes in: the bytes of a text, or lines of assembly. Goes out: the other of the two. Reading finds the first word of the
+//! text that is at fault; `print_asm` has one spelling for each line.
+#![tactic(auto)]
+
+mod data;
+mod directives;
+mod flaw;
+mod instructions;
+mod letters;
+mod mnemonics;
+mod numbers;
+mod operands;
+mod printing;
+mod ranges;
+mod reading;
+mod registers;
+mod rows;
+#[cfg(test)]
+mod tests;
+mod words;
+
+pub use printing::print_asm;
+pub use reading::read_asm;

@@ -1,0 +1,102 @@
+//! The text of lines.
+
+use crate::directives::Directive;
+use crate::mnemonics::Mnemonic;
+use crate::rows::{
+    put_bytes, put_directive, put_directive_named, put_directive_numbered, put_in_memory,
+    put_named, put_numbered, put_registers, put_text, put_words,
+};
+use mips_isa::{Instr, Line, Statement};
+use std::alloc::{AllocError, Global};
+
+/// The text of lines, in the one spelling.
+///
+/// A line is each label as its name, `:` and a space, then the mnemonic and, where there are operands, a space and the operands
+/// with `, ` between, then a newline. `Err` comes only for want of memory.
+pub fn print_asm(alloc: Global, lines: &[Line]) -> Result<Vec<u8>, AllocError> {
+    let mut out = Vec::new(alloc);
+    for line in lines {
+        put_line(&mut out, line)?;
+    }
+    Ok(out)
+}
+
+/// Writes a line.
+fn put_line(out: &mut Vec<u8>, line: &Line) -> Result<(), AllocError> {
+    for label in &line.labels {
+        out.extend_from_slice(label.as_slice())?;
+        out.extend_from_slice(b": ")?;
+    }
+    put_statement(out, &line.statement)?;
+    out.extend_from_slice(b"\n")
+}
+
+/// Writes a statement, or nothing for none.
+fn put_statement(out: &mut Vec<u8>, statement: &Statement) -> Result<(), AllocError> {
+    match statement {
+        Statement::Empty => Ok(()),
+        Statement::Plain(instruction) => put_instruction(out, *instruction),
+        Statement::ToTwo { op, rs, rt, target } => {
+            put_named(out, Mnemonic::BranchTwo(*op), &[*rs, *rt], target)
+        }
+        Statement::ToOne { op, rs, target } => {
+            put_named(out, Mnemonic::BranchOne(*op), &[*rs], target)
+        }
+        Statement::ToJump { op, target } => put_named(out, Mnemonic::Jump(*op), &[], target),
+        Statement::La { rd, label } => put_named(out, Mnemonic::La, &[*rd], label),
+        Statement::Li { rd, value } => put_numbered(out, Mnemonic::Li, &[*rd], *value),
+        Statement::Move { rd, rs } => put_registers(out, Mnemonic::Move, &[*rd, *rs]),
+        Statement::Neg { rd, rs } => put_registers(out, Mnemonic::Neg, &[*rd, *rs]),
+        Statement::Nop => put_registers(out, Mnemonic::Nop, &[]),
+        Statement::B { target } => put_named(out, Mnemonic::B, &[], target),
+        Statement::BranchZero { op, rs, target } => {
+            put_named(out, Mnemonic::BranchZero(*op), &[*rs], target)
+        }
+        Statement::BranchOrder { op, rs, rt, target } => {
+            put_named(out, Mnemonic::BranchOrder(*op), &[*rs, *rt], target)
+        }
+        Statement::Mul { rd, rs, rt } => put_registers(out, Mnemonic::Mul, &[*rd, *rs, *rt]),
+        Statement::ToText => put_directive(out, Directive::Text),
+        Statement::ToData => put_directive(out, Directive::Data),
+        Statement::Globl(label) => put_directive_named(out, Directive::Globl, label),
+        Statement::Word(items) => put_words(out, items),
+        Statement::Byte(values) => put_bytes(out, values),
+        Statement::Ascii(bytes) => put_text(out, Directive::Ascii, bytes),
+        Statement::Asciiz(bytes) => put_text(out, Directive::Asciiz, bytes),
+        Statement::Space(size) => put_directive_numbered(out, Directive::Space, i64::from(*size)),
+        Statement::Align(power) => put_directive_numbered(out, Directive::Align, i64::from(*power)),
+    }
+}
+
+/// Writes an instruction.
+fn put_instruction(out: &mut Vec<u8>, instruction: Instr) -> Result<(), AllocError> {
+    match instruction {
+        Instr::Three { op, rd, rs, rt } => put_registers(out, Mnemonic::Three(op), &[rd, rs, rt]),
+        Instr::Shift { op, rd, rt, sh } => {
+            put_numbered(out, Mnemonic::Shift(op), &[rd, rt], i64::from(sh))
+        }
+        Instr::ShiftReg { op, rd, rt, rs } => {
+            put_registers(out, Mnemonic::ShiftReg(op), &[rd, rt, rs])
+        }
+        Instr::Jr { rs } => put_registers(out, Mnemonic::Jr, &[rs]),
+        Instr::Jalr { rd, rs } => put_registers(out, Mnemonic::Jalr, &[rd, rs]),
+        Instr::Syscall => put_registers(out, Mnemonic::Syscall, &[]),
+        Instr::MoveFrom { op, rd } => put_registers(out, Mnemonic::MoveFrom(op), &[rd]),
+        Instr::MoveTo { op, rs } => put_registers(out, Mnemonic::MoveTo(op), &[rs]),
+        Instr::MulDiv { op, rs, rt } => put_registers(out, Mnemonic::MulDiv(op), &[rs, rt]),
+        Instr::Imm { op, rt, rs, imm } => {
+            put_numbered(out, Mnemonic::Imm(op), &[rt, rs], i64::from(imm))
+        }
+        Instr::Lui { rt, imm } => put_numbered(out, Mnemonic::Lui, &[rt], i64::from(imm)),
+        Instr::BranchTwo { op, rs, rt, imm } => {
+            put_numbered(out, Mnemonic::BranchTwo(op), &[rs, rt], i64::from(imm))
+        }
+        Instr::BranchOne { op, rs, imm } => {
+            put_numbered(out, Mnemonic::BranchOne(op), &[rs], i64::from(imm))
+        }
+        Instr::Jump { op, index } => {
+            put_numbered(out, Mnemonic::Jump(op), &[], i64::from(index))
+        }
+        Instr::Mem { op, rt, rs, imm } => put_in_memory(out, Mnemonic::Mem(op), rt, imm, rs),
+    }
+}
