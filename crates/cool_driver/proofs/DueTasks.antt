@@ -1,16 +1,17 @@
 -- What is left to do is what is due.
-use Rattle.std.proofs.Common.{◌≡◌, ◌≢◌, ℕ, ◌<◌, ◌≤◌, List, [], ◌++◌, length, Some, refl, sym, subst, arith}
-use Rattle.std.specs.Prelude.{codes, Option, Result, Ok, Err, IfOk}
+use Rattle.std.proofs.Common.{◌≡◌, ◌≢◌, ℕ, ◌<◌, ◌≤◌, List, [], ◌++◌, length, Some, refl, sym, subst, inl, inr, arith}
+use Rattle.std.specs.Prelude.{codes, decimal, Option, Result, Ok, Err, IfOk}
 use Rattle.std.proofs.Math.ListN.{length-append}
 use Rattle.cool_ports.specs.Counts.{Rose}
 use Rattle.cool_ports.specs.ShelfFiles.{FileMap, MayHold, IsMissing, IsLonger}
 use Rattle.cool_ports.specs.declared.shelf.ShelfFault.{ShelfFault}
 use Rattle.cool_ports.specs.declared.shelf.ShelfFault.TheVariants as faults
+use Rattle.mips_isa.specs.declared.line.AsmFault.{AsmFault}
 use Rattle.mips_image.specs.declared.image_error.ImageError.{ImageError}
 use Rattle.cool_driver.specs.CommandLine.{plan_of, most_bytes}
-use Rattle.cool_driver.specs.Notes.{refused_note, missing_note, unread_note, too_large_note, image_fault, image_note}
+use Rattle.cool_driver.specs.Notes.{refused_note, missing_note, unread_note, too_large_note, image_fault, image_note, asm_words, asm_note}
 use Rattle.cool_driver.specs.Ends.{Request, Due, IsRead}
-use Rattle.cool_driver.specs.Ends.Due.{refused, unfit, missing, unread, too_large}
+use Rattle.cool_driver.specs.Ends.Due.{refused, unfit, misread, missing, unread, too_large}
 use Rattle.cool_driver.specs.Tasks.{code_of, fault_note, IsTaskOf, IsDue, IsFileTask}
 use Rattle.cool_driver.specs.declared.command_line.Command.{Command}
 use Rattle.cool_driver.specs.declared.command_line.Command.TheVariants as command
@@ -25,12 +26,16 @@ some_refused name = omega (arith, length-append name (codes ":1: N1: not yet\n")
 some_unfit : (name : List ℕ) (fault : ImageError) → 0 < length (image_note name fault)
 some_unfit name fault = omega (arith, length-append name (codes ": " ++ image_fault fault))
 
+some_misread : (name : List ℕ) (fault : AsmFault) → 0 < length (asm_note name fault)
+some_misread name fault = omega (arith, length-append name (codes ":" ++ (decimal fault.line ++ (codes ": " ++ (asm_words fault.kind ++ codes "\n")))))
+
 -- for a file that was read
 task_due : (r : Request) (asked : Command) (name bytes : List ℕ) (task : Task) → IsRead r asked name bytes → IsTaskOf asked name bytes task → IsDue r task
 task_due r command.Run name bytes (Note status text) read h = rw (h.0, h.1) (refused name bytes read h.2, some_refused name, λ e. omega (arith, e))
 task_due r command.Run name bytes (Run image) read h = (name, bytes, h.0, read, h.1, h.2)
 task_due r command.Run name bytes (Execute image) read h = absurd h
-task_due r command.Exec name bytes (Note status text) read h = rw (h.0, h.1.1) (unfit name bytes h.1.0 read h.1.2, some_unfit name h.1.0, λ e. omega (arith, e))
+task_due r command.Exec name bytes (Note status text) read (twelve, inl h) = rw (twelve, h.1) (unfit name bytes h.0 read h.2 h.3, some_unfit name h.0, λ e. omega (arith, e))
+task_due r command.Exec name bytes (Note status text) read (twelve, inr h) = rw (twelve, h.1) (misread name bytes h.0 read h.2, some_misread name h.0, λ e. omega (arith, e))
 task_due r command.Exec name bytes (Run image) read h = absurd h
 task_due r command.Exec name bytes (Execute image) read h = (name, bytes, read, h)
 

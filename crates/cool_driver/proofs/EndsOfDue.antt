@@ -5,7 +5,7 @@ use Rattle.cool_ports.specs.Counts.{Rose}
 use Rattle.mips_isa.specs.ImageBounds.{ImageParts}
 use Rattle.cool_driver.specs.CommandLine.{plan_of}
 use Rattle.cool_driver.specs.Notes.{read_fault_note}
-use Rattle.cool_driver.specs.Execution.{IsImageOf, IsEnd}
+use Rattle.cool_driver.specs.Execution.{IsRunnable, IsEnd}
 use Rattle.cool_driver.specs.Ends.{Request, Due, IsRead, Call, Ends, EndsUntold, TellsInput, FailedOutput, FailedNote, Got, GotPart}
 use Rattle.cool_driver.specs.declared.command_line.Command.TheVariants.{Exec}
 use Rattle.cool_driver.proofs.Findings as findings
@@ -48,7 +48,7 @@ ends_found c status found calm written =
       too_large_exactly = λ files command name bytes told p e large _ _. findings.too_large_exactly r status files command name bytes found told p e large;
       refused_exactly = λ files name bytes told read other _ _. findings.refused_exactly r status files name bytes found told read other;
       ran_exactly = λ files name bytes strings told read simple _ _. findings.ran_exactly r status files name bytes strings found told read simple;
-      unfit_exactly = λ files name bytes told read none _ _. findings.unfit_exactly r status files name bytes found told read none;
+      unfit_exactly = λ files name bytes told read binary none _ _. findings.unfit_exactly r status files name bytes found told read binary none;
       executed_exactly = λ files name bytes image input told read is given _ _. findings.executed_exactly r status files name bytes image input found told read is given;
       out_fault = λ more. absurd (omega (arith, calm.out, more));
       notes_fault = λ more. absurd (omega (arith, calm.notes, more));
@@ -71,7 +71,7 @@ ends_written c status output note due out notes calm rose =
     (inl (output, note, due, out, notes))
 
 -- an image was run over an input that does not tell what it has left
-pub ends_untold : (c : Call) (status : ℕ) (name bytes : List ℕ) (image : ImageParts) (note : List ℕ) → IsRead c.request Exec name bytes → IsImageOf image bytes → c.request.input ≡ None
+pub ends_untold : (c : Call) (status : ℕ) (name bytes : List ℕ) (image : ImageParts) (note : List ℕ) → IsRead c.request Exec name bytes → IsRunnable image bytes → c.request.input ≡ None
     → IsEnd status note ⊎ ((status ≡ 7) × (note ≡ read_fault_note)) → c.out.faults_after ≡ c.out.faults_before → Got c.notes note
     → (status ≢ 7 → c.input_after ≡ c.input_before) → (status ≡ 7 → Rose c.input_before c.input_after) → Ends c status
 ends_untold c status name bytes image note read is untold end out notes calm rose =
@@ -95,7 +95,7 @@ ends_write_fault c rose part = record {
   too_large_exactly = λ files command name bytes told p e large other _. absurd (other refl);
   refused_exactly = λ files name bytes told read form other _. absurd (other refl);
   ran_exactly = λ files name bytes strings told read form other _. absurd (other refl);
-  unfit_exactly = λ files name bytes told read none other _. absurd (other refl);
+  unfit_exactly = λ files name bytes told read binary none other _. absurd (other refl);
   executed_exactly = λ files name bytes image input told read is given other _. absurd (other refl);
   out_fault = λ _. refl;
   notes_fault = λ _. refl;
@@ -118,7 +118,7 @@ ends_without_memory c out notes left calm = record {
   too_large_exactly = λ files command name bytes told p e large _ other. absurd (other refl);
   refused_exactly = λ files name bytes told read form _ other. absurd (other refl);
   ran_exactly = λ files name bytes strings told read form _ other. absurd (other refl);
-  unfit_exactly = λ files name bytes told read none _ other. absurd (other refl);
+  unfit_exactly = λ files name bytes told read binary none _ other. absurd (other refl);
   executed_exactly = λ files name bytes image input told read is given _ other. absurd (other refl);
   out_fault = λ more. absurd (omega (arith, out.1, more));
   notes_fault = λ more. absurd (omega (arith, notes.1, more));

@@ -18,7 +18,7 @@ use Rattle.cool_driver.specs.declared.TheConstants.{DEFAULT_HEAP, DEFAULT_STACK,
 use Rattle.cool_driver.specs.declared.command_line.Command.TheVariants.{Exec}
 use Rattle.cool_driver.specs.declared.status.Status.{Status}
 use Rattle.cool_driver.specs.Notes.{read_fault_note, step_limit_note, heap_limit_note, stack_limit_note, trap_note}
-use Rattle.cool_driver.specs.Execution.{IsImageOf, segments_by_default, run_of, left_by, status_of, note_of, IsEnd}
+use Rattle.cool_driver.specs.Execution.{IsRunnable, segments_by_default, run_of, left_by, status_of, note_of, IsEnd}
 use Rattle.cool_driver.specs.Ends.{Request, Due, IsRead, Writing, Got, GotPart, Call, TellsInput, Ends}
 use Rattle.cool_driver.specs.Ends.Due.{executed, unread_input}
 use Rattle.cool_driver.specs.Ends.Writing.{by_exec}
@@ -32,7 +32,7 @@ pub record IsRun (c : Call) (halt : Halt) : Type 0 where
   pub bytes : List ℕ
   pub image : ImageParts
   pub read : IsRead c.request Exec name bytes
-  pub is : IsImageOf image bytes
+  pub is : IsRunnable image bytes
   pub last : MachineParts
   pub ran : (input : List ℕ) → c.request.input ≡ Some input
       → Ran image.text (segments_by_default image) DEFAULT_STEPS (start image (segments_by_default image) input) c.out.held_before halt last c.left c.out.held_after
@@ -44,7 +44,7 @@ pub is_run : (c : Call) (name bytes : List ℕ) (image : ImageParts) (heap stack
     → ((input : List ℕ) → state_of loaded input [] ≡ start image (segments_of image heap stack) input) → loaded.cpu.memory.text ≡ image.text → segments loaded.cpu.memory ≡ segments_of image heap stack
     → ((first : Option (List ℕ)) (s : State) → IsIn first s loaded given c.out.held_before → Ran loaded.cpu.memory.text (segments loaded.cpu.memory) DEFAULT_STEPS s first halt last c.left c.out.held_after)
     → Counted halt c.input_before c.input_after c.out.faults_before c.out.faults_after
-    → halt ≡ halt' → IsRead c.request Exec name bytes → IsImageOf image bytes → c.request.input ≡ given → IsRun c halt'
+    → halt ≡ halt' → IsRead c.request Exec name bytes → IsRunnable image bytes → c.request.input ≡ given → IsRun c halt'
 is_run c name bytes image heap stack loaded last halt halt' given least most state text same ran counted ends read is told =
     subst (λ (h : Halt). IsRun c h) ends (record {
       name = name;
@@ -60,7 +60,7 @@ is_run c name bytes image heap stack loaded last halt halt' given least most sta
 -- The output was written, and a status and a note are due, as far as the input tells.
 pub record IsFinished (c : Call) (status : ℕ) (note : List ℕ) : Type 0 where
   pub told : (input : List ℕ) → c.request.input ≡ Some input → (output : List ℕ) × Due c.request status output note c.left × Got c.out output
-  pub untold : (name : List ℕ) × (bytes : List ℕ) × (image : ImageParts) × IsRead c.request Exec name bytes × IsImageOf image bytes
+  pub untold : (name : List ℕ) × (bytes : List ℕ) × (image : ImageParts) × IsRead c.request Exec name bytes × IsRunnable image bytes
       × (IsEnd status note ⊎ ((status ≡ 7) × (note ≡ read_fault_note)))
   pub out : c.out.faults_after ≡ c.out.faults_before
   pub calm : status ≢ 7 → c.input_after ≡ c.input_before
@@ -100,7 +100,7 @@ noted_ends c status answered note f (inr (is, part)) =
     subst (λ (s : Status). Ends c (code_of s)) (sym is) (note_failed c (code_of status) note f part)
 
 -- what is due for a run that ended so
-executed_so : (r : Request) (name bytes : List ℕ) (image : ImageParts) (input : List ℕ) (o : Outcome) → IsRead r Exec name bytes → IsImageOf image bytes → r.input ≡ Some input → run_of image input ≡ o
+executed_so : (r : Request) (name bytes : List ℕ) (image : ImageParts) (input : List ℕ) (o : Outcome) → IsRead r Exec name bytes → IsRunnable image bytes → r.input ≡ Some input → run_of image input ≡ o
     → Due r (status_of o) (left_by o).output (note_of o) (Some (left_by o).input)
 executed_so r name bytes image input o read is given ends =
     subst (λ (o : Outcome). Due r (status_of o) (left_by o).output (note_of o) (Some (left_by o).input)) ends (executed name bytes image input read is given)

@@ -11,9 +11,9 @@ use Rattle.mips_image.specs.ImageReading.{first_fault, parts_of}
 use Rattle.mips_image.specs.declared.image_error.ImageError.{ImageError}
 use Rattle.mips_image.proofs.ImagesAreRead.{no_fault, parts_read}
 use Rattle.cool_driver.specs.CommandLine.{plan_of, most_bytes}
-use Rattle.cool_driver.specs.Execution.{IsImageOf, IsEnd, run_of, status_of, note_of}
+use Rattle.cool_driver.specs.Execution.{IsImageOf, IsRunnable, is_text_file, IsEnd, run_of, status_of, note_of}
 use Rattle.cool_driver.specs.Ends.{Request, Due, IsRead, NotSimple, Told}
-use Rattle.cool_driver.specs.Ends.Due.{ran, refused, executed, unread_input, unfit, usage, missing, unread, too_large}
+use Rattle.cool_driver.specs.Ends.Due.{ran, refused, executed, unread_input, unfit, misread, usage, missing, unread, too_large}
 use Rattle.cool_driver.specs.declared.command_line.Command.{Command}
 use Rattle.cool_driver.specs.declared.command_line.Command.TheVariants.{Run, Exec}
 
@@ -31,9 +31,10 @@ IsRunStatus status = ((end : Outcome) × (status ≡ status_of end)) ⊎ (status
 pub data Finding (r : Request) (status : ℕ) : Type 0 where
   simple : (name bytes : List ℕ) (strings : List (List ℕ)) → IsRead r Run name bytes → Simple bytes strings → status ≡ 0 → Finding r status
   no_simple : (name bytes : List ℕ) → IsRead r Run name bytes → NotSimple bytes → status ≡ 1 → Finding r status
-  image : (name bytes : List ℕ) (found : ImageParts) → IsRead r Exec name bytes → IsImageOf found bytes → IsRunStatus status
+  image : (name bytes : List ℕ) (found : ImageParts) → IsRead r Exec name bytes → IsRunnable found bytes → IsRunStatus status
       → ((input : List ℕ) → r.input ≡ Some input → (status ≡ 7) ⊎ (status ≡ status_of (run_of found input))) → Finding r status
   no_image : (name bytes : List ℕ) (fault : ImageError) → IsRead r Exec name bytes → first_fault bytes ≡ Some fault → status ≡ 12 → Finding r status
+  bad_text : (name bytes : List ℕ) → IsRead r Exec name bytes → is_text_file bytes ≡ true → status ≡ 12 → Finding r status
   no_plan : plan_of r.words ≡ None → r.faults_after ≡ r.faults_before → status ≡ 2 → Finding r status
   no_file : (command : Command) (name : List ℕ) → plan_of r.words ≡ Some (command, name) → IsFileFault r command name → status ≡ 10 → Finding r status
 
@@ -47,7 +48,8 @@ finding_of_due r _ _ _ _ (refused name bytes read is) = no_simple name bytes rea
 finding_of_due r _ _ _ _ (executed name bytes found input read is told) =
     image name bytes found read is (inl (run_of found input, refl)) (λ given e. inr (ap (λ i. status_of (run_of found i)) (same_input r.input input given told e)))
 finding_of_due r _ _ _ _ (unread_input name bytes found input at output left read is told comes fails) = image name bytes found read is (inr refl) (λ given e. inl refl)
-finding_of_due r _ _ _ _ (unfit name bytes fault read is) = no_image name bytes fault read is refl
+finding_of_due r _ _ _ _ (unfit name bytes fault read binary is) = no_image name bytes fault read is refl
+finding_of_due r _ _ _ _ (misread name bytes fault read text) = bad_text name bytes read text refl
 finding_of_due r _ _ _ _ (usage plan calm) = no_plan plan calm refl
 finding_of_due r _ _ _ _ (missing command name plan gone) = no_file command name plan (inl gone) refl
 finding_of_due r _ _ _ _ (unread command name plan rose) = no_file command name plan (inr (inl rose)) refl
@@ -89,6 +91,7 @@ finding_below r status (image name bytes found read is run e) =
     let one = run_status status run in
     (below status one, λ q. not_of_run status 8 one q (inr (inr (inl refl))), λ q. not_of_run status 9 one q (inr (inr (inr (inl refl)))))
 finding_below r status (no_image name bytes fault read is e) = (omega (arith, e), λ q. omega (arith, e, q), λ q. omega (arith, e, q))
+finding_below r status (bad_text name bytes read text e) = (omega (arith, e), λ q. omega (arith, e, q), λ q. omega (arith, e, q))
 finding_below r status (no_plan plan calm e) = (omega (arith, e), λ q. omega (arith, e, q), λ q. omega (arith, e, q))
 finding_below r status (no_file command name plan fault e) = (omega (arith, e), λ q. omega (arith, e, q), λ q. omega (arith, e, q))
 
@@ -159,6 +162,23 @@ same_image : (a b : ImageParts) (bytes : List ℕ) → IsImageOf a bytes → IsI
 same_image a b bytes is also =
     sym (ap parts_of is.bytes_are ∙ parts_read a is.bounds is.words) ∙ (ap parts_of also.bytes_are ∙ parts_read b also.bounds also.words)
 
+-- an image is no text
+no_text : (found : ImageParts) (bytes : List ℕ) → IsImageOf found bytes → is_text_file bytes ≡ true → ⊥
+no_text found bytes is text =
+    let binary : is_text_file bytes ≡ false = ap is_text_file is.bytes_are in
+    cc
+
+-- what runs and is no text is an image, and what runs and is an image is that one
+not_runnable : (found : ImageParts) (bytes : List ℕ) → IsRunnable found bytes → is_text_file bytes ≡ false → ((other : ImageParts) → IsImageOf other bytes → ⊥) → ⊥
+not_runnable found bytes (inl is) binary none = none found is
+not_runnable found bytes (inr made) binary none =
+    let text = made.text in
+    cc
+
+same_runnable : (found other : ImageParts) (bytes : List ℕ) → IsRunnable found bytes → IsImageOf other bytes → found ≡ other
+same_runnable found other bytes (inl is) also = same_image found other bytes is also
+same_runnable found other bytes (inr made) also = absurd (no_text other bytes also made.text)
+
 -- what is exactly so
 
 pub usage_only : (r : Request) (status : ℕ) → Finding r status → status ≡ 2 → plan_of r.words ≡ None
@@ -166,6 +186,7 @@ usage_only r status (simple name bytes strings read is e) q = absurd (omega (ari
 usage_only r status (no_simple name bytes read is e) q = absurd (omega (arith, e, q))
 usage_only r status (image name bytes found read is run e) q = absurd (not_of_run status 2 (run_status status run) q (inr (inl refl)))
 usage_only r status (no_image name bytes fault read is e) q = absurd (omega (arith, e, q))
+usage_only r status (bad_text name bytes read text e) q = absurd (omega (arith, e, q))
 usage_only r status (no_plan plan calm e) q = plan
 usage_only r status (no_file command name plan fault e) q = absurd (omega (arith, e, q))
 
@@ -174,6 +195,7 @@ usage_exactly r status (simple name bytes strings read is e) none = absurd (no_p
 usage_exactly r status (no_simple name bytes read is e) none = absurd (no_plan_and_plan _ _ _ none read.plan)
 usage_exactly r status (image name bytes found read is run e) none = absurd (no_plan_and_plan _ _ _ none read.plan)
 usage_exactly r status (no_image name bytes fault read is e) none = absurd (no_plan_and_plan _ _ _ none read.plan)
+usage_exactly r status (bad_text name bytes read text e) none = absurd (no_plan_and_plan _ _ _ none read.plan)
 usage_exactly r status (no_plan plan calm e) none = e
 usage_exactly r status (no_file command name plan fault e) none = absurd (no_plan_and_plan _ _ _ none plan)
 
@@ -188,6 +210,7 @@ missing_exactly r status files command name (simple name' bytes strings read is 
 missing_exactly r status files command name (no_simple name' bytes read is e) told plan gone = absurd (read_is_there r files _ _ _ _ _ told read plan gone)
 missing_exactly r status files command name (image name' bytes found read is run e) told plan gone = absurd (read_is_there r files _ _ _ _ _ told read plan gone)
 missing_exactly r status files command name (no_image name' bytes fault read is e) told plan gone = absurd (read_is_there r files _ _ _ _ _ told read plan gone)
+missing_exactly r status files command name (bad_text name' bytes read text e) told plan gone = absurd (read_is_there r files _ _ _ _ _ told read plan gone)
 missing_exactly r status files command name (no_plan none calm e) told plan gone = absurd (no_plan_and_plan _ _ _ none plan)
 missing_exactly r status files command name (no_file command' name' plan' fault e) told plan gone = e
 
@@ -204,6 +227,7 @@ too_large_exactly r status files command name large (simple name' bytes strings 
 too_large_exactly r status files command name large (no_simple name' bytes read is e) told plan there more = absurd (read_is_small r files _ _ _ _ _ _ told read plan there more)
 too_large_exactly r status files command name large (image name' bytes found read is run e) told plan there more = absurd (read_is_small r files _ _ _ _ _ _ told read plan there more)
 too_large_exactly r status files command name large (no_image name' bytes fault read is e) told plan there more = absurd (read_is_small r files _ _ _ _ _ _ told read plan there more)
+too_large_exactly r status files command name large (bad_text name' bytes read text e) told plan there more = absurd (read_is_small r files _ _ _ _ _ _ told read plan there more)
 too_large_exactly r status files command name large (no_plan none calm e) told plan there more = absurd (no_plan_and_plan _ _ _ none plan)
 too_large_exactly r status files command name large (no_file command' name' plan' fault e) told plan there more = e
 
@@ -213,6 +237,7 @@ refused_exactly r status files name bytes (simple name' bytes' strings read' is 
 refused_exactly r status files name bytes (no_simple name' bytes' read' is e) told read none = e
 refused_exactly r status files name bytes (image name' bytes' found read' is run e) told read none = absurd (two_commands _ _ _ read.plan read'.plan)
 refused_exactly r status files name bytes (no_image name' bytes' fault read' is e) told read none = absurd (two_commands _ _ _ read.plan read'.plan)
+refused_exactly r status files name bytes (bad_text name' bytes' read' text e) told read none = absurd (two_commands _ _ _ read.plan read'.plan)
 refused_exactly r status files name bytes (no_plan plan calm e) told read none = absurd (no_plan_and_plan _ _ _ plan read.plan)
 refused_exactly r status files name bytes (no_file command name' plan fault e) told read none = absurd (no_file_fault r files _ _ _ _ _ told read plan fault)
 
@@ -222,27 +247,30 @@ ran_exactly r status files name bytes strings (no_simple name' bytes' read' is e
     absurd (is strings (subst (λ b. Simple b strings) (same_read r files _ _ _ _ _ _ told read read') form))
 ran_exactly r status files name bytes strings (image name' bytes' found read' is run e) told read form = absurd (two_commands _ _ _ read.plan read'.plan)
 ran_exactly r status files name bytes strings (no_image name' bytes' fault read' is e) told read form = absurd (two_commands _ _ _ read.plan read'.plan)
+ran_exactly r status files name bytes strings (bad_text name' bytes' read' text e) told read form = absurd (two_commands _ _ _ read.plan read'.plan)
 ran_exactly r status files name bytes strings (no_plan plan calm e) told read form = absurd (no_plan_and_plan _ _ _ plan read.plan)
 ran_exactly r status files name bytes strings (no_file command name' plan fault e) told read form = absurd (no_file_fault r files _ _ _ _ _ told read plan fault)
 
-pub unfit_exactly : (r : Request) (status : ℕ) (files : FileMap) (name bytes : List ℕ) → Finding r status → Told r files → IsRead r Exec name bytes → ((found : ImageParts) → IsImageOf found bytes → ⊥) → status ≡ 12
-unfit_exactly r status files name bytes (simple name' bytes' strings read' is e) told read none = absurd (two_commands _ _ _ read'.plan read.plan)
-unfit_exactly r status files name bytes (no_simple name' bytes' read' is e) told read none = absurd (two_commands _ _ _ read'.plan read.plan)
-unfit_exactly r status files name bytes (image name' bytes' found read' is run e) told read none =
-    absurd (none found (subst (λ b. IsImageOf found b) (same_read r files _ _ _ _ _ _ told read' read) is))
-unfit_exactly r status files name bytes (no_image name' bytes' fault read' is e) told read none = e
-unfit_exactly r status files name bytes (no_plan plan calm e) told read none = absurd (no_plan_and_plan _ _ _ plan read.plan)
-unfit_exactly r status files name bytes (no_file command name' plan fault e) told read none = absurd (no_file_fault r files _ _ _ _ _ told read plan fault)
+pub unfit_exactly : (r : Request) (status : ℕ) (files : FileMap) (name bytes : List ℕ) → Finding r status → Told r files → IsRead r Exec name bytes → is_text_file bytes ≡ false → ((found : ImageParts) → IsImageOf found bytes → ⊥) → status ≡ 12
+unfit_exactly r status files name bytes (simple name' bytes' strings read' is e) told read binary none = absurd (two_commands _ _ _ read'.plan read.plan)
+unfit_exactly r status files name bytes (no_simple name' bytes' read' is e) told read binary none = absurd (two_commands _ _ _ read'.plan read.plan)
+unfit_exactly r status files name bytes (image name' bytes' found read' is run e) told read binary none =
+    absurd (not_runnable found bytes (subst (λ b. IsRunnable found b) (same_read r files _ _ _ _ _ _ told read' read) is) binary none)
+unfit_exactly r status files name bytes (no_image name' bytes' fault read' is e) told read binary none = e
+unfit_exactly r status files name bytes (bad_text name' bytes' read' text e) told read binary none = e
+unfit_exactly r status files name bytes (no_plan plan calm e) told read binary none = absurd (no_plan_and_plan _ _ _ plan read.plan)
+unfit_exactly r status files name bytes (no_file command name' plan fault e) told read binary none = absurd (no_file_fault r files _ _ _ _ _ told read plan fault)
 
 pub executed_exactly : (r : Request) (status : ℕ) (files : FileMap) (name bytes : List ℕ) (image' : ImageParts) (input : List ℕ) → Finding r status → Told r files → IsRead r Exec name bytes → IsImageOf image' bytes → r.input ≡ Some input
     → (status ≡ 7) ⊎ (status ≡ status_of (run_of image' input))
 executed_exactly r status files name bytes image' input (simple name' bytes' strings read' is e) told read form given = absurd (two_commands _ _ _ read'.plan read.plan)
 executed_exactly r status files name bytes image' input (no_simple name' bytes' read' is e) told read form given = absurd (two_commands _ _ _ read'.plan read.plan)
 executed_exactly r status files name bytes image' input (image name' bytes' found read' is run e) told read form given =
-    let same = same_image found image' bytes (subst (λ b. IsImageOf found b) (same_read r files _ _ _ _ _ _ told read' read) is) form in
+    let same = same_runnable found image' bytes (subst (λ b. IsRunnable found b) (same_read r files _ _ _ _ _ _ told read' read) is) form in
     subst (λ i. (status ≡ 7) ⊎ (status ≡ status_of (run_of i input))) same (e input given)
 executed_exactly r status files name bytes image' input (no_image name' bytes' fault read' is e) told read form given =
     absurd (image_without_fault image' bytes' fault (subst (λ b. IsImageOf image' b) (same_read r files _ _ _ _ _ _ told read read') form) is)
+executed_exactly r status files name bytes image' input (bad_text name' bytes' read' text e) told read form given = absurd (no_text image' bytes' (subst (λ b. IsImageOf image' b) (same_read r files _ _ _ _ _ _ told read read') form) text)
 executed_exactly r status files name bytes image' input (no_plan plan calm e) told read form given = absurd (no_plan_and_plan _ _ _ plan read.plan)
 executed_exactly r status files name bytes image' input (no_file command name' plan fault e) told read form given = absurd (no_file_fault r files _ _ _ _ _ told read plan fault)
 
@@ -252,5 +280,6 @@ shelf_fault r status (simple name bytes strings read is e) more = absurd (omega 
 shelf_fault r status (no_simple name bytes read is e) more = absurd (omega (arith, read.calm, more))
 shelf_fault r status (image name bytes found read is run e) more = absurd (omega (arith, read.calm, more))
 shelf_fault r status (no_image name bytes fault read is e) more = absurd (omega (arith, read.calm, more))
+shelf_fault r status (bad_text name bytes read text e) more = absurd (omega (arith, read.calm, more))
 shelf_fault r status (no_plan plan calm e) more = absurd (omega (arith, calm, more))
 shelf_fault r status (no_file command name plan fault e) more = e

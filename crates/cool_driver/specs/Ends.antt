@@ -1,5 +1,5 @@
 -- How a call of `cool` ends: what is due for the words over the shelf's files and the input, and what came of it.
-use Rattle.std.specs.Prelude.{◌≡◌, ◌≢◌, ℕ, ◌<◌, ◌≤◌, ◌⊎◌, List, [], ◌++◌, length, Option, Some, None}
+use Rattle.std.specs.Prelude.{◌≡◌, ◌≢◌, ℕ, ◌<◌, ◌≤◌, ◌⊎◌, true, false, List, [], ◌++◌, length, Option, Some, None}
 use Rattle.std.specs.List.{concat}
 use Rattle.cool_syntax.specs.SimpleForm.{Simple}
 use Rattle.cool_ports.specs.Counts.{last_count, Rose}
@@ -7,12 +7,13 @@ use Rattle.cool_ports.specs.ShelfFiles.{FileMap, MayHold, IsMissing, IsLonger}
 use Rattle.cool_ports.specs.SinkBytes.{appended, GotPrefix}
 use Rattle.mips_isa.specs.ImageBounds.{ImageParts}
 use Rattle.mips_isa.specs.Calls.{State, call, print}
+use Rattle.mips_isa.specs.declared.line.AsmFault.{AsmFault}
 use Rattle.mips_image.specs.ImageReading.{first_fault}
 use Rattle.mips_image.specs.declared.image_error.ImageError.{ImageError}
 use Rattle.spim_machine.specs.Ends.{FailsReading, call_with}
 use Rattle.cool_driver.specs.CommandLine.{plan_of, most_bytes}
-use Rattle.cool_driver.specs.Notes.{end_text, refused_note, usage_note, missing_note, unread_note, too_large_note, read_fault_note, image_note}
-use Rattle.cool_driver.specs.Execution.{IsImageOf, segments_by_default, run_of, ComesTo, left_by, status_of, note_of, IsEnd}
+use Rattle.cool_driver.specs.Notes.{end_text, refused_note, usage_note, missing_note, unread_note, too_large_note, read_fault_note, image_note, asm_note}
+use Rattle.cool_driver.specs.Execution.{IsImageOf, IsRunnable, is_text_file, segments_by_default, run_of, ComesTo, left_by, status_of, note_of, IsEnd}
 use Rattle.cool_driver.specs.declared.command_line.Command.{Command}
 use Rattle.cool_driver.specs.declared.command_line.Command.TheVariants.{Run, Exec}
 
@@ -42,14 +43,15 @@ pub data Due (r : Request) : ℕ → List ℕ → List ℕ → Option (List ℕ)
   ran : (name bytes : List ℕ) (strings : List (List ℕ)) → IsRead r Run name bytes → Simple bytes strings → Due r 0 (concat strings ++ end_text) [] r.input
   refused : (name bytes : List ℕ) → IsRead r Run name bytes → NotSimple bytes → Due r 1 [] (refused_note name) r.input
   -- `exec`: as the run of the image ends
-  executed : (name bytes : List ℕ) (image : ImageParts) (input : List ℕ) → IsRead r Exec name bytes → IsImageOf image bytes → r.input ≡ Some input
+  executed : (name bytes : List ℕ) (image : ImageParts) (input : List ℕ) → IsRead r Exec name bytes → IsRunnable image bytes → r.input ≡ Some input
       → Due r (status_of (run_of image input)) (left_by (run_of image input)).output (note_of (run_of image input)) (Some (left_by (run_of image input)).input)
   -- `exec`: the run comes to a call that fails to read, over what is left
   unread_input : (name bytes : List ℕ) (image : ImageParts) (input : List ℕ) (at : State) (output : List ℕ) (left : Option (List ℕ))
-      → IsRead r Exec name bytes → IsImageOf image bytes → r.input ≡ Some input
+      → IsRead r Exec name bytes → IsRunnable image bytes → r.input ≡ Some input
       → ComesTo image input at → FailsReading (call_with (segments_by_default image) at) at (Some []) left (Some output)
       → Due r 7 output read_fault_note left
-  unfit : (name bytes : List ℕ) (fault : ImageError) → IsRead r Exec name bytes → first_fault bytes ≡ Some fault → Due r 12 [] (image_note name fault) r.input
+  unfit : (name bytes : List ℕ) (fault : ImageError) → IsRead r Exec name bytes → is_text_file bytes ≡ false → first_fault bytes ≡ Some fault → Due r 12 [] (image_note name fault) r.input
+  misread : (name bytes : List ℕ) (fault : AsmFault) → IsRead r Exec name bytes → is_text_file bytes ≡ true → Due r 12 [] (asm_note name fault) r.input
   -- both
   usage : plan_of r.words ≡ None → r.faults_after ≡ r.faults_before → Due r 2 [] usage_note r.input
   missing : (command : Command) (name : List ℕ) → plan_of r.words ≡ Some (command, name) → IsMissing r.files name r.faults_before r.faults_after → Due r 10 [] (missing_note name) r.input
@@ -60,7 +62,7 @@ pub data Due (r : Request) : ℕ → List ℕ → List ℕ → Option (List ℕ)
 pub data Writing (r : Request) : List ℕ → List ℕ → Option (List ℕ) → Type 0 where
   by_run : (name bytes : List ℕ) (strings : List (List ℕ)) → IsRead r Run name bytes → Simple bytes strings → Writing r [] (concat strings ++ end_text) r.input
   -- the run of the image comes to a call that prints these bytes
-  by_exec : (name bytes : List ℕ) (image : ImageParts) (input : List ℕ) (at : State) (printed : List ℕ) → IsRead r Exec name bytes → IsImageOf image bytes → r.input ≡ Some input
+  by_exec : (name bytes : List ℕ) (image : ImageParts) (input : List ℕ) (at : State) (printed : List ℕ) → IsRead r Exec name bytes → IsRunnable image bytes → r.input ≡ Some input
       → ComesTo image input at → call (segments_by_default image) at ≡ print at printed → Writing r at.output printed (Some at.input)
 
 -- What a sink held, and its count of faults, before a call and after it.
@@ -100,7 +102,7 @@ FailedNote c = (due : ℕ) × (output : List ℕ) × (note : List ℕ) × Due c.
 -- some end of a run, or of a read that failed.
 abbrev pub EndsUntold : Call → ℕ → Type 0
 EndsUntold c status =
-    (name : List ℕ) × (bytes : List ℕ) × (image : ImageParts) × IsRead c.request Exec name bytes × IsImageOf image bytes × (c.request.input ≡ None)
+    (name : List ℕ) × (bytes : List ℕ) × (image : ImageParts) × IsRead c.request Exec name bytes × IsRunnable image bytes × (c.request.input ≡ None)
     × (note : List ℕ) × (IsEnd status note ⊎ ((status ≡ 7) × (note ≡ read_fault_note))) × Got c.notes note
 
 -- the shelf tells these files, and no fault of it can have come
@@ -137,8 +139,8 @@ pub record Ends (c : Call) (status : ℕ) : Type 0 where
   -- `run`: status 1 comes where the file was read and is no program of the simple form, and status 0 where it is one
   pub refused_exactly : (files : FileMap) (name bytes : List ℕ) → Told c.request files → IsRead c.request Run name bytes → NotSimple bytes → Unless status (status ≡ 1)
   pub ran_exactly : (files : FileMap) (name bytes : List ℕ) (strings : List (List ℕ)) → Told c.request files → IsRead c.request Run name bytes → Simple bytes strings → Unless status (status ≡ 0)
-  -- `exec`: status 12 comes where the file was read and is no image, and the status of the run's end where it is one
-  pub unfit_exactly : (files : FileMap) (name bytes : List ℕ) → Told c.request files → IsRead c.request Exec name bytes → ((image : ImageParts) → IsImageOf image bytes → ⊥) → Unless status (status ≡ 12)
+  -- `exec`: status 12 comes where the file was read, is no text and no image, and the status of the run's end where it is an image
+  pub unfit_exactly : (files : FileMap) (name bytes : List ℕ) → Told c.request files → IsRead c.request Exec name bytes → is_text_file bytes ≡ false → ((image : ImageParts) → IsImageOf image bytes → ⊥) → Unless status (status ≡ 12)
   pub executed_exactly : (files : FileMap) (name bytes : List ℕ) (image : ImageParts) (input : List ℕ) → Told c.request files → IsRead c.request Exec name bytes → IsImageOf image bytes → c.request.input ≡ Some input
       → Unless status ((status ≡ 7) ⊎ (status ≡ status_of (run_of image input)))
   -- no fault is passed over

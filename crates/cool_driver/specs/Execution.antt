@@ -1,7 +1,9 @@
 -- What `exec` does with the bytes of a file: the image that they are, its run, and how that ends.
-use Rattle.std.specs.Prelude.{◌≡◌, ℕ, ◌==◌, if◌then◌else◌, List, []}
+use Rattle.std.specs.Prelude.{◌≡◌, ℕ, ◌==◌, ◌⊎◌, not, if◌then◌else◌, Bool, true, List, [], ◌∷◌, Option, None}
 use Rattle.mips_isa.specs.ImageBounds.{ImageParts, IsImage}
 use Rattle.mips_isa.specs.Bytes.{Segments, segments_of}
+use Rattle.mips_isa.specs.Lines.{Line}
+use Rattle.mips_isa.specs.Assembly.{fault_of, image_of}
 use Rattle.mips_isa.specs.Calls.{State, Outcome, Running, Exited, Trapped}
 use Rattle.mips_isa.specs.Run.{run, start}
 use Rattle.mips_image.specs.ImageBytes.{image_bytes, HasWords}
@@ -14,6 +16,22 @@ pub record IsImageOf (image : ImageParts) (bytes : List ℕ) : Type 0 where
   pub bounds : IsImage image
   pub words : HasWords image
   pub bytes_are : bytes ≡ image_bytes image
+
+-- a file whose first byte is 127 is taken for an image, and every other one for a text of assembly
+abbrev pub is_text_file : List ℕ → Bool
+is_text_file [] = true
+is_text_file (b ∷ rest) = not (b == 127)
+
+-- The image is that of lines of assembly without a fault. Which lines the bytes are is not said yet.
+pub record IsAssembled (image : ImageParts) (bytes : List ℕ) : Type 0 where
+  pub text : is_text_file bytes ≡ true
+  pub lines : List Line
+  pub no_fault : fault_of lines ≡ None
+  pub image_is : image ≡ image_of lines
+
+-- what a file stands for, which `exec` runs
+abbrev pub IsRunnable : ImageParts → List ℕ → Type 0
+IsRunnable image bytes = IsImageOf image bytes ⊎ IsAssembled image bytes
 
 -- the segments with the default limits
 abbrev pub segments_by_default : ImageParts → Segments

@@ -1,10 +1,13 @@
 -- The texts that are written: the end of a run, and the notes.
-use Rattle.std.specs.Prelude.{ℕ, List, [], ◌++◌, codes}
+use Rattle.std.specs.Prelude.{ℕ, List, [], ◌++◌, codes, decimal}
 use Rattle.std.specs.Int.{w32, to_be_bytes}
 use Rattle.hex.specs.Hex.{encode_lower}
 use Rattle.mips_isa.specs.declared.trap.Trap.{Trap}
 use Rattle.mips_isa.specs.declared.trap.TrapKind.{TrapKind}
 use Rattle.mips_isa.specs.declared.trap.TrapKind.TheVariants.{BadAddress, Unaligned, Overflow, NoInstruction, BadCall}
+use Rattle.mips_isa.specs.declared.line.AsmKind.{AsmKind}
+use Rattle.mips_isa.specs.declared.line.AsmKind.TheVariants.{A1, A2, A3, A4, A5, A6, A7, A8, A9}
+use Rattle.mips_isa.specs.declared.line.AsmFault.{AsmFault}
 use Rattle.mips_image.specs.declared.image_error.ImageError.{ImageError}
 use Rattle.mips_image.specs.declared.image_error.ImageError.TheVariants.{Memory, I1, I2, I3, I4, I5}
 
@@ -50,6 +53,21 @@ image_fault Memory = []
 
 abbrev pub image_note : List ℕ → ImageError → List ℕ
 image_note name fault = name ++ (codes ": " ++ image_fault fault)
+
+-- a fault of assembly
+abbrev pub asm_words : AsmKind → List ℕ
+asm_words A1 = codes "A1: unknown word"
+asm_words A2 = codes "A2: wrong operand"
+asm_words A3 = codes "A3: number out of range"
+asm_words A4 = codes "A4: unknown directive"
+asm_words A5 = codes "A5: label defined twice"
+asm_words A6 = codes "A6: label not defined"
+asm_words A7 = codes "A7: branch too far"
+asm_words A8 = codes "A8: wrong segment"
+asm_words A9 = codes "A9: segment too large"
+
+abbrev pub asm_note : List ℕ → AsmFault → List ℕ
+asm_note name fault = name ++ (codes ":" ++ (decimal fault.line ++ (codes ": " ++ (asm_words fault.kind ++ codes "\n"))))
 
 abbrev pub trap_words : TrapKind → List ℕ
 trap_words BadAddress = codes "bad address"

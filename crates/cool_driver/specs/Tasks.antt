@@ -1,5 +1,5 @@
 -- What is left to do once the words and the files were read: a note to write, or an image to run.
-use Rattle.std.specs.Prelude.{◌≡◌, ◌≢◌, ℕ, ◌<◌, ◌⊎◌, List, [], ◌++◌, Option, Some, None, string_bytes, length}
+use Rattle.std.specs.Prelude.{◌≡◌, ◌≢◌, ℕ, ◌<◌, ◌⊎◌, true, false, List, [], ◌++◌, Option, Some, None, string_bytes, length}
 use Rattle.std.specs.List.{concat}
 use Rattle.cool_syntax.specs.SimpleForm.{Simple}
 use Rattle.cool_ports.specs.declared.shelf.ShelfFault.{ShelfFault}
@@ -7,11 +7,12 @@ use Rattle.cool_ports.specs.declared.shelf.ShelfFault.TheVariants as faults
 use Rattle.cool_ports.specs.ShelfFiles.{FileMap}
 use Rattle.mips_isa.specs.ImageBounds.{ImageParts}
 use Rattle.mips_isa.specs.Calls.{State, Exited}
+use Rattle.mips_isa.specs.declared.line.AsmFault.{AsmFault}
 use Rattle.mips_image.specs.ImageReading.{first_fault}
 use Rattle.mips_image.specs.declared.image_error.ImageError.{ImageError}
 use Rattle.cool_driver.specs.CommandLine.{plan_of}
-use Rattle.cool_driver.specs.Notes.{end_text, refused_note, missing_note, unread_note, too_large_note, image_note}
-use Rattle.cool_driver.specs.Execution.{IsImageOf, run_of}
+use Rattle.cool_driver.specs.Notes.{end_text, refused_note, missing_note, unread_note, too_large_note, image_note, asm_note}
+use Rattle.cool_driver.specs.Execution.{IsRunnable, is_text_file, run_of}
 use Rattle.cool_driver.specs.Ends.{Request, Due, IsRead, NotSimple, SinkUse, Got, GotPart}
 use Rattle.cool_driver.specs.declared.command_line.Command.{Command}
 use Rattle.cool_driver.specs.declared.command_line.Command.TheVariants as command
@@ -47,22 +48,28 @@ abbrev pub Prints : ImageParts → List ℕ → Type 0
 Prints image output =
     (input : List ℕ) → (end : State) × (run_of image input ≡ Exited 0 end) × (end.output ≡ output) × (end.input ≡ input)
 
+-- this note is due for an image with a fault, and for a text with one
+abbrev pub IsUnfit : List ℕ → List ℕ → List ℕ → Type 0
+IsUnfit name bytes note = (fault : ImageError) × (note ≡ image_note name fault) × (is_text_file bytes ≡ false) × (first_fault bytes ≡ Some fault)
+
+abbrev pub IsMisread : List ℕ → List ℕ → List ℕ → Type 0
+IsMisread name bytes note = (fault : AsmFault) × (note ≡ asm_note name fault) × (is_text_file bytes ≡ true)
+
 -- what is left to do for a file of this name that has these bytes
 abbrev pub IsTaskOf : Command → List ℕ → List ℕ → Task → Type 0
 IsTaskOf command.Run name bytes (Note status text) = (code_of status ≡ 1) × (string_bytes text ≡ refused_note name) × NotSimple bytes
 IsTaskOf command.Run name bytes (Run image) = (strings : List (List ℕ)) × Simple bytes strings × Prints image (concat strings ++ end_text)
 IsTaskOf command.Run name bytes (Execute image) = ⊥
-IsTaskOf command.Exec name bytes (Note status text) =
-    (code_of status ≡ 12) × ((fault : ImageError) × (string_bytes text ≡ image_note name fault) × (first_fault bytes ≡ Some fault))
+IsTaskOf command.Exec name bytes (Note status text) = (code_of status ≡ 12) × (IsUnfit name bytes (string_bytes text) ⊎ IsMisread name bytes (string_bytes text))
 IsTaskOf command.Exec name bytes (Run image) = ⊥
-IsTaskOf command.Exec name bytes (Execute image) = IsImageOf image bytes
+IsTaskOf command.Exec name bytes (Execute image) = IsRunnable image bytes
 
 -- what is left to do is what is due
 abbrev pub IsDue : Request → Task → Type 0
 IsDue r (Note status text) = Due r (code_of status) [] (string_bytes text) r.input × (0 < length (string_bytes text)) × (code_of status ≢ 7)
 IsDue r (Run image) =
     (name : List ℕ) × (bytes : List ℕ) × (strings : List (List ℕ)) × IsRead r command.Run name bytes × Simple bytes strings × Prints image (concat strings ++ end_text)
-IsDue r (Execute image) = (name : List ℕ) × (bytes : List ℕ) × IsRead r command.Exec name bytes × IsImageOf image bytes
+IsDue r (Execute image) = (name : List ℕ) × (bytes : List ℕ) × IsRead r command.Exec name bytes × IsRunnable image bytes
 
 -- what is left to do for any words that name this file for this command, over a shelf of these files, and for any input
 abbrev pub IsFileTask : Option FileMap → ℕ → ℕ → Command → List ℕ → Task → Type 0

@@ -1,13 +1,16 @@
 //! What is left to do once the words and the file were read.
 
-ghost use Rattle.std.specs.Prelude.{◌≡◌, ◌≢◌, ◌+◌, ◌<◌, ◌≤◌, ◌^◌, ◌++◌, length, IfOk, List, ℕ, Option, Some, string_bytes};
+ghost use Rattle.std.specs.Prelude.{◌≡◌, ◌≢◌, ◌+◌, ◌<◌, ◌≤◌, ◌^◌, ◌++◌, length, IfOk, List, ℕ, Option, Some, None, true, false, string_bytes};
 ghost use Rattle.std.specs.List.{concat, AllByRecursion};
 ghost use Rattle.cool_driver.specs.CommandLine.{words_of};
 ghost use Rattle.cool_driver.specs.SimpleReading.{texts};
 ghost use Rattle.cool_driver.specs.Emitted.{HasNoZero, data_of};
 ghost use Rattle.cool_syntax.specs.declared.TheConstants.{MOST_CALLS};
-ghost use Rattle.cool_driver.specs.declared.TheConstants.{MOST_SOURCE_BYTES};
-ghost use Rattle.cool_driver.specs.Notes.{end_text, image_note};
+ghost use Rattle.cool_driver.specs.declared.TheConstants.{MOST_SOURCE_BYTES, MOST_IMAGE_BYTES};
+ghost use Rattle.cool_driver.specs.Notes.{end_text, image_note, asm_words, asm_note};
+ghost use Rattle.cool_driver.specs.Execution.{is_text_file};
+ghost use Rattle.mips_isa.specs.Lines.{Line};
+ghost use Rattle.mips_isa.specs.Assembly.{fault_of, image_of};
 ghost use Rattle.cool_driver.specs.Tasks.{fault_note, Prints, IsTaskOf, IsDue, IsFileTask};
 
 use crate::command_line::{Command, read_words};
@@ -15,9 +18,14 @@ use crate::program::compile;
 use crate::simple_form::{SimpleError, read_program};
 use crate::status::Status;
 use cool_ports::{Shelf, ShelfFault};
+use mips_asm::assemble;
 use mips_image::{ImageError, read_image};
-use mips_isa::Image;
+use mips_isa::{AsmError, AsmFault, AsmKind, Image};
+use mips_text::read_asm;
 use std::alloc::{AllocError, Global};
+
+/// The first byte of an image. No text of assembly begins with it.
+const IMAGE_START: u8 = 127;
 
 /// What is left to do.
 #[derive(Drop)]
@@ -91,6 +99,19 @@ fn accept(alloc: Global, name: &str, bytes: &[u8]) -> Result<Task, AllocError>
 
 /// What is left to do to execute a file of this name that has these bytes.
 fn load(alloc: Global, name: &str, bytes: &[u8]) -> Result<Task, AllocError>
+    requires { length bytes.now ≤ MOST_IMAGE_BYTES }
+    ensures { IfOk result (IsTaskOf Command.Exec name.now bytes.now) }
+{
+    if bytes.first() == Some(&IMAGE_START) {
+        load_image(alloc, name, bytes)
+    } else {
+        load_text(alloc, name, bytes)
+    }
+}
+
+/// What is left to do to execute an image.
+fn load_image(alloc: Global, name: &str, bytes: &[u8]) -> Result<Task, AllocError>
+    requires { is_text_file bytes.now ≡ false }
     ensures { IfOk result (IsTaskOf Command.Exec name.now bytes.now) }
 {
     match read_image(alloc, bytes) {
@@ -99,6 +120,57 @@ fn load(alloc: Global, name: &str, bytes: &[u8]) -> Result<Task, AllocError>
             let note = image_note(alloc, name, fault)?;
             Ok(Task::Note(Status::Unfit, note))
         }
+    }
+}
+
+/// What is left to do to execute a text of assembly.
+fn load_text(alloc: Global, name: &str, bytes: &[u8]) -> Result<Task, AllocError>
+    requires text { is_text_file bytes.now ≡ true }
+    requires small { length bytes.now ≤ MOST_IMAGE_BYTES }
+    ensures { IfOk result (IsTaskOf Command.Exec name.now bytes.now) }
+{
+    match assemble_text(alloc, bytes) {
+        Ok(image) => Ok(Task::Execute(image)),
+        Err(AsmError::Fault(fault)) => {
+            let note = asm_note(alloc, name, fault)?;
+            Ok(Task::Note(Status::Unfit, note))
+        }
+        Err(AsmError::Memory) => Err(AllocError),
+    }
+}
+
+/// The image of a text of assembly.
+fn assemble_text(alloc: Global, bytes: &[u8]) -> Result<Image, AsmError>
+    requires { length bytes.now ≤ MOST_IMAGE_BYTES }
+    ensures { IfOk result (λ image. (lines : List Line) × (fault_of lines ≡ None) × (image ≡ image_of lines)) }
+{
+    let lines = read_asm(alloc, bytes)?;
+    assemble(alloc, &lines)
+}
+
+/// The note of a text with a fault.
+fn asm_note(alloc: Global, name: &str, fault: AsmFault) -> Result<String, AllocError>
+    ensures { IfOk result (λ note. string_bytes note ≡ asm_note name.now fault) }
+{
+    let line = fault.line;
+    let words = asm_words(fault.kind);
+    format!(in alloc; "{name}:{line}: {words}\n")
+}
+
+/// The kind of a fault of assembly, and what it says.
+fn asm_words(kind: AsmKind) -> &'static str
+    ensures { result.now ≡ asm_words kind }
+{
+    match kind {
+        AsmKind::A1 => "A1: unknown word",
+        AsmKind::A2 => "A2: wrong operand",
+        AsmKind::A3 => "A3: number out of range",
+        AsmKind::A4 => "A4: unknown directive",
+        AsmKind::A5 => "A5: label defined twice",
+        AsmKind::A6 => "A6: label not defined",
+        AsmKind::A7 => "A7: branch too far",
+        AsmKind::A8 => "A8: wrong segment",
+        AsmKind::A9 => "A9: segment too large",
     }
 }
 

@@ -2,8 +2,10 @@
 
 use crate::cool;
 use cool_ports::{MemShelf, MemSink, MemSource, Source};
+use mips_asm::assemble;
 use mips_image::write_image;
 use mips_isa::Image;
+use mips_text::read_asm;
 use std::alloc::Global;
 use std::process::Abort;
 use std::test::Fail;
@@ -443,16 +445,181 @@ fn files_that_are_no_image(rt: HostRuntime) -> Result<(), Fail> {
     let rows = [
         (shorter, "p.img: I3: too short\n"),
         (&longer, "p.img: I5: bytes after the end\n"),
-        (
-            b"main: li $v0, 10\n      syscall\n",
-            "p.img: I1: wrong magic\n",
-        ),
-        (b"", "p.img: I3: too short\n"),
+        (b"\x7fCMJ4567890123456789", "p.img: I1: wrong magic\n"),
+        (b"\x7f", "p.img: I3: too short\n"),
     ];
     for (file, note) in rows {
         World::new(alloc, "p.img", file)?.ends(&rt, alloc, "exec p.img", 12, b"", note.as_bytes())?;
     }
     Ok(())
+}
+
+/// What another assembler makes of texts.
+#[test]
+fn assembled_texts(rt: HostRuntime) -> Result<(), Fail> {
+    let alloc = rt.alloc();
+    let rows: [(&str, u32, &[u32], &[u8]); 8] = [
+        // The example of the text format.
+        (
+            "        .data\nm:      .asciiz \"hi\\n\"\n        .text\nmain:   la $a0, m\n        li $v0, 4\n        syscall\n        jr $ra\n",
+            0x00400018,
+            &[
+                0x3c041000, 0x34840000, 0x3c020000, 0x34420004, 0x0000000c, 0x03e00008, 0x0c100000,
+                0x3402000a, 0x0000000c,
+            ],
+            b"hi\n\0",
+        ),
+        // Several labels on a line, blanks before a colon, names that are mnemonics.
+        (
+            "__start: b : add: add $t0, $t0, $t0\nbeq $v0, $zero, add\n",
+            0x00400000,
+            &[0x01084020, 0x1040fffe],
+            b"",
+        ),
+        // A label on the line of a word that pads, and on the line before it.
+        (
+            ".data\n.byte 1\nbefore:\nat: .word before at\n.text\n__start: nop\n",
+            0x00400000,
+            &[0x00000000],
+            b"\x01\0\0\0\x04\0\0\x10\x04\0\0\x10",
+        ),
+        // A label before an alignment, and at the end of the data.
+        (
+            ".data\n.byte 1\na: .align 3\n.byte 2\nend: .align 2\n.text\n__start: la $4 a\nla $5 end\n",
+            0x00400000,
+            &[0x3c041000, 0x34840008, 0x3c051000, 0x34a5000c],
+            b"\x01\0\0\0\0\0\0\0\x02\0\0\0",
+        ),
+        // Items of no bytes.
+        (
+            ".data\na: .ascii \"\"\nb: .space 0\n.word a b\n.text\n__start: nop\n",
+            0x00400000,
+            &[0x00000000],
+            b"\0\0\0\x10\0\0\0\x10",
+        ),
+        // All pseudo-instructions.
+        (
+            "__start: x: la $8 x\nli $8 -2\nli $8 4294967295\nmove $8 $9\nneg $8 $9\nnop\nb x\nbeqz $8 x\nbnez $8 x\nbgt $8 $9 x\nbge $8 $9 x\nblt $8 $9 x\nble $8 $9 x\nmul $8 $9 $10\n",
+            0x00400000,
+            &[
+                0x3c080040, 0x35080000, 0x3c08ffff, 0x3508fffe, 0x3c08ffff, 0x3508ffff, 0x01204021,
+                0x00094022, 0x00000000, 0x1000fff6, 0x1100fff5, 0x1500fff4, 0x0128082a, 0x1420fff2,
+                0x0109082a, 0x1020fff0, 0x0109082a, 0x1420ffee, 0x0128082a, 0x1020ffec, 0x012a0018,
+                0x00004012,
+            ],
+            b"",
+        ),
+        // Only main, in front of data.
+        (
+            "main: jr $31\n.data\n.word -1\n",
+            0x00400004,
+            &[0x03e00008, 0x0c100000, 0x3402000a, 0x0000000c],
+            b"\xff\xff\xff\xff",
+        ),
+        // Forward and backward.
+        (
+            "__start: j there\nback: jal back\nthere: bne $2 $3 back\nblez $2 end\nend: nop\n",
+            0x00400000,
+            &[0x08100002, 0x0c100001, 0x1443fffe, 0x18400000, 0x00000000],
+            b"",
+        ),
+    ];
+    for (text, entry, words, bytes) in rows {
+        if 1_000 < text.len() {
+            return Err(Fail::from("no such text"));
+        }
+        let lines = read_asm(alloc, text.as_bytes()).ok().ok_or("lines")?;
+        let image = assemble(alloc, &lines).ok().ok_or("image")?;
+        assert_eq!(rt; image.entry, entry, "{text}");
+        assert_eq!(rt; image.text.as_slice(), words, "{text}");
+        assert_eq!(rt; image.bytes.as_slice(), bytes, "{text}");
+    }
+    Ok(())
+}
+
+/// The notes are those of another assembler.
+#[test]
+fn texts_with_a_fault(rt: HostRuntime) -> Result<(), Fail> {
+    let alloc = rt.alloc();
+    let rows = [
+        ("a:\na:\n", "p.s:2: A5: label defined twice\n"),
+        ("", "p.s:1: A6: label not defined\n"),
+        ("foo\n", "p.s:1: A1: unknown word\n"),
+        ("nop\nadd $t0\n", "p.s:2: A2: wrong operand\n"),
+        ("addi $t0, $t0, 40000\n", "p.s:1: A3: number out of range\n"),
+        (".set\n", "p.s:1: A4: unknown directive\n"),
+        ("main: b far\n", "p.s:1: A6: label not defined\n"),
+        (
+            ".data\nx: .word 1\n.text\nmain: b x\n",
+            "p.s:4: A7: branch too far\n",
+        ),
+        (".data\nnop\n", "p.s:2: A8: wrong segment\n"),
+        (".text\n.word 1\n", "p.s:2: A8: wrong segment\n"),
+        (
+            ".data\n.space 268435456\n.byte 1\n",
+            "p.s:3: A9: segment too large\n",
+        ),
+        (".align 3\n", "p.s:1: A8: wrong segment\n"),
+        (
+            ".data\n__start: .word 1\n",
+            "p.s:3: A6: label not defined\n",
+        ),
+        ("nop\n__start:\n", "p.s:3: A6: label not defined\n"),
+        (
+            "main: j x\n.data\nx: .byte 1\n",
+            "p.s:1: A7: branch too far\n",
+        ),
+        ("a: a: nop\n", "p.s:1: A5: label defined twice\n"),
+        (
+            ".data\n.word nowhere\n.text\nmain: b nowhere\n",
+            "p.s:2: A6: label not defined\n",
+        ),
+        (
+            "main: addi $t0, $t0, 0x8000\n",
+            "p.s:1: A3: number out of range\n",
+        ),
+    ];
+    for (text, note) in rows {
+        World::new(alloc, "p.s", text.as_bytes())?.ends(
+            &rt,
+            alloc,
+            "exec p.s",
+            12,
+            b"",
+            note.as_bytes(),
+        )?;
+    }
+    Ok(())
+}
+
+/// A branch reaches 32,767 words forward and 32,768 backward, and no more.
+#[test]
+fn far_branches(rt: HostRuntime) -> Result<(), Fail> {
+    let alloc = rt.alloc();
+    let far = b"p.s:1: A7: branch too far\n".as_slice();
+    let far_back = b"p.s:32769: A7: branch too far\n".as_slice();
+    for (count, status, note) in [(32_767, 0, b"".as_slice()), (32_768, 12, far)] {
+        let between = repeated(alloc, "nop\n", count)?;
+        let text = format!(in alloc; "main: b x\n{between}x: jr $ra\n")?;
+        World::new(alloc, "p.s", text.as_bytes())?.ends(&rt, alloc, "exec p.s", status, b"", note)?;
+    }
+    for (count, status, note) in [(32_766, 0, b"".as_slice()), (32_767, 12, far_back)] {
+        let between = repeated(alloc, "nop\n", count)?;
+        let text = format!(in alloc; "x: jr $ra\n{between}main: b x\n")?;
+        World::new(alloc, "p.s", text.as_bytes())?.ends(&rt, alloc, "exec p.s", status, b"", note)?;
+    }
+    Ok(())
+}
+
+#[test]
+fn texts(rt: HostRuntime) -> Result<(), Fail> {
+    let alloc = rt.alloc();
+    let hello =
+        "        .data\nm:      .asciiz \"hi\\n\"\n        .text\nmain:   la $a0, m\n        li $v0, 4\n        syscall\n        jr $ra\n";
+    World::new(alloc, "p.s", hello.as_bytes())?.ends(&rt, alloc, "exec p.s", 0, b"hi\n", b"")?;
+    let sum = "main: li $t0, 2147483647\nadd $t0, $t0, $t0\n";
+    let note = b"trap: overflow at 0x00400008, pc 0x00400008\n";
+    World::new(alloc, "p.s", sum.as_bytes())?.ends(&rt, alloc, "exec p.s", 11, b"", note)
 }
 
 #[test]
