@@ -16,9 +16,7 @@ use crate::arithmetic::{
     shift_of, shift_result, signed_division, signed_product, three_result, two_result,
 };
 use access::trap_of;
-use mips_isa::{
-    FromOp, Image, Instr, JumpOp, MulDivOp, Reg, ShiftRegOp, ToOp, Trap, TrapKind, decode,
-};
+use mips_isa::{FromOp, Image, Instr, JumpOp, MulDivOp, Reg, ShiftRegOp, ToOp, Trap, TrapKind};
 use spim_memory::{Limits, Memory};
 use std::marker::Model;
 
@@ -105,24 +103,24 @@ impl Cpu {
     /// Executes the instruction at pc.
     ///
     /// A trap comes exactly where the instruction's row has one, or where no instruction is at pc, and changes nothing.
+    #[inline(always)]
     pub fn step(&mut self) -> Step
         ensures stepped { Stepped (machine.step self.old.memory.text (segments self.old.memory) (core_of self.old)) result self.old self.new }
         ensures segments { KeepsSegments self.old.memory self.new.memory }
     {
-        match self.memory.fetch(self.pc) {
+        match self.memory.instruction(self.pc) {
             Err(fault) => Step::Trap(trap_of(fault, self.pc)),
-            Ok(word) => match decode(word) {
-                Some(instr) => self.act(instr),
-                None => Step::Trap(Trap {
-                    kind: TrapKind::NoInstruction,
-                    address: self.pc,
-                    pc: self.pc,
-                }),
-            },
+            Ok(Some(instr)) => self.act(instr),
+            Ok(None) => Step::Trap(Trap {
+                kind: TrapKind::NoInstruction,
+                address: self.pc,
+                pc: self.pc,
+            }),
         }
     }
 
     /// One case for each row of the instruction table.
+    #[inline(always)]
     fn act(&mut self, instr: Instr) -> Step
         requires range { InRange instr }
         requires pc { self.old.pc < 268435456 }

@@ -3,3 +3,4 @@ pub mod MakingBytes
 pub mod LoadingBytes
 pub mod LoadsAnswer
 pub mod StringsOfBytes
+pub mod FindingInstructions

@@ -1,7 +1,9 @@
 //! Loads and stores.
 
-ghost use Rattle.std.specs.Prelude.{◌≡◌, ◌<◌, replicate, IfOk, IfSome, OnOk, OnErr};
+ghost use Rattle.std.specs.Prelude.{◌≡◌, ◌<◌, map, replicate, IfOk, IfSome, OnOk, OnErr};
 ghost use Rattle.mips_isa.specs.ImageBounds.{text_start};
+ghost use Rattle.mips_isa.specs.Words.{InRange};
+ghost use Rattle.mips_isa.specs.Decoding.{decoded};
 ghost use Rattle.mips_isa.specs.Bytes.{half, word, set_byte, set_half, set_word, readable, writable, lies, data_start, segments_of, bytes_of_image};
 ghost use Rattle.mips_isa.specs.Machine.{word_of_text};
 ghost use Rattle.spim_memory.specs.Memory.{segments, bytes_of, accessed, IsLimits};
@@ -11,7 +13,7 @@ mod strings;
 
 use crate::little_endian::{read_half, read_word, write_half, write_word};
 use crate::{Limits, MemFault};
-use mips_isa::Image;
+use mips_isa::{Image, Instr, decode};
 use std::alloc::{AllocError, Global};
 use std::marker::Model;
 
@@ -27,10 +29,16 @@ const HEAP_START: u32 = 0x2000_0000;
 /// Where the stack ends.
 const STACK_END: u32 = 0x8000_0000;
 
+/// A word of text takes 20 bytes more where it is decoded.
+const _: () = prove!(size_of::<Option<Instr>>() == 20);
+
 /// The segments: text that is only read, and bytes of data, heap and stack.
+///
+/// The instructions are those of the words of the text, in their order.
 #[derive(Drop)]
 pub struct Memory {
     text: Vec<u32>,
+    instructions: Vec<Option<Instr>>,
     static_bytes: Vec<u8>,
     heap: Vec<u8>,
     stack: Vec<u8>,
@@ -38,12 +46,14 @@ pub struct Memory {
 
 impl Model for Memory {
     ghost use Rattle.spim_memory.specs.Memory.{MemoryParts, IsMemory};
+    ghost use Rattle.std.specs.Prelude.{◌≡◌, map};
+    ghost use Rattle.mips_isa.specs.Decoding.{decoded};
 
     ghost Value = { MemoryParts };
 
     ghost view = { λ m. record { text = m.text.items; static_bytes = m.static_bytes.items; heap = m.heap.items; stack = m.stack.items } };
 
-    ghost invariant = { λ m. IsMemory (record { text = m.text.items; static_bytes = m.static_bytes.items; heap = m.heap.items; stack = m.stack.items }) };
+    ghost invariant = { λ m. IsMemory (record { text = m.text.items; static_bytes = m.static_bytes.items; heap = m.heap.items; stack = m.stack.items }) × (m.instructions.items ≡ map decoded m.text.items) };
 }
 
 /// A segment that may be stored, and an offset in it.
@@ -72,9 +82,17 @@ fn padded(alloc: Global, bytes: &[u8]) -> Result<Vec<u8>, AllocError>
     Ok(words)
 }
 
+/// The instruction of each word, or `None` for a word that is that of no instruction.
+fn decoded_words(alloc: Global, words: &[u32]) -> Result<Vec<Option<Instr>>, AllocError>
+    ensures { IfOk result (λ all. all.items ≡ map decoded words.now) }
+{
+    words.iter().map(|word| decode(*word)).collect(alloc)
+}
+
 impl Memory {
     /// The memory of an image: its text, its data, padded with zeros to a word, and a heap and a stack of zeros.
     ///
+    /// The text is decoded here, once for a run, which takes 20 bytes for a word of text beside the word's own 4.
     /// All memory of a run is taken here. `Err` comes only for want of it.
     pub fn make(alloc: Global, image: &Image, limits: Limits) -> Result<Memory, AllocError>
         requires { IsLimits limits.heap limits.stack }
@@ -84,6 +102,7 @@ impl Memory {
     {
         Ok(Memory {
             text: Vec::from_slice(alloc, &image.text)?,
+            instructions: decoded_words(alloc, &image.text)?,
             static_bytes: padded(alloc, &image.bytes)?,
             heap: zeros(alloc, limits.heap as usize)?,
             stack: zeros(alloc, limits.stack as usize)?,
@@ -136,23 +155,26 @@ impl Memory {
         self.text.get(index).copied()
     }
 
-    /// The word of the text at an address.
+    /// The instruction at an address, or `None` where the word there is that of no instruction.
     ///
     /// `Unaligned` comes where the address is no multiple of 4, and `BadAddress` where no word of the text is.
-    pub fn fetch(&self, a: u32) -> Result<u32, MemFault>
-        ensures word { result ≡ accessed 4 (lies text_start (segments self.now).text_end a 4) a (word_of_text self.now.text a) }
+    pub fn instruction(&self, a: u32) -> Result<Option<Instr>, MemFault>
+        ensures instruction { result ≡ accessed 4 (lies text_start (segments self.now).text_end a 4) a (decoded (word_of_text self.now.text a)) }
+        ensures range { IfOk result (λ found. IfSome found InRange) }
         ensures below { OnOk result (a < data_start) }
     {
         if a % 4 != 0 {
             return Err(MemFault::Unaligned(a));
         }
-        match self.text_word(a) {
-            Some(word) => Ok(word),
+        let offset = a.wrapping_sub(TEXT_START) as usize;
+        match self.instructions.get(offset / 4) {
+            Some(found) => Ok(*found),
             None => Err(MemFault::BadAddress(a)),
         }
     }
 
     /// The byte at an address. `BadAddress` comes where no segment is.
+    #[inline(always)]
     pub fn load_byte(&self, a: u32) -> Result<u8, MemFault>
         ensures { result ≡ accessed 1 (readable (segments self.now) a 1) a (bytes_of self.now a) }
     {
@@ -167,6 +189,7 @@ impl Memory {
     /// The half at an address.
     ///
     /// `Unaligned` comes where the address is no multiple of 2, and `BadAddress` where no segment is.
+    #[inline(always)]
     pub fn load_half(&self, a: u32) -> Result<u16, MemFault>
         ensures { result ≡ accessed 2 (readable (segments self.now) a 2) a (half (bytes_of self.now) a) }
     {
@@ -184,6 +207,7 @@ impl Memory {
     /// The word at an address.
     ///
     /// `Unaligned` comes where the address is no multiple of 4, and `BadAddress` where no segment is.
+    #[inline(always)]
     pub fn load_word(&self, a: u32) -> Result<u32, MemFault>
         ensures { result ≡ accessed 4 (readable (segments self.now) a 4) a (word (bytes_of self.now) a) }
     {

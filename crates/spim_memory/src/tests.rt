@@ -1,7 +1,7 @@
 //! A memory of two words of text and five bytes of data.
 
 use crate::{Limits, MemFault, Memory};
-use mips_isa::Image;
+use mips_isa::{Image, Instr, MemOp, Reg};
 use std::test::Fail;
 
 fn memory(rt: &HostRuntime) -> Result<Memory, Fail> {
@@ -41,6 +41,31 @@ fn segments(rt: HostRuntime) -> Result<(), Fail> {
     ];
     for (a, want) in rows {
         assert_eq!(rt; memory.load_word(a), want);
+    }
+    Ok(())
+}
+
+#[test]
+fn instructions(rt: HostRuntime) -> Result<(), Fail> {
+    let memory = memory(&rt)?;
+    // lh $6,-30840($12), by the R2000's table
+    let load = Instr::Mem {
+        op: MemOp::Lh,
+        rt: Reg::new(6),
+        rs: Reg::new(12),
+        imm: -30840,
+    };
+    let rows = [
+        (0x003f_fffc, Err(MemFault::BadAddress(0x003f_fffc))),
+        (0x0040_0000, Ok(None)),
+        (0x0040_0004, Ok(Some(load))),
+        (0x0040_0006, Err(MemFault::Unaligned(0x0040_0006))),
+        (0x0040_0008, Err(MemFault::BadAddress(0x0040_0008))),
+        (0x1000_0000, Err(MemFault::BadAddress(0x1000_0000))),
+        (0xffff_fffd, Err(MemFault::Unaligned(0xffff_fffd))),
+    ];
+    for (a, want) in rows {
+        assert_eq!(rt; memory.instruction(a), want);
     }
     Ok(())
 }

@@ -41,6 +41,7 @@ impl Cpu {
     }
 
     /// A load into a register, or a store of one, at an address.
+    #[inline(always)]
     pub(crate) fn access(&mut self, op: MemOp, r: Reg, a: u32) -> Step
         requires { self.old.pc < 268435456 }
         ensures stepped { Stepped (machine.mem (segments self.old.memory) op (core_of self.old) r a) result self.old self.new }
@@ -84,6 +85,7 @@ impl Cpu {
         }
     }
 
+    #[inline(always)]
     fn execute_sb(&mut self, r: Reg, a: u32) -> Step
         requires { self.old.pc < 268435456 }
         ensures stepped { Stepped (machine.mem (segments self.old.memory) MemOp.Sb (core_of self.old) r a) result self.old self.new }
@@ -94,6 +96,7 @@ impl Cpu {
         self.after_store(stored)
     }
 
+    #[inline(always)]
     fn execute_sh(&mut self, r: Reg, a: u32) -> Step
         requires { self.old.pc < 268435456 }
         ensures stepped { Stepped (machine.mem (segments self.old.memory) MemOp.Sh (core_of self.old) r a) result self.old self.new }
@@ -104,6 +107,7 @@ impl Cpu {
         self.after_store(stored)
     }
 
+    #[inline(always)]
     fn execute_sw(&mut self, r: Reg, a: u32) -> Step
         requires { self.old.pc < 268435456 }
         ensures stepped { Stepped (machine.mem (segments self.old.memory) MemOp.Sw (core_of self.old) r a) result self.old self.new }

@@ -11,7 +11,7 @@ returns-in-Some-StaticBytes-clause-stored c =
     let m = c.self.inside in
     let size = ap (λ parts. length parts.static_bytes) c.self.view_is in
     stored_byte (λ d. bytes_of (record { text = m.text.items; static_bytes = d; heap = m.heap.items; stack = m.stack.items })) data_start m.static_bytes.items _ c.args.a found.offset c.args.v
-    (writes_static m.text.items m.heap.items m.stack.items _ c.self.invariant.static_bytes) (ap bytes_of c.self.view_is) (omega (arith, at.0, size)) (omega (arith, at.1, size))
+    (writes_static m.text.items m.heap.items m.stack.items _ c.self.invariant.0.static_bytes) (ap bytes_of c.self.view_is) (omega (arith, at.0, size)) (omega (arith, at.1, size))
 
 pub returns-in-Some-Heap-clause-stored : goal.returns-in-Some-Heap-clause-stored
 returns-in-Some-Heap-clause-stored c =
@@ -20,7 +20,7 @@ returns-in-Some-Heap-clause-stored c =
     let m = c.self.inside in
     let size = ap (λ parts. length parts.heap) c.self.view_is in
     stored_byte (λ h. bytes_of (record { text = m.text.items; static_bytes = m.static_bytes.items; heap = h; stack = m.stack.items })) heap_start m.heap.items _ c.args.a found.offset c.args.v
-    (writes_heap m.text.items m.static_bytes.items m.stack.items _ c.self.invariant.heap c.self.invariant.stack) (ap bytes_of c.self.view_is) (omega (arith, at.0, size)) (omega (arith, at.1, size))
+    (writes_heap m.text.items m.static_bytes.items m.stack.items _ c.self.invariant.0.heap c.self.invariant.0.stack) (ap bytes_of c.self.view_is) (omega (arith, at.0, size)) (omega (arith, at.1, size))
 
 pub returns-in-Some-Stack-clause-stored : goal.returns-in-Some-Stack-clause-stored
 returns-in-Some-Stack-clause-stored c =
@@ -29,4 +29,4 @@ returns-in-Some-Stack-clause-stored c =
     let m = c.self.inside in
     let size = ap (λ parts. length parts.stack) c.self.view_is in
     stored_byte (λ s. bytes_of (record { text = m.text.items; static_bytes = m.static_bytes.items; heap = m.heap.items; stack = s })) (stack_end - length m.stack.items) m.stack.items _ c.args.a found.offset c.args.v
-    (writes_stack m.text.items m.static_bytes.items m.heap.items _ c.self.invariant.stack) (ap bytes_of c.self.view_is) (omega (arith, at.0, size)) (omega (arith, at.1, size))
+    (writes_stack m.text.items m.static_bytes.items m.heap.items _ c.self.invariant.0.stack) (ap bytes_of c.self.view_is) (omega (arith, at.0, size)) (omega (arith, at.1, size))
