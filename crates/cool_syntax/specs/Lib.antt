@@ -1,1 +1,11 @@
+pub mod Bare
+pub mod Falls
+pub mod Groups
+pub mod Lexemes
+pub mod LexicalStructure
+pub mod NodeLists
 pub mod SimpleForm
+pub mod TokenFacts
+pub mod Tree
+pub mod TreeCode
+pub mod View

@@ -1,17 +1,46 @@
-//! Cool's source text as values: places in files, names and string constants.
+//! Cool's source text as values: places in files, names, string constants, expressions and classes.
 //!
-//! Comes in: bytes of source files. Goes out: small types that contracts see as lists of bytes.
-//! `specs/` defines which texts are programs, apart from any code that reads them.
+//! Comes in: bytes of source files. Goes out: small types that contracts see as lists of bytes and as trees.
+//! `specs/` defines which texts are programs, and which list of nodes a tree has, apart from any code that reads them.
 #![tactic(auto)]
 
+mod body;
+mod comparison;
+mod copy;
+mod expr;
+mod file_tree;
+mod lexical;
+mod listed;
+mod node;
+mod operator;
+mod parts;
 mod place;
+#[cfg(test)]
+mod tests;
 mod text;
+mod token;
+mod type_ref;
 
+pub use body::Body;
+pub use comparison::same_expr;
+pub use copy::copy_expr;
+pub use expr::{Branch, Expr};
+pub use file_tree::{AttributeDef, ClassDef, Feature, FileTree, Formal, MethodDef};
+pub use lexical::LexKind;
+pub use listed::Listed;
+pub use node::{Node, NodeBranch, NodeId};
+pub use operator::{ArithOp, CompareOp};
+pub use parts::{Branches, Child, Exprs};
 pub use place::Place;
 pub use text::{Bytes, Name};
+pub use token::{Key, Sign, Token, TokenKind};
+pub use type_ref::TypeRef;
 
 /// The most bytes that a string constant denotes.
 pub const MOST_BYTES: usize = 1_024;
+
+/// The most tokens in a run.
+pub const MOST_TOKENS: usize = 4_096;
 
 /// The most calls in a program of the simple form.
 pub const MOST_CALLS: usize = 800;

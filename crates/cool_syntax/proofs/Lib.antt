@@ -1,0 +1,5 @@
+pub mod ComparingLists
+pub mod PartsAreSmaller
+pub mod PartsStandBefore
+pub mod TreesAtNumbers
+pub mod TreesOfLists

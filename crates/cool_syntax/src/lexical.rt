@@ -1,0 +1,22 @@
+//! The kinds of lexical faults.
+
+/// Why a text has no list of tokens.
+#[derive(Clone, Copy, Debug, PartialEq, Eq, PartialOrd, Ord)]
+pub enum LexKind {
+    /// A byte begins no lexeme. Its place is the byte.
+    L1,
+    /// A string meets a newline without a backslash, or the end of the file. Its place is the opening quote.
+    L2,
+    /// A string meets a null byte. Its place is the null byte.
+    L3,
+    /// The constant of a string gets one byte more than `MOST_BYTES`. Its place is the opening quote.
+    L4,
+    /// The end of the file stands in a block comment. Its place is the outermost `(*`.
+    L5,
+    /// `*)` stands outside a comment. Its place is the `*`.
+    L6,
+    /// An integer is above 2147483647. Its place is the first digit.
+    L7,
+    /// A token of a run comes behind `MOST_TOKENS` others. Its place is the token.
+    L8,
+}

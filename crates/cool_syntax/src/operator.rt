@@ -1,0 +1,18 @@
+//! The operators between two numbers or two values.
+
+/// An operator of arithmetic: `+`, `-`, `*` and `/`.
+#[derive(Clone, Copy, Debug, PartialEq, Eq)]
+pub enum ArithOp {
+    Add,
+    Sub,
+    Mul,
+    Div,
+}
+
+/// An operator of comparison: `<`, `<=` and `=`.
+#[derive(Clone, Copy, Debug, PartialEq, Eq)]
+pub enum CompareOp {
+    Less,
+    LessEqual,
+    Equal,
+}
