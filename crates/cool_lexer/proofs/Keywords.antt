@@ -1,0 +1,33 @@
+-- No keyword has six letters but isvoid, none has seven, and none more than eight.
+use Rattle.std.proofs.Common.{◌≡◌, ap, refl, arith, ℕ, ◌≤◌, Bool, true, false, List, [], ◌∷◌, length, Decides}
+use Rattle.std.specs.Prelude.{◌==◌, not, ◌||◌, nat_lt, codes, bytes_eq, None}
+use Rattle.std.specs.List.{list_all}
+use Rattle.std.proofs.lemmas.Bool.Decides.{nat_tests}
+use Rattle.std.proofs.lemmas.Slice.Eq.{bytes_eq-Decides}
+use Rattle.cool_lexer.proofs.Prefixes.{both_hold}
+use Rattle.cool_syntax.specs.Lexemes.{Keyword, key_among, keywords}
+
+-- a word that fails a test which a spelling passes is not spelled so
+unlike : (q : List ℕ → Bool) (s w : List ℕ) (e : Bool) → Decides e (s ≡ w) → q s ≡ true → q w ≡ false → e ≡ false
+unlike q s w false d passes fails = refl
+unlike q s w true d passes fails = absurd (let same = d.0 refl in let both : q s ≡ q w = ap q same in cc)
+
+-- a word that fails a test which all spellings pass is none of them
+pub no_spelling : (q : List ℕ → Bool) (ks : List Keyword) (w : List ℕ) → q w ≡ false → list_all (λ k. q k.spelling) ks ≡ true → None ≡ key_among ks w
+no_spelling q [] w fails all = refl
+no_spelling q (k ∷ ks) w fails all =
+    let h = both_hold (q k.spelling) (list_all (λ j. q j.spelling) ks) all in
+    let other : bytes_eq k.spelling w ≡ false = unlike q k.spelling w (bytes_eq k.spelling w) (bytes_eq-Decides k.spelling w) h.0 fails in
+    rw other (no_spelling q ks w fails h.1)
+
+-- no keyword has seven letters
+pub none_of_seven : (w : List ℕ) → length w ≡ 7 → None ≡ key_among keywords w
+none_of_seven w h = no_spelling (λ s. not (length s == 7)) keywords w (rw h refl) refl
+
+-- no keyword has more than eight letters
+pub none_above_eight : (w : List ℕ) → 9 ≤ length w → None ≡ key_among keywords w
+none_above_eight w h = no_spelling (λ s. nat_lt (length s) 9) keywords w (grind (arith, nat_tests)) refl
+
+-- only isvoid has six letters
+pub one_of_six : (w : List ℕ) → length w ≡ 6 → bytes_eq (codes "isvoid") w ≡ false → None ≡ key_among keywords w
+one_of_six w h other = no_spelling (λ s. not (length s == 6) || bytes_eq (codes "isvoid") s) keywords w (rw h other) refl

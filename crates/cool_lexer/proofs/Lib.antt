@@ -1,0 +1,14 @@
+pub mod Digits
+pub mod Keywords
+pub mod NestingComments
+pub mod Words
+pub mod Prefixes
+pub mod ClosedComments
+pub mod StringConstants
+pub mod FrontsAreItems
+pub mod Items
+pub mod ItemsInARow
+pub mod ReadSoFar
+pub mod LexemesKeepLimits
+pub mod OneReading
+pub mod AlwaysOneReading

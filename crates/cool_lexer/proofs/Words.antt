@@ -1,0 +1,15 @@
+-- The front of a word, from the facts that its parts give.
+use Rattle.std.proofs.Common.{◌≡◌, ◌∙◌, ap, ℕ, Bool, List, ◌∷◌, take, map}
+use Rattle.std.specs.List.{prefix_len}
+use Rattle.cool_syntax.specs.declared.token.TokenKind.{TokenKind}
+use Rattle.cool_syntax.specs.Lexemes.{is_capital, named, key_among, keywords, lower, word}
+use Rattle.cool_lexer.specs.declared.front.Front.TheVariants.{Item}
+use Rattle.cool_lexer.specs.declared.front.Scan.TheVariants.{Lexeme}
+use Rattle.cool_lexer.specs.declared.span.Span.TheVariants as span
+use Rattle.cool_lexer.specs.Fronts.{takes, word_front}
+
+-- its text, its kind and its size make the front of a word
+pub word_found : (b n : ℕ) (bs text : List ℕ) (k : TokenKind) (capital : Bool) → capital ≡ is_capital b → text ≡ b ∷ take n bs → k ≡ named capital text (key_among keywords (map lower text)) → n ≡ prefix_len (takes span.Word) bs → Item (Lexeme k) n ≡ word_front b bs
+word_found b n bs text k capital c t e p =
+    let is_word : k ≡ word b (take n bs) = e ∙ (λ i. named (c i) (t i) (key_among keywords (map lower (t i)))) in
+    (λ i. Item (Lexeme (is_word i)) n) ∙ ap (λ m. Item (Lexeme (word b (take m bs))) m) p

@@ -1,0 +1,5 @@
+pub mod Views
+pub mod Fronts
+pub mod Readings
+pub mod Errors
+pub mod Laws

@@ -1,0 +1,41 @@
+//! Why a file has no tokens.
+
+ghost use Rattle.std.specs.Prelude.{◌≡◌};
+ghost use Rattle.cool_lexer.specs.declared.error.LexError.TheVariants.{Memory};
+
+use cool_syntax::{LexKind, Place};
+use std::alloc::{AllocError, AllocFailed};
+
+/// The first fault of a file, and where it stands.
+#[derive(Clone, Copy, Debug, PartialEq, Eq)]
+pub struct LexFault {
+    /// What it is, `L1` to `L8`; each kind says which place it has.
+    pub kind: LexKind,
+    /// The place.
+    pub at: Place,
+}
+
+/// Why a file has no tokens.
+#[derive(Clone, Copy, Debug, PartialEq, Eq)]
+pub enum LexError {
+    /// Memory ran out.
+    Memory,
+    /// The text is at fault, `L1` to `L8`.
+    Fault(LexFault),
+}
+
+impl From<AllocError> for LexError {
+    ghost from_gives = { λ _ e. e ≡ Memory };
+
+    fn from(_error: AllocError) -> LexError {
+        LexError::Memory
+    }
+}
+
+impl<T: Drop> From<AllocFailed<T>> for LexError {
+    ghost from_gives = { λ _ e. e ≡ Memory };
+
+    fn from(_error: AllocFailed<T>) -> LexError {
+        LexError::Memory
+    }
+}

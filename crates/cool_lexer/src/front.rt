@@ -1,0 +1,20 @@
+//! What stands at the front of a text.
+
+use cool_syntax::{LexKind, TokenKind};
+
+/// The form of a good item.
+#[derive(Drop)]
+pub(crate) enum Scan {
+    Space,
+    Comment,
+    Lexeme(TokenKind),
+}
+
+/// The item that a text begins with, or its fault.
+#[derive(Drop)]
+pub(crate) enum Front {
+    /// A good item with this many bytes behind its first.
+    Item { form: Scan, behind: usize },
+    /// A fault that stands this many bytes behind the item's first.
+    Fault { kind: LexKind, offset: usize },
+}

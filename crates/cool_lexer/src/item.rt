@@ -1,0 +1,48 @@
+//! Items: what a text begins with, by the class of its first byte.
+
+ghost use Rattle.std.specs.Prelude.{◌≡◌, ◌<◌, IfOk, length};
+ghost use Rattle.cool_syntax.specs.Lexemes as lexemes;
+ghost use Rattle.cool_lexer.specs.Fronts.{front_of, Begins};
+
+use crate::class::{Class, class_of};
+use crate::comment::{dash_at, open_at};
+use crate::front::{Front, Scan};
+use crate::number::number_at;
+use crate::sign::{angle_at, equals_at, sign, star_at};
+use crate::string::string_at;
+use crate::word::word_at;
+use cool_syntax::LexKind;
+use std::alloc::{AllocError, Global};
+
+/// The item that a text begins with, or its fault; the text has a byte. `Err` comes only for want of memory.
+pub(crate) fn item_at(alloc: Global, text: &[u8]) -> Result<Front, AllocError>
+    requires { 0 < length text.now }
+    ensures { IfOk result (λ front. Begins text.now front) }
+{
+    item_behind(alloc, text[0], &text[1..])
+}
+
+/// The item that a text begins with, or its fault, by the first byte and those behind it. `Err` comes only for want of memory.
+fn item_behind(alloc: Global, first: u8, tail: &[u8]) -> Result<Front, AllocError>
+    ensures { IfOk result (λ front. front ≡ front_of (lexemes.class_of first) first tail.now) }
+{
+    match class_of(first) {
+        Class::Capital | Class::Small => word_at(alloc, first, tail),
+        Class::Digit => Ok(number_at(first, tail)),
+        Class::Quote => string_at(alloc, tail),
+        Class::White => Ok(Front::Item {
+            form: Scan::Space,
+            behind: 0,
+        }),
+        Class::Dash => Ok(dash_at(tail)),
+        Class::Star => Ok(star_at(tail)),
+        Class::Open => Ok(open_at(tail)),
+        Class::Angle => Ok(angle_at(tail)),
+        Class::Equals => Ok(equals_at(tail)),
+        Class::Single(single) => Ok(sign(single, 0)),
+        Class::Stray => Ok(Front::Fault {
+            kind: LexKind::L1,
+            offset: 0,
+        }),
+    }
+}

@@ -1,0 +1,28 @@
+//! The lexer of Cool: from the bytes of a source file to its tokens.
+//!
+//! Comes in: a file's bytes, at most 1 MiB. Goes out: its tokens with their places, or its first fault. It meets
+//! `LexicalStructure.antt` of `cool_syntax`; `specs/Fronts.antt` has what its scanning functions find.
+#![tactic(auto)]
+
+mod class;
+mod comment;
+mod error;
+mod front;
+mod item;
+mod laws;
+mod lexer;
+mod number;
+mod piece;
+mod reading;
+mod run;
+mod sign;
+mod span;
+mod string;
+#[cfg(test)]
+mod tests;
+mod word;
+
+pub use cool_syntax::LexKind;
+pub use error::{LexError, LexFault};
+pub use laws::{law_always_one, law_never_both, law_one_cutting, law_one_first_fault};
+pub use lexer::{Lexed, lex};

@@ -1,0 +1,101 @@
+//! One item after the other: the tokens, the run and the place so far.
+
+ghost use Rattle.std.specs.Prelude.{◌≡◌, ◌+◌, ◌<◌, ◌≤◌, ◌^◌, IfOk, IfErr, OnOk, length};
+ghost use Rattle.std.specs.List.{count_by};
+ghost use Rattle.cool_syntax.specs.declared.TheConstants.{MOST_TOKENS};
+ghost use Rattle.cool_lexer.specs.Readings.{is_newline, place_behind, Keeps, Refuses, Passes, Stops};
+
+use crate::error::{LexError, LexFault};
+use crate::front::{Front, Scan};
+use crate::item::item_at;
+use crate::run::Run;
+use cool_syntax::{LexKind, MOST_TOKENS, Place, Token};
+use std::alloc::Global;
+
+/// The tokens of the items so far, the run that goes on, and the place behind them.
+#[derive(Drop)]
+pub(crate) struct Reading {
+    pub(crate) tokens: Vec<Token>,
+    pub(crate) run: Run,
+    pub(crate) place: Place,
+}
+
+/// Reads the item that the rest of the text begins with, and gives its size. `Err` comes for want of memory, for a fault of the item,
+/// and for a token that is one too many for its run (`L8`).
+pub(crate) fn read_item(
+    alloc: Global,
+    reading: &mut Reading,
+    rest: &[u8],
+) -> Result<usize, LexError>
+    requires some { 0 < length rest.now }
+    requires deep { reading.old.run.depth + 1 < 2 ^ 32 }
+    requires long { reading.old.run.length ≤ MOST_TOKENS }
+    requires lines { reading.old.place.line + length rest.now < 2 ^ 32 }
+    requires bytes { reading.old.place.byte + length rest.now < 2 ^ 32 }
+    ensures passes { IfOk result (λ size. Passes rest.now reading.old reading.new size) }
+    ensures stops { IfErr result (λ error. Stops rest.now reading.old error) }
+{
+    match item_at(alloc, rest)? {
+        Front::Item { form, behind } => {
+            keep(reading, form)?;
+            reading.place = place_behind(reading.place, &rest[..behind + 1]);
+            Ok(behind + 1)
+        }
+        Front::Fault { kind, offset } => Err(LexError::Fault(LexFault {
+            kind,
+            at: place_behind(reading.place, &rest[..offset]),
+        })),
+    }
+}
+
+/// Keeps a lexeme as a token at the place so far; white space and comments are dropped. `Err` comes for want of memory, and for a token
+/// that is one too many for its run (`L8`).
+fn keep(reading: &mut Reading, form: Scan) -> Result<(), LexError>
+    requires deep { reading.old.run.depth + 1 < 2 ^ 32 }
+    requires long { reading.old.run.length ≤ MOST_TOKENS }
+    ensures keeps { OnOk result (Keeps form reading.old reading.new) }
+    ensures refuses { IfErr result (λ error. Refuses form reading.old error) }
+{
+    if let Scan::Lexeme(kind) = form {
+        if reading.run.length as usize == MOST_TOKENS {
+            return Err(LexError::Fault(LexFault {
+                kind: LexKind::L8,
+                at: reading.place,
+            }));
+        }
+        reading.run = reading.run.behind(&kind);
+        reading.tokens.push(Token {
+            kind,
+            at: reading.place,
+        })?;
+    }
+    Ok(())
+}
+
+/// The place behind these bytes, which stand at the given one.
+fn place_behind(place: Place, passed: &[u8]) -> Place
+    requires lines { place.line + length passed.now < 2 ^ 32 }
+    requires bytes { place.byte + length passed.now < 2 ^ 32 }
+    ensures { result ≡ place_behind place passed.now }
+{
+    Place {
+        file: place.file,
+        line: place.line + newlines(passed),
+        byte: place.byte + passed.len() as u32,
+    }
+}
+
+/// How many newlines there are.
+fn newlines(bytes: &[u8]) -> u32
+    requires { length bytes.now < 2 ^ 32 }
+    ensures count { result ≡ count_by is_newline bytes.now }
+    ensures within { result ≤ length bytes.now }
+{
+    let mut count = 0;
+    for byte in bytes {
+        if *byte == b'\n' {
+            count += 1;
+        }
+    }
+    count
+}

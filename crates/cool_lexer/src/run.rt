@@ -1,0 +1,56 @@
+//! Runs of tokens: what stands between the braces and semicolons of a class's own level.
+
+ghost use Rattle.std.specs.Prelude.{◌≡◌, ◌+◌, ◌<◌, ◌^◌};
+ghost use Rattle.cool_syntax.specs.LexicalStructure.{depth_behind, ends_run, run_behind};
+ghost use Rattle.cool_lexer.specs.Views.{run_seen};
+
+use cool_syntax::{Key, Sign, TokenKind};
+
+/// How deep the tokens so far stand in braces and cases, and how many of them are in the run that goes on.
+#[derive(Clone, Copy)]
+pub(crate) struct Run {
+    pub(crate) depth: u32,
+    pub(crate) length: u32,
+}
+
+impl Run {
+    /// The run behind one more token.
+    pub(crate) fn behind(self, token: &TokenKind) -> Run
+        requires deep { self.depth + 1 < 2 ^ 32 }
+        requires long { self.length + 1 < 2 ^ 32 }
+        ensures { run_seen result ≡ run_behind (run_seen self) token.now }
+    {
+        let depth = depth_behind(token, self.depth);
+        if ends_run(token, self.depth) {
+            Run { depth, length: 0 }
+        } else {
+            Run {
+                depth,
+                length: self.length + 1,
+            }
+        }
+    }
+}
+
+/// The depth behind a token.
+fn depth_behind(token: &TokenKind, depth: u32) -> u32
+    requires { depth + 1 < 2 ^ 32 }
+    ensures { result ≡ depth_behind token.now depth }
+{
+    match token {
+        TokenKind::Sign(Sign::LBrace) | TokenKind::Key(Key::Case) => depth + 1,
+        TokenKind::Sign(Sign::RBrace) | TokenKind::Key(Key::Esac) => depth.saturating_sub(1),
+        _ => depth,
+    }
+}
+
+/// Whether the next token is the first of a run: behind a brace that opens a class, and behind a semicolon of a class's own level.
+fn ends_run(token: &TokenKind, depth: u32) -> bool
+    ensures { result ≡ ends_run token.now depth }
+{
+    match token {
+        TokenKind::Sign(Sign::LBrace) => depth == 0,
+        TokenKind::Sign(Sign::Semi) => depth == 1,
+        _ => false,
+    }
+}

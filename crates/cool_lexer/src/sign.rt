@@ -1,0 +1,51 @@
+//! Signs: lexemes of one or two bytes (manual, figure 1), each by the bytes behind its first.
+
+ghost use Rattle.std.specs.Prelude.{◌≡◌};
+ghost use Rattle.cool_lexer.specs.Fronts.{angle_front, equals_front, star_front, single_front};
+
+use crate::front::{Front, Scan};
+use cool_syntax::{LexKind, Sign, TokenKind};
+
+/// The sign with this many bytes behind its first.
+pub(crate) fn sign(sign: Sign, behind: usize) -> Front
+    ensures { result ≡ single_front sign behind }
+{
+    Front::Item {
+        form: Scan::Lexeme(TokenKind::Sign(sign)),
+        behind,
+    }
+}
+
+/// What `<` begins: `<=`, `<-` or `<`.
+pub(crate) fn angle_at(tail: &[u8]) -> Front
+    ensures { result ≡ angle_front tail.now }
+{
+    match tail {
+        [b'=', ..] => sign(Sign::LessEqual, 1),
+        [b'-', ..] => sign(Sign::Arrow, 1),
+        _ => sign(Sign::Less, 0),
+    }
+}
+
+/// What `=` begins: `=>` or `=`.
+pub(crate) fn equals_at(tail: &[u8]) -> Front
+    ensures { result ≡ equals_front tail.now }
+{
+    match tail {
+        [b'>', ..] => sign(Sign::FatArrow, 1),
+        _ => sign(Sign::Equal, 0),
+    }
+}
+
+/// What `*` begins: the sign, or the end of a comment that is not open (`L6`).
+pub(crate) fn star_at(tail: &[u8]) -> Front
+    ensures { result ≡ star_front tail.now }
+{
+    match tail {
+        [b')', ..] => Front::Fault {
+            kind: LexKind::L6,
+            offset: 0,
+        },
+        _ => sign(Sign::Star, 0),
+    }
+}

@@ -1,0 +1,93 @@
+//! Words: keywords and identifiers (manual, sections 10.1 and 10.4).
+
+ghost use Rattle.std.specs.Prelude.{◌≡◌, ◌∷◌, IfOk, map};
+ghost use Rattle.cool_syntax.specs.Lexemes.{lower, key_among, keywords, named, is_truth};
+ghost use Rattle.cool_lexer.specs.Fronts.{word_front};
+
+use crate::front::{Front, Scan};
+use crate::span::{Span, span_len};
+use cool_syntax::{Key, Name, TokenKind};
+use std::alloc::{AllocError, Global};
+
+/// The word that begins with this letter. `Err` comes only for want of memory.
+pub(crate) fn word_at(alloc: Global, first: u8, tail: &[u8]) -> Result<Front, AllocError>
+    ensures { IfOk result (λ front. front ≡ word_front first tail.now) }
+{
+    let behind = span_len(Span::Word, tail);
+    let text = joined(alloc, first, &tail[..behind])?;
+    let kind = word(alloc, first.is_ascii_uppercase(), text.as_slice())?;
+    Ok(Front::Item {
+        form: Scan::Lexeme(kind),
+        behind,
+    })
+}
+
+/// A byte and those behind it. `Err` comes only for want of memory.
+fn joined(alloc: Global, first: u8, tail: &[u8]) -> Result<Vec<u8>, AllocError>
+    ensures { IfOk result (λ text. text.items ≡ first ∷ tail.now) }
+{
+    let mut text = Vec::new(alloc);
+    text.push(first)?;
+    text.extend_from_slice(tail)?;
+    Ok(text)
+}
+
+/// The lexeme that a word is, which begins with a capital letter or not: `true` and `false` begin with a small letter, and all other
+/// keywords have letters of any case. `Err` comes only for want of memory.
+fn word(alloc: Global, capital: bool, text: &[u8]) -> Result<TokenKind, AllocError>
+    ensures { IfOk result (λ kind. kind ≡ named capital text.now (key_among keywords (map lower text.now))) }
+{
+    let lowered = lowered(alloc, text)?;
+    match keyword(lowered.as_slice()) {
+        Some(key) if !capital || !is_truth(key) => Ok(TokenKind::Key(key)),
+        _ if capital => Ok(TokenKind::TypeId(Name::new(alloc, text)?)),
+        _ => Ok(TokenKind::ObjectId(Name::new(alloc, text)?)),
+    }
+}
+
+/// The text with small letters in place of capital ones. `Err` comes only for want of memory.
+fn lowered(alloc: Global, text: &[u8]) -> Result<Vec<u8>, AllocError>
+    ensures { IfOk result (λ small. small.items ≡ map lower text.now) }
+{
+    let mut small = Vec::new(alloc);
+    for byte in text {
+        small.push(byte.to_ascii_lowercase())?;
+    }
+    Ok(small)
+}
+
+/// Whether the key is `true` or `false`.
+fn is_truth(key: Key) -> bool
+    ensures { result ≡ is_truth key }
+{
+    matches!(key, Key::True | Key::False)
+}
+
+/// The keyword with this spelling, in small letters.
+#[tactic(auto, using(crate::proofs::Keywords::none_of_seven, crate::proofs::Keywords::none_above_eight, crate::proofs::Keywords::one_of_six))]
+fn keyword(word: &[u8]) -> Option<Key>
+    ensures { result ≡ key_among keywords word.now }
+{
+    match word {
+        b"class" => Some(Key::Class),
+        b"else" => Some(Key::Else),
+        b"false" => Some(Key::False),
+        b"fi" => Some(Key::Fi),
+        b"if" => Some(Key::If),
+        b"in" => Some(Key::In),
+        b"inherits" => Some(Key::Inherits),
+        b"isvoid" => Some(Key::IsVoid),
+        b"let" => Some(Key::Let),
+        b"loop" => Some(Key::Loop),
+        b"pool" => Some(Key::Pool),
+        b"then" => Some(Key::Then),
+        b"while" => Some(Key::While),
+        b"case" => Some(Key::Case),
+        b"esac" => Some(Key::Esac),
+        b"new" => Some(Key::New),
+        b"of" => Some(Key::Of),
+        b"not" => Some(Key::Not),
+        b"true" => Some(Key::True),
+        _ => None,
+    }
+}
