@@ -1,0 +1,5 @@
+pub mod GoodNodes
+pub mod GoodStates
+pub mod ParsingAFile
+pub mod PlacingANode
+pub mod RoomForNodes

@@ -1,0 +1,26 @@
+-- What is left of a file's tokens comes to the same outcome.
+use Rattle.std.proofs.Common.{◌≡◌, ◌≢◌, ℕ, ◌+◌, ◌<◌, List, [], ◌∷◌, length, drop, get_or, Option, Some, refl, ◌∙◌, ap}
+use Rattle.std.proofs.lemmas.List.{drop_more}
+use Rattle.cool_syntax.specs.declared.place.Place.{Place}
+use Rattle.cool_syntax.specs.declared.token.Token.{Token}
+use Rattle.cool_parser.specs.declared.mode.Mode.{Mode}
+use Rattle.cool_parser.specs.declared.mode.Mode.TheVariants as mode
+use Rattle.cool_parser.specs.Machine.{Context, State, step, outcome, finish, Unexpected}
+
+-- where the last token stood plays no part as long as a state is there
+pub any_place : (at other : Place) (s : State) (ts : List Token) (end : Place) → outcome at (Some s) ts end ≡ outcome other (Some s) ts end
+any_place at other s [] end = refl
+any_place at other s (t ∷ ts) end = refl
+
+-- one more token
+pub more : (ts : List Token) (i : ℕ) (d : Token) (c : Context) (m : Mode) (o : Option State) (at end : Place) → i < length ts
+    → step c m (get_or ts i d).kind (get_or ts i d).at ≡ o
+    → outcome at (Some (record { context = c; mode = m })) (drop i ts) end ≡ outcome (get_or ts i d).at o (drop (i + 1) ts) end
+more ts i d c m o at end h e =
+    ap (λ xs. outcome at (Some (record { context = c; mode = m })) xs end) (drop_more ts i d h)
+    ∙ ap (λ x. outcome (get_or ts i d).at x (drop (i + 1) ts) end) e
+
+-- a file ends between its classes alone
+pub unfinished : (c : Context) (m : Mode) (end : Place) → m ≢ mode.File → finish c m end ≡ Unexpected end
+unfinished c mode.File end h = absurd (h refl)
+unfinished c _ end h = refl

@@ -1,0 +1,60 @@
+use Rattle.std.proofs.Common.{◌≡◌, ◌≤◌, ◌+◌, length, drop, get_or, Some, None, IfSome, sym, subst, ◌∙◌, ap, arith}
+use Rattle.std.proofs.lemmas.List.{drop_all}
+use Rattle.cool_parser.specs.declared.mode.Mode.TheVariants as mode
+use Rattle.cool_parser.specs.Machine.{State, moved, step, outcome, start, Unexpected}
+use Rattle.cool_parser.specs.Waiting.{Good}
+use Rattle.cool_parser.proofs.GoodNodes.{good_step, good_start}
+use Rattle.cool_parser.proofs.RoomForNodes.{weight, IsLight, step_light}
+use Rattle.cool_parser.proofs.ParsingAFile.{any_place, more, unfinished}
+use Rattle.cool_parser.proofs.parsing.parse.Goals as goal
+
+pub loop-i-init : goal.loop-i-init
+loop-i-init c =
+    let new = c.new-parser.ensures in
+    record {
+      same = λ at. ap (λ x. outcome at (Some (record { context = x; mode = mode.File })) c.args.tokens.now c.args.end) new ∙ any_place at c.args.end start c.args.tokens.now c.args.end;
+      good = subst (λ x. Good x mode.File) (sym new) good_start;
+      light = omega (arith, ap (λ x. length x.nodes) new, ap (λ x. length x.stack) new);
+    }
+
+pub returns-in-None-clause-fault : goal.returns-in-None-clause-fault
+returns-in-None-clause-fault c =
+    let t = c.index-tokens-i.result in
+    let made = c.in_ok-next.ensures in
+    let room = c.in_ok-make_room.ensures in
+    let stepped : step c.loop-i.parser c.loop-i.mode t.kind t.at ≡ None =
+    ap (λ x. step x c.loop-i.mode t.kind t.at) (sym room.same) ∙ sym made.same ∙ ap (moved c.step.new.self) c.in-None.is in
+    sym (c.loop-i.invariant.same t.at)
+    ∙ more c.args.tokens.now c.loop-i.i t c.loop-i.parser c.loop-i.mode None t.at c.args.end c.loop-i-test.true
+    (ap (λ x. step c.loop-i.parser c.loop-i.mode x.kind x.at) (sym c.index-tokens-i.is) ∙ stepped)
+    ∙ ap (λ x. Unexpected x.at) (sym c.index-tokens-i.is)
+
+pub loop-i-preserved : goal.loop-i-preserved
+loop-i-preserved c =
+    let t = c.index-tokens-i.result in
+    let made = c.in_ok-next.ensures in
+    let room = c.in_ok-make_room.ensures in
+    let next : State = record { context = c.step.new.self; mode = c.in-Some.next } in
+    let stepped : step c.loop-i.parser c.loop-i.mode t.kind t.at ≡ Some next =
+    ap (λ x. step x c.loop-i.mode t.kind t.at) (sym room.same) ∙ sym made.same ∙ ap (moved c.step.new.self) c.in-Some.is in
+    let light : weight c.step.new.self ≤ weight c.loop-i.parser + 2 =
+    subst (λ o. IfSome o (IsLight (weight c.loop-i.parser + 2))) stepped (step_light c.loop-i.parser c.loop-i.mode t.kind t.at) in
+    record {
+      same = λ at.
+          any_place at (get_or c.args.tokens.now c.loop-i.i t).at next (drop (c.loop-i.i + 1) c.args.tokens.now) c.args.end
+          ∙ sym (more c.args.tokens.now c.loop-i.i t c.loop-i.parser c.loop-i.mode (Some next) t.at c.args.end c.loop-i-test.true
+          (ap (λ x. step c.loop-i.parser c.loop-i.mode x.kind x.at) (sym c.index-tokens-i.is) ∙ stepped))
+          ∙ c.loop-i.invariant.same t.at;
+      good = subst (λ o. IfSome o (λ s. Good s.context s.mode)) stepped (good_step c.loop-i.parser c.loop-i.mode t.kind t.at c.loop-i.invariant.good);
+      light = omega (arith, light, c.loop-i.invariant.light);
+    }
+
+pub returns-in_default : goal.returns-in_default
+returns-in_default c = record {
+  file = tt;
+  whole = tt;
+  fault =
+      sym (c.loop-i.invariant.same c.args.end)
+      ∙ ap (λ xs. outcome c.args.end (Some (record { context = c.loop-i.parser; mode = c.loop-i.mode })) xs c.args.end) (drop_all c.loop-i.i c.args.tokens.now c.loop-i-test.false)
+      ∙ unfinished c.loop-i.parser c.loop-i.mode c.args.end c.in_default.not-File;
+}

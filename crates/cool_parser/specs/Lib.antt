@@ -1,0 +1,4 @@
+pub mod Answers
+pub mod Levels
+pub mod Machine
+pub mod Waiting

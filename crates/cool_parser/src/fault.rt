@@ -1,0 +1,29 @@
+//! Why tokens are no file.
+
+ghost use Rattle.std.specs.Prelude.{◌≡◌};
+ghost use Rattle.cool_parser.specs.declared.fault.ParseError.TheVariants as error;
+
+use cool_syntax::Place;
+use std::alloc::AllocError;
+
+/// The one kind of syntax fault, S1: a token, or the end of the file, stands where no file can have it.
+#[derive(Clone, Copy, Debug, PartialEq, Eq)]
+pub struct ParseFault {
+    pub at: Place,
+}
+
+/// Why there is no tree.
+#[derive(Clone, Copy, Debug, PartialEq, Eq)]
+pub enum ParseError {
+    /// Memory was wanted.
+    Memory,
+    Fault(ParseFault),
+}
+
+impl From<AllocError> for ParseError {
+    ghost from_gives = { λ _ e. e ≡ error.Memory };
+
+    fn from(_error: AllocError) -> ParseError {
+        ParseError::Memory
+    }
+}

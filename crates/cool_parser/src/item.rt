@@ -1,0 +1,210 @@
+//! What waits on the stack: forms whose first part has been read.
+
+ghost use Rattle.std.specs.Prelude.{◌≡◌, IfOk, Some, None, MatchResult};
+ghost use Rattle.cool_parser.specs.Machine as machine;
+
+use crate::operator::{Infix, Prefix};
+use cool_syntax::{Feature, Formal, Listed, Name, Node, NodeBranch, NodeId, Place, TypeRef};
+use std::alloc::AllocError;
+
+/// A name and its declared type: a formal, an attribute, or a variable of a `let` or of a branch.
+#[derive(Debug, Drop)]
+pub(crate) struct Variable {
+    pub(crate) name: Name,
+    pub(crate) at: Place,
+    pub(crate) declared: TypeRef,
+}
+
+/// A class up to its features so far.
+#[derive(Debug, Drop)]
+pub(crate) struct OpenClass {
+    pub(crate) name: Name,
+    pub(crate) at: Place,
+    pub(crate) parent: Option<TypeRef>,
+    pub(crate) features: Listed<Feature>,
+}
+
+/// A method up to its formals so far.
+#[derive(Debug, Drop)]
+pub(crate) struct OpenMethod {
+    pub(crate) class: OpenClass,
+    pub(crate) name: Name,
+    pub(crate) at: Place,
+    pub(crate) formals: Listed<Formal>,
+}
+
+/// A dispatch up to its arguments; `class` is there where it is static.
+#[derive(Debug, Drop)]
+pub(crate) struct Call {
+    pub(crate) at: Place,
+    pub(crate) receiver: NodeId,
+    pub(crate) class: Option<TypeRef>,
+    pub(crate) name: Name,
+}
+
+/// A `case` up to its branches so far.
+#[derive(Debug, Drop)]
+pub(crate) struct OpenCase {
+    pub(crate) at: Place,
+    pub(crate) value: NodeId,
+    pub(crate) branches: Listed<NodeBranch>,
+}
+
+/// A form that waits for an expression. The first four are operators: they end where an operator of a lower level, or a
+/// token that ends an operand, comes behind their own. The others end by a token of their own.
+#[derive(Debug, Drop)]
+pub(crate) enum Item {
+    /// `left op ..`
+    Left {
+        at: Place,
+        op: Infix,
+        left: NodeId,
+    },
+    /// `op ..`
+    Front {
+        at: Place,
+        op: Prefix,
+    },
+    /// `name <- ..`
+    Assigning {
+        at: Place,
+        name: Name,
+    },
+    /// `let variable <- init in ..`, and `let variable <- init, .. in ..`
+    Bound {
+        variable: Variable,
+        init: Option<NodeId>,
+    },
+    /// `( .. )`
+    Parenthesis,
+    /// `receiver.name(args, ..`
+    Arguments {
+        call: Call,
+        args: Listed<NodeId>,
+    },
+    /// `if .. then`
+    IfTest {
+        at: Place,
+    },
+    /// `if test then .. else`
+    IfYes {
+        at: Place,
+        test: NodeId,
+    },
+    /// `if test then yes else .. fi`
+    IfNo {
+        at: Place,
+        test: NodeId,
+        yes: NodeId,
+    },
+    /// `while .. loop`
+    WhileTest {
+        at: Place,
+    },
+    /// `while test loop .. pool`
+    WhileBody {
+        at: Place,
+        test: NodeId,
+    },
+    /// `{ items; ..;`
+    Block {
+        at: Place,
+        items: Listed<NodeId>,
+    },
+    /// `let variable <- ..`
+    Init {
+        variable: Variable,
+    },
+    /// `case .. of`
+    CaseValue {
+        at: Place,
+    },
+    /// `case value of branches; variable => ..;`
+    BranchBody {
+        case: OpenCase,
+        variable: Variable,
+    },
+    /// `name(formals) : result { .. }`
+    MethodBody {
+        method: OpenMethod,
+        result: TypeRef,
+    },
+    /// `variable <- ..;`
+    AttributeInit {
+        class: OpenClass,
+        variable: Variable,
+    },
+}
+
+impl Call {
+    /// The dispatch with these arguments.
+    pub(crate) fn node(self, args: Listed<NodeId>) -> Node
+        ensures { result ≡ machine.dispatch self args }
+    {
+        let Call {
+            at,
+            receiver,
+            class,
+            name,
+        } = self;
+        match class {
+            Some(class) => Node::StaticDispatch {
+                at,
+                receiver,
+                class,
+                name,
+                args,
+            },
+            None => Node::Dispatch {
+                at,
+                receiver,
+                name,
+                args,
+            },
+        }
+    }
+}
+
+impl OpenCase {
+    /// With one more branch. `Err` comes only for want of memory.
+    pub(crate) fn with_branch(
+        mut self,
+        variable: Variable,
+        body: NodeId,
+    ) -> Result<OpenCase, AllocError>
+        ensures { IfOk result (λ case. case ≡ machine.with_branch self variable body) }
+    {
+        self.branches.push(NodeBranch {
+            at: variable.at,
+            name: variable.name,
+            declared: variable.declared,
+            body,
+        })?;
+        Ok(self)
+    }
+}
+
+impl Item {
+    /// The node that an operator of at least this level makes of its operand. `Err` hands any other item back.
+    pub(crate) fn ended(self, level: u8, operand: NodeId) -> Result<Node, Item>
+        ensures { MatchResult result (λ node. machine.ended level self operand ≡ Some node) (λ item. (item ≡ self) × (machine.ended level self operand ≡ None)) }
+    {
+        match self {
+            Item::Left { at, op, left } if op.level() >= level => Ok(op.node(at, left, operand)),
+            Item::Front { at, op } if op.level() >= level => Ok(op.node(at, operand)),
+            Item::Assigning { at, name } if level <= 1 => Ok(Node::Assign {
+                at,
+                name,
+                value: operand,
+            }),
+            Item::Bound { variable, init } if level == 0 => Ok(Node::Let {
+                at: variable.at,
+                name: variable.name,
+                declared: variable.declared,
+                init,
+                body: operand,
+            }),
+            item => Err(item),
+        }
+    }
+}

@@ -1,0 +1,22 @@
+//! The parser of Cool: from tokens to the tree of a file.
+//!
+//! Comes in: the tokens of one file. Goes out: its classes, or the place of the first token that may not stand where it does.
+//! `specs/Machine.antt` is the parser as a function on lists, to which the code is proved equal.
+#![tactic(auto)]
+
+mod classes;
+mod declarations;
+mod endings;
+mod fault;
+mod forms;
+mod item;
+mod mode;
+mod operands;
+mod operator;
+mod parser;
+mod parsing;
+mod stack;
+mod step;
+
+pub use fault::{ParseError, ParseFault};
+pub use parsing::parse;

@@ -1,0 +1,81 @@
+//! Parsing a file.
+
+ghost use Rattle.std.specs.Prelude.{◌≡◌, ◌≤◌, ◌-◌, ◌+◌, ◌<◌, ◌^◌, length, IfOk, IfErr};
+ghost use Rattle.cool_parser.specs.Machine.{parsed, Whole};
+ghost use Rattle.cool_parser.specs.Answers.{IsFault};
+
+use crate::fault::{ParseError, ParseFault};
+use crate::mode::Mode;
+use crate::parser::Parser;
+use cool_syntax::{FileTree, Key, Place, Sign, Token, TokenKind};
+use std::alloc::{AllocError, Global};
+
+/// The tree of a file, by its tokens (Cool manual, section 11). `file` is its position in the command, from 0, and `end` the place of
+/// its end; there are at most 1,048,576 tokens.
+///
+/// `Err(Fault(..))` comes where the tokens are no file: its place is that of the first token that may not stand where it does, or
+/// `end`, where the file may not end there. `Err(Memory)` comes only for want of memory.
+pub fn parse(alloc: Global, file: u32, tokens: &[Token], end: Place) -> Result<FileTree, ParseError>
+    requires { length tokens.now ≤ 1048576 }
+    ensures file { IfOk result (λ tree. tree.file ≡ file) }
+    ensures whole { IfOk result (λ tree. parsed tokens.now end ≡ Whole tree.classes) }
+    ensures fault { IfErr result (λ error. IsFault (parsed tokens.now end) error) }
+{
+    let mut parser = Parser::new(alloc);
+    let mut mode = Mode::File;
+    for i in 0..tokens.len() {
+        let token = &tokens[i];
+        parser.make_room(&mode, &tokens[i..])?;
+        match parser.step(mode, token)? {
+            Some(next) => mode = next,
+            None => return Err(ParseError::Fault(ParseFault { at: token.at })),
+        }
+    }
+    match mode {
+        Mode::File => Ok(FileTree {
+            file,
+            classes: parser.classes,
+        }),
+        _ => Err(ParseError::Fault(ParseFault { at: end })),
+    }
+}
+
+impl Parser {
+    /// Takes memory for the nodes of a feature, where one may begin: no tree has more nodes than tokens.
+    fn make_room(&mut self, mode: &Mode, rest: &[Token]) -> Result<(), AllocError>
+        requires nodes { length self.old.nodes < 2 ^ 31 }
+        requires tokens { length rest.now ≤ 1048576 }
+        ensures same { self.new ≡ self.old }
+    {
+        match mode {
+            Mode::Features { .. } => self.pool.reserve(feature_length(rest)),
+            _ => Ok(()),
+        }
+    }
+}
+
+/// How many tokens there are up to the end of a feature: its semicolon, or a brace that closes the class.
+fn feature_length(tokens: &[Token]) -> u32
+    requires { length tokens.now ≤ 1048576 }
+    ensures { result ≤ length tokens.now }
+{
+    let mut depth: u32 = 0;
+    for i in 0..tokens.len() {
+        match tokens[i].kind {
+            TokenKind::Sign(Sign::LBrace) | TokenKind::Key(Key::Case) => depth += 1,
+            TokenKind::Sign(Sign::RBrace) | TokenKind::Key(Key::Esac) => {
+                if depth == 0 {
+                    return i as u32;
+                }
+                depth -= 1;
+            }
+            TokenKind::Sign(Sign::Semi) => {
+                if depth == 0 {
+                    return i as u32 + 1;
+                }
+            }
+            _ => {}
+        }
+    }
+    tokens.len() as u32
+}

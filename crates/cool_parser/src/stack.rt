@@ -1,0 +1,60 @@
+//! The stack of what waits for an expression.
+
+ghost use Rattle.std.specs.Prelude.{◌≡◌, [], ◌∷◌, Some, None, MatchOption, if◌then◌else◌};
+ghost use Rattle.std.specs.Result.{is_ok};
+
+use crate::item::Item;
+use std::alloc::{AllocError, Global};
+use std::marker::Model;
+
+/// Items, of which only the last one is at hand. A contract sees them with the last one first.
+#[derive(Debug, Drop)]
+pub(crate) struct Stack {
+    items: Vec<Item>,
+}
+
+impl Model for Stack {
+    ghost use Rattle.std.specs.Prelude.{List, reverse};
+    ghost use Rattle.cool_parser.specs.declared.item.Item.{Item};
+    ghost use Rattle.std.specs.Coded.{codes};
+    ghost use Rattle.cool_syntax.specs.TreeCode.{tree_code};
+
+    ghost Value = { List Item };
+
+    ghost coded = { Prim.hlevel (codes, tree_code) };
+
+    ghost view = { λ s. reverse s.items.items };
+}
+
+impl Stack {
+    /// The empty stack.
+    pub(crate) fn new(alloc: Global) -> Stack
+        ensures { result ≡ [] }
+    {
+        Stack {
+            items: Vec::new(alloc),
+        }
+    }
+
+    /// Puts an item on top. `Err` comes only for want of memory, and leaves the stack as it is.
+    pub(crate) fn push(&mut self, item: Item) -> Result<(), AllocError>
+        ensures { self.new ≡ (if is_ok result then item ∷ self.old else self.old) }
+    {
+        self.items.push(item)?;
+        Ok(())
+    }
+
+    /// Takes the top away.
+    pub(crate) fn pop(&mut self) -> Option<Item>
+        ensures { MatchOption result ((self.old ≡ []) × (self.new ≡ [])) (λ item. self.old ≡ item ∷ self.new) }
+    {
+        self.items.pop()
+    }
+
+    /// The top.
+    pub(crate) fn top(&self) -> Option<&Item>
+        ensures { MatchOption result (self.now ≡ []) (λ item. (rest : _) × (self.now ≡ item.now ∷ rest)) }
+    {
+        self.items.last()
+    }
+}
