@@ -28,6 +28,7 @@ of_list-inj [] (u ∷ us) h = absurd cc
 of_list-inj (t ∷ ts) [] h = absurd cc
 of_list-inj (t ∷ ts) (u ∷ us) h = let e : ts ≡ us = of_list-inj ts us cc in cc
 
+-- trees of expressions without places, one by one
 bare_exprs : (es : List Expr) → bare_all (of_list (map tree es)) ≡ of_list (map (λ e. bare (tree e)) es)
 bare_exprs [] = refl
 bare_exprs (e ∷ es) = ap (More (bare (tree e))) (bare_exprs es)
@@ -39,6 +40,7 @@ same_exprs ts us xs ys p q =
     let b : bare_all (of_list us) ≡ of_list (map (λ e. bare (tree e)) ys) = sym (ap (λ w. bare_all (of_list w)) q) ∙ bare_exprs ys in
     (λ h. of_list-inj _ _ (sym a ∙ h ∙ b), λ h. a ∙ ap of_list h ∙ sym b)
 
+-- the branches of a list determine it
 of_twigs-inj : (ws vs : List Twig) → of_twigs ws ≡ of_twigs vs → ws ≡ vs
 of_twigs-inj [] [] h = refl
 of_twigs-inj [] (v ∷ vs) h = absurd cc
@@ -52,6 +54,7 @@ of_twigs-inj (w ∷ ws) (v ∷ vs) h =
     let s : w ≡ v = λ i. record { at = a i; name = n i; declared = d i; body = b i } in
     cc
 
+-- branches without places, one by one
 bare_branches : (bs : List Branch) → bare_cases (of_twigs (map twig bs)) ≡ of_twigs (map (λ b. bare_twig (twig b)) bs)
 bare_branches [] = refl
 bare_branches (b ∷ bs) = let w = bare_twig (twig b) in ap (CaseOf w.at w.name w.declared w.body) (bare_branches bs)

@@ -12,6 +12,7 @@ use Rattle.cool_syntax.proofs.TreesOfLists.{length-nodes, length-nodes_of_all, l
 record IsOrdered (k : ℕ) (ns : List Node) : Type 0 where
   all : Ordered k ns
 
+-- two lists in order are one in order, numbered on
 ordered_append : (ns ms : List Node) (k l : ℕ) → l ≡ k + length ns → Ordered k ns → Ordered l ms → Ordered k (ns ++ ms)
 ordered_append [] ms k l e o p = let q : l ≡ k = omega arith in subst (λ j. Ordered j ms) q p
 ordered_append (n ∷ ns) ms k l e o p = (o.0, ordered_append ns ms (k + 1) l (omega arith) o.1 p)
@@ -20,9 +21,11 @@ ordered_append (n ∷ ns) ms k l e o p = (o.0, ordered_append ns ms (k + 1) l (o
 pub ordered_push : (ns : List Node) (n : Node) → Ordered 0 ns → HasPartsBelow (length ns) n → Ordered 0 (ns ++ n ∷ [])
 ordered_push ns n o h = ordered_append ns (n ∷ []) 0 (length ns) (omega arith) o (h, tt)
 
+-- the same, of the facts
 ordered_join : {ns ms : List Node} {k : ℕ} (l : ℕ) → IsOrdered k ns → l ≡ k + length ns → IsOrdered l ms → IsOrdered k (ns ++ ms)
 ordered_join {ns} {ms} {k} l o e p = record { all = ordered_append ns ms k l e o.all p.all }
 
+-- one node whose parts are below it
 ordered_node : {k : ℕ} {n : Node} → HasPartsBelow k n → IsOrdered k (n ∷ [])
 ordered_node h = record { all = (h, tt) }
 
@@ -30,19 +33,23 @@ ordered_node h = record { all = (h, tt) }
 root_below : (t : Tree) (base k : ℕ) → base + tree_size t ≤ k → (root base t).0 < k
 root_below t base k h = omega (arith, one_le_size t)
 
+-- those of trees in order
 roots_below : (ts : Trees) (base k : ℕ) → base + trees_size ts ≤ k → AllByRecursion (λ c. c.0 < k) (roots base ts)
 roots_below Last base k h = tt
 roots_below (More t ts) base k h = (root_below t base k (omega arith), roots_below ts (base + tree_size t) k (omega arith))
 
+-- and so has that of a tree or none
 maybe_below : (o : MaybeTree) (base k : ℕ) → base + maybe_size o ≤ k → IfSome (root_of_maybe base o) (λ c. c.0 < k)
 maybe_below Without base k h = tt
 maybe_below (With t) base k h = root_below t base k h
 
+-- those of the branches of a case
 branch_roots_below : (cs : Cases) (base k : ℕ) → base + cases_size cs ≤ k → AllByRecursion (λ b. b.body.0 < k) (branch_roots base cs)
 branch_roots_below NoCase base k h = tt
 branch_roots_below (CaseOf at name declared t cs) base k h =
     (root_below t base k (omega arith), branch_roots_below cs (base + tree_size t) k (omega arith))
 
+-- the list of a tree is in order
 mutual
   ordered : (t : Tree) (base : ℕ) → IsOrdered base (nodes base t)
   ordered (trees.Assign at name a) base =

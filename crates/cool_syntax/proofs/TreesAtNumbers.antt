@@ -20,18 +20,16 @@ grown-keeps [] ts i d h = refl
 grown-keeps (n ∷ ns) ts i d h =
     grown-keeps ns (ts ++ made ts n ∷ []) i d (omega (arith, length-append ts (made ts n ∷ []))) ∙ get_or_append_left ts (made ts n ∷ []) d i h
 
-pub length-grown : (ns : List Node) (ts : List Tree) → length (grown ts ns) ≡ length ts + length ns
-length-grown [] ts = omega arith
-length-grown (n ∷ ns) ts = omega (arith, length-grown ns (ts ++ made ts n ∷ []), length-append ts (made ts n ∷ []))
-
 -- two lists of trees that agree below a number
 abbrev Agree : ℕ → List Tree → List Tree → Type 0
 Agree k ts us = (i : ℕ) → i < k → get_or ts i (trees.Int nowhere 0) ≡ get_or us i (trees.Int nowhere 0)
 
+-- numbers below it name the same trees in both
 ids_same : (ids : List NodeId) (k : ℕ) (ts us : List Tree) → AllByRecursion (λ c. c.0 < k) ids → Agree k ts us → map (at_id ts) ids ≡ map (at_id us) ids
 ids_same [] k ts us h f = refl
 ids_same (c ∷ cs) k ts us h f = λ i. f c.0 h.0 i ∷ ids_same cs k ts us h.1 f i
 
+-- and so do branches whose bodies are below it
 twigs_same : (bs : List NodeBranch) (k : ℕ) (ts us : List Tree) → AllByRecursion (λ b. b.body.0 < k) bs → Agree k ts us → map (twig_at ts) bs ≡ map (twig_at us) bs
 twigs_same [] k ts us h f = refl
 twigs_same (b ∷ bs) k ts us h f =
@@ -78,17 +76,19 @@ parts_below (m ∷ ns) k zero j n o p e =
     subst (λ x. HasPartsBelow j x) (same_Some m n p) (subst (λ l. HasPartsBelow l m) q o.0)
 parts_below (m ∷ ns) k (suc i) j n o p e = parts_below ns (k + 1) i j n o.1 p (omega arith)
 
--- both, of a list that begins with number 0
+-- the tree at a number of a list that begins with number 0
 pub pool_tree : (ns : List Node) (id : NodeId) (n : Node) → Ordered 0 ns → slice_get ns id.0 ≡ Some n → at_id (grown [] ns) id ≡ made (grown [] ns) n
 pool_tree ns id n o p = grown_at ns [] id.0 id.0 n o p (omega arith)
 
+-- the parts of the node at that number
 pub pool_parts : (ns : List Node) (id : NodeId) (n : Node) → Ordered 0 ns → slice_get ns id.0 ≡ Some n → HasPartsBelow id.0 n
 pool_parts ns id n o p = parts_below ns 0 id.0 id.0 n o p (omega arith)
 
--- both, of the list of a tree
+-- the tree at a number of the list of a tree
 pub tree_at_node : (t : Tree) (id : NodeId) (n : Node) → slice_get (nodes 0 t) id.0 ≡ Some n → tree_at t id ≡ made (all_trees t) n
 tree_at_node t id n p = pool_tree (nodes 0 t) id n (ordered-nodes t 0) p
 
+-- the parts of the node at that number
 pub parts_of_node : (t : Tree) (id : NodeId) (n : Node) → slice_get (nodes 0 t) id.0 ≡ Some n → HasPartsBelow id.0 n
 parts_of_node t id n p = pool_parts (nodes 0 t) id n (ordered-nodes t 0) p
 

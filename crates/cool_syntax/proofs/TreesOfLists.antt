@@ -146,6 +146,7 @@ at_root t ws front back base e p =
     ap (λ us. get_or us (base + tree_size t - 1) (trees.Int nowhere 0)) r
     ∙ get_or_at (front ++ q.0) t back (trees.Int nowhere 0) (base + tree_size t - 1) (omega (arith, length-append front q.0, length-append q.0 (t ∷ []), length-parts t))
 
+-- and so do the numbers of the roots of trees in order
 at_roots : (ts : Trees) (ws front back : List Tree) (base : ℕ) → base ≡ length front → ws ≡ front ++ (parts_of_all ts ++ back) → of_list (map (at_id ws) (roots base ts)) ≡ ts
 at_roots Last ws front back base e p = refl
 at_roots (More t ts) ws front back base e p =
@@ -155,10 +156,12 @@ at_roots (More t ts) ws front back base e p =
     let b = at_roots ts ws (front ++ parts t) back (base + tree_size t) (next front (parts t) base _ e (length-parts t)) (p ∙ s) in
     λ i. More (a i) (b i)
 
+-- of a tree or none
 at_root_of_maybe : (o : MaybeTree) (ws front back : List Tree) (base : ℕ) → base ≡ length front → ws ≡ front ++ (parts_of_maybe o ++ back) → of_option (option_map (at_id ws) (root_of_maybe base o)) ≡ o
 at_root_of_maybe Without ws front back base e p = refl
 at_root_of_maybe (With t) ws front back base e p = ap With (at_root t ws front back base e p)
 
+-- and of the branches of a case
 at_branch_roots : (cs : Cases) (ws front back : List Tree) (base : ℕ) → base ≡ length front → ws ≡ front ++ (parts_of_cases cs ++ back) → of_twigs (map (twig_at ws) (branch_roots base cs)) ≡ cs
 at_branch_roots NoCase ws front back base e p = refl
 at_branch_roots (CaseOf at name declared t cs) ws front back base e p =
@@ -172,12 +175,15 @@ at_branch_roots (CaseOf at name declared t cs) ws front back base e p =
 record Grows (ts : List Tree) (ns : List Node) (us : List Tree) : Type 0 where
   all : (ms : List Node) → grown ts (ns ++ ms) ≡ grown (ts ++ us) ms
 
+-- no nodes have no trees
 grows_none : {ts : List Tree} → Grows ts [] []
 grows_none {ts} = record { all = λ ms. ap (λ us. grown us ms) (sym (append-nil ts)) }
 
+-- one node has the tree that is made of it
 grows_node : {ts : List Tree} {n : Node} {t : Tree} → made ts n ≡ t → Grows ts (n ∷ []) (t ∷ [])
 grows_node {ts} {n} {t} e = record { all = λ ms. ap (λ u. grown (ts ++ u ∷ []) ms) e }
 
+-- nodes after nodes have their trees after those trees
 grows_join : {ts us vs : List Tree} {ns ms : List Node} → Grows ts ns us → Grows (ts ++ us) ms vs → Grows ts (ns ++ ms) (us ++ vs)
 grows_join {ts} {us} {vs} {ns} {ms} g h = record { all = λ rest. ap (grown ts) (append_assoc ns ms rest) ∙ g.all (ms ++ rest) ∙ h.all rest ∙ ap (λ ws. grown ws rest) (append_assoc ts us vs) }
 
@@ -283,9 +289,11 @@ mutual
   grows_cases (CaseOf at name declared t cs) base front e =
       grows_join (grows t base front e) (grows_cases cs (base + tree_size t) (front ++ parts t) (next front (parts t) base _ e (length-parts t)))
 
+-- the same, before more nodes
 pub grown-nodes : (t : Tree) (base : ℕ) (ts : List Tree) (ns : List Node) → base ≡ length ts → grown ts (nodes base t ++ ns) ≡ grown (ts ++ parts t) ns
 grown-nodes t base ts ns e = (grows t base ts e).all ns
 
+-- the trees of all nodes of a tree's list
 pub all_trees-parts : (t : Tree) → all_trees t ≡ parts t
 all_trees-parts t = ap (grown []) (sym (append-nil (nodes 0 t))) ∙ grown-nodes t 0 [] [] refl
 
