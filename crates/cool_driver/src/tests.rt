@@ -1,5 +1,7 @@
 //! Whole calls over objects in memory.
 
+mod sources;
+
 use crate::cool;
 use cool_ports::{MemShelf, MemSink, MemSource, Source};
 use mips_asm::assemble;
