@@ -1,5 +1,11 @@
+pub mod BoundedFeatures
+pub mod FilesWithinLimits
 pub mod GoodNodes
 pub mod GoodStates
 pub mod ParsingAFile
+pub mod PlacesOfFaults
 pub mod PlacingANode
 pub mod RoomForNodes
+pub mod RunsOfFeatures
+pub mod TreesOfNodesWithin
+pub mod WeightsOfNodes

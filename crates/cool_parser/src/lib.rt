@@ -17,6 +17,8 @@ mod parser;
 mod parsing;
 mod stack;
 mod step;
+#[cfg(test)]
+mod tests;
 
 pub use fault::{ParseError, ParseFault};
 pub use parsing::parse;

@@ -1,8 +1,15 @@
 //! Parsing a file.
 
-ghost use Rattle.std.specs.Prelude.{◌≡◌, ◌≤◌, ◌-◌, ◌+◌, ◌<◌, ◌^◌, length, IfOk, IfErr};
+ghost use Rattle.std.specs.Prelude.{◌≡◌, ◌≤◌, ◌-◌, ◌+◌, ◌<◌, ◌^◌, [], length, IfOk, IfErr, MatchResult};
+ghost use Rattle.std.specs.List.{AllByRecursion};
+ghost use Rattle.cool_syntax.specs.LexicalStructure.{first_run, FitsRuns};
+ghost use Rattle.cool_syntax.specs.TokenFacts.{AreWithinLimits};
+ghost use Rattle.cool_parser.specs.declared.fault.ParseError.TheVariants.{Memory};
 ghost use Rattle.cool_parser.specs.Machine.{parsed, Whole};
 ghost use Rattle.cool_parser.specs.Answers.{IsFault};
+ghost use Rattle.cool_parser.specs.FaultPlaces.{IsPlaceIn};
+ghost use Rattle.cool_parser.specs.FeatureSizes.{IsBoundedClass};
+ghost use Rattle.cool_parser.specs.TreesWithinLimits.{AreClassesWithin};
 
 use crate::fault::{ParseError, ParseFault};
 use crate::mode::Mode;
@@ -20,6 +27,10 @@ pub fn parse(alloc: Global, file: u32, tokens: &[Token], end: Place) -> Result<F
     ensures file { IfOk result (λ tree. tree.file ≡ file) }
     ensures whole { IfOk result (λ tree. parsed tokens.now end ≡ Whole tree.classes) }
     ensures fault { IfErr result (λ error. IsFault (parsed tokens.now end) error) }
+    ensures place { IfErr result (λ error. IsPlaceIn tokens.now end error) }
+    ensures empty { tokens.now ≡ [] → MatchResult result (λ tree. tree.classes ≡ []) (λ error. error ≡ Memory) }
+    ensures limits { AreWithinLimits tokens.now → IfOk result (λ tree. AreClassesWithin tree.classes) }
+    ensures bounded { FitsRuns first_run tokens.now → IfOk result (λ tree. AllByRecursion IsBoundedClass tree.classes) }
 {
     let mut parser = Parser::new(alloc);
     let mut mode = Mode::File;

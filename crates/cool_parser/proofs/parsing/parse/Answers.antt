@@ -1,11 +1,14 @@
 use Rattle.std.proofs.Common.{◌≡◌, ◌≤◌, ◌+◌, length, drop, get_or, Some, None, IfSome, sym, subst, ◌∙◌, ap, arith}
 use Rattle.std.proofs.lemmas.List.{drop_all}
 use Rattle.cool_parser.specs.declared.mode.Mode.TheVariants as mode
-use Rattle.cool_parser.specs.Machine.{State, moved, step, outcome, start, Unexpected}
+use Rattle.cool_parser.specs.Machine.{State, moved, step, outcome, parsed, start, Whole, Unexpected}
 use Rattle.cool_parser.specs.Waiting.{Good}
 use Rattle.cool_parser.proofs.GoodNodes.{good_step, good_start}
 use Rattle.cool_parser.proofs.RoomForNodes.{weight, IsLight, step_light}
-use Rattle.cool_parser.proofs.ParsingAFile.{any_place, more, unfinished}
+use Rattle.cool_parser.proofs.BoundedFeatures.{classes_bounded}
+use Rattle.cool_parser.proofs.FilesWithinLimits.{classes_within}
+use Rattle.cool_parser.proofs.ParsingAFile.{any_place, more, unfinished, finished}
+use Rattle.cool_parser.proofs.PlacesOfFaults.{fault_place, empty_whole, empty_no_fault}
 use Rattle.cool_parser.proofs.parsing.parse.Goals as goal
 
 pub loop-i-init : goal.loop-i-init
@@ -50,11 +53,33 @@ loop-i-preserved c =
     }
 
 pub returns-in_default : goal.returns-in_default
-returns-in_default c = record {
-  file = tt;
-  whole = tt;
-  fault =
-      sym (c.loop-i.invariant.same c.args.end)
-      ∙ ap (λ xs. outcome c.args.end (Some (record { context = c.loop-i.parser; mode = c.loop-i.mode })) xs c.args.end) (drop_all c.loop-i.i c.args.tokens.now c.loop-i-test.false)
-      ∙ unfinished c.loop-i.parser c.loop-i.mode c.args.end c.in_default.not-File;
-}
+returns-in_default c =
+    let fault : parsed c.args.tokens.now c.args.end ≡ Unexpected c.args.end =
+    sym (c.loop-i.invariant.same c.args.end)
+    ∙ ap (λ xs. outcome c.args.end (Some (record { context = c.loop-i.parser; mode = c.loop-i.mode })) xs c.args.end) (drop_all c.loop-i.i c.args.tokens.now c.loop-i-test.false)
+    ∙ unfinished c.loop-i.parser c.loop-i.mode c.args.end c.in_default.not-File in
+    record {
+      file = tt;
+      whole = tt;
+      fault = fault;
+      place = fault_place c.args.tokens.now c.args.end c.args.end fault;
+      empty = λ e. empty_no_fault c.args.tokens.now c.args.end c.args.end fault e;
+      limits = λ l. tt;
+      bounded = λ l. tt;
+    }
+
+pub returns-in-None-clause-place : goal.returns-in-None-clause-place
+returns-in-None-clause-place c = fault_place c.args.tokens.now c.args.end c.index-tokens-i.result.at (returns-in-None-clause-fault c)
+
+-- the classes that are handed out, as those of the whole file
+whole : (c : goal.After-drop-parser-inside-in-File-1) → parsed c.args.tokens.now c.args.end ≡ Whole c.parser.inside.classes
+whole c = finished c.args.tokens.now c.loop-i.i c.loop-i.parser c.loop-i.mode c.args.end c.parser.inside.classes c.loop-i-test.false c.in-File.is (ap (λ x. x.classes) c.parser.view_is) (c.loop-i.invariant.same c.args.end)
+
+pub returns-in-File-clause-empty : goal.returns-in-File-clause-empty
+returns-in-File-clause-empty c = empty_whole c.args.tokens.now c.args.end c.parser.inside.classes (whole c)
+
+pub returns-in-File-clause-limits : goal.returns-in-File-clause-limits
+returns-in-File-clause-limits c = classes_within c.args.tokens.now c.args.end c.parser.inside.classes (whole c)
+
+pub returns-in-File-clause-bounded : goal.returns-in-File-clause-bounded
+returns-in-File-clause-bounded c = classes_bounded c.args.tokens.now c.args.end c.parser.inside.classes (whole c)

@@ -1,0 +1,71 @@
+-- How large a feature is: its formals, and the nodes and the branches of its expression, together. A bounded class has no feature
+-- larger than a run of tokens may be long.
+use Rattle.std.specs.Prelude.{◌≡◌, ℕ, ◌+◌, ◌≤◌, [], ◌∷◌, length, codes, Option, Some, None, refl}
+use Rattle.std.specs.List.{AllByRecursion}
+use Rattle.cool_syntax.specs.declared.TheConstants.{MOST_TOKENS}
+use Rattle.cool_syntax.specs.declared.place.Place.{Place}
+use Rattle.cool_syntax.specs.declared.type_ref.TypeRef.{TypeRef}
+use Rattle.cool_syntax.specs.declared.file_tree.ClassDef.{ClassDef}
+use Rattle.cool_syntax.specs.declared.file_tree.Feature.{Feature}
+use Rattle.cool_syntax.specs.declared.file_tree.Feature.TheVariants.{Method, Attribute}
+use Rattle.cool_syntax.specs.Tree.{Tree, Trees, MaybeTree, Cases, Last, More, Without, With, NoCase, CaseOf, tree_size}
+use Rattle.cool_syntax.specs.Tree as trees
+
+-- how many branches the cases of a tree have
+abbrev mutual
+  pub branches_in : Tree → ℕ
+  branches_in (trees.Assign at name t) = branches_in t
+  branches_in (trees.Dispatch at t name ts) = branches_in t + branches_in_all ts
+  branches_in (trees.StaticDispatch at t class name ts) = branches_in t + branches_in_all ts
+  branches_in (trees.If at t y n) = branches_in t + branches_in y + branches_in n
+  branches_in (trees.While at t b) = branches_in t + branches_in b
+  branches_in (trees.Block at ts) = branches_in_all ts
+  branches_in (trees.Let at name declared o t) = branches_in_maybe o + branches_in t
+  branches_in (trees.Case at t cs) = branches_in t + branches_of cs
+  branches_in (trees.New at class) = 0
+  branches_in (trees.IsVoid at t) = branches_in t
+  branches_in (trees.Arith at op a b) = branches_in a + branches_in b
+  branches_in (trees.Neg at t) = branches_in t
+  branches_in (trees.Compare at op a b) = branches_in a + branches_in b
+  branches_in (trees.Not at t) = branches_in t
+  branches_in (trees.Id at name) = 0
+  branches_in (trees.Int at value) = 0
+  branches_in (trees.Str at bytes) = 0
+  branches_in (trees.Bool at value) = 0
+
+  pub branches_in_all : Trees → ℕ
+  branches_in_all Last = 0
+  branches_in_all (More t ts) = branches_in t + branches_in_all ts
+
+  pub branches_in_maybe : MaybeTree → ℕ
+  branches_in_maybe Without = 0
+  branches_in_maybe (With t) = branches_in t
+
+  pub branches_of : Cases → ℕ
+  branches_of NoCase = 0
+  branches_of (CaseOf at name declared t cs) = 1 + branches_in t + branches_of cs
+
+abbrev pub value_size : Option Tree → ℕ
+value_size None = 0
+value_size (Some t) = tree_size t + branches_in t
+
+abbrev pub feature_size : Feature → ℕ
+feature_size (Method m) = length m.formals + tree_size m.body + branches_in m.body
+feature_size (Attribute a) = value_size a.init
+
+abbrev pub IsBoundedFeature : Feature → Type 0
+IsBoundedFeature f = feature_size f ≤ MOST_TOKENS
+
+abbrev pub IsBoundedClass : ClassDef → Type 0
+IsBoundedClass c = AllByRecursion IsBoundedFeature c.features
+
+-- Worked examples: `case x of y : T => 1; z : T => 2; esac` has four nodes and two branches; as the body of `f(x : T) : T`, with one
+-- formal, it makes a feature of seven.
+abbrev choice : Place → TypeRef → Tree
+choice p c = trees.Case p (trees.Id p (codes "x")) (CaseOf p (codes "y") c (trees.Int p 1) (CaseOf p (codes "z") c (trees.Int p 2) NoCase))
+
+value_of_choice : (p : Place) (c : TypeRef) → value_size (Some (choice p c)) ≡ 6
+value_of_choice p c = refl
+
+method_of_choice : (p : Place) (c : TypeRef) → feature_size (Method (record { name = codes "f"; at = p; formals = record { name = codes "x"; at = p; declared = c } ∷ []; result = c; body = choice p c })) ≡ 7
+method_of_choice p c = refl
