@@ -7,7 +7,7 @@ use std::fmt::Write;
 use std::test::Fail;
 
 /// Good texts, and the kinds of their tokens.
-static GOOD: [(&str, &str); 42] = [
+static GOOD: [(&str, &str); 44] = [
     ("", ""),
     ("class A { };", "Class type:A LBrace RBrace Semi"),
     (
@@ -85,6 +85,14 @@ static GOOD: [(&str, &str); 42] = [
     (
         "}} esac { case ; }",
         "RBrace RBrace Esac LBrace Case Semi RBrace",
+    ),
+    (
+        "class List inherits IO {\n  head : Int;\n  tail : List;\n  init(h : Int, t : List) : SELF_TYPE { { head <- h; tail <- t; self; } };\n  sum() : Int { if isvoid tail then head else head + tail.sum() fi };\n  show() : SELF_TYPE {\n    {\n      out_int(head);\n      out_string(\"\\n\");\n      if isvoid tail then self else { tail.show(); self; } fi;\n    }\n  };\n};\n",
+        "Class type:List Inherits type:IO LBrace object:head Colon type:Int Semi object:tail Colon type:List Semi object:init LParen object:h Colon type:Int Comma object:t Colon type:List RParen Colon type:SELF_TYPE LBrace LBrace object:head Arrow object:h Semi object:tail Arrow object:t Semi object:self Semi RBrace RBrace Semi object:sum LParen RParen Colon type:Int LBrace If IsVoid object:tail Then object:head Else object:head Plus object:tail Dot object:sum LParen RParen Fi RBrace Semi object:show LParen RParen Colon type:SELF_TYPE LBrace LBrace object:out_int LParen object:head RParen Semi object:out_string LParen str:\n RParen Semi If IsVoid object:tail Then object:self Else LBrace object:tail Dot object:show LParen RParen Semi object:self Semi RBrace Fi Semi RBrace RBrace Semi RBrace Semi",
+    ),
+    (
+        "class Main inherits IO {\n  main() : Object {\n    let l : List, n : Int <- in_int() in\n      {\n        while 0 < n loop { l <- (new List).init(n, l).copy(); n <- in_int(); } pool;\n        if isvoid l then out_string(\"empty\\n\")\n        else l.show().out_int(l.sum()).out_string(\"\\n\") fi;\n      }\n  };\n};\n",
+        "Class type:Main Inherits type:IO LBrace object:main LParen RParen Colon type:Object LBrace Let object:l Colon type:List Comma object:n Colon type:Int Arrow object:in_int LParen RParen In LBrace While int:0 Less object:n Loop LBrace object:l Arrow LParen New type:List RParen Dot object:init LParen object:n Comma object:l RParen Dot object:copy LParen RParen Semi object:n Arrow object:in_int LParen RParen Semi RBrace Pool Semi If IsVoid object:l Then object:out_string LParen str:empty\n RParen Else object:l Dot object:show LParen RParen Dot object:out_int LParen object:l Dot object:sum LParen RParen RParen Dot object:out_string LParen str:\n RParen Fi Semi RBrace RBrace Semi RBrace Semi",
     ),
 ];
 

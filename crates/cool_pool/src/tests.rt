@@ -1,7 +1,7 @@
-ghost use Rattle.std.specs.Prelude.{◌≡◌, true, [], ◌∷◌, IfOk};
+ghost use Rattle.std.specs.Prelude.{◌≡◌, [], ◌∷◌, IfOk};
 
 use super::*;
-use cool_syntax::{Expr, Node, NodeId, Place};
+use cool_syntax::{Expr, Node, NodeId, Place, copy_expr, same_expr};
 use std::alloc::{AllocError, Global};
 use std::test::Fail;
 
@@ -15,66 +15,73 @@ fn place(byte: u32) -> Place
     }
 }
 
-fn truth() -> Node
-    ensures { result ≡ Node.Bool (record { file = 0; line = 1; byte = 4 }) true }
+fn one() -> Node
+    ensures { result ≡ Node.Int (record { file = 0; line = 1; byte = 1 }) 1 }
 {
-    Node::Bool {
-        at: place(4),
-        value: true,
+    Node::Int {
+        at: place(1),
+        value: 1,
     }
 }
 
-fn denial() -> Node
-    ensures { result ≡ Node.Not (record { file = 0; line = 1; byte = 0 }) (record { 0 = 0 }) }
+fn negation() -> Node
+    ensures { result ≡ Node.Neg (record { file = 0; line = 1; byte = 0 }) (record { 0 = 0 }) }
 {
-    Node::Not {
+    Node::Neg {
         at: place(0),
         value: NodeId(0),
     }
 }
 
-// not true, in a pool
-fn denied(alloc: Global) -> Result<Pool, AllocError>
-    ensures { IfOk result (λ pool. pool.nodes ≡ Node.Bool (record { file = 0; line = 1; byte = 4 }) true ∷ Node.Not (record { file = 0; line = 1; byte = 0 }) (record { 0 = 0 }) ∷ []) }
+// ~1, in a pool, and the numbers of its nodes
+fn negated(alloc: Global) -> Result<(Pool, NodeId, NodeId), AllocError>
+    ensures { IfOk result (λ made. made.0.nodes ≡ Node.Int (record { file = 0; line = 1; byte = 1 }) 1 ∷ Node.Neg (record { file = 0; line = 1; byte = 0 }) (record { 0 = 0 }) ∷ []) }
 {
     let mut pool = Pool::new(alloc);
     pool.reserve(2)?;
-    let _truth = pool.place(truth()).unwrap();
-    let _denial = pool.place(denial()).unwrap();
-    Ok(pool)
+    let first = pool.place(one()).unwrap();
+    let second = pool.place(negation()).unwrap();
+    Ok((pool, first, second))
+}
+
+#[test]
+fn numbers_its_nodes(rt: HostRuntime) -> Result<(), Fail> {
+    let (_pool, first, second) = negated(rt.alloc())?;
+    assert_eq!(rt; first, NodeId(0));
+    assert_eq!(rt; second, NodeId(1));
+    Ok(())
 }
 
 #[test]
 fn closes_into_a_body(rt: HostRuntime) -> Result<(), Fail> {
-    let mut pool = denied(rt.alloc())?;
+    let (mut pool, _, _) = negated(rt.alloc())?;
     let body = pool.close();
-    assert_eq!(rt; body.len(), 2);
     assert_eq!(rt; pool.len(), 0);
+    assert_eq!(rt; body.len(), 2);
+    assert_eq!(rt; body.root(), NodeId(1));
     Ok(())
 }
 
 #[test]
 fn gives_the_tree_at_a_number(rt: HostRuntime) -> Result<(), Fail> {
-    let pool = denied(rt.alloc())?;
-    assert!(rt;
-        matches!(
-            pool.node(NodeId(1)),
-            Node::Not {
-                value: NodeId(0),
-                ..
-            }
-        )
-    );
-    let e = pool.tree(rt.alloc(), NodeId(1))?;
-    assert!(rt; matches!(e, Expr::Not { .. }));
+    let (pool, _, _) = negated(rt.alloc())?;
+    let tree = pool.tree(rt.alloc(), NodeId(1))?;
+    match &tree {
+        Expr::Neg { value, .. } => assert!(rt; matches!(value.expr(), Expr::Int { value: 1, .. })),
+        _ => panic!(rt; "no negation"),
+    }
+    let copy = copy_expr(rt.alloc(), &tree)?;
+    assert!(rt; same_expr(&copy, &tree));
     Ok(())
 }
 
 #[test]
 fn a_column_is_filled_again(rt: HostRuntime) -> Result<(), Fail> {
-    let mut column = Column::new(rt.alloc(), 1)?;
+    let mut column = Column::new(rt.alloc(), 2)?;
     column.push(7);
+    column.push(9);
     assert_eq!(rt; *column.get(NodeId(0)), 7);
+    assert_eq!(rt; *column.get(NodeId(1)), 9);
     column.clear();
     column.push(8);
     assert_eq!(rt; *column.get(NodeId(0)), 8);

@@ -9,7 +9,7 @@ use std::process::Abort;
 use std::test::Fail;
 
 /// Expressions, and their trees.
-static TREES: [(&str, &str); 100] = [
+static TREES: [(&str, &str); 104] = [
     ("1", "1"),
     ("a", "a"),
     ("true", "true"),
@@ -133,6 +133,22 @@ static TREES: [(&str, &str); 100] = [
     (
         "case a + 1 of x : T => x <- 1 ; y : U => let z : V in z ; esac . f ( )",
         "(. (case (+ a 1) (x T (<- x 1)) (y U (let z V z))) f)",
+    ),
+    (
+        "{ head <- h ; tail <- t ; self ; }",
+        "(block (<- head h) (<- tail t) self)",
+    ),
+    (
+        "if isvoid tail then head else head + tail . sum ( ) fi",
+        "(if (isvoid tail) head (+ head (. tail sum)))",
+    ),
+    (
+        "{ out_int ( head ) ; out_string ( \"newline\" ) ; if isvoid tail then self else { tail . show ( ) ; self ; } fi ; }",
+        "(block (. self out_int head) (. self out_string \"newline\") (if (isvoid tail) self (block (. tail show) self)))",
+    ),
+    (
+        "let l : List , n : Int <- in_int ( ) in { while 0 < n loop { l <- ( new List ) . init ( n , l ) . copy ( ) ; n <- in_int ( ) ; } pool ; if isvoid l then out_string ( \"empty\" ) else l . show ( ) . out_int ( l . sum ( ) ) . out_string ( \"newline\" ) fi ; }",
+        "(let l List (let n Int (. self in_int) (block (while (< 0 n) (block (<- l (. (. (new List) init n l) copy)) (<- n (. self in_int)))) (if (isvoid l) (. self out_string \"empty\") (. (. (. l show) out_int (. l sum)) out_string \"newline\")))))",
     ),
 ];
 
