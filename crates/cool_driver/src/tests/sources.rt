@@ -13,11 +13,7 @@ enum Fault {
     Syntax(u32),
 }
 
-fn first_fault(
-    rt: &impl Abort,
-    alloc: Global,
-    bytes: &[u8],
-) -> Result<Option<Fault>, AllocError> {
+fn first_fault(rt: &impl Abort, alloc: Global, bytes: &[u8]) -> Result<Option<Fault>, AllocError> {
     assert!(rt; bytes.len() <= 1_048_576);
     let lexed = match lex(alloc, 0, bytes) {
         Ok(lexed) => lexed,
@@ -74,7 +70,11 @@ static FILES: [(&str, Option<Fault>); 12] = [
 #[test]
 fn first_faults_of_files(rt: HostRuntime) -> Result<(), Fail> {
     for (text, want) in &FILES {
-        assert_eq!(rt; first_fault(&rt, rt.alloc(), text.as_bytes())?, *want, "at {text:?}");
+        assert_eq!(rt;
+            first_fault(&rt, rt.alloc(), text.as_bytes())?,
+            *want,
+            "at {text:?}"
+        );
     }
     Ok(())
 }
