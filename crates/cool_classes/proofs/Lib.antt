@@ -1,0 +1,9 @@
+pub mod AttributesOfChains
+pub mod BasicTable
+pub mod Climbs
+pub mod GroundedByDepths
+pub mod Methods
+pub mod NamesInOrder
+pub mod Seen
+pub mod SettlingDepths
+pub mod Signatures

@@ -1,0 +1,11 @@
+-- Each class has come to one above it, and both are below all that both of the first are.
+use Rattle.std.proofs.Common.{◌+◌}
+use Rattle.cool_classes.specs.Entries.{classes, depth_at}
+use Rattle.cool_classes.proofs.Climbs.{Meeting}
+use Rattle.cool_classes.proofs.climbing.join.Given as goal
+
+abbrev pub invariant-loop-right : goal.invariant-loop-right
+invariant-loop-right l = Meeting (classes l.entries) l.fn.a l.fn.b l.left l.right
+
+abbrev pub decreases-loop-right : goal.decreases-loop-right
+decreases-loop-right l = depth_at l.entries l.left + depth_at l.entries l.right

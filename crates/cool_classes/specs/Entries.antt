@@ -1,0 +1,37 @@
+-- How the entries of a table are seen: as classes, with the number of classes above each.
+use Rattle.std.specs.Prelude.{◌≡◌, ℕ, List, [], ◌∷◌, map, get_or, Some, None, codes, refl}
+use Rattle.cool_classes.specs.declared.class_id.ClassId.{ClassId}
+use Rattle.cool_classes.specs.declared.entry.Entry.{Entry}
+use Rattle.cool_classes.specs.Chains.{Class, class_number}
+use Rattle.cool_classes.specs.Tables.{IsTable, IsGrounded, basic_classes}
+
+abbrev pub class_of : Entry → Class
+class_of e = record { name = e.name; parent = e.parent; features = e.features }
+
+abbrev pub classes : List Entry → List Class
+classes es = map class_of es
+
+abbrev pub no_entry : Entry
+no_entry = record { name = []; parent = None; depth = 0; features = [] }
+
+abbrev pub depth_at : List Entry → ClassId → ℕ
+depth_at es c = (get_or es c.0 no_entry).depth
+
+-- the entries are those of a whole table, and their depths are right
+pub record AreWhole (es : List Entry) : Type 0 where
+  pub table : IsTable (classes es)
+  pub grounded : IsGrounded (classes es) (depth_at es)
+
+-- the entries of the basic classes
+abbrev pub basic_entries : List Entry
+basic_entries =
+    record { name = codes "Object"; parent = None; depth = 0; features = [] }
+    ∷ record { name = codes "IO"; parent = Some (class_number 0); depth = 1; features = [] }
+    ∷ record { name = codes "Int"; parent = Some (class_number 0); depth = 1; features = [] }
+    ∷ record { name = codes "Bool"; parent = Some (class_number 0); depth = 1; features = [] }
+    ∷ record { name = codes "String"; parent = Some (class_number 0); depth = 1; features = [] }
+    ∷ []
+
+-- Worked example: they are seen as the basic classes.
+basic_entries_seen : classes basic_entries ≡ basic_classes
+basic_entries_seen = refl

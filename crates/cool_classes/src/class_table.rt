@@ -1,0 +1,160 @@
+//! The classes of a program, by number.
+
+ghost use Rattle.std.specs.Prelude.{◌≡◌, ◌+◌, ◌<◌, ◌↔◌, IsTrue, IfSome, IfNone, IfOk, Some, List, [], length, get_or};
+ghost use Rattle.cool_classes.specs.declared.class_id.ClassId as number;
+ghost use Rattle.cool_classes.specs.Chains.{IsChain, Below, IsJoin, name_of, parent_of, features_of};
+ghost use Rattle.cool_classes.specs.Features.{implementation, attributes_of, HasMethod, Denotes, formals_of, result_of};
+ghost use Rattle.cool_classes.specs.Tables.{IsTable, IsNamed};
+ghost use Rattle.cool_classes.specs.Entries.{classes, AreWhole};
+
+use crate::class_id::{ClassId, Ty};
+use crate::entry::Entry;
+use crate::method::{AttributeRef, MethodRef};
+use crate::{attributes, climbing, lookup, signature};
+use cool_syntax::{Feature, Name};
+use std::alloc::{AllocError, Global};
+use std::marker::Model;
+
+/// The classes of a program with the five basic ones. A contract sees them as a list, in the order of their numbers, which
+/// is that of a whole table (`IsTable` of `specs/Tables.antt`).
+#[derive(Drop)]
+pub struct ClassTable {
+    entries: Vec<Entry>,
+}
+
+impl Model for ClassTable {
+    ghost use Rattle.std.specs.Prelude.{List};
+    ghost use Rattle.std.specs.Coded.{codes};
+    ghost use Rattle.cool_syntax.specs.TreeCode.{tree_code};
+    ghost use Rattle.cool_classes.specs.Chains.{Class};
+
+    ghost Value = { List Class };
+
+    ghost coded = { Prim.hlevel (codes, tree_code) };
+
+    ghost use Rattle.cool_classes.specs.Entries.{classes, AreWhole};
+
+    ghost view = { λ s. classes s.entries.items };
+
+    ghost invariant = { λ s. AreWhole s.entries.items };
+}
+
+impl ClassTable {
+    /// A table of these entries.
+    pub(crate) fn from_entries(entries: Vec<Entry>) -> ClassTable
+        requires whole { AreWhole entries.items }
+        ensures { result ≡ classes entries.items }
+    {
+        ClassTable { entries }
+    }
+
+    /// How many classes there are.
+    pub fn count(&self) -> u32
+        ensures count { result ≡ length self.now }
+        ensures table { IsTable self.now }
+    {
+        self.entries.len() as u32
+    }
+
+    /// The name of a class.
+    pub fn name(&self, c: ClassId) -> &Name
+        requires within { c.0 < length self.now }
+        ensures { result.now ≡ name_of self.now c }
+    {
+        &self.entries[c.0 as usize].name
+    }
+
+    /// How many classes stand above a class: 0 for Object.
+    pub fn depth(&self, c: ClassId) -> u32
+        requires within { c.0 < length self.now }
+        ensures { (ds : List number.ClassId) → IsChain self.now (Some c) ds → length ds ≡ result + 1 }
+    {
+        climbing::depth(self.entries.as_slice(), c)
+    }
+
+    /// The features of a class, in textual order. A basic class has none.
+    pub fn features(&self, c: ClassId) -> &[Feature]
+        requires within { c.0 < length self.now }
+        ensures { result.now ≡ features_of self.now c }
+    {
+        self.entries[c.0 as usize].features.as_slice()
+    }
+
+    /// The class of a name, if there is one.
+    pub fn id(&self, name: &Name) -> Option<ClassId>
+        ensures { IsNamed self.now name.now result }
+    {
+        lookup::class_named(self.entries.as_slice(), name.as_slice())
+    }
+
+    /// The parent of a class: none for Object alone.
+    pub fn parent(&self, c: ClassId) -> Option<ClassId>
+        requires within { c.0 < length self.now }
+        ensures parent { result ≡ parent_of self.now c }
+        ensures above { IfSome result (λ q. q.0 < length self.now) }
+        ensures top { IfNone result (c.0 ≡ 0) }
+    {
+        climbing::parent(self.entries.as_slice(), c)
+    }
+
+    /// Whether the first class is the second or has it above it.
+    pub fn is_below(&self, a: ClassId, b: ClassId) -> bool
+        requires within { a.0 < length self.now }
+        ensures { IsTrue result ↔ Below self.now a b }
+    {
+        climbing::is_below(self.entries.as_slice(), a, b)
+    }
+
+    /// The least class that both are below.
+    pub fn join(&self, a: ClassId, b: ClassId) -> ClassId
+        requires a_within { a.0 < length self.now }
+        requires b_within { b.0 < length self.now }
+        ensures within { result.0 < length self.now }
+        ensures join { IsJoin self.now a b result }
+    {
+        climbing::join(self.entries.as_slice(), a, b)
+    }
+
+    /// The method of a name that a class has, the nearest on its chain; none where the chain has none.
+    pub fn find_method(&self, c: ClassId, name: &Name) -> Option<MethodRef>
+        requires within { c.0 < length self.now }
+        ensures nearest { (ds : List number.ClassId) → IsChain self.now (Some c) ds → result ≡ implementation self.now ds name.now }
+        ensures has { IfSome result (λ m. HasMethod self.now m) }
+    {
+        lookup::find_method(self.entries.as_slice(), c, name.as_slice())
+    }
+
+    /// The attributes of a class with those that it inherits: from the greatest ancestor down, in textual order. `Err`
+    /// comes only for want of memory.
+    pub fn attributes(&self, alloc: Global, c: ClassId) -> Result<Vec<AttributeRef>, AllocError>
+        requires within { c.0 < length self.now }
+        ensures { IfOk result (λ all. (ds : List number.ClassId) → IsChain self.now (Some c) ds → all.items ≡ attributes_of self.now ds) }
+    {
+        attributes::attributes(alloc, self.entries.as_slice(), c)
+    }
+
+    /// How many formals a method has.
+    pub fn formal_count(&self, method: MethodRef) -> u32
+        requires has { HasMethod self.now method }
+        ensures { result ≡ length (formals_of self.now method) }
+    {
+        signature::formal_count(self.entries.as_slice(), method)
+    }
+
+    /// The type of a formal of a method, counted from 0.
+    pub fn formal(&self, method: MethodRef, i: u32) -> Ty
+        requires has { HasMethod self.now method }
+        requires within { i < length (formals_of self.now method) }
+        ensures { Denotes self.now (get_or (formals_of self.now method) i []) result }
+    {
+        signature::formal(self.entries.as_slice(), method, i)
+    }
+
+    /// The type of the result of a method.
+    pub fn result(&self, method: MethodRef) -> Ty
+        requires has { HasMethod self.now method }
+        ensures { Denotes self.now (result_of self.now method) result }
+    {
+        signature::result(self.entries.as_slice(), method)
+    }
+}

@@ -1,0 +1,13 @@
+//! One class of a table.
+
+use crate::class_id::ClassId;
+use cool_syntax::{Feature, Listed, Name};
+
+/// A class, and how many classes its chain has above it.
+#[derive(Drop)]
+pub(crate) struct Entry {
+    pub(crate) name: Name,
+    pub(crate) parent: Option<ClassId>,
+    pub(crate) depth: u32,
+    pub(crate) features: Listed<Feature>,
+}

@@ -1,0 +1,44 @@
+//! Methods and attributes, named by where they stand.
+
+use crate::class_id::ClassId;
+
+/// A method of a basic class (the Cool manual, section 8).
+#[derive(Clone, Copy, Debug, PartialEq, Eq)]
+pub enum BasicMethod {
+    /// `Object.abort() : Object`
+    Abort,
+    /// `Object.type_name() : String`
+    TypeName,
+    /// `Object.copy() : SELF_TYPE`
+    Copy,
+    /// `IO.out_string(x : String) : SELF_TYPE`
+    OutString,
+    /// `IO.out_int(x : Int) : SELF_TYPE`
+    OutInt,
+    /// `IO.in_string() : String`
+    InString,
+    /// `IO.in_int() : Int`
+    InInt,
+    /// `String.length() : Int`
+    Length,
+    /// `String.concat(s : String) : String`
+    Concat,
+    /// `String.substr(i : Int, l : Int) : String`
+    Substr,
+}
+
+/// A method: one of a basic class, or the one at an index among the features of its owner.
+#[derive(Clone, Copy, Debug, PartialEq, Eq)]
+pub enum MethodRef {
+    /// A method of a basic class.
+    Basic(BasicMethod),
+    /// The method that stands at this position among the features of its class.
+    User { owner: ClassId, index: u32 },
+}
+
+/// The attribute at an index among the features of its owner.
+#[derive(Clone, Copy, Debug, PartialEq, Eq)]
+pub struct AttributeRef {
+    pub owner: ClassId,
+    pub index: u32,
+}

@@ -1,0 +1,80 @@
+//! What methods declare: the types of their formals and their results.
+
+ghost use Rattle.std.specs.Prelude.{◌≡◌, ◌<◌, [], length, get_or};
+ghost use Rattle.cool_classes.specs.Features.{HasMethod, Denotes, formals_of, result_of};
+ghost use Rattle.cool_classes.specs.Tables.{IsTypeName};
+ghost use Rattle.cool_classes.specs.Entries.{classes, AreWhole};
+
+use crate::basic::{basic_formal, basic_formal_count, basic_result};
+use crate::class_id::Ty;
+use crate::entry::Entry;
+use crate::lookup::class_named;
+use crate::method::MethodRef;
+use cool_syntax::Feature;
+
+/// The type of this name.
+pub(crate) fn type_named(entries: &[Entry], name: &[u8]) -> Ty
+    requires whole { AreWhole entries.now }
+    requires known { IsTypeName (classes entries.now) name.now }
+    ensures { Denotes (classes entries.now) name.now result }
+{
+    if name == b"SELF_TYPE".as_slice() {
+        return Ty::SelfType;
+    }
+    class_named(entries, name).map_or(Ty::SelfType, Ty::Class)
+}
+
+/// How many formals a method has.
+pub(crate) fn formal_count(entries: &[Entry], method: MethodRef) -> u32
+    requires whole { AreWhole entries.now }
+    requires has { HasMethod (classes entries.now) method }
+    ensures { result ≡ length (formals_of (classes entries.now) method) }
+{
+    match method {
+        MethodRef::Basic(basic) => basic_formal_count(basic),
+        MethodRef::User { owner, index } => {
+            match &entries[owner.0 as usize].features.as_slice()[index as usize] {
+                Feature::Method(found) => found.formals.as_slice().len() as u32,
+                Feature::Attribute(_) => 0,
+            }
+        }
+    }
+}
+
+/// The type of a formal of a method.
+pub(crate) fn formal(entries: &[Entry], method: MethodRef, i: u32) -> Ty
+    requires whole { AreWhole entries.now }
+    requires has { HasMethod (classes entries.now) method }
+    requires within { i < length (formals_of (classes entries.now) method) }
+    ensures { Denotes (classes entries.now) (get_or (formals_of (classes entries.now) method) i []) result }
+{
+    match method {
+        MethodRef::Basic(basic) => Ty::Class(basic_formal(basic)),
+        MethodRef::User { owner, index } => {
+            match &entries[owner.0 as usize].features.as_slice()[index as usize] {
+                Feature::Method(found) => {
+                    let declared = &found.formals.as_slice()[i as usize].declared;
+                    type_named(entries, declared.name.as_slice())
+                }
+                Feature::Attribute(_) => Ty::SelfType,
+            }
+        }
+    }
+}
+
+/// The type of the result of a method.
+pub(crate) fn result(entries: &[Entry], method: MethodRef) -> Ty
+    requires whole { AreWhole entries.now }
+    requires has { HasMethod (classes entries.now) method }
+    ensures { Denotes (classes entries.now) (result_of (classes entries.now) method) result }
+{
+    match method {
+        MethodRef::Basic(basic) => basic_result(basic),
+        MethodRef::User { owner, index } => {
+            match &entries[owner.0 as usize].features.as_slice()[index as usize] {
+                Feature::Method(found) => type_named(entries, found.result.name.as_slice()),
+                Feature::Attribute(_) => Ty::SelfType,
+            }
+        }
+    }
+}
