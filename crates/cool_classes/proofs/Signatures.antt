@@ -4,16 +4,15 @@ use Rattle.std.specs.List.{AllByRecursion}
 use Rattle.std.proofs.lemmas.Option.{slice_get-get_or}
 use Rattle.std.proofs.lemmas.List.{get_or-map, length-map}
 use Rattle.cool_syntax.specs.declared.file_tree.Feature.{Feature}
-use Rattle.cool_syntax.specs.declared.file_tree.Feature.TheVariants.{Method, Attribute}
+use Rattle.cool_syntax.specs.declared.file_tree.Feature.TheVariants.{Method}
 use Rattle.cool_syntax.specs.declared.file_tree.MethodDef.{MethodDef}
-use Rattle.cool_syntax.specs.declared.file_tree.AttributeDef.{AttributeDef}
 use Rattle.cool_syntax.specs.declared.file_tree.Formal.{Formal}
 use Rattle.cool_classes.specs.declared.class_id.ClassId.{ClassId}
 use Rattle.cool_classes.specs.declared.class_id.Ty.TheVariants.{Class as IsClass}
 use Rattle.cool_classes.specs.declared.method.MethodRef.{MethodRef}
 use Rattle.cool_classes.specs.declared.method.MethodRef.TheVariants.{User}
 use Rattle.cool_classes.specs.Chains.{Class, features_of}
-use Rattle.cool_classes.specs.Features.{formals_in, result_in, formals_of, result_of, IsMethod, HasMethod}
+use Rattle.cool_classes.specs.Features.{formals_in, result_in, formals_of, result_of, IsMethod}
 use Rattle.cool_classes.specs.Tables.{IsTable, IsTyped, IsClassName, IsTypeName}
 
 all_at : {X : Type 0} (P : X → Type 0) (xs : List X) (k : ℕ) (d : X) → AllByRecursion P xs → k < length xs → P (get_or xs k d)
@@ -74,9 +73,3 @@ formal_within p r c k m fs i user there same within =
 pub result_named : (p : List Class) (r : MethodRef) (c : ClassId) (k : ℕ) (m : MethodDef) (name : List ℕ) → r ≡ User c k → slice_get (features_of p c) k ≡ Some (Method m)
     → name ≡ m.result.name → name ≡ result_of p r
 result_named p r c k m name user there named = named ∙ sym (ap result_in there) ∙ sym (ap (result_of p) user)
-
--- an attribute is no method
-pub no_method : {X : Type 0} (p : List Class) (r : MethodRef) (c : ClassId) (k : ℕ) (a : AttributeDef) → r ≡ User c k → HasMethod p r → slice_get (features_of p c) k ≡ Some (Attribute a) → X
-no_method p r c k a user has there =
-    let h : HasMethod p (User c k) = subst (HasMethod p) user has in
-    absurd (subst IsMethod there h.1)

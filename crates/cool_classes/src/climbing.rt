@@ -33,7 +33,10 @@ fn parent_of_lower(entries: &[Entry], c: ClassId) -> ClassId
     requires lower { 0 < depth_at entries.now c }
     ensures { parent_of (classes entries.now) c ≡ Some result }
 {
-    parent(entries, c).unwrap_or(c)
+    match parent(entries, c) {
+        Some(above) => above,
+        None => unreachable!(),
+    }
 }
 
 /// Whether a class is another one or has it above it.

@@ -3,7 +3,7 @@
 use cool_syntax::{Listed, Place};
 use std::alloc::AllocError;
 
-/// A kind of fault. The faults of the classes are C1 to C7, those of their features F1 to F9. A file of faults has those of
+/// A kind of fault. The faults of the classes are C1 to C7, those of their features F1 to F9. A list of faults has those of
 /// the classes alone, or where there are none those of the features.
 #[derive(Clone, Copy, Debug, PartialEq, Eq, PartialOrd, Ord)]
 pub enum ClassKind {
@@ -58,7 +58,12 @@ pub enum TableError {
 }
 
 impl From<AllocError> for TableError {
-    fn from(_: AllocError) -> Self {
+    ghost use Rattle.std.specs.Prelude.{◌≡◌};
+    ghost use Rattle.cool_classes.specs.declared.fault.TableError.TheVariants as error;
+
+    ghost from_gives = { λ _ e. e ≡ error.Memory };
+
+    fn from(_error: AllocError) -> TableError {
         TableError::Memory
     }
 }

@@ -21,7 +21,10 @@ pub(crate) fn type_named(entries: &[Entry], name: &[u8]) -> Ty
     if name == b"SELF_TYPE".as_slice() {
         return Ty::SelfType;
     }
-    class_named(entries, name).map_or(Ty::SelfType, Ty::Class)
+    match class_named(entries, name) {
+        Some(class) => Ty::Class(class),
+        None => unreachable!(),
+    }
 }
 
 /// How many formals a method has.
@@ -35,7 +38,7 @@ pub(crate) fn formal_count(entries: &[Entry], method: MethodRef) -> u32
         MethodRef::User { owner, index } => {
             match &entries[owner.0 as usize].features.as_slice()[index as usize] {
                 Feature::Method(found) => found.formals.as_slice().len() as u32,
-                Feature::Attribute(_) => 0,
+                Feature::Attribute(_) => unreachable!(),
             }
         }
     }
@@ -56,7 +59,7 @@ pub(crate) fn formal(entries: &[Entry], method: MethodRef, i: u32) -> Ty
                     let declared = &found.formals.as_slice()[i as usize].declared;
                     type_named(entries, declared.name.as_slice())
                 }
-                Feature::Attribute(_) => Ty::SelfType,
+                Feature::Attribute(_) => unreachable!(),
             }
         }
     }
@@ -73,7 +76,7 @@ pub(crate) fn result(entries: &[Entry], method: MethodRef) -> Ty
         MethodRef::User { owner, index } => {
             match &entries[owner.0 as usize].features.as_slice()[index as usize] {
                 Feature::Method(found) => type_named(entries, found.result.name.as_slice()),
-                Feature::Attribute(_) => Ty::SelfType,
+                Feature::Attribute(_) => unreachable!(),
             }
         }
     }

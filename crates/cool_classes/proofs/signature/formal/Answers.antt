@@ -1,12 +1,12 @@
 -- The type of a formal is the one that its name denotes.
 use Rattle.std.proofs.Common.{◌≡◌, List, ap, sym, ◌∙◌, subst, ℕ}
-use Rattle.cool_syntax.specs.declared.file_tree.Feature.TheVariants.{Method, Attribute}
+use Rattle.cool_syntax.specs.declared.file_tree.Feature.TheVariants.{Method}
 use Rattle.cool_classes.specs.declared.method.MethodRef.TheVariants.{User}
 use Rattle.cool_classes.specs.Chains.{Class, features_of}
 use Rattle.cool_classes.specs.Features.{Denotes, HasMethod}
 use Rattle.cool_classes.specs.Entries.{classes}
 use Rattle.cool_classes.proofs.Seen.{class_read, within_entries}
-use Rattle.cool_classes.proofs.Signatures.{method_within, feature_there, method_typed, formal_typed, formal_named, formal_within, no_method}
+use Rattle.cool_classes.proofs.Signatures.{method_within, feature_there, method_typed, formal_typed, formal_named, formal_within}
 use Rattle.cool_classes.proofs.signature.formal.Goals as goal
 
 pub type_named-requires-clause-known : goal.type_named-requires-clause-known
@@ -36,14 +36,3 @@ returns-in-Method c =
     (formal_named p c.args.method owner c.in-User.index c.in-Method.found c.as_slice-in-Method.result.now c.args.i c.index-as_slice-i.result c.as_slice-in-Method-2.result.now c.in-User.is there
     c.as_slice-in-Method.ensures i_within c.as_slice-in-Method-2.ensures)
     c.type_named.ensures
-
-pub returns-in-Attribute : goal.returns-in-Attribute
-returns-in-Attribute c =
-    let es = c.args.entries.now in
-    let p = classes es in
-    let owner = c.in-User.owner in
-    let has : HasMethod p (User owner c.in-User.index) = subst (HasMethod p) c.in-User.is c.requires.has in
-    let same : features_of p owner ≡ c.as_slice.result.now = ap (λ (x : Class). x.features) (class_read es owner c.index-entries-owner.result (within_entries es owner has.0)) ∙ sym c.as_slice.ensures in
-    let within = method_within (features_of p owner) c.as_slice.result.now c.in-User.index same has.1 in
-    no_method p c.args.method owner c.in-User.index c.in-Attribute.field-0 c.in-User.is c.requires.has
-    (feature_there (features_of p owner) c.as_slice.result.now c.in-User.index c.index-as_slice-index.result (Attribute c.in-Attribute.field-0) same within c.index-as_slice-index.is c.in-Attribute.is)
