@@ -1,9 +1,11 @@
 -- Each token of a text is its lexeme within the limits, and tokens stand in rising places.
 use Rattle.std.proofs.Common.{◌≡◌, ◌∙◌, ap, refl, subst, arith, ℕ, ◌+◌, ◌<◌, ◌≤◌, Bool, true, false, List, [], ◌∷◌, ◌++◌, length, take, drop, length-append}
 use Rattle.std.specs.Prelude.{Option, Some, None, ◌==◌, ◌&&◌, nat_lt, if◌then◌else◌}
-use Rattle.std.specs.List.{prefix_len, AllByRecursion}
+use Rattle.std.specs.List.{count_by, prefix_len, AllByRecursion}
+use Rattle.std.proofs.lemmas.List.{length-take}
+use Rattle.std.proofs.lemmas.List.Sums.{count_by-le-length}
 use Rattle.std.proofs.lemmas.Bool.Decides.{nat_tests}
-use Rattle.cool_syntax.specs.declared.TheConstants.{MOST_BYTES}
+use Rattle.cool_syntax.specs.declared.TheConstants.{MOST_BYTES, MOST_SOURCE_BYTES}
 use Rattle.cool_syntax.specs.declared.token.Token.{Token}
 use Rattle.cool_syntax.specs.declared.token.Key.{Key}
 use Rattle.cool_syntax.specs.declared.token.TokenKind.{TokenKind}
@@ -16,6 +18,7 @@ use Rattle.cool_lexer.specs.declared.front.Front.{Front}
 use Rattle.cool_lexer.specs.declared.front.Front.TheVariants as front
 use Rattle.cool_lexer.specs.declared.front.Scan.TheVariants as scan
 use Rattle.cool_lexer.specs.Fronts.{Begins, piece_front, held_behind, string_front, angle_front, equals_front, star_front, dash_front, block_front, open_front, integer_front, front_of}
+use Rattle.cool_lexer.specs.Readings.{is_newline}
 use Rattle.cool_lexer.proofs.Prefixes.{front_passes}
 use Rattle.cool_lexer.proofs.Items.{begins, one_form, item_size}
 
@@ -186,17 +189,23 @@ lexeme_keeps (b ∷ bs) k size item = same_keeps (front_of (class_of b) b bs) (b
 
 -- Whole texts
 
+-- no line of a text is past the limit by more than one
+line_within : (bytes : List ℕ) (at : ℕ) → length bytes ≤ MOST_SOURCE_BYTES → 1 + count_by is_newline (take at bytes) ≤ MOST_SOURCE_BYTES + 1
+line_within bytes at h = omega (arith, h, count_by-le-length is_newline (take at bytes), length-take at bytes)
+
 -- one more item keeps the limits
-limits_more : (file : ℕ) (bytes : List ℕ) (f : Form) (at size : ℕ) (rest : List ℕ) (ts : List Token) → IsItem rest f size → AreWithinLimits ts → AreWithinLimits (token_of f (place_at file bytes at) ++ ts)
-limits_more file bytes Space at size rest ts item h = h
-limits_more file bytes Comment at size rest ts item h = h
-limits_more file bytes (Lexeme k) at size rest ts item h = (lexeme_keeps rest k size item, h)
+limits_more : (files file : ℕ) (bytes : List ℕ) (f : Form) (at size : ℕ) (rest : List ℕ) (ts : List Token) → file < files → length bytes ≤ MOST_SOURCE_BYTES → IsItem rest f size → AreWithinLimits files ts
+    → AreWithinLimits files (token_of f (place_at file bytes at) ++ ts)
+limits_more files file bytes Space at size rest ts m l item h = h
+limits_more files file bytes Comment at size rest ts m l item h = h
+limits_more files file bytes (Lexeme k) at size rest ts m l item h = (((m, line_within bytes at l), lexeme_keeps rest k size item), h)
 
 -- the tokens of items keep their limits
-pub limits : (file : ℕ) (bytes : List ℕ) (at : ℕ) (rest : List ℕ) (items : List Item) (to : ℕ) (left : List ℕ) → Leads at rest items to left → AreWithinLimits (tokens_of file bytes items)
-limits file bytes at rest [] to left h = tt
-limits file bytes at rest (i ∷ items) to left h =
-    limits_more file bytes i.form i.offset i.size rest (tokens_of file bytes items) h.1 (limits file bytes (at + i.size) (drop i.size rest) items to left h.2)
+pub limits : (files file : ℕ) (bytes : List ℕ) (at : ℕ) (rest : List ℕ) (items : List Item) (to : ℕ) (left : List ℕ) → file < files → length bytes ≤ MOST_SOURCE_BYTES → Leads at rest items to left
+    → AreWithinLimits files (tokens_of file bytes items)
+limits files file bytes at rest [] to left m l h = tt
+limits files file bytes at rest (i ∷ items) to left m l h =
+    limits_more files file bytes i.form i.offset i.size rest (tokens_of file bytes items) m l h.1 (limits files file bytes (at + i.size) (drop i.size rest) items to left m l h.2)
 
 -- one more item stands before those behind it
 rising_more : (file : ℕ) (bytes : List ℕ) (f : Form) (low at size : ℕ) (rest : List ℕ) (ts : List Token) → low ≤ at → 1 ≤ size → ((next : ℕ) → next ≤ at + size → AreRising file next ts)

@@ -10,5 +10,6 @@ pub mod Items
 pub mod ItemsInARow
 pub mod ReadSoFar
 pub mod LexemesKeepLimits
+pub mod WeightsOfTokens
 pub mod OneReading
 pub mod AlwaysOneReading

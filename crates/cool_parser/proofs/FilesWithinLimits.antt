@@ -1,5 +1,5 @@
 -- A token that keeps the lexer's limits leaves a state that keeps them, and so the classes of a file of such tokens do.
-use Rattle.std.proofs.Common.{◌≡◌, ℕ, nat_le, Bool, true, false, if◌then◌else◌, List, [], ◌∷◌, ◌++◌, length, codes, Option, Some, None, IfSome, subst}
+use Rattle.std.proofs.Common.{◌≡◌, ℕ, nat_le, Bool, true, false, if◌then◌else◌, List, [], ◌∷◌, ◌++◌, length, codes, Option, Some, None, IfSome, subst, arith}
 use Rattle.std.specs.List.{AllByRecursion}
 use Rattle.std.specs.Option.{is_some}
 use Rattle.std.proofs.ByRecursion.{All-append}
@@ -16,7 +16,7 @@ use Rattle.cool_syntax.specs.declared.node.Node.TheVariants as node
 use Rattle.cool_syntax.specs.declared.file_tree.ClassDef.{ClassDef}
 use Rattle.cool_syntax.specs.declared.file_tree.Feature.{Feature}
 use Rattle.cool_syntax.specs.declared.file_tree.Feature.TheVariants as feature
-use Rattle.cool_syntax.specs.TokenFacts.{IsWithinLimits, AreWithinLimits}
+use Rattle.cool_syntax.specs.TokenFacts.{IsWithinLimits, IsPlaced, AreWithinLimits}
 use Rattle.cool_parser.specs.declared.operator.Infix.{Infix}
 use Rattle.cool_parser.specs.declared.operator.Infix.TheVariants as between
 use Rattle.cool_parser.specs.declared.operator.Prefix.{Prefix}
@@ -34,368 +34,429 @@ use Rattle.cool_parser.specs.declared.mode.Mode.{Mode}
 use Rattle.cool_parser.specs.declared.mode.Mode.TheVariants as mode
 use Rattle.cool_parser.specs.Levels.{infix_of, infix_level, left_level, prefix_level}
 use Rattle.cool_parser.specs.Machine.{Context, State, Outcome, Whole, Unexpected, Reduced, push, place, next_id, operand, wait, ended, nodes_of, node_if, binary, before, with_feature, initial, method, reduced, reduce, after, dispatch, dispatch_to, close_on, close, operator_or_end, have, need, identifier, is_right_parenthesis, is_right_brace, next_branch, compares, is_comparison, variable_name, declared, variable_type, let_end, class_head, parent_name, features, feature_name, first_formal, formal_end, result_type, attribute_end, static_class, method_name, new_type, class_end, step, finish, outcome, parsed, start}
-use Rattle.cool_parser.specs.TreesWithinLimits.{IsTypeName, IsObjectName, IsFormalWithin, IsFeatureWithin, IsClassWithin, AreClassesWithin, name_of_self}
+use Rattle.cool_syntax.specs.TreesWithinLimits.{IsTypeName, IsObjectName, IsTypeWithin, IsFormalWithin, IsFeatureWithin, IsClassWithin, AreClassesWithin, name_of_self}
 use Rattle.cool_parser.proofs.TreesOfNodesWithin.{IsBranchWithin, IsNodeWithin, tree_within}
 
 -- States that keep the limits
 
-abbrev IsTypeWithin : TypeRef → Type 0
-IsTypeWithin t = IsTypeName t.name
+-- a token and its place
+abbrev IsTokenWithin : ℕ → Place → TokenKind → Type 0
+IsTokenWithin files at k = IsPlaced files at × IsWithinLimits k
 
-abbrev IsVariableWithin : Variable → Type 0
-IsVariableWithin v = IsObjectName v.name × IsTypeName v.declared.name
+abbrev IsVariableWithin : ℕ → Variable → Type 0
+IsVariableWithin files v = IsPlaced files v.at × IsObjectName v.name × IsTypeWithin files v.declared
 
-abbrev IsOpenClassWithin : OpenClass → Type 0
-IsOpenClassWithin c = IsTypeName c.name × IfSome c.parent (λ p. IsTypeName p.name) × AllByRecursion IsFeatureWithin c.features
+abbrev IsOpenClassWithin : ℕ → OpenClass → Type 0
+IsOpenClassWithin files c = IsPlaced files c.at × IsTypeName c.name × IfSome c.parent (IsTypeWithin files) × AllByRecursion (IsFeatureWithin files) c.features
 
-abbrev IsOpenMethodWithin : OpenMethod → Type 0
-IsOpenMethodWithin m = IsOpenClassWithin m.class × IsObjectName m.name × AllByRecursion IsFormalWithin m.formals
+abbrev IsOpenMethodWithin : ℕ → OpenMethod → Type 0
+IsOpenMethodWithin files m = IsOpenClassWithin files m.class × IsPlaced files m.at × IsObjectName m.name × AllByRecursion (IsFormalWithin files) m.formals
 
-abbrev IsCallWithin : Call → Type 0
-IsCallWithin c = IfSome c.class IsTypeWithin × IsObjectName c.name
+abbrev IsCallWithin : ℕ → Call → Type 0
+IsCallWithin files c = IsPlaced files c.at × IfSome c.class (IsTypeWithin files) × IsObjectName c.name
 
-abbrev IsOpenCaseWithin : OpenCase → Type 0
-IsOpenCaseWithin c = AllByRecursion IsBranchWithin c.branches
+abbrev IsOpenCaseWithin : ℕ → OpenCase → Type 0
+IsOpenCaseWithin files c = IsPlaced files c.at × AllByRecursion (IsBranchWithin files) c.branches
 
-abbrev IsItemWithin : Item → Type 0
-IsItemWithin (item.Assigning at name) = IsObjectName name
-IsItemWithin (item.Bound v init) = IsVariableWithin v
-IsItemWithin (item.Arguments call args) = IsCallWithin call
-IsItemWithin (item.Init v) = IsVariableWithin v
-IsItemWithin (item.BranchBody k v) = IsOpenCaseWithin k × IsVariableWithin v
-IsItemWithin (item.MethodBody m result) = IsOpenMethodWithin m × IsTypeWithin result
-IsItemWithin (item.AttributeInit class v) = IsOpenClassWithin class × IsVariableWithin v
-IsItemWithin _ = Unit {0}
+abbrev IsItemWithin : ℕ → Item → Type 0
+IsItemWithin files (item.Left at op l) = IsPlaced files at
+IsItemWithin files (item.Front at op) = IsPlaced files at
+IsItemWithin files (item.Assigning at name) = IsPlaced files at × IsObjectName name
+IsItemWithin files (item.Bound v init) = IsVariableWithin files v
+IsItemWithin files item.Parenthesis = Unit {0}
+IsItemWithin files (item.Arguments call args) = IsCallWithin files call
+IsItemWithin files (item.IfTest at) = IsPlaced files at
+IsItemWithin files (item.IfYes at test) = IsPlaced files at
+IsItemWithin files (item.IfNo at test met) = IsPlaced files at
+IsItemWithin files (item.WhileTest at) = IsPlaced files at
+IsItemWithin files (item.WhileBody at test) = IsPlaced files at
+IsItemWithin files (item.Block at items) = IsPlaced files at
+IsItemWithin files (item.Init v) = IsVariableWithin files v
+IsItemWithin files (item.CaseValue at) = IsPlaced files at
+IsItemWithin files (item.BranchBody k v) = IsOpenCaseWithin files k × IsVariableWithin files v
+IsItemWithin files (item.MethodBody m result) = IsOpenMethodWithin files m × IsTypeWithin files result
+IsItemWithin files (item.AttributeInit class v) = IsOpenClassWithin files class × IsVariableWithin files v
 
-abbrev IsPurposeWithin : Purpose → Type 0
-IsPurposeWithin (purpose.Attribute class) = IsOpenClassWithin class
-IsPurposeWithin (purpose.Formal m) = IsOpenMethodWithin m
-IsPurposeWithin purpose.Let = Unit {0}
-IsPurposeWithin (purpose.Branch k) = IsOpenCaseWithin k
+abbrev IsPurposeWithin : ℕ → Purpose → Type 0
+IsPurposeWithin files (purpose.Attribute class) = IsOpenClassWithin files class
+IsPurposeWithin files (purpose.Formal m) = IsOpenMethodWithin files m
+IsPurposeWithin files purpose.Let = Unit {0}
+IsPurposeWithin files (purpose.Branch k) = IsOpenCaseWithin files k
 
-abbrev IsModeWithin : Mode → Type 0
-IsModeWithin (mode.ClassHead name at) = IsTypeName name
-IsModeWithin (mode.ParentName name at) = IsTypeName name
-IsModeWithin (mode.ClassBrace name at parent) = IsTypeName name × IsTypeWithin parent
-IsModeWithin (mode.Features class) = IsOpenClassWithin class
-IsModeWithin (mode.ClassEnd class) = IsOpenClassWithin class
-IsModeWithin (mode.FeatureName class name at) = IsOpenClassWithin class × IsObjectName name
-IsModeWithin (mode.FirstFormal m) = IsOpenMethodWithin m
-IsModeWithin (mode.FormalEnd m) = IsOpenMethodWithin m
-IsModeWithin (mode.ResultColon m) = IsOpenMethodWithin m
-IsModeWithin (mode.ResultType m) = IsOpenMethodWithin m
-IsModeWithin (mode.MethodBrace m result) = IsOpenMethodWithin m × IsTypeWithin result
-IsModeWithin (mode.MethodEnd class) = IsOpenClassWithin class
-IsModeWithin (mode.AttributeEnd class v) = IsOpenClassWithin class × IsVariableWithin v
-IsModeWithin (mode.VariableName p) = IsPurposeWithin p
-IsModeWithin (mode.VariableColon p name at) = IsPurposeWithin p × IsObjectName name
-IsModeWithin (mode.VariableType p name at) = IsPurposeWithin p × IsObjectName name
-IsModeWithin (mode.LetEnd v) = IsVariableWithin v
-IsModeWithin (mode.BranchArrow k v) = IsOpenCaseWithin k × IsVariableWithin v
-IsModeWithin (mode.NextBranch k) = IsOpenCaseWithin k
-IsModeWithin (mode.FirstArgument call) = IsCallWithin call
-IsModeWithin (mode.Identifier name at) = IsObjectName name
-IsModeWithin (mode.StaticDot t class) = IsTypeWithin class
-IsModeWithin (mode.MethodName t class) = IfSome class IsTypeWithin
-IsModeWithin (mode.CallParenthesis call) = IsCallWithin call
-IsModeWithin _ = Unit {0}
+-- the name that a mode holds, and its place
+abbrev IsNamed : ℕ → Place → List ℕ → Type 0
+IsNamed files at name = IsPlaced files at × IsObjectName name
 
-record IsWithin (c : Context) : Type 0 where
-  nodes : AllByRecursion IsNodeWithin c.nodes
-  stack : AllByRecursion IsItemWithin c.stack
-  classes : AreClassesWithin c.classes
+abbrev IsModeWithin : ℕ → Mode → Type 0
+IsModeWithin files (mode.ClassHead name at) = IsPlaced files at × IsTypeName name
+IsModeWithin files (mode.ParentName name at) = IsPlaced files at × IsTypeName name
+IsModeWithin files (mode.ClassBrace name at parent) = IsPlaced files at × IsTypeName name × IsTypeWithin files parent
+IsModeWithin files (mode.Features class) = IsOpenClassWithin files class
+IsModeWithin files (mode.ClassEnd class) = IsOpenClassWithin files class
+IsModeWithin files (mode.FeatureName class name at) = IsOpenClassWithin files class × IsNamed files at name
+IsModeWithin files (mode.FirstFormal m) = IsOpenMethodWithin files m
+IsModeWithin files (mode.FormalEnd m) = IsOpenMethodWithin files m
+IsModeWithin files (mode.ResultColon m) = IsOpenMethodWithin files m
+IsModeWithin files (mode.ResultType m) = IsOpenMethodWithin files m
+IsModeWithin files (mode.MethodBrace m result) = IsOpenMethodWithin files m × IsTypeWithin files result
+IsModeWithin files (mode.MethodEnd class) = IsOpenClassWithin files class
+IsModeWithin files (mode.AttributeEnd class v) = IsOpenClassWithin files class × IsVariableWithin files v
+IsModeWithin files (mode.VariableName p) = IsPurposeWithin files p
+IsModeWithin files (mode.VariableColon p name at) = IsPurposeWithin files p × IsNamed files at name
+IsModeWithin files (mode.VariableType p name at) = IsPurposeWithin files p × IsNamed files at name
+IsModeWithin files (mode.LetEnd v) = IsVariableWithin files v
+IsModeWithin files (mode.BranchArrow k v) = IsOpenCaseWithin files k × IsVariableWithin files v
+IsModeWithin files (mode.NextBranch k) = IsOpenCaseWithin files k
+IsModeWithin files (mode.NextItem at items) = IsPlaced files at
+IsModeWithin files (mode.FirstArgument call) = IsCallWithin files call
+IsModeWithin files (mode.Identifier name at) = IsNamed files at name
+IsModeWithin files (mode.StaticDot t class) = IsTypeWithin files class
+IsModeWithin files (mode.MethodName t class) = IfSome class (IsTypeWithin files)
+IsModeWithin files (mode.CallParenthesis call) = IsCallWithin files call
+IsModeWithin files (mode.NewType at) = IsPlaced files at
+IsModeWithin files _ = Unit {0}
 
-abbrev IsStateWithin : State → Type 0
-IsStateWithin s = IsWithin s.context × IsModeWithin s.mode
+record IsWithin (files : ℕ) (c : Context) : Type 0 where
+  nodes : AllByRecursion (IsNodeWithin files) c.nodes
+  stack : AllByRecursion (IsItemWithin files) c.stack
+  classes : AreClassesWithin files c.classes
 
-pushed : (i : Item) (c : Context) → IsItemWithin i → IsWithin c → IsWithin (push i c)
-pushed i c h w = record { nodes = w.nodes; stack = (h, w.stack); classes = w.classes }
+abbrev IsStateWithin : ℕ → State → Type 0
+IsStateWithin files s = IsWithin files s.context × IsModeWithin files s.mode
 
-placed : (n : Node) (c : Context) → IsNodeWithin n → IsWithin c → IsWithin (place n c)
-placed n c h w = record { nodes = All-append IsNodeWithin c.nodes (n ∷ []) w.nodes (h, tt); stack = w.stack; classes = w.classes }
+-- one more item waits
+pushed : (files : ℕ) (i : Item) (c : Context) → IsItemWithin files i → IsWithin files c → IsWithin files (push i c)
+pushed files i c h w = record { nodes = w.nodes; stack = (h, w.stack); classes = w.classes }
 
-emptied : (c : Context) → IsWithin c → IsWithin (record c { nodes = [] })
-emptied c w = record { nodes = tt; stack = w.stack; classes = w.classes }
+-- one more node is placed
+placed : (files : ℕ) (n : Node) (c : Context) → IsNodeWithin files n → IsWithin files c → IsWithin files (place n c)
+placed files n c h w = record { nodes = All-append (IsNodeWithin files) c.nodes (n ∷ []) w.nodes (h, tt); stack = w.stack; classes = w.classes }
 
-operates : (n : Node) (c : Context) → IsNodeWithin n → IsWithin c → IfSome (operand n c) IsStateWithin
-operates n c h w = (placed n c h w, tt)
+-- no nodes are left
+emptied : (files : ℕ) (c : Context) → IsWithin files c → IsWithin files (record c { nodes = [] })
+emptied files c w = record { nodes = tt; stack = w.stack; classes = w.classes }
 
-waits : (i : Item) (c : Context) → IsItemWithin i → IsWithin c → IfSome (wait i c) IsStateWithin
-waits i c h w = (pushed i c h w, tt)
+-- a node is an operand
+operates : (files : ℕ) (n : Node) (c : Context) → IsNodeWithin files n → IsWithin files c → IfSome (operand n c) (IsStateWithin files)
+operates files n c h w = (placed files n c h w, tt)
+
+-- an item waits for an expression
+waits : (files : ℕ) (i : Item) (c : Context) → IsItemWithin files i → IsWithin files c → IfSome (wait i c) (IsStateWithin files)
+waits files i c h w = (pushed files i c h w, tt)
 
 -- Operators that end
 
-if_within : (b : Bool) (n : Node) → IsNodeWithin n → IfSome (node_if b n) IsNodeWithin
-if_within true n h = h
-if_within false n h = tt
+-- a node where a test holds
+if_within : (files : ℕ) (b : Bool) (n : Node) → IsNodeWithin files n → IfSome (node_if b n) (IsNodeWithin files)
+if_within files true n h = h
+if_within files false n h = tt
 
-binary_within : (op : Infix) (at : Place) (l t : NodeId) → IsNodeWithin (binary op at l t)
-binary_within (between.Arith op) at l t = tt
-binary_within (between.Compare op) at l t = tt
+-- an operator between two operands
+binary_within : (files : ℕ) (op : Infix) (at : Place) (l t : NodeId) → IsPlaced files at → IsNodeWithin files (binary op at l t)
+binary_within files (between.Arith op) at l t h = h
+binary_within files (between.Compare op) at l t h = h
 
-before_within : (op : Prefix) (at : Place) (t : NodeId) → IsNodeWithin (before op at t)
-before_within front.Not at t = tt
-before_within front.IsVoid at t = tt
-before_within front.Neg at t = tt
+-- an operator before its operand
+before_within : (files : ℕ) (op : Prefix) (at : Place) (t : NodeId) → IsPlaced files at → IsNodeWithin files (before op at t)
+before_within files front.Not at t h = h
+before_within files front.IsVoid at t h = h
+before_within files front.Neg at t h = h
 
-ended_within : (k : ℕ) (i : Item) (t : NodeId) → IsItemWithin i → IfSome (ended k i t) IsNodeWithin
-ended_within k (item.Left at op l) t h = if_within (nat_le k (infix_level op)) (binary op at l t) (binary_within op at l t)
-ended_within k (item.Front at op) t h = if_within (nat_le k (prefix_level op)) (before op at t) (before_within op at t)
-ended_within k (item.Assigning at name) t h = if_within (nat_le k 1) (node.Assign at name t) h
-ended_within k (item.Bound v init) t h = if_within (nat_le k 0) (node.Let v.at v.name v.declared init t) h
-ended_within k _ t h = tt
+-- the node of an operator that ends
+ended_within : (files : ℕ) (k : ℕ) (i : Item) (t : NodeId) → IsItemWithin files i → IfSome (ended k i t) (IsNodeWithin files)
+ended_within files k (item.Left at op l) t h = if_within files (nat_le k (infix_level op)) (binary op at l t) (binary_within files op at l t h)
+ended_within files k (item.Front at op) t h = if_within files (nat_le k (prefix_level op)) (before op at t) (before_within files op at t h)
+ended_within files k (item.Assigning at name) t h = if_within files (nat_le k 1) (node.Assign at name t) h
+ended_within files k (item.Bound v init) t h = if_within files (nat_le k 0) (node.Let v.at v.name v.declared init t) h
+ended_within files k _ t h = tt
 
-abbrev IsReducedWithin : Reduced → Type 0
-IsReducedWithin r = AllByRecursion IsNodeWithin r.nodes × AllByRecursion IsItemWithin r.stack
+abbrev IsReducedWithin : ℕ → Reduced → Type 0
+IsReducedWithin files r = AllByRecursion (IsNodeWithin files) r.nodes × AllByRecursion (IsItemWithin files) r.stack
 
-reduced_at : (k : ℕ) (ns : List Node) (i : Item) (st : List Item) (t : NodeId) (o : Option Node) → IfSome o IsNodeWithin
-    → ((n : Node) → IsNodeWithin n → IsReducedWithin (reduced k (ns ++ n ∷ []) st (record { 0 = length ns })))
-    → IsReducedWithin (record { nodes = ns; stack = i ∷ st; operand = t })
-    → IsReducedWithin (if is_some o then reduced k (ns ++ nodes_of o) st (record { 0 = length ns }) else record { nodes = ns; stack = i ∷ st; operand = t })
-reduced_at k ns i st t None h more w = w
-reduced_at k ns i st t (Some n) h more w = more n h
+-- one operator that ends, or none
+reduced_at : (files : ℕ) (k : ℕ) (ns : List Node) (i : Item) (st : List Item) (t : NodeId) (o : Option Node) → IfSome o (IsNodeWithin files)
+    → ((n : Node) → IsNodeWithin files n → IsReducedWithin files (reduced k (ns ++ n ∷ []) st (record { 0 = length ns })))
+    → IsReducedWithin files (record { nodes = ns; stack = i ∷ st; operand = t })
+    → IsReducedWithin files (if is_some o then reduced k (ns ++ nodes_of o) st (record { 0 = length ns }) else record { nodes = ns; stack = i ∷ st; operand = t })
+reduced_at files k ns i st t None h more w = w
+reduced_at files k ns i st t (Some n) h more w = more n h
 
-reduced_within : (k : ℕ) (st : List Item) (ns : List Node) (t : NodeId) → AllByRecursion IsNodeWithin ns → AllByRecursion IsItemWithin st → IsReducedWithin (reduced k ns st t)
-reduced_within k [] ns t h w = (h, w)
-reduced_within k (i ∷ st) ns t h w =
-    reduced_at k ns i st t (ended k i t) (ended_within k i t w.0)
-    (λ n g. reduced_within k st (ns ++ n ∷ []) (record { 0 = length ns }) (All-append IsNodeWithin ns (n ∷ []) h (g, tt)) w.1) (h, w)
+-- operators that end leave nodes and a stack that keep the limits
+reduced_within : (files : ℕ) (k : ℕ) (st : List Item) (ns : List Node) (t : NodeId) → AllByRecursion (IsNodeWithin files) ns → AllByRecursion (IsItemWithin files) st → IsReducedWithin files (reduced k ns st t)
+reduced_within files k [] ns t h w = (h, w)
+reduced_within files k (i ∷ st) ns t h w =
+    reduced_at files k ns i st t (ended k i t) (ended_within files k i t w.0)
+    (λ n g. reduced_within files k st (ns ++ n ∷ []) (record { 0 = length ns }) (All-append (IsNodeWithin files) ns (n ∷ []) h (g, tt)) w.1) (h, w)
 
-reduce_within : (k : ℕ) (c : Context) (t : NodeId) → IsWithin c → IsWithin (after c (reduce k c t))
-reduce_within k c t w =
-    let h = reduced_within k c.stack c.nodes t w.nodes w.stack in
+-- so does the state behind them
+reduce_within : (files : ℕ) (k : ℕ) (c : Context) (t : NodeId) → IsWithin files c → IsWithin files (after c (reduce k c t))
+reduce_within files k c t w =
+    let h = reduced_within files k c.stack c.nodes t w.nodes w.stack in
     record { nodes = h.0; stack = h.1; classes = w.classes }
 
 -- Behind an operand
 
-shifted : (b : Bool) (op : Infix) (at : Place) (c : Context) (t : NodeId) → IsWithin c → IfSome (if b then None else wait (item.Left at op t) c) IsStateWithin
-shifted true op at c t w = tt
-shifted false op at c t w = waits (item.Left at op t) c tt w
+-- an operator takes its left operand
+shifted : (files : ℕ) (b : Bool) (op : Infix) (at : Place) (c : Context) (t : NodeId) → IsPlaced files at → IsWithin files c → IfSome (if b then None else wait (item.Left at op t) c) (IsStateWithin files)
+shifted files true op at c t p w = tt
+shifted files false op at c t p w = waits files (item.Left at op t) c p w
 
-dispatch_to_within : (o : Option TypeRef) (call : Call) (args : List NodeId) → IfSome o IsTypeWithin → IsObjectName call.name → IsNodeWithin (dispatch_to o call args)
-dispatch_to_within None call args h k = k
-dispatch_to_within (Some class) call args h k = (h, k)
+-- a call with its class, or without
+dispatch_to_within : (files : ℕ) (o : Option TypeRef) (call : Call) (args : List NodeId) → IsPlaced files call.at → IfSome o (IsTypeWithin files) → IsObjectName call.name → IsNodeWithin files (dispatch_to o call args)
+dispatch_to_within files None call args p h k = (p, k)
+dispatch_to_within files (Some class) call args p h k = (p, h, k)
 
-dispatch_within : (call : Call) (args : List NodeId) → IsCallWithin call → IsNodeWithin (dispatch call args)
-dispatch_within call args h = dispatch_to_within call.class call args h.0 h.1
+-- a call
+dispatch_within : (files : ℕ) (call : Call) (args : List NodeId) → IsCallWithin files call → IsNodeWithin files (dispatch call args)
+dispatch_within files call args h = dispatch_to_within files call.class call args h.0 h.1 h.2
 
-with_feature_within : (f : Feature) (class : OpenClass) → IsFeatureWithin f → IsOpenClassWithin class → IsOpenClassWithin (with_feature f class)
-with_feature_within f class h w = (w.0, w.1, All-append IsFeatureWithin class.features (f ∷ []) w.2 (h, tt))
+-- a class with one more feature
+with_feature_within : (files : ℕ) (f : Feature) (class : OpenClass) → IsFeatureWithin files f → IsOpenClassWithin files class → IsOpenClassWithin files (with_feature f class)
+with_feature_within files f class h w = (w.0, w.1, w.2, All-append (IsFeatureWithin files) class.features (f ∷ []) w.3 (h, tt))
 
-close_on_within : (i : Item) (k : TokenKind) (c : Context) (t : NodeId) → IsItemWithin i → IsWithin c → IfSome (close_on i k c t) IsStateWithin
-close_on_within item.Parenthesis (kind.Sign sign.RParen) c t h w = (w, tt)
-close_on_within (item.Arguments call args) (kind.Sign sign.RParen) c t h w = operates (dispatch call (args ++ t ∷ [])) c (dispatch_within call (args ++ t ∷ []) h) w
-close_on_within (item.Arguments call args) (kind.Sign sign.Comma) c t h w = waits (item.Arguments call (args ++ t ∷ [])) c h w
-close_on_within (item.Init v) (kind.Sign sign.Comma) c t h w = (pushed (item.Bound v (Some t)) c h w, tt)
-close_on_within (item.Init v) (kind.Key key.In) c t h w = waits (item.Bound v (Some t)) c h w
-close_on_within (item.IfTest at) (kind.Key key.Then) c t h w = waits (item.IfYes at t) c tt w
-close_on_within (item.IfYes at test) (kind.Key key.Else) c t h w = waits (item.IfNo at test t) c tt w
-close_on_within (item.IfNo at test met) (kind.Key key.Fi) c t h w = operates (node.If at test met t) c tt w
-close_on_within (item.WhileTest at) (kind.Key key.Loop) c t h w = waits (item.WhileBody at t) c tt w
-close_on_within (item.WhileBody at test) (kind.Key key.Pool) c t h w = operates (node.While at test t) c tt w
-close_on_within (item.CaseValue at) (kind.Key key.Of) c t h w = (w, tt)
-close_on_within (item.BranchBody k v) (kind.Sign sign.Semi) c t h w =
-    (w, All-append IsBranchWithin k.branches (record { at = v.at; name = v.name; declared = v.declared; body = t } ∷ []) h.0 (h.1, tt))
-close_on_within (item.Block at items) (kind.Sign sign.Semi) c t h w = (w, tt)
-close_on_within (item.AttributeInit class v) (kind.Sign sign.Semi) c t h w =
-    (emptied c w, with_feature_within (initial v c) class (h.1.0, h.1.1, tree_within c.nodes w.nodes) h.0)
-close_on_within (item.MethodBody m result) (kind.Sign sign.RBrace) c t h w =
-    (emptied c w, with_feature_within (method m result c) m.class (h.0.1, h.0.2, h.1, tree_within c.nodes w.nodes) h.0.0)
-close_on_within _ _ c t h w = tt
+-- a token that ends an operand, by the form that is open
+close_on_within : (files : ℕ) (i : Item) (k : TokenKind) (c : Context) (t : NodeId) → IsItemWithin files i → IsWithin files c → IfSome (close_on i k c t) (IsStateWithin files)
+close_on_within files item.Parenthesis (kind.Sign sign.RParen) c t h w = (w, tt)
+close_on_within files (item.Arguments call args) (kind.Sign sign.RParen) c t h w = operates files (dispatch call (args ++ t ∷ [])) c (dispatch_within files call (args ++ t ∷ []) h) w
+close_on_within files (item.Arguments call args) (kind.Sign sign.Comma) c t h w = waits files (item.Arguments call (args ++ t ∷ [])) c h w
+close_on_within files (item.Init v) (kind.Sign sign.Comma) c t h w = (pushed files (item.Bound v (Some t)) c h w, tt)
+close_on_within files (item.Init v) (kind.Key key.In) c t h w = waits files (item.Bound v (Some t)) c h w
+close_on_within files (item.IfTest at) (kind.Key key.Then) c t h w = waits files (item.IfYes at t) c h w
+close_on_within files (item.IfYes at test) (kind.Key key.Else) c t h w = waits files (item.IfNo at test t) c h w
+close_on_within files (item.IfNo at test met) (kind.Key key.Fi) c t h w = operates files (node.If at test met t) c h w
+close_on_within files (item.WhileTest at) (kind.Key key.Loop) c t h w = waits files (item.WhileBody at t) c h w
+close_on_within files (item.WhileBody at test) (kind.Key key.Pool) c t h w = operates files (node.While at test t) c h w
+close_on_within files (item.CaseValue at) (kind.Key key.Of) c t h w = (w, (h, tt))
+close_on_within files (item.BranchBody k v) (kind.Sign sign.Semi) c t h w =
+    (w, (h.0.0, All-append (IsBranchWithin files) k.branches (record { at = v.at; name = v.name; declared = v.declared; body = t } ∷ []) h.0.1 (h.1, tt)))
+close_on_within files (item.Block at items) (kind.Sign sign.Semi) c t h w = (w, h)
+close_on_within files (item.AttributeInit class v) (kind.Sign sign.Semi) c t h w =
+    (emptied files c w, with_feature_within files (initial v c) class (h.1.0, h.1.1, h.1.2, tree_within files c.nodes (omega (arith, h.1.0.0)) w.nodes) h.0)
+close_on_within files (item.MethodBody m result) (kind.Sign sign.RBrace) c t h w =
+    (emptied files c w, with_feature_within files (method m result c) m.class (h.0.1, h.0.2, h.0.3, h.1, tree_within files c.nodes (omega (arith, h.0.1.0)) w.nodes) h.0.0)
+close_on_within files _ _ c t h w = tt
 
-close_within : (k : TokenKind) (st : List Item) (c : Context) (t : NodeId) → IsWithin (record c { stack = st }) → IfSome (close k st c t) IsStateWithin
-close_within k [] c t w = tt
-close_within k (i ∷ st) c t w =
-    close_on_within i k (record c { stack = st }) t w.stack.0 (record { nodes = w.nodes; stack = w.stack.1; classes = w.classes })
+-- the same on a stack
+close_within : (files : ℕ) (k : TokenKind) (st : List Item) (c : Context) (t : NodeId) → IsWithin files (record c { stack = st }) → IfSome (close k st c t) (IsStateWithin files)
+close_within files k [] c t w = tt
+close_within files k (i ∷ st) c t w =
+    close_on_within files i k (record c { stack = st }) t w.stack.0 (record { nodes = w.nodes; stack = w.stack.1; classes = w.classes })
 
-operator_within : (o : Option Infix) (c : Context) (t : NodeId) (k : TokenKind) (at : Place) → IsWithin c → IfSome (operator_or_end o c t k at) IsStateWithin
-operator_within (Some op) c t k at w =
+-- an operator, or the end of an operand
+operator_within : (files : ℕ) (o : Option Infix) (c : Context) (t : NodeId) (k : TokenKind) (at : Place) → IsPlaced files at → IsWithin files c → IfSome (operator_or_end o c t k at) (IsStateWithin files)
+operator_within files (Some op) c t k at p w =
     let r = reduce (left_level op) c t in
-    shifted (if is_comparison op then compares r.stack else false) op at (after c r) r.operand (reduce_within (left_level op) c t w)
-operator_within None c t k at w = close_within k (reduce 0 c t).stack (after c (reduce 0 c t)) (reduce 0 c t).operand (reduce_within 0 c t w)
+    shifted files (if is_comparison op then compares r.stack else false) op at (after c r) r.operand p (reduce_within files (left_level op) c t w)
+operator_within files None c t k at p w = close_within files k (reduce 0 c t).stack (after c (reduce 0 c t)) (reduce 0 c t).operand (reduce_within files 0 c t w)
 
-have_within : (c : Context) (t : NodeId) (k : TokenKind) (at : Place) → IsWithin c → IfSome (have c t k at) IsStateWithin
-have_within c t (kind.Sign sign.Dot) at w = (w, tt)
-have_within c t (kind.Sign sign.At) at w = (w, tt)
-have_within c t k at w = operator_within (infix_of k) c t k at w
+-- behind an operand
+have_within : (files : ℕ) (c : Context) (t : NodeId) (k : TokenKind) (at : Place) → IsPlaced files at → IsWithin files c → IfSome (have c t k at) (IsStateWithin files)
+have_within files c t (kind.Sign sign.Dot) at p w = (w, tt)
+have_within files c t (kind.Sign sign.At) at p w = (w, tt)
+have_within files c t k at p w = operator_within files (infix_of k) c t k at p w
 
 -- Operands
 
-need_within : (c : Context) (k : TokenKind) (at : Place) → IsWithinLimits k → IsWithin c → IfSome (need c k at) IsStateWithin
-need_within c (kind.ObjectId name) at l w = (w, l)
-need_within c (kind.Int value) at l w = operates (node.Int at value) c l w
-need_within c (kind.Str bytes) at l w = operates (node.Str at bytes) c l w
-need_within c (kind.Key key.True) at l w = operates (node.Bool at true) c tt w
-need_within c (kind.Key key.False) at l w = operates (node.Bool at false) c tt w
-need_within c (kind.Key key.If) at l w = waits (item.IfTest at) c tt w
-need_within c (kind.Key key.While) at l w = waits (item.WhileTest at) c tt w
-need_within c (kind.Key key.Case) at l w = waits (item.CaseValue at) c tt w
-need_within c (kind.Key key.Let) at l w = (w, tt)
-need_within c (kind.Key key.New) at l w = (w, tt)
-need_within c (kind.Key key.Not) at l w = waits (item.Front at front.Not) c tt w
-need_within c (kind.Key key.IsVoid) at l w = waits (item.Front at front.IsVoid) c tt w
-need_within c (kind.Sign sign.Tilde) at l w = waits (item.Front at front.Neg) c tt w
-need_within c (kind.Sign sign.LParen) at l w = waits item.Parenthesis c tt w
-need_within c (kind.Sign sign.LBrace) at l w = waits (item.Block at []) c tt w
-need_within c _ at l w = tt
+-- an operand begins
+need_within : (files : ℕ) (c : Context) (k : TokenKind) (at : Place) → IsTokenWithin files at k → IsWithin files c → IfSome (need c k at) (IsStateWithin files)
+need_within files c (kind.ObjectId name) at l w = (w, l)
+need_within files c (kind.Int value) at l w = operates files (node.Int at value) c l w
+need_within files c (kind.Str bytes) at l w = operates files (node.Str at bytes) c l w
+need_within files c (kind.Key key.True) at l w = operates files (node.Bool at true) c l.0 w
+need_within files c (kind.Key key.False) at l w = operates files (node.Bool at false) c l.0 w
+need_within files c (kind.Key key.If) at l w = waits files (item.IfTest at) c l.0 w
+need_within files c (kind.Key key.While) at l w = waits files (item.WhileTest at) c l.0 w
+need_within files c (kind.Key key.Case) at l w = waits files (item.CaseValue at) c l.0 w
+need_within files c (kind.Key key.Let) at l w = (w, tt)
+need_within files c (kind.Key key.New) at l w = (w, l.0)
+need_within files c (kind.Key key.Not) at l w = waits files (item.Front at front.Not) c l.0 w
+need_within files c (kind.Key key.IsVoid) at l w = waits files (item.Front at front.IsVoid) c l.0 w
+need_within files c (kind.Sign sign.Tilde) at l w = waits files (item.Front at front.Neg) c l.0 w
+need_within files c (kind.Sign sign.LParen) at l w = waits files item.Parenthesis c tt w
+need_within files c (kind.Sign sign.LBrace) at l w = waits files (item.Block at []) c l.0 w
+need_within files c _ at l w = tt
 
-identifier_within : (c : Context) (name : List ℕ) (here : Place) (k : TokenKind) (at : Place) → IsObjectName name → IsWithin c → IfSome (identifier c name here k at) IsStateWithin
-identifier_within c name here (kind.Sign sign.Arrow) at h w = waits (item.Assigning here name) c h w
-identifier_within c name here (kind.Sign sign.LParen) at h w = (placed (node.Id here (codes "self")) c name_of_self w, (tt, h))
-identifier_within c name here k at h w = have_within (place (node.Id here name) c) (next_id c) k at (placed (node.Id here name) c h w)
+-- an identifier is assigned, called, or an operand
+identifier_within : (files : ℕ) (c : Context) (name : List ℕ) (here : Place) (k : TokenKind) (at : Place) → IsNamed files here name → IsPlaced files at → IsWithin files c → IfSome (identifier c name here k at) (IsStateWithin files)
+identifier_within files c name here (kind.Sign sign.Arrow) at h p w = waits files (item.Assigning here name) c h w
+identifier_within files c name here (kind.Sign sign.LParen) at h p w = (placed files (node.Id here (codes "self")) c (h.0, name_of_self) w, (h.0, tt, h.1))
+identifier_within files c name here k at h p w = have_within files (place (node.Id here name) c) (next_id c) k at p (placed files (node.Id here name) c h w)
 
-first_argument_if : (b : Bool) (c : Context) (call : Call) (k : TokenKind) (at : Place) → IsCallWithin call → IsWithinLimits k → IsWithin c
-    → IfSome (if b then operand (dispatch call []) c else need (push (item.Arguments call []) c) k at) IsStateWithin
-first_argument_if true c call k at h l w = operates (dispatch call []) c (dispatch_within call [] h) w
-first_argument_if false c call k at h l w = need_within (push (item.Arguments call []) c) k at l (pushed (item.Arguments call []) c h w)
+-- arguments end, or the first one begins
+first_argument_if : (files : ℕ) (b : Bool) (c : Context) (call : Call) (k : TokenKind) (at : Place) → IsCallWithin files call → IsTokenWithin files at k → IsWithin files c
+    → IfSome (if b then operand (dispatch call []) c else need (push (item.Arguments call []) c) k at) (IsStateWithin files)
+first_argument_if files true c call k at h l w = operates files (dispatch call []) c (dispatch_within files call [] h) w
+first_argument_if files false c call k at h l w = need_within files (push (item.Arguments call []) c) k at l (pushed files (item.Arguments call []) c h w)
 
-next_item_if : (b : Bool) (c : Context) (here : Place) (items : List NodeId) (k : TokenKind) (at : Place) → IsWithinLimits k → IsWithin c
-    → IfSome (if b then operand (node.Block here items) c else need (push (item.Block here items) c) k at) IsStateWithin
-next_item_if true c here items k at l w = operates (node.Block here items) c tt w
-next_item_if false c here items k at l w = need_within (push (item.Block here items) c) k at l (pushed (item.Block here items) c tt w)
+-- a block ends, or one more item begins
+next_item_if : (files : ℕ) (b : Bool) (c : Context) (here : Place) (items : List NodeId) (k : TokenKind) (at : Place) → IsPlaced files here → IsTokenWithin files at k → IsWithin files c
+    → IfSome (if b then operand (node.Block here items) c else need (push (item.Block here items) c) k at) (IsStateWithin files)
+next_item_if files true c here items k at h l w = operates files (node.Block here items) c h w
+next_item_if files false c here items k at h l w = need_within files (push (item.Block here items) c) k at l (pushed files (item.Block here items) c h w)
 
-next_branch_within : (c : Context) (b : OpenCase) (k : TokenKind) (at : Place) → IsOpenCaseWithin b → IsWithinLimits k → IsWithin c → IfSome (next_branch c b k at) IsStateWithin
-next_branch_within c b (kind.Key key.Esac) at h l w = operates (node.Case b.at b.value b.branches) c h w
-next_branch_within c b (kind.ObjectId name) at h l w = (w, (h, l))
-next_branch_within c b _ at h l w = tt
+-- a case ends, or one more branch begins
+next_branch_within : (files : ℕ) (c : Context) (b : OpenCase) (k : TokenKind) (at : Place) → IsOpenCaseWithin files b → IsTokenWithin files at k → IsWithin files c → IfSome (next_branch c b k at) (IsStateWithin files)
+next_branch_within files c b (kind.Key key.Esac) at h l w = operates files (node.Case b.at b.value b.branches) c h w
+next_branch_within files c b (kind.ObjectId name) at h l w = (w, (h, l))
+next_branch_within files c b _ at h l w = tt
 
 -- Names and types
 
-method_name_within : (c : Context) (t : NodeId) (class : Option TypeRef) (k : TokenKind) (at : Place) → IfSome class IsTypeWithin → IsWithinLimits k → IsWithin c → IfSome (method_name c t class k at) IsStateWithin
-method_name_within c t class (kind.ObjectId name) at h l w = (w, (h, l))
-method_name_within c t class _ at h l w = tt
+-- the name of a method that is called
+method_name_within : (files : ℕ) (c : Context) (t : NodeId) (class : Option TypeRef) (k : TokenKind) (at : Place) → IfSome class (IsTypeWithin files) → IsTokenWithin files at k → IsWithin files c → IfSome (method_name c t class k at) (IsStateWithin files)
+method_name_within files c t class (kind.ObjectId name) at h l w = (w, (l.0, h, l.1))
+method_name_within files c t class _ at h l w = tt
 
-static_class_within : (c : Context) (t : NodeId) (k : TokenKind) (at : Place) → IsWithinLimits k → IsWithin c → IfSome (static_class c t k at) IsStateWithin
-static_class_within c t (kind.TypeId name) at l w = (w, l)
-static_class_within c t _ at l w = tt
+-- the class of a static call
+static_class_within : (files : ℕ) (c : Context) (t : NodeId) (k : TokenKind) (at : Place) → IsTokenWithin files at k → IsWithin files c → IfSome (static_class c t k at) (IsStateWithin files)
+static_class_within files c t (kind.TypeId name) at l w = (w, (l.1, l.0))
+static_class_within files c t _ at l w = tt
 
-new_type_within : (c : Context) (here : Place) (k : TokenKind) (at : Place) → IsWithinLimits k → IsWithin c → IfSome (new_type c here k at) IsStateWithin
-new_type_within c here (kind.TypeId name) at l w = operates (node.New here (record { name = name; at = at })) c l w
-new_type_within c here _ at l w = tt
+-- the class of a new object
+new_type_within : (files : ℕ) (c : Context) (here : Place) (k : TokenKind) (at : Place) → IsPlaced files here → IsTokenWithin files at k → IsWithin files c → IfSome (new_type c here k at) (IsStateWithin files)
+new_type_within files c here (kind.TypeId name) at h l w = operates files (node.New here (record { name = name; at = at })) c (h, (l.1, l.0)) w
+new_type_within files c here _ at h l w = tt
 
-variable_name_within : (c : Context) (p : Purpose) (k : TokenKind) (at : Place) → IsPurposeWithin p → IsWithinLimits k → IsWithin c → IfSome (variable_name c p k at) IsStateWithin
-variable_name_within c p (kind.ObjectId name) at h l w = (w, (h, l))
-variable_name_within c p _ at h l w = tt
+-- a name that is declared
+variable_name_within : (files : ℕ) (c : Context) (p : Purpose) (k : TokenKind) (at : Place) → IsPurposeWithin files p → IsTokenWithin files at k → IsWithin files c → IfSome (variable_name c p k at) (IsStateWithin files)
+variable_name_within files c p (kind.ObjectId name) at h l w = (w, (h, l))
+variable_name_within files c p _ at h l w = tt
 
-declared_within : (c : Context) (p : Purpose) (v : Variable) → IsPurposeWithin p → IsVariableWithin v → IsWithin c → IfSome (declared c p v) IsStateWithin
-declared_within c (purpose.Attribute class) v h k w = (w, (h, k))
-declared_within c (purpose.Formal m) v h k w = (w, (h.0, h.1, All-append IsFormalWithin m.formals (record { name = v.name; at = v.at; declared = v.declared } ∷ []) h.2 (k, tt)))
-declared_within c purpose.Let v h k w = (w, k)
-declared_within c (purpose.Branch b) v h k w = (w, (h, k))
+-- a name and its type
+declared_within : (files : ℕ) (c : Context) (p : Purpose) (v : Variable) → IsPurposeWithin files p → IsVariableWithin files v → IsWithin files c → IfSome (declared c p v) (IsStateWithin files)
+declared_within files c (purpose.Attribute class) v h k w = (w, (h, k))
+declared_within files c (purpose.Formal m) v h k w = (w, (h.0, h.1, h.2, All-append (IsFormalWithin files) m.formals (record { name = v.name; at = v.at; declared = v.declared } ∷ []) h.3 (k, tt)))
+declared_within files c purpose.Let v h k w = (w, k)
+declared_within files c (purpose.Branch b) v h k w = (w, (h, k))
 
-variable_type_within : (c : Context) (p : Purpose) (name : List ℕ) (here : Place) (k : TokenKind) (at : Place) → IsPurposeWithin p → IsObjectName name → IsWithinLimits k → IsWithin c → IfSome (variable_type c p name here k at) IsStateWithin
-variable_type_within c p name here (kind.TypeId spelling) at h n l w = declared_within c p (record { name = name; at = here; declared = record { name = spelling; at = at } }) h (n, l) w
-variable_type_within c p name here _ at h n l w = tt
+-- the type of a name
+variable_type_within : (files : ℕ) (c : Context) (p : Purpose) (name : List ℕ) (here : Place) (k : TokenKind) (at : Place) → IsPurposeWithin files p → IsNamed files here name → IsTokenWithin files at k → IsWithin files c → IfSome (variable_type c p name here k at) (IsStateWithin files)
+variable_type_within files c p name here (kind.TypeId spelling) at h n l w = declared_within files c p (record { name = name; at = here; declared = record { name = spelling; at = at } }) h (n.0, n.1, (l.1, l.0)) w
+variable_type_within files c p name here _ at h n l w = tt
 
-let_end_within : (c : Context) (v : Variable) (k : TokenKind) (at : Place) → IsVariableWithin v → IsWithin c → IfSome (let_end c v k at) IsStateWithin
-let_end_within c v (kind.Sign sign.Arrow) at h w = waits (item.Init v) c h w
-let_end_within c v (kind.Sign sign.Comma) at h w = (pushed (item.Bound v None) c h w, tt)
-let_end_within c v (kind.Key key.In) at h w = waits (item.Bound v None) c h w
-let_end_within c v _ at h w = tt
+-- behind a variable of a let
+let_end_within : (files : ℕ) (c : Context) (v : Variable) (k : TokenKind) (at : Place) → IsVariableWithin files v → IsWithin files c → IfSome (let_end c v k at) (IsStateWithin files)
+let_end_within files c v (kind.Sign sign.Arrow) at h w = waits files (item.Init v) c h w
+let_end_within files c v (kind.Sign sign.Comma) at h w = (pushed files (item.Bound v None) c h w, tt)
+let_end_within files c v (kind.Key key.In) at h w = waits files (item.Bound v None) c h w
+let_end_within files c v _ at h w = tt
 
 -- Classes and features
 
-class_head_within : (c : Context) (name : List ℕ) (here : Place) (k : TokenKind) (at : Place) → IsTypeName name → IsWithin c → IfSome (class_head c name here k at) IsStateWithin
-class_head_within c name here (kind.Key key.Inherits) at h w = (w, h)
-class_head_within c name here (kind.Sign sign.LBrace) at h w = (w, (h, tt, tt))
-class_head_within c name here _ at h w = tt
+-- behind the name of a class
+class_head_within : (files : ℕ) (c : Context) (name : List ℕ) (here : Place) (k : TokenKind) (at : Place) → IsPlaced files here × IsTypeName name → IsWithin files c → IfSome (class_head c name here k at) (IsStateWithin files)
+class_head_within files c name here (kind.Key key.Inherits) at h w = (w, h)
+class_head_within files c name here (kind.Sign sign.LBrace) at h w = (w, (h.0, h.1, tt, tt))
+class_head_within files c name here _ at h w = tt
 
-parent_name_within : (c : Context) (name : List ℕ) (here : Place) (k : TokenKind) (at : Place) → IsTypeName name → IsWithinLimits k → IsWithin c → IfSome (parent_name c name here k at) IsStateWithin
-parent_name_within c name here (kind.TypeId parent) at h l w = (w, (h, l))
-parent_name_within c name here _ at h l w = tt
+-- the name of a parent
+parent_name_within : (files : ℕ) (c : Context) (name : List ℕ) (here : Place) (k : TokenKind) (at : Place) → IsPlaced files here × IsTypeName name → IsTokenWithin files at k → IsWithin files c → IfSome (parent_name c name here k at) (IsStateWithin files)
+parent_name_within files c name here (kind.TypeId parent) at h l w = (w, (h.0, h.1, (l.1, l.0)))
+parent_name_within files c name here _ at h l w = tt
 
-features_within : (c : Context) (class : OpenClass) (k : TokenKind) (at : Place) → IsOpenClassWithin class → IsWithinLimits k → IsWithin c → IfSome (features c class k at) IsStateWithin
-features_within c class (kind.ObjectId name) at h l w = (w, (h, l))
-features_within c class (kind.Sign sign.RBrace) at h l w = (w, h)
-features_within c class _ at h l w = tt
+-- a feature begins, or the features end
+features_within : (files : ℕ) (c : Context) (class : OpenClass) (k : TokenKind) (at : Place) → IsOpenClassWithin files class → IsTokenWithin files at k → IsWithin files c → IfSome (features c class k at) (IsStateWithin files)
+features_within files c class (kind.ObjectId name) at h l w = (w, (h, l))
+features_within files c class (kind.Sign sign.RBrace) at h l w = (w, h)
+features_within files c class _ at h l w = tt
 
-feature_name_within : (c : Context) (class : OpenClass) (name : List ℕ) (here : Place) (k : TokenKind) (at : Place) → IsOpenClassWithin class → IsObjectName name → IsWithin c → IfSome (feature_name c class name here k at) IsStateWithin
-feature_name_within c class name here (kind.Sign sign.LParen) at h n w = (w, (h, n, tt))
-feature_name_within c class name here (kind.Sign sign.Colon) at h n w = (w, (h, n))
-feature_name_within c class name here _ at h n w = tt
+-- behind the name of a feature
+feature_name_within : (files : ℕ) (c : Context) (class : OpenClass) (name : List ℕ) (here : Place) (k : TokenKind) (at : Place) → IsOpenClassWithin files class → IsNamed files here name → IsWithin files c → IfSome (feature_name c class name here k at) (IsStateWithin files)
+feature_name_within files c class name here (kind.Sign sign.LParen) at h n w = (w, (h, n.0, n.1, tt))
+feature_name_within files c class name here (kind.Sign sign.Colon) at h n w = (w, (h, n))
+feature_name_within files c class name here _ at h n w = tt
 
-first_formal_within : (c : Context) (m : OpenMethod) (k : TokenKind) (at : Place) → IsOpenMethodWithin m → IsWithinLimits k → IsWithin c → IfSome (first_formal c m k at) IsStateWithin
-first_formal_within c m (kind.Sign sign.RParen) at h l w = (w, h)
-first_formal_within c m k at h l w = variable_name_within c (purpose.Formal m) k at h l w
+-- the formals end, or the first one begins
+first_formal_within : (files : ℕ) (c : Context) (m : OpenMethod) (k : TokenKind) (at : Place) → IsOpenMethodWithin files m → IsTokenWithin files at k → IsWithin files c → IfSome (first_formal c m k at) (IsStateWithin files)
+first_formal_within files c m (kind.Sign sign.RParen) at h l w = (w, h)
+first_formal_within files c m k at h l w = variable_name_within files c (purpose.Formal m) k at h l w
 
-formal_end_within : (c : Context) (m : OpenMethod) (k : TokenKind) (at : Place) → IsOpenMethodWithin m → IsWithin c → IfSome (formal_end c m k at) IsStateWithin
-formal_end_within c m (kind.Sign sign.RParen) at h w = (w, h)
-formal_end_within c m (kind.Sign sign.Comma) at h w = (w, h)
-formal_end_within c m _ at h w = tt
+-- the formals end, or one more begins
+formal_end_within : (files : ℕ) (c : Context) (m : OpenMethod) (k : TokenKind) (at : Place) → IsOpenMethodWithin files m → IsWithin files c → IfSome (formal_end c m k at) (IsStateWithin files)
+formal_end_within files c m (kind.Sign sign.RParen) at h w = (w, h)
+formal_end_within files c m (kind.Sign sign.Comma) at h w = (w, h)
+formal_end_within files c m _ at h w = tt
 
-result_type_within : (c : Context) (m : OpenMethod) (k : TokenKind) (at : Place) → IsOpenMethodWithin m → IsWithinLimits k → IsWithin c → IfSome (result_type c m k at) IsStateWithin
-result_type_within c m (kind.TypeId name) at h l w = (w, (h, l))
-result_type_within c m _ at h l w = tt
+-- the type of a method's result
+result_type_within : (files : ℕ) (c : Context) (m : OpenMethod) (k : TokenKind) (at : Place) → IsOpenMethodWithin files m → IsTokenWithin files at k → IsWithin files c → IfSome (result_type c m k at) (IsStateWithin files)
+result_type_within files c m (kind.TypeId name) at h l w = (w, (h, (l.1, l.0)))
+result_type_within files c m _ at h l w = tt
 
-attribute_end_within : (c : Context) (class : OpenClass) (v : Variable) (k : TokenKind) (at : Place) → IsOpenClassWithin class → IsVariableWithin v → IsWithin c → IfSome (attribute_end c class v k at) IsStateWithin
-attribute_end_within c class v (kind.Sign sign.Arrow) at h n w = waits (item.AttributeInit class v) c (h, n) w
-attribute_end_within c class v (kind.Sign sign.Semi) at h n w =
-    (w, with_feature_within (feature.Attribute (record { name = v.name; at = v.at; declared = v.declared; init = None })) class (n.0, n.1, tt) h)
-attribute_end_within c class v _ at h n w = tt
+-- an attribute's value begins, or it has none
+attribute_end_within : (files : ℕ) (c : Context) (class : OpenClass) (v : Variable) (k : TokenKind) (at : Place) → IsOpenClassWithin files class → IsVariableWithin files v → IsWithin files c → IfSome (attribute_end c class v k at) (IsStateWithin files)
+attribute_end_within files c class v (kind.Sign sign.Arrow) at h n w = waits files (item.AttributeInit class v) c (h, n) w
+attribute_end_within files c class v (kind.Sign sign.Semi) at h n w =
+    (w, with_feature_within files (feature.Attribute (record { name = v.name; at = v.at; declared = v.declared; init = None })) class (n.0, n.1, n.2, tt) h)
+attribute_end_within files c class v _ at h n w = tt
 
-class_end_within : (c : Context) (class : OpenClass) → IsOpenClassWithin class → IsWithin c → IfSome (class_end c class) IsStateWithin
-class_end_within c class h w = (
+-- a class is whole
+class_end_within : (files : ℕ) (c : Context) (class : OpenClass) → IsOpenClassWithin files class → IsWithin files c → IfSome (class_end c class) (IsStateWithin files)
+class_end_within files c class h w = (
   record {
     nodes = w.nodes;
     stack = w.stack;
-    classes = All-append IsClassWithin c.classes (record { name = class.name; at = class.at; parent = class.parent; features = class.features } ∷ []) w.classes (h, tt);
+    classes = All-append (IsClassWithin files) c.classes (record { name = class.name; at = class.at; parent = class.parent; features = class.features } ∷ []) w.classes (h, tt);
   },
   tt,
 )
 
 -- Steps
 
-step_within : (c : Context) (m : Mode) (k : TokenKind) (at : Place) → IsWithinLimits k → IsModeWithin m → IsWithin c → IfSome (step c m k at) IsStateWithin
-step_within c mode.File (kind.Key key.Class) at l h w = (w, tt)
-step_within c mode.ClassName (kind.TypeId name) at l h w = (w, l)
-step_within c (mode.ClassHead name here) k at l h w = class_head_within c name here k at h w
-step_within c (mode.ParentName name here) k at l h w = parent_name_within c name here k at h l w
-step_within c (mode.ClassBrace name here parent) (kind.Sign sign.LBrace) at l h w = (w, (h.0, h.1, tt))
-step_within c (mode.Features class) k at l h w = features_within c class k at h l w
-step_within c (mode.ClassEnd class) (kind.Sign sign.Semi) at l h w = class_end_within c class h w
-step_within c (mode.FeatureName class name here) k at l h w = feature_name_within c class name here k at h.0 h.1 w
-step_within c (mode.FirstFormal m) k at l h w = first_formal_within c m k at h l w
-step_within c (mode.FormalEnd m) k at l h w = formal_end_within c m k at h w
-step_within c (mode.ResultColon m) (kind.Sign sign.Colon) at l h w = (w, h)
-step_within c (mode.ResultType m) k at l h w = result_type_within c m k at h l w
-step_within c (mode.MethodBrace m result) (kind.Sign sign.LBrace) at l h w = waits (item.MethodBody m result) c h w
-step_within c (mode.MethodEnd class) (kind.Sign sign.Semi) at l h w = (w, h)
-step_within c (mode.AttributeEnd class v) k at l h w = attribute_end_within c class v k at h.0 h.1 w
-step_within c (mode.VariableName p) k at l h w = variable_name_within c p k at h l w
-step_within c (mode.VariableColon p name here) (kind.Sign sign.Colon) at l h w = (w, h)
-step_within c (mode.VariableType p name here) k at l h w = variable_type_within c p name here k at h.0 h.1 l w
-step_within c (mode.LetEnd v) k at l h w = let_end_within c v k at h w
-step_within c (mode.BranchArrow b v) (kind.Sign sign.FatArrow) at l h w = waits (item.BranchBody b v) c h w
-step_within c (mode.NextBranch b) k at l h w = next_branch_within c b k at h l w
-step_within c (mode.NextItem here items) k at l h w = next_item_if (is_right_brace k) c here items k at l w
-step_within c (mode.FirstArgument call) k at l h w = first_argument_if (is_right_parenthesis k) c call k at h l w
-step_within c mode.Need k at l h w = need_within c k at l w
-step_within c (mode.Identifier name here) k at l h w = identifier_within c name here k at h w
-step_within c (mode.Have t) k at l h w = have_within c t k at w
-step_within c (mode.StaticClass t) k at l h w = static_class_within c t k at l w
-step_within c (mode.StaticDot t class) (kind.Sign sign.Dot) at l h w = (w, h)
-step_within c (mode.MethodName t class) k at l h w = method_name_within c t class k at h l w
-step_within c (mode.CallParenthesis call) (kind.Sign sign.LParen) at l h w = (w, h)
-step_within c (mode.NewType here) k at l h w = new_type_within c here k at l w
-step_within c _ _ at l h w = tt
+-- a token that keeps the limits leaves a state that does
+step_within : (files : ℕ) (c : Context) (m : Mode) (k : TokenKind) (at : Place) → IsTokenWithin files at k → IsModeWithin files m → IsWithin files c → IfSome (step c m k at) (IsStateWithin files)
+step_within files c mode.File (kind.Key key.Class) at l h w = (w, tt)
+step_within files c mode.ClassName (kind.TypeId name) at l h w = (w, l)
+step_within files c (mode.ClassHead name here) k at l h w = class_head_within files c name here k at h w
+step_within files c (mode.ParentName name here) k at l h w = parent_name_within files c name here k at h l w
+step_within files c (mode.ClassBrace name here parent) (kind.Sign sign.LBrace) at l h w = (w, (h.0, h.1, h.2, tt))
+step_within files c (mode.Features class) k at l h w = features_within files c class k at h l w
+step_within files c (mode.ClassEnd class) (kind.Sign sign.Semi) at l h w = class_end_within files c class h w
+step_within files c (mode.FeatureName class name here) k at l h w = feature_name_within files c class name here k at h.0 h.1 w
+step_within files c (mode.FirstFormal m) k at l h w = first_formal_within files c m k at h l w
+step_within files c (mode.FormalEnd m) k at l h w = formal_end_within files c m k at h w
+step_within files c (mode.ResultColon m) (kind.Sign sign.Colon) at l h w = (w, h)
+step_within files c (mode.ResultType m) k at l h w = result_type_within files c m k at h l w
+step_within files c (mode.MethodBrace m result) (kind.Sign sign.LBrace) at l h w = waits files (item.MethodBody m result) c h w
+step_within files c (mode.MethodEnd class) (kind.Sign sign.Semi) at l h w = (w, h)
+step_within files c (mode.AttributeEnd class v) k at l h w = attribute_end_within files c class v k at h.0 h.1 w
+step_within files c (mode.VariableName p) k at l h w = variable_name_within files c p k at h l w
+step_within files c (mode.VariableColon p name here) (kind.Sign sign.Colon) at l h w = (w, h)
+step_within files c (mode.VariableType p name here) k at l h w = variable_type_within files c p name here k at h.0 h.1 l w
+step_within files c (mode.LetEnd v) k at l h w = let_end_within files c v k at h w
+step_within files c (mode.BranchArrow b v) (kind.Sign sign.FatArrow) at l h w = waits files (item.BranchBody b v) c h w
+step_within files c (mode.NextBranch b) k at l h w = next_branch_within files c b k at h l w
+step_within files c (mode.NextItem here items) k at l h w = next_item_if files (is_right_brace k) c here items k at h l w
+step_within files c (mode.FirstArgument call) k at l h w = first_argument_if files (is_right_parenthesis k) c call k at h l w
+step_within files c mode.Need k at l h w = need_within files c k at l w
+step_within files c (mode.Identifier name here) k at l h w = identifier_within files c name here k at h l.0 w
+step_within files c (mode.Have t) k at l h w = have_within files c t k at l.0 w
+step_within files c (mode.StaticClass t) k at l h w = static_class_within files c t k at l w
+step_within files c (mode.StaticDot t class) (kind.Sign sign.Dot) at l h w = (w, h)
+step_within files c (mode.MethodName t class) k at l h w = method_name_within files c t class k at h l w
+step_within files c (mode.CallParenthesis call) (kind.Sign sign.LParen) at l h w = (w, h)
+step_within files c (mode.NewType here) k at l h w = new_type_within files c here k at h l w
+step_within files c _ _ at l h w = tt
 
 -- Files
 
-abbrev IsOutcomeWithin : Outcome → Type 0
-IsOutcomeWithin (Whole classes) = AreClassesWithin classes
-IsOutcomeWithin (Unexpected at) = Unit {0}
+abbrev IsOutcomeWithin : ℕ → Outcome → Type 0
+IsOutcomeWithin files (Whole classes) = AreClassesWithin files classes
+IsOutcomeWithin files (Unexpected at) = Unit {0}
 
-finish_within : (c : Context) (m : Mode) (end : Place) → IsWithin c → IsOutcomeWithin (finish c m end)
-finish_within c mode.File end w = w.classes
-finish_within c _ end w = tt
+-- a file may end
+finish_within : (files : ℕ) (c : Context) (m : Mode) (end : Place) → IsWithin files c → IsOutcomeWithin files (finish c m end)
+finish_within files c mode.File end w = w.classes
+finish_within files c _ end w = tt
 
-outcome_within : (ts : List Token) (at end : Place) (o : Option State) → AreWithinLimits ts → IfSome o IsStateWithin → IsOutcomeWithin (outcome at o ts end)
-outcome_within [] at end None l h = tt
-outcome_within (t ∷ ts) at end None l h = tt
-outcome_within [] at end (Some s) l h = finish_within s.context s.mode end h.0
-outcome_within (t ∷ ts) at end (Some s) l h =
-    outcome_within ts t.at end (step s.context s.mode t.kind t.at) l.1 (step_within s.context s.mode t.kind t.at l.0 h.1 h.0)
+-- what the rest of the tokens come to
+outcome_within : (files : ℕ) (ts : List Token) (at end : Place) (o : Option State) → AreWithinLimits files ts → IfSome o (IsStateWithin files) → IsOutcomeWithin files (outcome at o ts end)
+outcome_within files [] at end None l h = tt
+outcome_within files (t ∷ ts) at end None l h = tt
+outcome_within files [] at end (Some s) l h = finish_within files s.context s.mode end h.0
+outcome_within files (t ∷ ts) at end (Some s) l h =
+    outcome_within files ts t.at end (step s.context s.mode t.kind t.at) l.1 (step_within files s.context s.mode t.kind t.at l.0 h.1 h.0)
 
-pub classes_within : (ts : List Token) (end : Place) (classes : List ClassDef) → parsed ts end ≡ Whole classes → AreWithinLimits ts → AreClassesWithin classes
-classes_within ts end classes e l =
-    subst IsOutcomeWithin e (outcome_within ts end end (Some start) l (record { nodes = tt; stack = tt; classes = tt }, tt))
+-- the classes of a file keep the limits of its tokens
+pub classes_within : (files : ℕ) (ts : List Token) (end : Place) (classes : List ClassDef) → parsed ts end ≡ Whole classes → AreWithinLimits files ts → AreClassesWithin files classes
+classes_within files ts end classes e l =
+    subst (IsOutcomeWithin files) e (outcome_within files ts end end (Some start) l (record { nodes = tt; stack = tt; classes = tt }, tt))

@@ -7,5 +7,7 @@ pub mod PlacesOfFaults
 pub mod PlacingANode
 pub mod RoomForNodes
 pub mod RunsOfFeatures
+pub mod TextsOfNodes
 pub mod TreesOfNodesWithin
+pub mod WeightsOfFiles
 pub mod WeightsOfNodes

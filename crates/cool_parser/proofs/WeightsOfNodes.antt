@@ -6,7 +6,7 @@ use Rattle.cool_syntax.specs.Tree.{Tree, Trees, MaybeTree, Cases, Last, More, Wi
 use Rattle.cool_syntax.specs.Tree as trees
 use Rattle.cool_syntax.specs.NodeLists.{root, root_of_maybe, roots, branch_roots, nodes, nodes_of_all, nodes_of_maybe, nodes_of_cases, tree_of, IsPostorder}
 use Rattle.cool_syntax.proofs.TreesOfLists.{tree_of-nodes}
-use Rattle.cool_parser.specs.FeatureSizes.{branches_in, branches_in_all, branches_in_maybe, branches_of}
+use Rattle.cool_syntax.specs.FeatureSizes.{branches_in, branches_in_all, branches_in_maybe, branches_of}
 
 abbrev pub node_weight : Node → ℕ
 node_weight (node.Case at a bs) = 1 + length bs

@@ -1,15 +1,17 @@
 //! Parsing a file.
 
-ghost use Rattle.std.specs.Prelude.{◌≡◌, ◌≤◌, ◌-◌, ◌+◌, ◌<◌, ◌^◌, [], length, IfOk, IfErr, MatchResult};
+ghost use Rattle.std.specs.Prelude.{◌≡◌, ℕ, ◌≤◌, ◌-◌, ◌+◌, ◌<◌, ◌^◌, [], length, IfOk, IfErr, MatchResult};
 ghost use Rattle.std.specs.List.{AllByRecursion};
+ghost use Rattle.cool_syntax.specs.declared.TheConstants.{MOST_SOURCE_BYTES};
 ghost use Rattle.cool_syntax.specs.LexicalStructure.{first_run, FitsRuns};
-ghost use Rattle.cool_syntax.specs.TokenFacts.{AreWithinLimits};
+ghost use Rattle.cool_syntax.specs.TokenFacts.{AreWithinLimits, weights};
 ghost use Rattle.cool_parser.specs.declared.fault.ParseError.TheVariants.{Memory};
 ghost use Rattle.cool_parser.specs.Machine.{parsed, Whole};
 ghost use Rattle.cool_parser.specs.Answers.{IsFault};
 ghost use Rattle.cool_parser.specs.FaultPlaces.{IsPlaceIn};
-ghost use Rattle.cool_parser.specs.FeatureSizes.{IsBoundedClass};
-ghost use Rattle.cool_parser.specs.TreesWithinLimits.{AreClassesWithin};
+ghost use Rattle.cool_syntax.specs.FeatureSizes.{IsBoundedClass};
+ghost use Rattle.cool_syntax.specs.TreesWithinLimits.{AreClassesWithin};
+ghost use Rattle.cool_syntax.specs.Weights.{classes_weight};
 
 use crate::fault::{ParseError, ParseFault};
 use crate::mode::Mode;
@@ -23,13 +25,14 @@ use std::alloc::{AllocError, Global};
 /// `Err(Fault(..))` comes where the tokens are no file: its place is that of the first token that may not stand where it does, or
 /// `end`, where the file may not end there. `Err(Memory)` comes only for want of memory.
 pub fn parse(alloc: Global, file: u32, tokens: &[Token], end: Place) -> Result<FileTree, ParseError>
-    requires { length tokens.now ≤ 1048576 }
+    requires { length tokens.now ≤ MOST_SOURCE_BYTES }
     ensures file { IfOk result (λ tree. tree.file ≡ file) }
     ensures whole { IfOk result (λ tree. parsed tokens.now end ≡ Whole tree.classes) }
     ensures fault { IfErr result (λ error. IsFault (parsed tokens.now end) error) }
     ensures place { IfErr result (λ error. IsPlaceIn tokens.now end error) }
     ensures empty { tokens.now ≡ [] → MatchResult result (λ tree. tree.classes ≡ []) (λ error. error ≡ Memory) }
-    ensures limits { AreWithinLimits tokens.now → IfOk result (λ tree. AreClassesWithin tree.classes) }
+    ensures limits { (files : ℕ) → AreWithinLimits files tokens.now → IfOk result (λ tree. AreClassesWithin files tree.classes) }
+    ensures weight { IfOk result (λ tree. classes_weight tree.classes ≤ weights tokens.now) }
     ensures bounded { FitsRuns first_run tokens.now → IfOk result (λ tree. AllByRecursion IsBoundedClass tree.classes) }
 {
     let mut parser = Parser::new(alloc);
@@ -55,7 +58,7 @@ impl Parser {
     /// Takes memory for the nodes of a feature, where one may begin: no tree has more nodes than tokens.
     fn make_room(&mut self, mode: &Mode, rest: &[Token]) -> Result<(), AllocError>
         requires nodes { length self.old.nodes < 2 ^ 31 }
-        requires tokens { length rest.now ≤ 1048576 }
+        requires tokens { length rest.now ≤ MOST_SOURCE_BYTES }
         ensures same { self.new ≡ self.old }
     {
         match mode {
@@ -67,7 +70,7 @@ impl Parser {
 
 /// How many tokens there are up to the end of a feature: its semicolon, or a brace that closes the class.
 fn feature_length(tokens: &[Token]) -> u32
-    requires { length tokens.now ≤ 1048576 }
+    requires { length tokens.now ≤ MOST_SOURCE_BYTES }
     ensures { result ≤ length tokens.now }
 {
     let mut depth: u32 = 0;

@@ -1,5 +1,7 @@
 pub mod Bare
 pub mod Falls
+pub mod FaultOrder
+pub mod FeatureSizes
 pub mod Groups
 pub mod Lexemes
 pub mod LexicalStructure
@@ -8,4 +10,6 @@ pub mod SimpleForm
 pub mod TokenFacts
 pub mod Tree
 pub mod TreeCode
+pub mod TreesWithinLimits
 pub mod View
+pub mod Weights

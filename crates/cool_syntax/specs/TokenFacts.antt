@@ -1,7 +1,9 @@
--- What the layers above the lexer may count on: each token is its lexeme within the limits, and the tokens stand in rising places.
-use Rattle.std.specs.Prelude.{◌≡◌, ℕ, ◌+◌, ◌≤◌, List, [], ◌∷◌, length, Some}
+-- What the layers above the lexer may count on: each token is its lexeme within the limits, the tokens stand in rising places of their
+-- file, and they take no more bytes than the file has.
+use Rattle.std.specs.Prelude.{◌≡◌, ℕ, ◌+◌, ◌<◌, ◌≤◌, List, [], ◌∷◌, length, codes, Some, refl}
 use Rattle.std.specs.List.{AllByRecursion}
-use Rattle.cool_syntax.specs.declared.TheConstants.{MOST_BYTES}
+use Rattle.cool_syntax.specs.declared.TheConstants.{MOST_BYTES, MOST_SOURCE_BYTES}
+use Rattle.cool_syntax.specs.declared.place.Place.{Place}
 use Rattle.cool_syntax.specs.declared.token.Token.{Token}
 use Rattle.cool_syntax.specs.declared.token.TokenKind.{TokenKind}
 use Rattle.cool_syntax.specs.declared.token.TokenKind.TheVariants as kind
@@ -17,10 +19,31 @@ IsWithinLimits (kind.Str bytes) = (length bytes ≤ MOST_BYTES) × AllByRecursio
 IsWithinLimits (kind.Key k) = Unit {0}
 IsWithinLimits (kind.Sign s) = Unit {0}
 
-abbrev pub AreWithinLimits : List Token → Type 0
-AreWithinLimits = AllByRecursion (λ t. IsWithinLimits t.kind)
+-- a place in one of so many files, on one of the lines that a file of the most bytes can have
+abbrev pub IsPlaced : ℕ → Place → Type 0
+IsPlaced files at = (at.file < files) × (at.line ≤ MOST_SOURCE_BYTES + 1)
+
+abbrev pub AreWithinLimits : ℕ → List Token → Type 0
+AreWithinLimits files = AllByRecursion (λ t. IsPlaced files t.at × IsWithinLimits t.kind)
 
 -- the tokens stand in this file, each behind the one before, the first at this byte or behind it
 abbrev pub AreRising : ℕ → ℕ → List Token → Type 0
 AreRising file low [] = Unit {0}
 AreRising file low (t ∷ ts) = (t.at.file ≡ file) × (low ≤ t.at.byte) × AreRising file (t.at.byte + 1) ts
+
+-- no more bytes than a token takes in the text: those of a type's name, those of a string and one quote, and else one
+abbrev pub weight : TokenKind → ℕ
+weight (kind.TypeId name) = length name
+weight (kind.Str bytes) = 1 + length bytes
+weight (kind.ObjectId name) = 1
+weight (kind.Int n) = 1
+weight (kind.Key k) = 1
+weight (kind.Sign s) = 1
+
+abbrev pub weights : List Token → ℕ
+weights [] = 0
+weights (t ∷ ts) = weight t.kind + weights ts
+
+-- Worked example: of the five bytes of `"a\\n"` its constant has two.
+weight_of_string : weight (kind.Str (codes "a\n")) ≡ 3
+weight_of_string = refl

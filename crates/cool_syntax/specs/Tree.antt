@@ -46,6 +46,27 @@ pub record Twig : Type 0 where
   pub declared : TypeRef
   pub body : Tree
 
+-- the place of a tree's own mark
+abbrev pub place_of : Tree → Place
+place_of (Assign at name t) = at
+place_of (Dispatch at t name ts) = at
+place_of (StaticDispatch at t class name ts) = at
+place_of (If at t y n) = at
+place_of (While at t b) = at
+place_of (Block at ts) = at
+place_of (Let at name declared o t) = at
+place_of (Case at t cs) = at
+place_of (New at class) = at
+place_of (IsVoid at t) = at
+place_of (Arith at op a b) = at
+place_of (Neg at t) = at
+place_of (Compare at op a b) = at
+place_of (Not at t) = at
+place_of (Id at name) = at
+place_of (Int at value) = at
+place_of (Str at bytes) = at
+place_of (Bool at value) = at
+
 -- how many nodes a tree has: itself, and those of its parts
 abbrev mutual
   pub tree_size : Tree → ℕ

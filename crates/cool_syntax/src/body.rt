@@ -51,7 +51,9 @@ impl Body {
 
     /// The number of the whole expression, which is the last.
     pub fn root(&self) -> NodeId
-        ensures { result ≡ root 0 self.now }
+        ensures last { result ≡ root 0 self.now }
+        ensures tree { tree_at self.now result ≡ self.now }
+        ensures below { result.0 < tree_size self.now }
     {
         NodeId(self.len() - 1)
     }

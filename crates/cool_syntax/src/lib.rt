@@ -36,6 +36,12 @@ pub use text::{Bytes, Name};
 pub use token::{Key, Sign, Token, TokenKind};
 pub use type_ref::TypeRef;
 
+/// The most source files of a command.
+pub const MOST_FILES: usize = 64;
+
+/// The most bytes of all source files of a command.
+pub const MOST_SOURCE_BYTES: u64 = 1_048_576;
+
 /// The most bytes that a string constant denotes.
 pub const MOST_BYTES: usize = 1_024;
 

@@ -1,5 +1,9 @@
 //! The nodes of a tree that is kept as a list: each part is named by its number in the list.
 
+ghost use Rattle.std.specs.Prelude.{◌≡◌, List};
+ghost use Rattle.cool_syntax.specs.Tree.{Tree, place_of};
+ghost use Rattle.cool_syntax.specs.NodeLists.{made};
+
 use crate::listed::Listed;
 use crate::operator::{ArithOp, CompareOp};
 use crate::place::Place;
@@ -132,4 +136,32 @@ pub enum Node {
         at: Place,
         value: bool,
     },
+}
+
+impl Node {
+    /// The place of the expression's own mark.
+    pub fn place(&self) -> Place
+        ensures { (ts : List Tree) → result ≡ place_of (made ts self.now) }
+    {
+        match self {
+            Node::Assign { at, .. }
+            | Node::Dispatch { at, .. }
+            | Node::StaticDispatch { at, .. }
+            | Node::If { at, .. }
+            | Node::While { at, .. }
+            | Node::Block { at, .. }
+            | Node::Let { at, .. }
+            | Node::Case { at, .. }
+            | Node::New { at, .. }
+            | Node::IsVoid { at, .. }
+            | Node::Arith { at, .. }
+            | Node::Neg { at, .. }
+            | Node::Compare { at, .. }
+            | Node::Not { at, .. }
+            | Node::Id { at, .. }
+            | Node::Int { at, .. }
+            | Node::Str { at, .. }
+            | Node::Bool { at, .. } => *at,
+        }
+    }
 }

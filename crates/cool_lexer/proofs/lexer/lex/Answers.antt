@@ -1,11 +1,12 @@
-use Rattle.std.proofs.Common.{◌≡◌, ℕ, ◌-◌, List, sym, subst, arith, length, take, drop, length-drop}
+use Rattle.std.proofs.Common.{◌≡◌, ℕ, ◌-◌, List, sym, ap, subst, arith, length, take, drop, length-drop}
 use Rattle.std.proofs.lemmas.List.{take_all}
 use Rattle.cool_lexer.specs.Readings.{Passes, Stops}
 use Rattle.std.proofs.lemmas.Result.{err_from_is_err_and}
-use Rattle.cool_syntax.specs.TokenFacts.{AreWithinLimits, AreRising}
+use Rattle.cool_syntax.specs.TokenFacts.{AreWithinLimits, AreRising, weights}
 use Rattle.cool_lexer.specs.Views.{run_seen}
 use Rattle.cool_lexer.proofs.ReadSoFar.{goes_on, bounds, first_fault}
 use Rattle.cool_lexer.proofs.LexemesKeepLimits.{limits, rising}
+use Rattle.cool_lexer.proofs.WeightsOfTokens.{tokens_weigh}
 use Rattle.cool_lexer.proofs.lexer.lex.Goals as goal
 
 pub read_item-requires-clause-deep : goal.read_item-requires-clause-deep
@@ -37,7 +38,12 @@ loop-at-preserved c =
 pub returns-clause-limits : goal.returns-clause-limits
 returns-clause-limits c =
     let read = c.loop-at.invariant in
-    subst AreWithinLimits (sym read.lexemes) (limits c.args.file c.args.bytes.now 0 c.args.bytes.now read.items _ _ read.leads)
+    λ files m. subst (AreWithinLimits files) (sym read.lexemes) (limits files c.args.file c.args.bytes.now 0 c.args.bytes.now read.items _ _ m c.requires read.leads)
+
+pub returns-clause-weight : goal.returns-clause-weight
+returns-clause-weight c =
+    let read = c.loop-at.invariant in
+    omega (arith, ap weights read.lexemes, tokens_weigh c.args.file c.args.bytes.now 0 c.args.bytes.now read.items _ _ read.leads, read.within)
 
 pub returns-clause-rising : goal.returns-clause-rising
 returns-clause-rising c =

@@ -7,6 +7,7 @@ use Rattle.cool_parser.proofs.GoodNodes.{good_step, good_start}
 use Rattle.cool_parser.proofs.RoomForNodes.{weight, IsLight, step_light}
 use Rattle.cool_parser.proofs.BoundedFeatures.{classes_bounded}
 use Rattle.cool_parser.proofs.FilesWithinLimits.{classes_within}
+use Rattle.cool_parser.proofs.WeightsOfFiles.{classes_weigh}
 use Rattle.cool_parser.proofs.ParsingAFile.{any_place, more, unfinished, finished}
 use Rattle.cool_parser.proofs.PlacesOfFaults.{fault_place, empty_whole, empty_no_fault}
 use Rattle.cool_parser.proofs.parsing.parse.Goals as goal
@@ -64,7 +65,8 @@ returns-in_default c =
       fault = fault;
       place = fault_place c.args.tokens.now c.args.end c.args.end fault;
       empty = λ e. empty_no_fault c.args.tokens.now c.args.end c.args.end fault e;
-      limits = λ l. tt;
+      limits = λ files l. tt;
+      weight = tt;
       bounded = λ l. tt;
     }
 
@@ -79,7 +81,10 @@ pub returns-in-File-clause-empty : goal.returns-in-File-clause-empty
 returns-in-File-clause-empty c = empty_whole c.args.tokens.now c.args.end c.parser.inside.classes (whole c)
 
 pub returns-in-File-clause-limits : goal.returns-in-File-clause-limits
-returns-in-File-clause-limits c = classes_within c.args.tokens.now c.args.end c.parser.inside.classes (whole c)
+returns-in-File-clause-limits c = λ files l. classes_within files c.args.tokens.now c.args.end c.parser.inside.classes (whole c) l
+
+pub returns-in-File-clause-weight : goal.returns-in-File-clause-weight
+returns-in-File-clause-weight c = classes_weigh c.args.tokens.now c.args.end c.parser.inside.classes (whole c)
 
 pub returns-in-File-clause-bounded : goal.returns-in-File-clause-bounded
 returns-in-File-clause-bounded c = classes_bounded c.args.tokens.now c.args.end c.parser.inside.classes (whole c)

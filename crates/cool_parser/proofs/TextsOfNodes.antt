@@ -1,0 +1,106 @@
+-- A tree's list has the bytes of strings that the tree has; with what it weighs, it bears what the tree has of nodes, branches and bytes.
+use Rattle.std.proofs.Common.{◌≡◌, ℕ, ◌+◌, List, [], ◌∷◌, ◌++◌, length, refl, sym, ◌∙◌, ap, arith}
+use Rattle.cool_syntax.specs.declared.node.Node.{Node}
+use Rattle.cool_syntax.specs.declared.node.Node.TheVariants as node
+use Rattle.cool_syntax.specs.Tree.{Tree, Trees, MaybeTree, Cases, Last, More, Without, With, NoCase, CaseOf, tree_size, maybe_size}
+use Rattle.cool_syntax.specs.Tree as trees
+use Rattle.cool_syntax.specs.NodeLists.{root, root_of_maybe, roots, branch_roots, nodes, nodes_of_all, nodes_of_maybe, nodes_of_cases, tree_of, IsPostorder}
+use Rattle.cool_syntax.specs.FeatureSizes.{branches_in}
+use Rattle.cool_syntax.specs.Weights.{text_in, text_in_all, text_in_maybe, text_in_cases}
+use Rattle.cool_syntax.proofs.TreesOfLists.{tree_of-nodes}
+use Rattle.cool_parser.proofs.WeightsOfNodes.{node_weight, weight, weight-placed, body_weight}
+
+-- the bytes of a node's own string
+abbrev pub node_text : Node → ℕ
+node_text (node.Str at bytes) = length bytes
+node_text _ = 0
+
+abbrev pub texts : List Node → ℕ
+texts [] = 0
+texts (n ∷ ns) = node_text n + texts ns
+
+-- the texts of two lists
+texts-append : (ns ms : List Node) → texts (ns ++ ms) ≡ texts ns + texts ms
+texts-append [] ms = omega arith
+texts-append (n ∷ ns) ms = omega (arith, texts-append ns ms)
+
+-- one more node
+texts-placed : (ns : List Node) (n : Node) → texts (ns ++ n ∷ []) ≡ texts ns + node_text n
+texts-placed ns n = omega (arith, texts-append ns (n ∷ []))
+
+-- the list of one part, and then a node with no string
+behind_one : (a : List Node) (n : Node) (x : ℕ) → node_text n ≡ 0 → texts a ≡ x → texts (a ++ n ∷ []) ≡ x
+behind_one a n x w e = omega (arith, w, e, texts-placed a n)
+
+-- the lists of two parts
+behind_two : (a b : List Node) (n : Node) (x y : ℕ) → node_text n ≡ 0 → texts a ≡ x → texts b ≡ y → texts (a ++ b ++ n ∷ []) ≡ x + y
+behind_two a b n x y w e f = omega (arith, w, e, f, texts-placed (a ++ b) n, texts-append a b)
+
+-- the lists of three parts
+behind_three : (a b c : List Node) (n : Node) (x y z : ℕ) → node_text n ≡ 0 → texts a ≡ x → texts b ≡ y → texts c ≡ z → texts (a ++ b ++ c ++ n ∷ []) ≡ x + y + z
+behind_three a b c n x y z w e f g = omega (arith, w, e, f, g, texts-placed (a ++ b ++ c) n, texts-append (a ++ b) c, texts-append a b)
+
+mutual
+  -- the list of a tree has its bytes
+  texts-nodes : (t : Tree) (base : ℕ) → texts (nodes base t) ≡ text_in t
+  texts-nodes (trees.Assign at name a) base = behind_one (nodes base a) (node.Assign at name (root base a)) _ refl (texts-nodes a base)
+  texts-nodes (trees.Dispatch at a name ts) base =
+      behind_two (nodes base a) (nodes_of_all (base + tree_size a) ts) (node.Dispatch at (root base a) name (roots (base + tree_size a) ts)) _ _ refl (texts-nodes a base) (texts-nodes_of_all ts (base + tree_size a))
+  texts-nodes (trees.StaticDispatch at a class name ts) base =
+      behind_two (nodes base a) (nodes_of_all (base + tree_size a) ts) (node.StaticDispatch at (root base a) class name (roots (base + tree_size a) ts)) _ _ refl (texts-nodes a base) (texts-nodes_of_all ts (base + tree_size a))
+  texts-nodes (trees.If at a b c) base =
+      behind_three (nodes base a) (nodes (base + tree_size a) b) (nodes (base + tree_size a + tree_size b) c) (node.If at (root base a) (root (base + tree_size a) b) (root (base + tree_size a + tree_size b) c)) _ _ _ refl
+      (texts-nodes a base) (texts-nodes b (base + tree_size a)) (texts-nodes c (base + tree_size a + tree_size b))
+  texts-nodes (trees.While at a b) base =
+      behind_two (nodes base a) (nodes (base + tree_size a) b) (node.While at (root base a) (root (base + tree_size a) b)) _ _ refl (texts-nodes a base) (texts-nodes b (base + tree_size a))
+  texts-nodes (trees.Block at ts) base = behind_one (nodes_of_all base ts) (node.Block at (roots base ts)) _ refl (texts-nodes_of_all ts base)
+  texts-nodes (trees.Let at name declared o a) base =
+      behind_two (nodes_of_maybe base o) (nodes (base + maybe_size o) a) (node.Let at name declared (root_of_maybe base o) (root (base + maybe_size o) a)) _ _ refl (texts-nodes_of_maybe o base) (texts-nodes a (base + maybe_size o))
+  texts-nodes (trees.Case at a cs) base =
+      behind_two (nodes base a) (nodes_of_cases (base + tree_size a) cs) (node.Case at (root base a) (branch_roots (base + tree_size a) cs)) _ _ refl (texts-nodes a base) (texts-nodes_of_cases cs (base + tree_size a))
+  texts-nodes (trees.New at class) base = refl
+  texts-nodes (trees.IsVoid at a) base = behind_one (nodes base a) (node.IsVoid at (root base a)) _ refl (texts-nodes a base)
+  texts-nodes (trees.Arith at op a b) base =
+      behind_two (nodes base a) (nodes (base + tree_size a) b) (node.Arith at op (root base a) (root (base + tree_size a) b)) _ _ refl (texts-nodes a base) (texts-nodes b (base + tree_size a))
+  texts-nodes (trees.Neg at a) base = behind_one (nodes base a) (node.Neg at (root base a)) _ refl (texts-nodes a base)
+  texts-nodes (trees.Compare at op a b) base =
+      behind_two (nodes base a) (nodes (base + tree_size a) b) (node.Compare at op (root base a) (root (base + tree_size a) b)) _ _ refl (texts-nodes a base) (texts-nodes b (base + tree_size a))
+  texts-nodes (trees.Not at a) base = behind_one (nodes base a) (node.Not at (root base a)) _ refl (texts-nodes a base)
+  texts-nodes (trees.Id at name) base = refl
+  texts-nodes (trees.Int at value) base = refl
+  texts-nodes (trees.Str at bytes) base = omega arith
+  texts-nodes (trees.Bool at value) base = refl
+
+  -- the lists of some trees have their bytes
+  texts-nodes_of_all : (ts : Trees) (base : ℕ) → texts (nodes_of_all base ts) ≡ text_in_all ts
+  texts-nodes_of_all Last base = refl
+  texts-nodes_of_all (More t ts) base =
+      omega (arith, texts-append (nodes base t) (nodes_of_all (base + tree_size t) ts), texts-nodes t base, texts-nodes_of_all ts (base + tree_size t))
+
+  -- the list of a tree that is there has its bytes
+  texts-nodes_of_maybe : (o : MaybeTree) (base : ℕ) → texts (nodes_of_maybe base o) ≡ text_in_maybe o
+  texts-nodes_of_maybe Without base = refl
+  texts-nodes_of_maybe (With t) base = texts-nodes t base
+
+  -- the lists of branches have their bytes
+  texts-nodes_of_cases : (cs : Cases) (base : ℕ) → texts (nodes_of_cases base cs) ≡ text_in_cases cs
+  texts-nodes_of_cases NoCase base = refl
+  texts-nodes_of_cases (CaseOf at name declared t cs) base =
+      omega (arith, texts-append (nodes base t) (nodes_of_cases (base + tree_size t) cs), texts-nodes t base, texts-nodes_of_cases cs (base + tree_size t))
+
+-- what a node bears, with the bytes of its string
+abbrev pub node_burden : Node → ℕ
+node_burden n = node_weight n + node_text n
+
+abbrev pub burden : List Node → ℕ
+burden ns = weight ns + texts ns
+
+-- one more node
+pub burden-placed : (ns : List Node) (n : Node) → burden (ns ++ n ∷ []) ≡ burden ns + node_burden n
+burden-placed ns n = omega (arith, weight-placed ns n, texts-placed ns n)
+
+-- what a body has of nodes, branches and bytes is what its nodes bear
+pub body_burden : (ns : List Node) → IsPostorder ns → tree_size (tree_of ns) + branches_in (tree_of ns) + text_in (tree_of ns) ≡ burden ns
+body_burden ns (t, e) =
+    let text : text_in (tree_of ns) ≡ texts ns = ap text_in (ap tree_of e ∙ tree_of-nodes t) ∙ sym (texts-nodes t 0) ∙ ap texts (sym e) in
+    omega (arith, text, body_weight ns (t, e))

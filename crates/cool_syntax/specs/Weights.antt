@@ -1,0 +1,70 @@
+-- How much a text holds: the names of its classes, and the formals, nodes, branches and bytes of string constants of its features.
+use Rattle.std.specs.Prelude.{◌≡◌, ℕ, ◌+◌, List, [], ◌∷◌, length, codes, Option, Some, None, refl}
+use Rattle.cool_syntax.specs.declared.place.Place.{Place}
+use Rattle.cool_syntax.specs.declared.type_ref.TypeRef.{TypeRef}
+use Rattle.cool_syntax.specs.declared.file_tree.ClassDef.{ClassDef}
+use Rattle.cool_syntax.specs.declared.file_tree.Feature.{Feature}
+use Rattle.cool_syntax.specs.declared.file_tree.Feature.TheVariants.{Method, Attribute}
+use Rattle.cool_syntax.specs.Tree.{Tree, Trees, MaybeTree, Cases, Last, More, Without, With, NoCase, CaseOf}
+use Rattle.cool_syntax.specs.Tree as trees
+use Rattle.cool_syntax.specs.FeatureSizes.{feature_size}
+
+-- how many bytes the string constants of a tree have
+abbrev mutual
+  pub text_in : Tree → ℕ
+  text_in (trees.Assign at name t) = text_in t
+  text_in (trees.Dispatch at t name ts) = text_in t + text_in_all ts
+  text_in (trees.StaticDispatch at t class name ts) = text_in t + text_in_all ts
+  text_in (trees.If at t y n) = text_in t + text_in y + text_in n
+  text_in (trees.While at t b) = text_in t + text_in b
+  text_in (trees.Block at ts) = text_in_all ts
+  text_in (trees.Let at name declared o t) = text_in_maybe o + text_in t
+  text_in (trees.Case at t cs) = text_in t + text_in_cases cs
+  text_in (trees.New at class) = 0
+  text_in (trees.IsVoid at t) = text_in t
+  text_in (trees.Arith at op a b) = text_in a + text_in b
+  text_in (trees.Neg at t) = text_in t
+  text_in (trees.Compare at op a b) = text_in a + text_in b
+  text_in (trees.Not at t) = text_in t
+  text_in (trees.Id at name) = 0
+  text_in (trees.Int at value) = 0
+  text_in (trees.Str at bytes) = length bytes
+  text_in (trees.Bool at value) = 0
+
+  pub text_in_all : Trees → ℕ
+  text_in_all Last = 0
+  text_in_all (More t ts) = text_in t + text_in_all ts
+
+  pub text_in_maybe : MaybeTree → ℕ
+  text_in_maybe Without = 0
+  text_in_maybe (With t) = text_in t
+
+  pub text_in_cases : Cases → ℕ
+  text_in_cases NoCase = 0
+  text_in_cases (CaseOf at name declared t cs) = text_in t + text_in_cases cs
+
+abbrev pub text_of_value : Option Tree → ℕ
+text_of_value None = 0
+text_of_value (Some t) = text_in t
+
+abbrev pub text_of_feature : Feature → ℕ
+text_of_feature (Method m) = text_in m.body
+text_of_feature (Attribute a) = text_of_value a.init
+
+-- a feature: itself, its formals, its nodes and branches, and the bytes of its strings
+abbrev pub feature_weight : Feature → ℕ
+feature_weight f = 1 + feature_size f + text_of_feature f
+
+abbrev pub features_weight : List Feature → ℕ
+features_weight [] = 0
+features_weight (f ∷ fs) = feature_weight f + features_weight fs
+
+-- classes: each itself, its name and its features
+abbrev pub classes_weight : List ClassDef → ℕ
+classes_weight [] = 0
+classes_weight (c ∷ cs) = 1 + length c.name + features_weight c.features + classes_weight cs
+
+-- Worked example: `f(x : T) : T { "ab" }` is one feature with one formal, one node and two bytes.
+weight_of_method : (p : Place) (c : TypeRef)
+    → feature_weight (Method (record { name = codes "f"; at = p; formals = record { name = codes "x"; at = p; declared = c } ∷ []; result = c; body = trees.Str p (codes "ab") })) ≡ 5
+weight_of_method p c = refl
