@@ -1,36 +1,75 @@
--- Where the depths of all classes are known, the classes stand above one another as in a whole table.
-use Rattle.std.proofs.Common.{◌≡◌, ℕ, zero, suc, ◌+◌, ◌<◌, List, [], ◌∷◌, length, map, get_or, Option, Some, None, sym, ◌∙◌, subst, arith}
-use Rattle.std.proofs.Math.ListN.{get_or-map}
+-- Where the depths of all classes are right, the classes stand above one another as in a whole table.
+use Rattle.std.proofs.Common.{◌≡◌, ℕ, zero, suc, ◌+◌, ◌<◌, List, [], ◌∷◌, length, map, get_or, Option, Some, None, sym, ap, ◌∙◌, refl, subst, arith}
+use Rattle.std.specs.List.{AllByRecursion}
 use Rattle.cool_classes.specs.declared.class_id.ClassId.{ClassId}
-use Rattle.cool_classes.specs.Chains.{Class, class_number, parent_of, nothing}
+use Rattle.cool_classes.specs.Chains.{Class, class_number, parent_of}
 use Rattle.cool_classes.specs.Tables.{IsGrounded}
-use Rattle.cool_classes.specs.Depths.{IsRight, AreSound}
+use Rattle.cool_classes.specs.Depths.{parents_with_basic, HasDepth}
 
--- a depth that is known stands within the list
-known_within : (ds : List (Option ℕ)) (k e : ℕ) → get_or ds k None ≡ Some e → k < length ds
-known_within [] k e h = absurd (cc)
-known_within (d ∷ ds) zero e h = omega arith
-known_within (d ∷ ds) (suc k) e h = let less : k < length ds = known_within ds k e h in omega arith
+-- a class has one depth
+one_depth : (all : List (Option ClassId)) (c d e : ℕ) → HasDepth all c d → HasDepth all c e → d ≡ e
+one_depth all c zero zero h k = refl
+one_depth all c zero (suc e) h k = let is = k.1 in absurd (cc)
+one_depth all c (suc d) zero h k = let is = h.1 in absurd (cc)
+one_depth all c (suc d) (suc e) h k =
+    let h_is = h.1 in
+    let k_is = k.1 in
+    let same : k.0 ≡ h.0 = cc in
+    ap suc (one_depth all h.0.0 d e h.2 (subst (λ (q : ClassId). HasDepth all q.0 e) same k.2))
 
--- the depth of each class is known
-abbrev pub AreKnown : List Class → List (Option ℕ) → (ClassId → ℕ) → Type 0
-AreKnown p ds depth = (length ds ≡ length p) × ((c : ClassId) → c.0 < length p → get_or ds c.0 None ≡ Some (depth c))
+-- a parent is one of the classes
+some_parent : (P : ClassId → Type 0) (ps : List ClassId) (k : ℕ) (q : ClassId) → AllByRecursion P ps → get_or (map Some ps) k None ≡ Some q → P q
+some_parent P [] k q all e = absurd (cc)
+some_parent P (p ∷ ps) zero q all e = let same : p ≡ q = cc in subst P same all.0
+some_parent P (p ∷ ps) (suc k) q all e = some_parent P ps k q all.1 e
 
-right_here : (p : List Class) (ds : List (Option ℕ)) (depth : ClassId → ℕ) → AreSound (map (λ (c : Class). c.parent) p) ds → AreKnown p ds depth → (c : ClassId) → c.0 < length p
-    → (o : Option ClassId) → parent_of p c ≡ o → IsRight o ds (depth c)
-right_here p ds depth sound known c within o e =
-    subst (λ (x : Option ClassId). IsRight x ds (depth c)) (get_or-map (λ (c : Class). c.parent) p c.0 nothing ∙ e) (sound c.0 (depth c) (known.1 c within))
+-- Object is one of the classes
+object_low : (m : ℕ) (q : ClassId) → Some (class_number 0) ≡ Some q → 0 < m → q.0 < m
+object_low m q e some = let same : class_number 0 ≡ q = cc in subst (λ (c : ClassId). c.0 < m) same some
 
-some_same : (a b : ℕ) → Some a ≡ Some b → a ≡ b
-some_same a b h = cc
+-- the parent of a class is one of the classes
+pub parents_low_by : (ps : List ClassId) (m : ℕ) → 0 < m → AllByRecursion (λ (q : ClassId). q.0 < m) ps → (n : ℕ) (q : ClassId) → get_or (parents_with_basic ps) n None ≡ Some q → q.0 < m
+parents_low_by ps m some all zero q e = absurd (cc)
+parents_low_by ps m some all (suc zero) q e = object_low m q e some
+parents_low_by ps m some all (suc (suc zero)) q e = object_low m q e some
+parents_low_by ps m some all (suc (suc (suc zero))) q e = object_low m q e some
+parents_low_by ps m some all (suc (suc (suc (suc zero)))) q e = object_low m q e some
+parents_low_by ps m some all (suc (suc (suc (suc (suc k))))) q e = some_parent (λ (c : ClassId). c.0 < m) ps k q all e
 
-pub grounded_by : (p : List Class) (ds : List (Option ℕ)) (depth : ClassId → ℕ) → AreSound (map (λ (c : Class). c.parent) p) ds → AreKnown p ds depth
-    → ((c : ClassId) → c.0 < length p → parent_of p c ≡ None → c ≡ class_number 0) → IsGrounded p depth
-grounded_by p ds depth sound known only = record {
+-- only Object has no parent
+no_parent : (ps : List ClassId) (k : ℕ) → k < length ps → get_or (map Some ps) k None ≡ None → ⊥
+no_parent [] k less e = absurd (omega arith)
+no_parent (p ∷ ps) zero less e = absurd (cc)
+no_parent (p ∷ ps) (suc k) less e = no_parent ps k (omega arith) e
+
+-- only Object has no parent
+pub only_object : (ps : List ClassId) (n : ℕ) → n < length ps + 5 → get_or (parents_with_basic ps) n None ≡ None → n ≡ 0
+only_object ps zero less e = refl
+only_object ps (suc zero) less e = absurd (cc)
+only_object ps (suc (suc zero)) less e = absurd (cc)
+only_object ps (suc (suc (suc zero))) less e = absurd (cc)
+only_object ps (suc (suc (suc (suc zero)))) less e = absurd (cc)
+only_object ps (suc (suc (suc (suc (suc k))))) less e = absurd (no_parent ps k (omega arith) e)
+
+-- a class stands one deeper than its parent
+deeper : (all : List (Option ClassId)) (c : ℕ) (q : ClassId) (d e : ℕ) → get_or all c None ≡ Some q → HasDepth all c d → HasDepth all q.0 e → d ≡ e + 1
+deeper all c q zero e is has above = absurd (cc)
+deeper all c q (suc d) e is has above =
+    let has_is = has.1 in
+    let same : has.0 ≡ q = cc in
+    let equal : d ≡ e = one_depth all q.0 d e (subst (λ (x : ClassId). HasDepth all x.0 d) same has.2) above in
+    omega arith
+
+-- right depths put the classes above one another
+pub grounded_by : (p : List Class) (ps : List ClassId) (depth : ClassId → ℕ) → length p ≡ length ps + 5 → ((c : ClassId) → parent_of p c ≡ get_or (parents_with_basic ps) c.0 None)
+    → AllByRecursion (λ (q : ClassId). q.0 < length ps + 5) ps → ((c : ClassId) → c.0 < length ps + 5 → HasDepth (parents_with_basic ps) c.0 (depth c)) → IsGrounded p depth
+grounded_by p ps depth long parents all has = record {
   above = λ c q within e.
-      let r = right_here p ds depth sound known c within (Some q) e in
-      let q_within : q.0 < length p = let less : q.0 < length ds = known_within ds q.0 r.0 r.1 in let l : length ds ≡ length p = known.0 in omega arith in
-      let same : depth q ≡ r.0 = some_same (depth q) r.0 (sym (known.1 q q_within) ∙ r.1) in
-      (q_within, (let d : depth c ≡ r.0 + 1 = r.2 in omega arith));
-  top = λ c within e. (only c within e, right_here p ds depth sound known c within None e);
+      let is : get_or (parents_with_basic ps) c.0 None ≡ Some q = sym (parents c) ∙ e in
+      let low : q.0 < length ps + 5 = parents_low_by ps (length ps + 5) (omega arith) all c.0 q is in
+      (omega arith, deeper (parents_with_basic ps) c.0 q (depth c) (depth q) is (has c (omega arith)) (has q low));
+  top = λ c within e.
+      let is : get_or (parents_with_basic ps) c.0 None ≡ None = sym (parents c) ∙ e in
+      let first : c.0 ≡ 0 = only_object ps c.0 (omega arith) is in
+      ((λ i. record { 0 = first i }), one_depth (parents_with_basic ps) c.0 (depth c) 0 (has c (omega arith)) is);
 }

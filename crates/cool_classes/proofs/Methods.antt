@@ -70,7 +70,7 @@ unfolding Finding
 finding_missing p first now f e up w ds h = let s = w ds h in missing_in p now f e up s.0 s.1 ∙ sym s.2
 
 -- a method that a class has of its own is there
-user_has : (p : List Class) (c : ClassId) (f : List ℕ) (o : Option ℕ) → first_method 0 (features_of p c) f ≡ o → c.0 < length p → IfSome (user_method c o) (HasMethod p)
+pub user_has : (p : List Class) (c : ClassId) (f : List ℕ) (o : Option ℕ) → first_method 0 (features_of p c) f ≡ o → c.0 < length p → IfSome (user_method c o) (HasMethod p)
 user_has p c f None e within = tt
 user_has p c f (Some j) e within =
     let w = first_is_method (features_of p c) f 0 j e in

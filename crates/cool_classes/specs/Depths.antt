@@ -1,17 +1,23 @@
--- Depths of classes by their parents: which depths are right, where that of some classes may not be known.
-use Rattle.std.specs.Prelude.{◌≡◌, ℕ, ◌+◌, List, length, get_or, Option, Some, None}
+-- How many classes stand above each class, by the parents of all (the Cool manual, section 3).
+use Rattle.std.specs.Prelude.{◌≡◌, ℕ, zero, suc, ◌+◌, ◌<◌, List, [], ◌∷◌, map, length, get_or, Option, Some, None, refl}
 use Rattle.cool_classes.specs.declared.class_id.ClassId.{ClassId}
+use Rattle.cool_classes.specs.Chains.{class_number}
 
--- a depth is right for a class with this parent: one more than the parent's, which is known
-abbrev pub IsRight : Option ClassId → List (Option ℕ) → ℕ → Type 0
-IsRight None depths d = d ≡ 0
-IsRight (Some q) depths d = (e : ℕ) × (get_or depths q.0 None ≡ Some e) × (d ≡ e + 1)
+-- the parents of the basic classes and, behind them, those of definitions
+abbrev pub parents_with_basic : List ClassId → List (Option ClassId)
+parents_with_basic parents =
+    None ∷ Some (class_number 0) ∷ Some (class_number 0) ∷ Some (class_number 0) ∷ Some (class_number 0) ∷ map Some parents
 
--- each depth that is known is right
-abbrev pub AreSound : List (Option ClassId) → List (Option ℕ) → Type 0
-AreSound parents depths = (k d : ℕ) → get_or depths k None ≡ Some d → IsRight (get_or parents k None) depths d
+-- so many classes stand above a class
+abbrev pub HasDepth : List (Option ClassId) → ℕ → ℕ → Type 0
+HasDepth all c zero = get_or all c None ≡ None
+HasDepth all c (suc d) = (q : ClassId) × (get_or all c None ≡ Some q) × HasDepth all q.0 d
 
--- the depths of all classes, as far as they are known
-pub record AreDepths (parents : List (Option ClassId)) (depths : List (Option ℕ)) : Type 0 where
+-- the depth of each definition is known and right
+pub record AreDepths (parents : List ClassId) (depths : List (Option ℕ)) : Type 0 where
   pub same : length depths ≡ length parents
-  pub sound : AreSound parents depths
+  pub right : (k : ℕ) → k < length parents → (d : ℕ) × (get_or depths k None ≡ Some d) × HasDepth (parents_with_basic parents) (k + 5) d
+
+-- Worked example: a class below IO stands below two classes.
+depth_below_io : HasDepth (parents_with_basic (class_number 1 ∷ [])) 5 2
+depth_below_io = (class_number 1, refl, (class_number 0, refl, refl))

@@ -138,6 +138,26 @@ abbrev pub HasMethod : List Class → MethodRef → Type 0
 HasMethod p (Basic b) = Unit {0}
 HasMethod p (User c k) = (c.0 < length p) × IsMethod (slice_get (features_of p c) k)
 
+abbrev pub IsAttribute : Option Feature → Type 0
+IsAttribute None = ⊥
+IsAttribute (Some (Method m)) = ⊥
+IsAttribute (Some (Attribute a)) = Unit {0}
+
+-- there is such an attribute; its name, and its type as the source names it
+abbrev pub HasAttribute : List Class → AttributeRef → Type 0
+HasAttribute p a = (a.owner.0 < length p) × IsAttribute (slice_get (features_of p a.owner) a.index)
+
+abbrev pub name_in : Option Feature → List ℕ
+name_in None = []
+name_in (Some (Method m)) = m.name
+name_in (Some (Attribute a)) = a.name
+
+abbrev pub attribute_name : List Class → AttributeRef → List ℕ
+attribute_name p a = name_in (slice_get (features_of p a.owner) a.index)
+
+abbrev pub attribute_type : List Class → AttributeRef → List ℕ
+attribute_type p a = result_in (slice_get (features_of p a.owner) a.index)
+
 -- a name of the source denotes a type
 abbrev pub Denotes : List Class → List ℕ → Ty → Type 0
 Denotes p name (IsClass c) = (c.0 < length p) × (name_of p c ≡ name)

@@ -1,6 +1,17 @@
 pub mod Chains
+pub mod Definitions
 pub mod Depths
 pub mod Entries
+pub mod FaultLists
+pub mod FeatureFaults
 pub mod Features
+pub mod FirstNames
+pub mod Limits
+pub mod Lineages
+pub mod MethodNames
 pub mod Names
+pub mod OwnNames
+pub mod Resolved
+pub mod Settled
 pub mod Tables
+pub mod Walks

@@ -3,14 +3,15 @@
 ghost use Rattle.std.specs.Prelude.{◌≡◌, ◌<◌, ◌^◌, ◌++◌, List, length, IfOk, OnOk, Some};
 ghost use Rattle.cool_classes.specs.declared.class_id.ClassId as number;
 ghost use Rattle.cool_classes.specs.Chains.{IsChain};
-ghost use Rattle.cool_classes.specs.Features.{own_attributes, attributes_of};
+ghost use Rattle.std.specs.List.{AllByRecursion};
+ghost use Rattle.cool_classes.specs.Features.{own_attributes, attributes_of, attribute_name, HasAttribute};
 ghost use Rattle.cool_classes.specs.Entries.{classes, AreWhole};
 
 use crate::class_id::ClassId;
 use crate::climbing::chain;
 use crate::entry::Entry;
 use crate::method::AttributeRef;
-use cool_syntax::Feature;
+use cool_syntax::{Feature, Name};
 use std::alloc::{AllocError, Global};
 
 /// Adds the attributes that a class has of its own, in textual order. `Err` comes only for want of memory.
@@ -41,7 +42,8 @@ pub(crate) fn attributes(
 ) -> Result<Vec<AttributeRef>, AllocError>
     requires within { c.0 < length entries.now }
     requires whole { AreWhole entries.now }
-    ensures { IfOk result (λ all. (ds : List number.ClassId) → IsChain (classes entries.now) (Some c) ds → all.items ≡ attributes_of (classes entries.now) ds) }
+    ensures attributes { IfOk result (λ all. (ds : List number.ClassId) → IsChain (classes entries.now) (Some c) ds → all.items ≡ attributes_of (classes entries.now) ds) }
+    ensures has { IfOk result (λ all. AllByRecursion (HasAttribute (classes entries.now)) all.items) }
 {
     let ids = chain(alloc, entries, c)?;
     let mut attributes = Vec::new(alloc);
@@ -54,4 +56,17 @@ pub(crate) fn attributes(
         )?;
     }
     Ok(attributes)
+}
+
+/// The name of an attribute.
+pub(crate) fn name(entries: &[Entry], attribute: AttributeRef) -> &Name
+    requires whole { AreWhole entries.now }
+    requires has { HasAttribute (classes entries.now) attribute }
+    ensures { result.now ≡ attribute_name (classes entries.now) attribute }
+{
+    let features = entries[attribute.owner.0 as usize].features.as_slice();
+    match &features[attribute.index as usize] {
+        Feature::Attribute(found) => &found.name,
+        Feature::Method(_) => unreachable!(),
+    }
 }

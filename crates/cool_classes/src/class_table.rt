@@ -3,7 +3,8 @@
 ghost use Rattle.std.specs.Prelude.{◌≡◌, ◌+◌, ◌<◌, ◌↔◌, IsTrue, IfSome, IfNone, IfOk, Some, List, [], length, get_or};
 ghost use Rattle.cool_classes.specs.declared.class_id.ClassId as number;
 ghost use Rattle.cool_classes.specs.Chains.{IsChain, Below, IsJoin, name_of, parent_of, features_of};
-ghost use Rattle.cool_classes.specs.Features.{implementation, attributes_of, HasMethod, Denotes, formals_of, result_of};
+ghost use Rattle.std.specs.List.{AllByRecursion};
+ghost use Rattle.cool_classes.specs.Features.{implementation, attributes_of, attribute_name, attribute_type, HasAttribute, HasMethod, Denotes, formals_of, result_of};
 ghost use Rattle.cool_classes.specs.Tables.{IsTable, IsNamed};
 ghost use Rattle.cool_classes.specs.Entries.{classes, AreWhole};
 
@@ -75,7 +76,8 @@ impl ClassTable {
     /// The features of a class, in textual order. A basic class has none.
     pub fn features(&self, c: ClassId) -> &[Feature]
         requires within { c.0 < length self.now }
-        ensures { result.now ≡ features_of self.now c }
+        ensures features { result.now ≡ features_of self.now c }
+        ensures table { IsTable self.now }
     {
         self.entries[c.0 as usize].features.as_slice()
     }
@@ -128,9 +130,26 @@ impl ClassTable {
     /// comes only for want of memory.
     pub fn attributes(&self, alloc: Global, c: ClassId) -> Result<Vec<AttributeRef>, AllocError>
         requires within { c.0 < length self.now }
-        ensures { IfOk result (λ all. (ds : List number.ClassId) → IsChain self.now (Some c) ds → all.items ≡ attributes_of self.now ds) }
+        ensures attributes { IfOk result (λ all. (ds : List number.ClassId) → IsChain self.now (Some c) ds → all.items ≡ attributes_of self.now ds) }
+        ensures has { IfOk result (λ all. AllByRecursion (HasAttribute self.now) all.items) }
     {
         attributes::attributes(alloc, self.entries.as_slice(), c)
+    }
+
+    /// The name of an attribute.
+    pub fn attribute_name(&self, attribute: AttributeRef) -> &Name
+        requires has { HasAttribute self.now attribute }
+        ensures { result.now ≡ attribute_name self.now attribute }
+    {
+        attributes::name(self.entries.as_slice(), attribute)
+    }
+
+    /// The declared type of an attribute.
+    pub fn attribute_type(&self, attribute: AttributeRef) -> Ty
+        requires has { HasAttribute self.now attribute }
+        ensures { Denotes self.now (attribute_type self.now attribute) result }
+    {
+        signature::attribute_type(self.entries.as_slice(), attribute)
     }
 
     /// How many formals a method has.

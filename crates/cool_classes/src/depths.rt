@@ -1,99 +1,150 @@
-//! How many classes stand above each class, by the parents of all.
+//! How many classes stand above each definition, and which definitions stand on cycles of parents (the Cool manual,
+//! section 3).
+//!
+//! A definition is named by its position among the definitions, its class by its number, which is higher by the number of
+//! the basic classes. Each definition is passed once, so the cost is linear.
 
-ghost use Rattle.std.specs.Prelude.{◌≡◌, ◌<◌, length, IfSome, IfOk};
-ghost use Rattle.cool_classes.specs.Depths.{IsRight, AreSound, AreDepths};
+ghost use Rattle.std.specs.Prelude.{◌≡◌, ◌+◌, ◌-◌, ◌<◌, ◌^◌, ◌++◌, List, [], length, IfOk, OnOk};
+ghost use Rattle.cool_classes.specs.declared.class_id.ClassId as number;
+ghost use Rattle.std.specs.List.{AllByRecursion};
+ghost use Rattle.cool_classes.specs.Depths.{parents_with_basic, HasDepth, AreDepths};
+ghost use Rattle.cool_classes.specs.Walks.{settled, cycle_of, IsClimb, AreWalked};
 
-use crate::class_id::ClassId;
+use crate::basic::BASIC_CLASSES;
+use crate::class_id::{ClassId, OBJECT};
+use crate::path::Path;
 use std::alloc::{AllocError, Global};
 
-/// The depth of a class with this parent, where the parent's is known.
-fn depth_below(parent: Option<ClassId>, depths: &[Option<u32>]) -> Option<u32>
-    ensures { IfSome result (λ d. IsRight parent depths.now d) }
+/// What is found of the definitions.
+#[derive(Drop)]
+pub(crate) struct Hierarchy {
+    /// How many classes stand above each definition: none for one on a cycle or below one.
+    pub(crate) known: Vec<Option<u32>>,
+    /// The definitions on cycles.
+    pub(crate) cyclic: Vec<usize>,
+}
+
+/// What a climb comes to.
+#[derive(Clone, Copy)]
+pub(crate) enum Above {
+    /// A class of this depth.
+    Known(u32),
+    /// A definition that the climb has passed.
+    Cycle(usize),
+    /// A definition that leads to a cycle found before.
+    Lost,
+}
+
+/// How many classes stand above a basic class.
+fn basic_depth(class: ClassId) -> u32
+    requires { class.0 < 5 }
+    ensures depth { (parents : List number.ClassId) → HasDepth (parents_with_basic parents) class.0 result }
+    ensures low { result < 2 }
 {
-    match parent {
-        None => Some(0),
-        Some(above) => match depths.get(above.0 as usize) {
-            Some(Some(depth)) if *depth < u32::MAX => Some(*depth + 1),
-            _ => None,
-        },
-    }
+    if class == OBJECT { 0 } else { 1 }
 }
 
-/// Notes the depth of a class, where its parent's is known and its own is not.
-fn settle(parents: &[Option<ClassId>], depths: &mut [Option<u32>], class: usize)
-    requires within { class < length depths.old }
-    requires same { length depths.old ≡ length parents.now }
-    ensures { AreSound parents.now depths.old → AreSound parents.now depths.new }
+/// Climbs from a definition to a class whose depth is known, or to a definition that was passed. `Err` comes only for want
+/// of memory.
+fn climb(
+    parents: &[ClassId],
+    known: &[Option<u32>],
+    passed: &mut [Option<usize>],
+    path: &mut Path,
+    start: usize,
+) -> Result<Above, AllocError>
+    requires within { start < length parents.now }
+    requires parents { AllByRecursion (λ q. q.0 < length parents.now + 5) parents.now }
+    requires known { length known.now ≡ length parents.now }
+    requires passed { length passed.old ≡ length parents.now }
+    requires fresh { path.old ≡ [] }
+    ensures { IfOk result (λ above. IsClimb parents.now known.now passed.old start passed.new path.new above) }
 {
-    if depths[class].is_none() {
-        let depth = depth_below(parents[class], depths);
-        depths[class] = depth;
+    let mut class = start;
+    loop {
+        if let Some(depth) = known[class] {
+            return Ok(Above::Known(depth));
+        }
+        if let Some(first) = passed[class] {
+            return Ok(if first == start {
+                Above::Cycle(class)
+            } else {
+                Above::Lost
+            });
+        }
+        passed[class] = Some(start);
+        path.push(class)?;
+        let parent = parents[class];
+        if parent.0 < BASIC_CLASSES {
+            return Ok(Above::Known(basic_depth(parent)));
+        }
+        class = (parent.0 - BASIC_CLASSES) as usize;
     }
 }
 
-/// Classes in an order in which each follows its parent: first those with no parent, then their children, and so on. A
-/// class that is on a cycle or below one is left out.
-fn parents_first(alloc: Global, parents: &[Option<ClassId>]) -> Result<Vec<usize>, AllocError> {
-    let mut first_child: Vec<Option<usize>> = Vec::from_elem(alloc, None, parents.len())?;
-    let mut next_sibling: Vec<Option<usize>> = Vec::from_elem(alloc, None, parents.len())?;
-    let mut order = Vec::new(alloc);
-    for class in (0..parents.len()).rev() {
-        match parents[class] {
-            None => order.push(class)?,
-            Some(parent) => {
-                if let Some(child) = first_child.get_mut(parent.0 as usize) {
-                    if let Some(sibling) = next_sibling.get_mut(class) {
-                        *sibling = *child;
-                    }
-                    *child = Some(class);
-                }
-            }
-        }
+/// Notes the depths of the definitions of a path, below a class of this depth.
+fn settle(known: &mut [Option<u32>], mut path: Path, above: u32)
+    requires within { AllByRecursion (λ k. k < length known.old) path }
+    requires room { above + length path < 2 ^ 32 }
+    ensures { known.new ≡ settled path above known.old }
+{
+    let mut depth = above;
+    while let Some(class) = path.pop() {
+        depth += 1;
+        known[class] = Some(depth);
     }
-    for index in 0..parents.len() {
-        if let Some(class) = order.get(index).copied() {
-            add_children(
-                &mut order,
-                &next_sibling,
-                first_child.get(class).copied().flatten(),
-            )?;
-        }
-    }
-    Ok(order)
 }
 
-/// Adds a class and its next siblings.
-fn add_children(
-    order: &mut Vec<usize>,
-    next_sibling: &[Option<usize>],
-    first: Option<usize>,
-) -> Result<(), AllocError> {
-    let mut child = first;
-    for _ in 0..next_sibling.len() {
-        match child {
-            None => return Ok(()),
-            Some(class) => {
-                order.push(class)?;
-                child = next_sibling.get(class).copied().flatten();
-            }
+/// Notes the definitions of a path from its last one back to this one. `Err` comes only for want of memory.
+fn note_cycle(cyclic: &mut Vec<usize>, mut path: Path, first: usize) -> Result<(), AllocError>
+    ensures { OnOk result (cyclic.new.items ≡ cyclic.old.items ++ cycle_of first path) }
+{
+    while let Some(class) = path.pop() {
+        cyclic.push(class)?;
+        if class == first {
+            return Ok(());
         }
     }
     Ok(())
 }
 
-/// The depth of each class that has a chain. `Err` comes only for want of memory. The cost is linear in the number of
-/// classes.
-pub(crate) fn depths(
+/// Finds the depth of a definition and of all above it, or a cycle that they lead to. `Err` comes only for want of memory.
+fn walk(
     alloc: Global,
-    parents: &[Option<ClassId>],
-) -> Result<Vec<Option<u32>>, AllocError>
-    ensures { IfOk result (λ all. AreDepths parents.now all.items) }
+    parents: &[ClassId],
+    found: &mut Hierarchy,
+    passed: &mut [Option<usize>],
+    start: usize,
+) -> Result<(), AllocError>
+    requires within { start < length parents.now }
+    requires parents { AllByRecursion (λ q. q.0 < length parents.now + 5) parents.now }
+    requires few { length parents.now < 2 ^ 32 - 5 }
+    requires walked { AreWalked parents.now start found.old.known.items found.old.cyclic.items passed.old }
+    ensures { OnOk result (AreWalked parents.now (start + 1) found.new.known.items found.new.cyclic.items passed.new) }
 {
-    let mut depths = Vec::from_elem(alloc, None, parents.len())?;
-    for class in parents_first(alloc, parents)? {
-        if class < parents.len() {
-            settle(parents, &mut depths, class);
-        }
+    let mut path = Path::new(alloc);
+    match climb(parents, &found.known, passed, &mut path, start)? {
+        Above::Known(depth) => settle(&mut found.known, path, depth),
+        Above::Cycle(first) => note_cycle(&mut found.cyclic, path, first)?,
+        Above::Lost => {}
     }
-    Ok(depths)
+    Ok(())
+}
+
+/// The depth of each definition that has a chain, and the definitions on cycles. `Err` comes only for want of memory.
+pub(crate) fn depths(alloc: Global, parents: &[ClassId]) -> Result<Hierarchy, AllocError>
+    requires parents { AllByRecursion (λ q. q.0 < length parents.now + 5) parents.now }
+    requires few { length parents.now < 2 ^ 32 - 5 }
+    ensures cyclic { IfOk result (λ found. AllByRecursion (λ k. k < length parents.now) found.cyclic.items) }
+    ensures known { IfOk result (λ found. found.cyclic.items ≡ [] → AreDepths parents.now found.known.items) }
+{
+    let mut found = Hierarchy {
+        known: Vec::from_elem(alloc, None, parents.len())?,
+        cyclic: Vec::new(alloc),
+    };
+    let mut passed = Vec::from_elem(alloc, None, parents.len())?;
+    for start in 0..parents.len() {
+        walk(alloc, parents, &mut found, &mut passed, start)?;
+    }
+    Ok(found)
 }

@@ -7,20 +7,40 @@
 mod attributes;
 mod basic;
 mod basic_entries;
+mod building;
 mod class_id;
+mod class_phase;
 mod class_table;
 mod climbing;
 mod depths;
 mod entry;
 mod fault;
+mod fault_list;
+mod feature_limits;
+mod feature_phase;
+mod first_names;
+mod lineage;
 mod lookup;
 mod method;
 mod names;
+mod own_names;
+mod path;
 mod signature;
+mod signature_faults;
 #[cfg(test)]
 mod tests;
 
+pub use building::table;
 pub use class_id::{BOOL, ClassId, INT, IO, OBJECT, STRING, Ty};
 pub use class_table::ClassTable;
 pub use fault::{ClassFault, ClassKind, TableError};
 pub use method::{AttributeRef, BasicMethod, MethodRef};
+
+/// The most classes of a program, besides the basic ones.
+pub const MOST_CLASSES: usize = 1_000;
+
+/// The most attributes of a class with those that it inherits.
+pub const MOST_ATTRIBUTES: usize = 2_000;
+
+/// The most methods of a class with those that it inherits, each name once.
+pub const MOST_METHODS: usize = 2_000;

@@ -1,7 +1,7 @@
-//! What methods declare: the types of their formals and their results.
+//! What features declare: the types of the formals and the results of methods, and of attributes.
 
 ghost use Rattle.std.specs.Prelude.{◌≡◌, ◌<◌, [], length, get_or};
-ghost use Rattle.cool_classes.specs.Features.{HasMethod, Denotes, formals_of, result_of};
+ghost use Rattle.cool_classes.specs.Features.{HasAttribute, HasMethod, Denotes, attribute_type, formals_of, result_of};
 ghost use Rattle.cool_classes.specs.Tables.{IsTypeName};
 ghost use Rattle.cool_classes.specs.Entries.{classes, AreWhole};
 
@@ -9,7 +9,7 @@ use crate::basic::{basic_formal, basic_formal_count, basic_result};
 use crate::class_id::Ty;
 use crate::entry::Entry;
 use crate::lookup::class_named;
-use crate::method::MethodRef;
+use crate::method::{AttributeRef, MethodRef};
 use cool_syntax::Feature;
 
 /// The type of this name.
@@ -79,5 +79,18 @@ pub(crate) fn result(entries: &[Entry], method: MethodRef) -> Ty
                 Feature::Attribute(_) => unreachable!(),
             }
         }
+    }
+}
+
+/// The declared type of an attribute.
+pub(crate) fn attribute_type(entries: &[Entry], attribute: AttributeRef) -> Ty
+    requires whole { AreWhole entries.now }
+    requires has { HasAttribute (classes entries.now) attribute }
+    ensures { Denotes (classes entries.now) (attribute_type (classes entries.now) attribute) result }
+{
+    let features = entries[attribute.owner.0 as usize].features.as_slice();
+    match &features[attribute.index as usize] {
+        Feature::Attribute(found) => type_named(entries, found.declared.name.as_slice()),
+        Feature::Method(_) => unreachable!(),
     }
 }

@@ -1,13 +1,14 @@
 -- The attributes of a chain are those of its classes, from Object down.
 use Rattle.std.proofs.Common.{◌≡◌, ◌<◌, ◌-◌, ◌++◌, ℕ, List, length, drop, get_or, Some, ap, sym, ◌∙◌, subst, arith}
+use Rattle.std.specs.List.{AllByRecursion}
 use Rattle.cool_classes.specs.declared.class_id.ClassId.{ClassId}
 use Rattle.cool_syntax.specs.declared.file_tree.Feature.{Feature}
 use Rattle.cool_classes.specs.Chains.{Class, features_of}
-use Rattle.cool_classes.specs.Features.{own_attributes, attributes_of}
+use Rattle.cool_classes.specs.Features.{own_attributes, attributes_of, HasAttribute}
 use Rattle.cool_classes.specs.Entries.{classes, depth_at}
 use Rattle.cool_classes.proofs.Seen.{class_read, within_classes, within_entries}
 use Rattle.cool_classes.proofs.Climbs.{all_within, chain_unique}
-use Rattle.cool_classes.proofs.AttributesOfChains.{one_more}
+use Rattle.cool_classes.proofs.AttributesOfChains.{one_more, attributes_have}
 use Rattle.cool_classes.proofs.attributes.attributes.Goals as goal
 
 pub bounds-entries-id : goal.bounds-entries-id
@@ -62,10 +63,20 @@ loop-index-preserved c =
     ∙ ap (λ (x : ClassId). c.loop-index.attributes.items ++ own_attributes x 0 (features_of p x)) c.index-id.ensures
     ∙ one_more p ids c.loop-index.index id c.loop-index.attributes.items a less c.loop-index.invariant
 
-pub returns : goal.returns
-returns c ds h =
+pub returns-clause-attributes : goal.returns-clause-attributes
+returns-clause-attributes c ds h =
     let p = classes c.args.entries.now in
     let ids = c.in_ok-ids.ids.items in
     let zero_there : c.loop-index.index ≡ 0 = let t = c.loop-index-test.false in omega arith in
     let all = ap (λ (k : ℕ). attributes_of p (drop k ids)) zero_there in
     c.loop-index.invariant ∙ all ∙ ap (attributes_of p) (chain_unique p (Some c.args.c) ids ds c.in_ok-ids.ensures h)
+
+pub returns-clause-has : goal.returns-clause-has
+returns-clause-has c =
+    let es = c.args.entries.now in
+    let p = classes es in
+    let ids = c.in_ok-ids.ids.items in
+    let zero_there : c.loop-index.index ≡ 0 = let t = c.loop-index-test.false in omega arith in
+    let all = ap (λ (k : ℕ). attributes_of p (drop k ids)) zero_there in
+    subst (AllByRecursion (HasAttribute p)) (sym (c.loop-index.invariant ∙ all))
+    (attributes_have p ids (all_within p (depth_at es) c.requires.whole.grounded c.args.c (within_classes es c.args.c c.requires.within) ids c.in_ok-ids.ensures))

@@ -1,6 +1,6 @@
--- The depths that are known are right.
-use Rattle.cool_classes.specs.Depths.{AreDepths}
+-- The walks from the definitions before this one are done.
+use Rattle.cool_classes.specs.Walks.{AreWalked}
 use Rattle.cool_classes.proofs.depths.depths.Given as goal
 
-abbrev pub invariant-loop-class : goal.invariant-loop-class
-invariant-loop-class l = AreDepths l.parents l.depths.items
+abbrev pub invariant-loop-start : goal.invariant-loop-start
+invariant-loop-start l = AreWalked l.parents l.start l.found.known.items l.found.cyclic.items l.passed.items

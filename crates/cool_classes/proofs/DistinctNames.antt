@@ -1,0 +1,62 @@
+-- Classes whose names no earlier class has have names of their own.
+use Rattle.std.proofs.Common.{◌≡◌, ◌≢◌, ◌⊎◌, inl, inr, ℕ, zero, suc, ◌+◌, ◌-◌, ◌<◌, ◌≤◌, List, [], ◌∷◌, ◌++◌, length, take, get_or, Option, Some, None, Bool, true, false, cond, sym, ap, ◌∙◌, refl, subst, arith, true≢false}
+use Rattle.std.specs.Prelude.{bytes_eq, codes}
+use Rattle.std.proofs.lemmas.List.{length-map, length-take-le, get_or-take}
+use Rattle.std.proofs.lemmas.Bool.{cases_order}
+use Rattle.std.proofs.lemmas.Slice.Eq.{bytes_eq-Decides}
+use Rattle.cool_syntax.specs.declared.file_tree.ClassDef.{ClassDef}
+use Rattle.cool_classes.specs.declared.class_id.ClassId.{ClassId}
+use Rattle.cool_classes.specs.Chains.{class_number}
+use Rattle.cool_classes.specs.Names.{first_named}
+use Rattle.cool_classes.specs.Settled.{basic_names, names_in, names_with_basic, AreNamedAnew}
+use Rattle.cool_classes.proofs.NamesOfDefinitions.{names_long}
+
+-- a name that is there is found
+found_there : (j : ℕ) (names : List (List ℕ)) (k : ℕ) (f : List ℕ) → k < length names → get_or names k [] ≡ f → first_named j names f ≢ None
+found_there j [] k f within is e = absurd (omega arith)
+found_there j (name ∷ names) zero f within is e =
+    let same : bytes_eq f name ≡ true = (bytes_eq-Decides f name).1 (sym is) in
+    let here : first_named j (name ∷ names) f ≡ Some (class_number j) = ap (λ (b : Bool). cond b (Some (class_number j)) (first_named (j + 1) names f)) same in
+    absurd (cc)
+found_there j (name ∷ names) (suc k) f within is e = by (bytes_eq f name) e (found_there (j + 1) names k f (omega arith) is)
+  where
+    by : (b : Bool) → cond b (Some (class_number j)) (first_named (j + 1) names f) ≡ None → first_named (j + 1) names f ≢ None → ⊥
+    by true h more = absurd (cc)
+    by false h more = more h
+
+-- each name is new where it stands
+abbrev AreNew : List (List ℕ) → Type 0
+AreNew names = (k : ℕ) → k < length names → first_named 0 (take k names) (get_or names k []) ≡ None
+
+-- a name that is new stands nowhere before
+not_before : (names : List (List ℕ)) → AreNew names → (j k : ℕ) → k < length names → j < k → get_or names j [] ≢ get_or names k []
+not_before names new j k within less same =
+    let long : length (take k names) ≡ k = length-take-le k names (omega arith) in
+    found_there 0 (take k names) j (get_or names k []) (omega arith) (get_or-take k names j [] less ∙ same) (new k within)
+
+-- two places with one name are one
+pub same_place : (names : List (List ℕ)) → AreNew names → (j k : ℕ) → j < length names → k < length names → get_or names j [] ≡ get_or names k [] → j ≡ k
+same_place names new j k j_within k_within same =
+    elim (cases_order j k) [ inl e ↦ e | inr less ↦ absurd (elim less [ inl before ↦ not_before names new j k k_within before same | inr after ↦ not_before names new k j j_within after (sym same) ]) ]
+
+-- the names of basic classes and of definitions without faults are new where they stand
+pub all_new : (ds : List ClassDef) → AreNamedAnew ds (length ds) → (k : ℕ) → k < length (names_with_basic ds) → first_named 0 (take k (names_with_basic ds)) (get_or (names_with_basic ds) k []) ≡ None
+all_new ds named zero within = refl
+all_new ds named (suc zero) within = refl
+all_new ds named (suc (suc zero)) within = refl
+all_new ds named (suc (suc (suc zero))) within = refl
+all_new ds named (suc (suc (suc (suc zero)))) within = refl
+all_new ds named (suc (suc (suc (suc (suc k))))) within = let long = names_long ds in (named k (omega arith)).anew
+
+-- texts with another byte at a place are different
+byte_apart : (xs ys : List ℕ) (k : ℕ) → get_or xs k 0 ≢ get_or ys k 0 → xs ≢ ys
+byte_apart xs ys k apart e = apart (ap (λ (zs : List ℕ). get_or zs k 0) e)
+
+-- no class is named SELF_TYPE
+pub no_self_types : (ds : List ClassDef) → AreNamedAnew ds (length ds) → (k : ℕ) → k < length ds + 5 → get_or (names_with_basic ds) k [] ≢ codes "SELF_TYPE"
+no_self_types ds named zero within = byte_apart (codes "Object") (codes "SELF_TYPE") 0 (λ e. omega arith)
+no_self_types ds named (suc zero) within = byte_apart (codes "IO") (codes "SELF_TYPE") 0 (λ e. omega arith)
+no_self_types ds named (suc (suc zero)) within = byte_apart (codes "Int") (codes "SELF_TYPE") 0 (λ e. omega arith)
+no_self_types ds named (suc (suc (suc zero))) within = byte_apart (codes "Bool") (codes "SELF_TYPE") 0 (λ e. omega arith)
+no_self_types ds named (suc (suc (suc (suc zero)))) within = byte_apart (codes "String") (codes "SELF_TYPE") 1 (λ e. omega arith)
+no_self_types ds named (suc (suc (suc (suc (suc k))))) within = (named k (omega arith)).no_self_type

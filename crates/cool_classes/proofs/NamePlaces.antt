@@ -1,0 +1,109 @@
+-- A map from names to their first places, when the next place comes.
+use Rattle.std.proofs.Common.{◌≡◌, ℕ, suc, ◌+◌, List, [], ◌∷◌, ◌++◌, length, Option, Some, None, is_some, Bool, true, false, cond, ap, sym, ◌∙◌, refl, arith, true≢false}
+use Rattle.std.specs.Prelude.{bytes_eq}
+use Rattle.std.specs.Map.{lookup}
+use Rattle.std.specs.HashMap.{get}
+use Rattle.std.specs.Option.{option_copied}
+use Rattle.std.proofs.lemmas.List.{map-append}
+use Rattle.std.proofs.lemmas.Slice.Eq.{bytes_eq-Decides}
+use denote.Ref.{Bor}
+use Rattle.indexmap.specs.IndexMap.{IndexMap, insert_entry}
+use Rattle.indexmap.proofs.CallerLemmas.{insert_entry-new}
+use Rattle.cool_classes.specs.FirstNames.{first_place, places_shown, FindsPlaces}
+
+-- the first of two answers
+pub or_else : Option ℕ → Option ℕ → Option ℕ
+or_else None o = o
+or_else (Some c) o = Some c
+
+-- names are compared byte by byte, behind references
+abbrev pub same_key : Bor (List ℕ) → Bor (List ℕ) → Bool
+same_key x y = bytes_eq x.now y.now
+
+-- a look-up behind references finds what it finds among the names
+pub shown_lookup : (f : List ℕ) (entries : List (Bor (List ℕ) × ℕ)) → lookup (λ key. bytes_eq f key.now) entries ≡ lookup (bytes_eq f) (places_shown entries)
+shown_lookup f [] = refl
+shown_lookup f (entry ∷ rest) = ap (λ (o : Option ℕ). cond (bytes_eq f entry.0.now) (Some entry.1) o) (shown_lookup f rest)
+
+-- a new name comes behind the others
+pub shown_after : {S : Type 0} (m : IndexMap (Bor (List ℕ)) ℕ S) (key : Bor (List ℕ)) (place : ℕ)
+    → get same_key m key ≡ None → places_shown (insert_entry same_key m.entries key place) ≡ places_shown m.entries ++ (key.now, place) ∷ []
+shown_after m key place none =
+    ap places_shown (insert_entry-new same_key m key place none) ∙ map-append (λ (entry : Bor (List ℕ) × ℕ). (entry.0.now, entry.1)) m.entries ((key, place) ∷ [])
+
+-- the first place of a name in a row with one more name
+pub first_more : (k : ℕ) (row : List (Option (List ℕ))) (name f : List ℕ)
+    → first_place k (row ++ Some name ∷ []) f ≡ or_else (first_place k row f) (cond (bytes_eq f name) (Some (k + length row)) None)
+unfolding or_else
+first_more k [] name f = let e : k ≡ k + 0 = omega arith in ap (λ (n : ℕ). cond (bytes_eq f name) (Some n) None) e
+first_more k (None ∷ row) name f =
+    let e : k + 1 + length row ≡ k + suc (length row) = omega arith in
+    first_more (k + 1) row name f ∙ ap (λ (n : ℕ). or_else (first_place (k + 1) row f) (cond (bytes_eq f name) (Some n) None)) e
+first_more k (Some x ∷ row) name f = by (bytes_eq f x) (first_more (k + 1) row name f)
+  where
+    by : (b : Bool) → first_place (k + 1) (row ++ Some name ∷ []) f ≡ or_else (first_place (k + 1) row f) (cond (bytes_eq f name) (Some (k + 1 + length row)) None)
+        → cond b (Some k) (first_place (k + 1) (row ++ Some name ∷ []) f)
+        ≡ or_else (cond b (Some k) (first_place (k + 1) row f)) (cond (bytes_eq f name) (Some (k + length (Some x ∷ row))) None)
+    by true h = refl
+    by false h =
+        let e : k + 1 + length row ≡ k + length (Some x ∷ row) = omega arith in
+        h ∙ ap (λ (n : ℕ). or_else (first_place (k + 1) row f) (cond (bytes_eq f name) (Some n) None)) e
+
+-- a place with no name changes no first place
+pub first_none : (k : ℕ) (row : List (Option (List ℕ))) (f : List ℕ) → first_place k (row ++ None ∷ []) f ≡ first_place k row f
+first_none k [] f = refl
+first_none k (None ∷ row) f = first_none (k + 1) row f
+first_none k (Some x ∷ row) f = ap (cond (bytes_eq f x) (Some k)) (first_none (k + 1) row f)
+
+-- a map finds as much after a place with no name
+pub finds_none : (entries : List (List ℕ × ℕ)) (row : List (Option (List ℕ))) → FindsPlaces entries row → FindsPlaces entries (row ++ None ∷ [])
+finds_none entries row finds f = finds f ∙ sym (first_none 0 row f)
+
+lookup_more : (f : List ℕ) (entries : List (List ℕ × ℕ)) (name : List ℕ) (place : ℕ)
+    → lookup (bytes_eq f) (entries ++ (name, place) ∷ []) ≡ or_else (lookup (bytes_eq f) entries) (cond (bytes_eq f name) (Some place) None)
+unfolding or_else
+lookup_more f [] name place = refl
+lookup_more f (entry ∷ rest) name place = by (bytes_eq f entry.0) (lookup_more f rest name place)
+  where
+    by : (b : Bool) → lookup (bytes_eq f) (rest ++ (name, place) ∷ []) ≡ or_else (lookup (bytes_eq f) rest) (cond (bytes_eq f name) (Some place) None)
+        → cond b (Some entry.1) (lookup (bytes_eq f) (rest ++ (name, place) ∷ [])) ≡ or_else (cond b (Some entry.1) (lookup (bytes_eq f) rest)) (cond (bytes_eq f name) (Some place) None)
+    by true h = refl
+    by false h = h
+
+-- a name that stands at no earlier place
+pub finds_new : (entries : List (List ℕ × ℕ)) (row : List (Option (List ℕ))) (name : List ℕ) (place : ℕ) → place ≡ length row → FindsPlaces entries row
+    → FindsPlaces (entries ++ (name, place) ∷ []) (row ++ Some name ∷ [])
+finds_new entries row name place number finds f =
+    lookup_more f entries name place
+    ∙ ap (λ (o : Option ℕ). or_else o (cond (bytes_eq f name) (Some place) None)) (finds f)
+    ∙ ap (λ (n : ℕ). or_else (first_place 0 row f) (cond (bytes_eq f name) (Some n) None)) (number ∙ zero_plus (length row))
+    ∙ sym (first_more 0 row name f)
+  where
+    zero_plus : (n : ℕ) → n ≡ 0 + n
+    zero_plus n = omega arith
+
+kept : (o : Option ℕ) (b : Bool) (c : ℕ) → (b ≡ true → is_some o ≡ true) → o ≡ or_else o (cond b (Some c) None)
+unfolding or_else
+kept (Some x) b c h = refl
+kept None false c h = refl
+kept None true c h = absurd (true≢false (sym (h refl)))
+
+-- a name that stands at an earlier place
+pub finds_old : (entries : List (List ℕ × ℕ)) (row : List (Option (List ℕ))) (name : List ℕ) → is_some (lookup (bytes_eq name) entries) ≡ true → FindsPlaces entries row
+    → FindsPlaces entries (row ++ Some name ∷ [])
+finds_old entries row name there finds f =
+    finds f
+    ∙ kept (first_place 0 row f) (bytes_eq f name) (0 + length row) (λ e.
+    let same : f ≡ name = (bytes_eq-Decides f name).0 e in
+    ap is_some (sym (finds f) ∙ ap (λ (g : List ℕ). lookup (bytes_eq g) entries) same) ∙ there)
+    ∙ sym (first_more 0 row name f)
+
+-- a look-up that copies finds as much
+pub copied_some : (o : Option (Bor ℕ)) → is_some (option_copied o) ≡ is_some o
+copied_some None = refl
+copied_some (Some c) = refl
+
+-- nothing is there
+pub nothing_there : (o : Option ℕ) → is_some o ≡ false → o ≡ None
+nothing_there None h = refl
+nothing_there (Some c) h = absurd (true≢false h)

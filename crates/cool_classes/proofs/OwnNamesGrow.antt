@@ -1,0 +1,116 @@
+-- The names of features and of classes, when one more is noted, and what they find.
+use Rattle.std.proofs.Common.{◌≡◌, ℕ, ◌+◌, ◌<◌, ◌≤◌, List, [], ◌∷◌, ◌++◌, map, length, get_or, take, drop, Option, Some, None, is_some, ◌||◌, Bool, true, false, cond, ap, sym, ◌∙◌, refl, subst, arith}
+use Rattle.std.specs.Prelude.{bytes_eq, nat_lt, option_map}
+use Rattle.std.specs.List.{AllByRecursion}
+use Rattle.std.proofs.lemmas.Bool.{ltb-true, ltb-false, le-ltb}
+use Rattle.std.proofs.lemmas.Bool.Decides.{same_from_decides}
+use Rattle.std.proofs.lemmas.List.{map-append, length-map, length-append, get_or_append_left, get_or_push, take_more, drop_more, at_drop_more}
+use Rattle.std.proofs.lemmas.Slice.Eq.{bytes_eq-Decides}
+use denote.Ref.{Bor}
+use Rattle.cool_syntax.specs.declared.file_tree.Feature.{Feature}
+use Rattle.cool_syntax.specs.declared.file_tree.Feature.TheVariants.{Method, Attribute}
+use Rattle.cool_syntax.specs.declared.file_tree.MethodDef.{MethodDef}
+use Rattle.cool_syntax.specs.declared.file_tree.AttributeDef.{AttributeDef}
+use Rattle.cool_classes.specs.declared.class_id.ClassId.{ClassId}
+use Rattle.cool_classes.specs.declared.entry.Entry.{Entry}
+use Rattle.cool_classes.specs.declared.own_names.OwnNames.{OwnNames}
+use Rattle.cool_classes.specs.declared.own_names.Scope.{Scope}
+use Rattle.cool_classes.specs.declared.method.MethodRef.TheVariants.{Basic}
+use Rattle.cool_classes.specs.Chains.{Class, class_number, features_of}
+use Rattle.cool_classes.specs.Entries.{classes, class_of}
+use Rattle.cool_classes.specs.Features.{first_method, own_method, user_method, method_among, basic_methods}
+use Rattle.cool_classes.specs.FirstNames.{first_place, places_shown, FindsPlaces, method_name, attribute_name}
+use Rattle.cool_classes.specs.OwnNames.{AreOwn, AreAllOwn, AreNamed, IsScope}
+use Rattle.cool_classes.specs.FeatureFaults.{have_attribute}
+use Rattle.cool_classes.proofs.NamePlaces.{finds_none}
+
+-- a row of one more feature
+row_next : (name : Feature → Option (List ℕ)) (fs : List Feature) (x : Feature) (o : Option (List ℕ)) → name x ≡ o → (entries : List (List ℕ × ℕ))
+    → FindsPlaces entries (map name fs ++ o ∷ []) → FindsPlaces entries (map name (fs ++ x ∷ []))
+row_next name fs x o e entries finds =
+    subst (FindsPlaces entries) (ap (λ (y : Option (List ℕ)). map name fs ++ y ∷ []) (sym e) ∙ sym (map-append name fs (x ∷ []))) finds
+
+-- one more method
+pub own_method_next : (own : OwnNames) (methods : List (Bor (List ℕ) × ℕ)) (fs : List Feature) (x : Feature) (m : MethodDef) → x ≡ Method m → AreOwn own fs
+    → FindsPlaces (places_shown methods) (map method_name fs ++ Some m.name ∷ [])
+    → FindsPlaces (places_shown methods) (map method_name (fs ++ x ∷ [])) × FindsPlaces (places_shown own.attributes.entries) (map attribute_name (fs ++ x ∷ []))
+own_method_next own methods fs x m is have finds = (
+  row_next method_name fs x (Some m.name) (ap method_name is) (places_shown methods) finds,
+  row_next attribute_name fs x None (ap attribute_name is) (places_shown own.attributes.entries) (finds_none (places_shown own.attributes.entries) (map attribute_name fs) have.attributes),
+)
+
+-- one more attribute
+pub own_attribute_next : (own : OwnNames) (attributes : List (Bor (List ℕ) × ℕ)) (fs : List Feature) (x : Feature) (a : AttributeDef) → x ≡ Attribute a → AreOwn own fs
+    → FindsPlaces (places_shown attributes) (map attribute_name fs ++ Some a.name ∷ [])
+    → FindsPlaces (places_shown own.methods.entries) (map method_name (fs ++ x ∷ [])) × FindsPlaces (places_shown attributes) (map attribute_name (fs ++ x ∷ []))
+own_attribute_next own attributes fs x a is have finds = (
+  row_next method_name fs x None (ap method_name is) (places_shown own.methods.entries) (finds_none (places_shown own.methods.entries) (map method_name fs) have.methods),
+  row_next attribute_name fs x (Some a.name) (ap attribute_name is) (places_shown attributes) finds,
+)
+
+-- one more class
+pub named_next : (entries : List (Bor (List ℕ) × ℕ)) (es : List Entry) (k : ℕ) (d : Entry) → k < length es
+    → FindsPlaces (places_shown entries) (map (λ (c : Class). Some c.name) (classes (take k es)) ++ Some (get_or es k d).name ∷ []) → AreNamed entries (take (k + 1) es)
+named_next entries es k d within finds =
+    let more : classes (take (k + 1) es) ≡ classes (take k es) ++ class_of (get_or es k d) ∷ [] = ap classes (take_more es k d within) ∙ map-append class_of (take k es) (get_or es k d ∷ []) in
+    subst (FindsPlaces (places_shown entries)) (sym (ap (map (λ (c : Class). Some c.name)) more ∙ map-append (λ (c : Class). Some c.name) (classes (take k es)) (class_of (get_or es k d) ∷ []))) finds
+
+-- a row of classes has as many places as there are entries
+pub named_length : (es : List Entry) → length (map (λ (c : Class). Some c.name) (classes es)) ≡ length es
+named_length es = length-map (classes es) (λ (c : Class). Some c.name) ∙ length-map es class_of
+
+-- the names of one more class's features
+pub all_own_next : (k : ℕ) (all : List OwnNames) (p : List Class) (own : OwnNames) → AreAllOwn k all p → AreOwn own (features_of p (class_number k)) → AreAllOwn (k + 1) (all ++ own ∷ []) p
+all_own_next k all p own have here = record {
+  same = let a = have.same in simp length-append (omega arith);
+  own = λ c d less. by c d less (nat_lt c k) refl;
+}
+  where
+    by : (c : ℕ) (d : OwnNames) → c < k + 1 → (b : Bool) → nat_lt c k ≡ b → AreOwn (get_or (all ++ own ∷ []) c d) (features_of p (class_number c))
+    by c d less true e =
+        let below : c < k = ltb-true c k e in
+        let inside : c < length all = let a = have.same in omega arith in
+        subst (λ (o : OwnNames). AreOwn o (features_of p (class_number c))) (sym (get_or_append_left all (own ∷ []) d c inside)) (have.own c d below)
+    by c d less false e =
+        let past : k ≤ c = ltb-false c k e in
+        let last : length all ≡ c = let a = have.same in omega arith in
+        let same : k ≡ c = omega arith in
+        subst (λ (o : OwnNames). AreOwn o (features_of p (class_number c))) (sym (get_or_push all own d c last)) (subst (λ (n : ℕ). AreOwn own (features_of p (class_number n))) same here)
+
+-- names are the same either way round
+bytes_eq_turned : (x y : List ℕ) → bytes_eq x y ≡ bytes_eq y x
+bytes_eq_turned x y = let d = bytes_eq-Decides y x in same_from_decides (bytes_eq x y) (bytes_eq y x) (bytes_eq-Decides x y) (λ h. sym (d.0 h), λ h. d.1 (sym h))
+
+-- the first method of a name is at the first place of the name
+pub first_method_place : (k : ℕ) (fs : List Feature) (f : List ℕ) → first_place k (map method_name fs) f ≡ first_method k fs f
+first_method_place k [] f = refl
+first_method_place k (Method m ∷ fs) f =
+    ap (λ (b : Bool). cond b (Some k) (first_place (k + 1) (map method_name fs) f)) (bytes_eq_turned f m.name) ∙ ap (cond (bytes_eq m.name f) (Some k)) (first_method_place (k + 1) fs f)
+first_method_place k (Attribute a ∷ fs) f = first_method_place (k + 1) fs f
+
+-- the method that a class of the program has of its own
+pub own_of_user : (p : List Class) (c : ClassId) (f : List ℕ) (o : Option ℕ) → 5 ≤ c.0 → o ≡ first_method 0 (features_of p c) f → user_method c o ≡ own_method p c f
+own_of_user p c f o past e =
+    ap (user_method c) e ∙ sym (ap (λ (b : Bool). cond b (option_map Basic (method_among (basic_methods c.0) f)) (user_method c (first_method 0 (features_of p c) f))) (le-ltb c.0 5 past))
+
+-- the names of a class of a scope
+pub own_there : (scope : Scope) (c : ClassId) (own : OwnNames) → IsScope scope → c.0 < length scope.entries.now → own ≡ get_or scope.own.items c.0 own
+    → AreOwn own (features_of (classes scope.entries.now) c)
+own_there scope c own is within read =
+    subst (λ (o : OwnNames). AreOwn o (features_of (classes scope.entries.now) c)) (sym read) (is.own.own c.0 own within)
+
+-- a class that has an attribute, among others
+pub attribute_here : (p : List Class) (ds : List ClassId) (k : ℕ) (d : ClassId) (f : List ℕ) → k < length ds
+    → is_some (first_place 0 (map attribute_name (features_of p (get_or ds k d))) f) ≡ true → have_attribute p (drop k ds) f ≡ true
+attribute_here p ds k d f within h =
+    at_drop_more (λ (xs : List ClassId). have_attribute p xs f) ds k d within ∙ ap (λ (b : Bool). b || have_attribute p (drop (k + 1) ds) f) h
+
+-- a class that has no such attribute leaves the matter to the others
+pub attribute_later : (p : List Class) (ds : List ClassId) (k : ℕ) (d : ClassId) (f : List ℕ) → k < length ds
+    → is_some (first_place 0 (map attribute_name (features_of p (get_or ds k d))) f) ≡ false → have_attribute p (drop (k + 1) ds) f ≡ have_attribute p (drop k ds) f
+attribute_later p ds k d f within h =
+    sym (at_drop_more (λ (xs : List ClassId). have_attribute p xs f) ds k d within ∙ ap (λ (b : Bool). b || have_attribute p (drop (k + 1) ds) f) h)
+
+-- what holds of a rest of a list holds of its first item and of the rest behind it
+pub all_first : {X : Type 0} (P : X → Type 0) (xs : List X) (k : ℕ) (d : X) → k < length xs → AllByRecursion P (drop k xs) → P (get_or xs k d) × AllByRecursion P (drop (k + 1) xs)
+all_first P xs k d within h = subst (AllByRecursion P) (drop_more xs k d within) h

@@ -1,0 +1,7 @@
+-- The definitions so far with those of the files that are left are all.
+use Rattle.std.proofs.Common.{◌≡◌, ◌++◌}
+use Rattle.cool_classes.specs.Definitions.{definitions}
+use Rattle.cool_classes.proofs.building.definitions_of.Given as goal
+
+abbrev pub invariant-loop-file : goal.invariant-loop-file
+invariant-loop-file l = l.all.items ++ definitions l.file-iterator.rest.items ≡ definitions l.fn.files.items

@@ -1,0 +1,7 @@
+-- The places of the definitions so far are there.
+use Rattle.std.proofs.Common.{◌≡◌, map, take}
+use Rattle.cool_syntax.specs.declared.file_tree.ClassDef.{ClassDef}
+use Rattle.cool_classes.proofs.building.places_of.Given as goal
+
+abbrev pub invariant-loop-definition : goal.invariant-loop-definition
+invariant-loop-definition l = l.places.items ≡ map (λ (d : ClassDef). d.at) (take l.definition-index l.definitions)

@@ -1,0 +1,68 @@
+-- Settled definitions make the entries, whose features are good where they have no fault.
+use Rattle.std.proofs.Common.{rules, ◌≡◌, ◌+◌, ℕ, List, length, map, sym, ap, ◌∙◌, subst}
+use Rattle.std.proofs.lemmas.List.{length-map}
+use Rattle.cool_syntax.specs.declared.place.Place.{Place}
+use Rattle.cool_syntax.specs.declared.file_tree.ClassDef.{ClassDef}
+use Rattle.cool_syntax.specs.TreesWithinLimits.{AreClassesWithin}
+use Rattle.cool_classes.specs.declared.entry.Entry.{Entry}
+use Rattle.cool_classes.specs.Definitions.{definitions, AreFew, IsTableOf}
+use Rattle.cool_classes.specs.Entries.{classes}
+use Rattle.cool_classes.specs.FaultLists.{IsPlacedRefusal}
+use Rattle.cool_classes.specs.Resolved.{AreResolved, AreGood, ArePlaced}
+use Rattle.cool_classes.specs.Settled.{AreSettled, entries_of}
+use Rattle.cool_classes.proofs.Resolving.{resolved_by, table_by, placed_by, entries_long, whole_by}
+use Rattle.cool_classes.proofs.building.table.Goals as goal
+
+pub returns-in_err-ancestry-clause-places : goal.returns-in_err-ancestry-clause-places
+returns-in_err-ancestry-clause-places c n some all =
+    let here = subst (AreClassesWithin n) (sym (c.deref.ensures.value ∙ c.in_ok-definitions.ensures)) all in
+    let placed : IsPlacedRefusal n c.in_err-ancestry.field-0.0 = c.in_err-ancestry.ensures.places n some here in
+    search rules
+
+pub feature_faults-requires-clause-resolved : goal.feature_faults-requires-clause-resolved
+feature_faults-requires-clause-resolved c =
+    let ds = c.in_ok-definitions.definitions.items in
+    let os = c.in_ok-ancestry.ancestry.depths.items in
+    let settled = subst (λ (xs : List ClassDef). AreSettled xs os) c.deref.ensures.value c.in_ok-ancestry.ensures.settled in
+    let few = subst AreFew (sym c.in_ok-definitions.ensures) c.requires.few in
+    subst AreResolved (sym (c.deref-3.ensures.value ∙ c.in_ok-entries.ensures)) (resolved_by ds os few settled)
+
+pub feature_faults-requires-clause-places : goal.feature_faults-requires-clause-places
+feature_faults-requires-clause-places c =
+    let ds = c.in_ok-definitions.definitions.items in
+    let os = c.in_ok-ancestry.ancestry.depths.items in
+    let settled = subst (λ (xs : List ClassDef). AreSettled xs os) c.deref.ensures.value c.in_ok-ancestry.ensures.settled in
+    let places : length c.deref-4.result.now ≡ length ds =
+    ap length (c.deref-4.ensures.value ∙ c.in_ok-places.ensures) ∙ length-map c.deref-2.result.now (λ (d : ClassDef). d.at) ∙ ap length c.deref-2.ensures.value in
+    let entries : length c.deref-3.result.now ≡ length (entries_of ds os) = ap length (c.deref-3.ensures.value ∙ c.in_ok-entries.ensures) in
+    ap (λ (n : ℕ). n + 5) places ∙ entries_long ds os settled ∙ sym entries
+
+pub returns-in_err-refuse_faults-clause-places : goal.returns-in_err-refuse_faults-clause-places
+returns-in_err-refuse_faults-clause-places c n some all =
+    let ds = c.in_ok-definitions.definitions.items in
+    let os = c.in_ok-ancestry.ancestry.depths.items in
+    let settled = subst (λ (xs : List ClassDef). AreSettled xs os) c.deref.ensures.value c.in_ok-ancestry.ensures.settled in
+    let here = subst (AreClassesWithin n) (sym c.in_ok-definitions.ensures) all in
+    let entries = sym (c.deref-3.ensures.value ∙ c.in_ok-entries.ensures) in
+    let places = sym (c.deref-4.ensures.value ∙ c.in_ok-places.ensures ∙ ap (map (λ (d : ClassDef). d.at)) c.deref-2.ensures.value) in
+    let there = subst (λ (es : List Entry). ArePlaced n es c.deref-4.result.now) entries (subst (λ (ps : List Place). ArePlaced n (entries_of ds os) ps) places (placed_by n ds os settled here)) in
+    let placed : IsPlacedRefusal n c.in_err-refuse_faults.field-0.0 = c.in_err-refuse_faults.ensures.places n (c.in_ok-faults.ensures.places n there) in
+    search rules
+
+pub from_entries-requires : goal.from_entries-requires
+from_entries-requires c =
+    let ds = c.in_ok-definitions.definitions.items in
+    let os = c.in_ok-ancestry.ancestry.depths.items in
+    let settled = subst (λ (xs : List ClassDef). AreSettled xs os) c.deref.ensures.value c.in_ok-ancestry.ensures.settled in
+    let few = subst AreFew (sym c.in_ok-definitions.ensures) c.requires.few in
+    let resolved = subst AreResolved (sym c.in_ok-entries.ensures) (resolved_by ds os few settled) in
+    let good = subst (λ (es : List Entry). AreGood (classes es)) c.deref-3.ensures.value (c.in_ok-faults.ensures.good c.in_ok-refuse_faults.ensures.none) in
+    record { whole = whole_by c.in_ok-entries.entries.items resolved good }
+
+pub returns-clause-table : goal.returns-clause-table
+returns-clause-table c =
+    let ds = c.in_ok-definitions.definitions.items in
+    let os = c.in_ok-ancestry.ancestry.depths.items in
+    let settled = subst (λ (xs : List ClassDef). AreSettled xs os) c.deref.ensures.value c.in_ok-ancestry.ensures.settled in
+    subst (IsTableOf (definitions c.args.files.items)) (sym (c.from_entries.ensures ∙ ap classes c.in_ok-entries.ensures))
+    (subst (λ (xs : List ClassDef). IsTableOf xs (classes (entries_of ds os))) c.in_ok-definitions.ensures (table_by ds os settled))

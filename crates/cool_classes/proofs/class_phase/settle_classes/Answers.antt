@@ -1,0 +1,33 @@
+-- Parents of definitions are classes, definitions on cycles are there, and what the passes add is placed.
+use Rattle.std.proofs.Common.{rules, ◌≡◌, ◌+◌, ◌<◌, ℕ, List, length, sym, ap, ◌∙◌, subst}
+use Rattle.std.specs.List.{AllByRecursion}
+use Rattle.cool_syntax.specs.TokenFacts.{IsPlaced}
+use Rattle.cool_classes.specs.declared.fault.ClassFault.{ClassFault}
+use Rattle.cool_classes.specs.FaultLists.{IsPlacedRefusal}
+use Rattle.cool_classes.specs.declared.class_id.ClassId.{ClassId}
+use Rattle.cool_classes.specs.Settled.{names_with_basic}
+use Rattle.cool_classes.proofs.ParentsOfDefinitions.{parents_within, parents_long}
+use Rattle.cool_classes.proofs.class_phase.settle_classes.Goals as goal
+
+pub depths-requires-clause-parents : goal.depths-requires-clause-parents
+depths-requires-clause-parents c =
+    let ds = c.args.definitions.now in
+    subst (λ (xs : List ClassId). AllByRecursion (λ (q : ClassId). q.0 < length xs + 5) xs) (sym (c.deref.ensures.value ∙ c.in_ok-parents.ensures.parents)) (parents_within ds)
+
+pub add_cyclic-requires : goal.add_cyclic-requires
+add_cyclic-requires c =
+    let ds = c.args.definitions.now in
+    let all = c.in_ok-found.ensures.cyclic in
+    let long : length c.deref.result.now ≡ length ds = ap length (c.deref.ensures.value ∙ c.in_ok-parents.ensures.parents) ∙ parents_long (names_with_basic ds) ds in
+    record { within = subst (AllByRecursion (λ (k : ℕ). k < length ds)) (sym c.deref-2.ensures.value) (subst (λ (n : ℕ). AllByRecursion (λ (k : ℕ). k < n) c.in_ok-found.found.cyclic.items) long all) }
+
+pub returns-in_err-refuse_faults-clause-places : goal.returns-in_err-refuse_faults-clause-places
+returns-in_err-refuse_faults-clause-places c n some all =
+    let start : AllByRecursion (λ (f : ClassFault). IsPlaced n f.at) c.new-faults.result.items = subst (AllByRecursion (λ (f : ClassFault). IsPlaced n f.at)) (sym c.new-faults.ensures.items) tt in
+    let one = c.in_ok-names.ensures.adds.places n all start in
+    let two = c.in_ok-parents.ensures.adds.places n all one in
+    let three = c.in_ok-add_cyclic.ensures.adds.places n all two in
+    let four = c.in_ok-check_main.ensures.places n some three in
+    let five = c.in_ok-check_number.ensures.adds.places n all four in
+    let placed : IsPlacedRefusal n c.in_err-refuse_faults.field-0.0 = c.in_err-refuse_faults.ensures.places n five in
+    search rules

@@ -1,0 +1,10 @@
+-- What is noted with what is left of the cycle is the whole of it.
+use Rattle.std.proofs.Common.{◌≡◌, ◌++◌, length}
+use Rattle.cool_classes.specs.Walks.{cycle_of}
+use Rattle.cool_classes.proofs.depths.note_cycle.Given as goal
+
+abbrev pub invariant-loop-class : goal.invariant-loop-class
+invariant-loop-class l = l.cyclic.items ++ cycle_of l.first l.path ≡ l.fn.cyclic.items ++ cycle_of l.first l.fn.path
+
+abbrev pub decreases-loop-class : goal.decreases-loop-class
+decreases-loop-class l = length l.path

@@ -1,0 +1,32 @@
+-- Faults that are put in order are the same ones.
+use Rattle.std.proofs.Common.{rules, ◌≡◌, ◌≢◌, inl, inr, List, [], length, sym, ap, ◌∷◌, ◌∙◌, refl, subst, arith}
+use Rattle.std.specs.List.{AllByRecursion}
+use Rattle.std.proofs.lemmas.List.Sorted.{length_permutation}
+use Rattle.cool_syntax.specs.TokenFacts.{IsPlaced}
+use Rattle.cool_classes.specs.declared.fault.ClassFault.{ClassFault}
+use Rattle.cool_classes.specs.FaultLists.{IsOfClasses, IsOfFeatures, IsFaultList}
+use Rattle.cool_classes.proofs.AllOfLists.{all_permuted}
+use Rattle.cool_classes.proofs.fault_list.refuse_faults.Goals as goal
+
+nil_from_length : (xs : List ClassFault) → length xs ≡ 0 → xs ≡ []
+nil_from_length [] e = refl
+nil_from_length (x ∷ xs) e = absurd (omega arith)
+
+pub returns-clause-refusal : goal.returns-clause-refusal
+returns-clause-refusal c =
+    let before = c.args.faults.items in
+    let after = c.sort_faults.new.faults.items in
+    let moved = c.sort_faults.ensures.same in
+    let some : before ≢ [] = λ e. search rules in
+    let long = length_permutation before after moved in
+    let list : IsFaultList after = record {
+      some = λ e. some (nil_from_length before (sym long ∙ ap length e));
+      phase = elim c.requires.phase [ inl all ↦ inl (all_permuted IsOfClasses before after moved all) | inr all ↦ inr (all_permuted IsOfFeatures before after moved all) ];
+      order = c.in_ok-sort_faults.ensures.order;
+    } in
+    subst IsFaultList (sym c.new.ensures) list
+
+pub returns-clause-places : goal.returns-clause-places
+returns-clause-places c n all =
+    subst (AllByRecursion (λ (f : ClassFault). IsPlaced n f.at)) (sym c.new.ensures)
+    (all_permuted (λ (f : ClassFault). IsPlaced n f.at) c.args.faults.items c.sort_faults.new.faults.items c.sort_faults.ensures.same all)

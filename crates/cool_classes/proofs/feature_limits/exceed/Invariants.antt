@@ -1,0 +1,11 @@
+-- What is left of the most, after what is counted for the classes before this one.
+use Rattle.std.proofs.Common.{◌≡◌, ◌+◌, ◌<◌, length, drop}
+use Rattle.std.specs.List.{AllByRecursion}
+use Rattle.cool_classes.specs.Lineages.{sum_at}
+use Rattle.cool_classes.proofs.feature_limits.exceed.Given as goal
+
+abbrev pub invariant-loop-index : goal.invariant-loop-index
+invariant-loop-index l = record {
+  left : l.left + sum_at l.counts l.above ≡ l.most + sum_at l.counts (drop l.index l.above);
+  within : AllByRecursion (λ c. c.0 < length l.counts) (drop l.index l.above);
+}

@@ -1,0 +1,12 @@
+-- The classes from this one on have the method that all have.
+use Rattle.std.proofs.Common.{◌≡◌, ◌<◌, length, drop}
+use Rattle.std.specs.List.{AllByRecursion}
+use Rattle.cool_classes.specs.Features.{implementation}
+use Rattle.cool_classes.specs.Entries.{classes}
+use Rattle.cool_classes.proofs.own_names.nearest_method.Given as goal
+
+abbrev pub invariant-loop-index : goal.invariant-loop-index
+invariant-loop-index l = record {
+  nearest : implementation (classes l.scope.entries.now) (drop l.index l.above) l.name ≡ implementation (classes l.scope.entries.now) l.above l.name;
+  within : AllByRecursion (λ c. c.0 < length l.scope.entries.now) (drop l.index l.above);
+}

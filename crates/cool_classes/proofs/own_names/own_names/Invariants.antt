@@ -1,0 +1,7 @@
+-- The names of the features before this one are there.
+use Rattle.std.proofs.Common.{take}
+use Rattle.cool_classes.specs.OwnNames.{AreOwn}
+use Rattle.cool_classes.proofs.own_names.own_names.Given as goal
+
+abbrev pub invariant-loop-index : goal.invariant-loop-index
+invariant-loop-index l = AreOwn l.own (take l.index l.features)

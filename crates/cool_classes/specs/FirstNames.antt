@@ -1,0 +1,38 @@
+-- Names in a row, some of its places without one: where each name stands first.
+use Rattle.std.specs.Prelude.{◌≡◌, ℕ, ◌+◌, List, [], ◌∷◌, map, Option, Some, None, Bool, false, nat_eq, codes, bytes_eq, if◌then◌else◌, refl}
+use Rattle.std.specs.Map.{lookup}
+use denote.Ref.{Bor}
+use Rattle.cool_syntax.specs.declared.file_tree.Feature.{Feature}
+use Rattle.cool_syntax.specs.declared.file_tree.Feature.TheVariants.{Method, Attribute}
+
+-- the first place of a name, where the row begins at a number
+abbrev pub first_place : ℕ → List (Option (List ℕ)) → List ℕ → Option ℕ
+first_place k [] f = None
+first_place k (None ∷ row) f = first_place (k + 1) row f
+first_place k (Some name ∷ row) f = if bytes_eq f name then Some k else first_place (k + 1) row f
+
+-- the first place of a name is this one
+abbrev pub is_place : ℕ → Option ℕ → Bool
+is_place k None = false
+is_place k (Some j) = nat_eq j k
+
+-- the entries of a map, whose keys are names behind references
+abbrev pub places_shown : List (Bor (List ℕ) × ℕ) → List (List ℕ × ℕ)
+places_shown = map (λ entry. (entry.0.now, entry.1))
+
+-- a look-up of any name finds its first place
+abbrev pub FindsPlaces : List (List ℕ × ℕ) → List (Option (List ℕ)) → Type 0
+FindsPlaces entries row = (f : List ℕ) → lookup (bytes_eq f) entries ≡ first_place 0 row f
+
+-- the names of the methods among features, and those of the attributes
+abbrev pub method_name : Feature → Option (List ℕ)
+method_name (Method m) = Some m.name
+method_name (Attribute a) = None
+
+abbrev pub attribute_name : Feature → Option (List ℕ)
+attribute_name (Method m) = None
+attribute_name (Attribute a) = Some a.name
+
+-- Worked example: of two places of a the first one counts.
+first_place_of_a : first_place 0 (None ∷ Some (codes "a") ∷ Some (codes "a") ∷ []) (codes "a") ≡ Some 1
+first_place_of_a = refl

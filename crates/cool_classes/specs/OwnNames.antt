@@ -1,0 +1,31 @@
+-- The names of the features of classes, each with the first feature of that name.
+use Rattle.std.specs.Prelude.{◌≡◌, ℕ, ◌<◌, List, map, length, get_or, Some}
+use Rattle.cool_syntax.specs.declared.file_tree.Feature.{Feature}
+use denote.Ref.{Bor}
+use Rattle.cool_classes.specs.declared.entry.Entry.{Entry}
+use Rattle.cool_classes.specs.declared.own_names.OwnNames.{OwnNames}
+use Rattle.cool_classes.specs.declared.own_names.Scope.{Scope}
+use Rattle.cool_classes.specs.Chains.{Class, features_of, class_number}
+use Rattle.cool_classes.specs.Entries.{classes}
+use Rattle.cool_classes.specs.FirstNames.{places_shown, FindsPlaces, method_name, attribute_name}
+use Rattle.cool_classes.specs.Resolved.{AreResolved}
+
+-- the names of these features
+pub record AreOwn (own : OwnNames) (fs : List Feature) : Type 0 where
+  pub methods : FindsPlaces (places_shown own.methods.entries) (map method_name fs)
+  pub attributes : FindsPlaces (places_shown own.attributes.entries) (map attribute_name fs)
+
+-- the names of the features of the classes below a number
+pub record AreAllOwn (count : ℕ) (all : List OwnNames) (p : List Class) : Type 0 where
+  pub same : length all ≡ count
+  pub own : (c : ℕ) (d : OwnNames) → c < count → AreOwn (get_or all c d) (features_of p (class_number c))
+
+-- the names of classes
+abbrev pub AreNamed : List (Bor (List ℕ) × ℕ) → List Entry → Type 0
+AreNamed entries es = FindsPlaces (places_shown entries) (map (λ (c : Class). Some c.name) (classes es))
+
+-- the classes of resolved entries, by their names and with those of their features
+pub record IsScope (scope : Scope) : Type 0 where
+  pub resolved : AreResolved scope.entries.now
+  pub names : AreNamed scope.classes.entries scope.entries.now
+  pub own : AreAllOwn (length scope.entries.now) scope.own.items (classes scope.entries.now)

@@ -1,0 +1,106 @@
+//! The table that the trees of source files make.
+
+ghost use Rattle.std.specs.Prelude.{◌≡◌, ℕ, ◌<◌, map, IfOk, IfErr, Some};
+ghost use Rattle.cool_syntax.specs.declared.file_tree.ClassDef as tree;
+ghost use Rattle.cool_syntax.specs.TreesWithinLimits.{AreClassesWithin};
+ghost use Rattle.cool_classes.specs.Definitions.{definitions, AreFew, IsTableOf};
+ghost use Rattle.cool_classes.specs.FaultLists.{IsRefusal, IsPlacedRefusal};
+ghost use Rattle.cool_classes.specs.Limits.{KeepsLimits};
+ghost use Rattle.cool_classes.specs.Tables.{IsTable};
+ghost use Rattle.cool_classes.specs.Settled.{names_with_basic, parents_meant, entries_of, AreSettled};
+
+use crate::basic_entries::basic_entries;
+use crate::class_id::ClassId;
+use crate::class_phase::{Ancestry, settle_classes};
+use crate::class_table::ClassTable;
+use crate::entry::Entry;
+use crate::fault::TableError;
+use crate::fault_list::refuse_faults;
+use crate::feature_phase::feature_faults;
+use cool_syntax::{ClassDef, FileTree, Place};
+use std::alloc::{AllocError, Global};
+
+/// The definitions of all files, in order. `Err` comes only for want of memory.
+fn definitions_of(alloc: Global, files: Vec<FileTree>) -> Result<Vec<ClassDef>, AllocError>
+    ensures { IfOk result (λ all. all.items ≡ definitions files.items) }
+{
+    let mut all = Vec::new(alloc);
+    for file in files {
+        all.append(&mut file.classes.into_vec())?;
+    }
+    Ok(all)
+}
+
+/// Where the names of definitions stand. `Err` comes only for want of memory.
+fn places_of(alloc: Global, definitions: &[ClassDef]) -> Result<Vec<Place>, AllocError>
+    ensures { IfOk result (λ places. places.items ≡ map (λ (d : tree.ClassDef). d.at) definitions.now) }
+{
+    let mut places = Vec::new(alloc);
+    for definition in definitions {
+        places.push(definition.at)?;
+    }
+    Ok(places)
+}
+
+/// The entry of a definition, below this parent and this deep.
+fn entry_of(definition: ClassDef, parent: ClassId, depth: u32) -> Entry
+    ensures { result ≡ record { name = definition.name; parent = Some parent; depth = depth; features = definition.features } }
+{
+    let ClassDef {
+        name,
+        at: _,
+        parent: _,
+        features,
+    } = definition;
+    Entry {
+        name,
+        parent: Some(parent),
+        depth,
+        features,
+    }
+}
+
+/// The entries of the basic classes and of definitions without faults. `Err` comes only for want of memory.
+fn entries_of(
+    alloc: Global,
+    definitions: Vec<ClassDef>,
+    ancestry: &Ancestry,
+) -> Result<Vec<Entry>, AllocError>
+    requires parents { ancestry.now.parents.items ≡ parents_meant (names_with_basic definitions.items) definitions.items }
+    requires settled { AreSettled definitions.items ancestry.now.depths.items }
+    ensures { IfOk result (λ entries. entries.items ≡ entries_of definitions.items ancestry.now.depths.items) }
+{
+    let mut entries = basic_entries(alloc)?;
+    let mut index = 0;
+    for definition in definitions {
+        let depth = match ancestry.depths[index] {
+            Some(depth) => depth,
+            None => unreachable!(),
+        };
+        let parent = ancestry.parents[index];
+        entries.push(entry_of(definition, parent, depth))?;
+        index += 1;
+    }
+    Ok(entries)
+}
+
+/// The table of the classes that these files define (the Cool manual, sections 3 to 8).
+///
+/// `Err` comes for want of memory, and with faults. They are the faults C1 to C7 of the classes where there are any, else
+/// the faults F1 to F9 of their features; each list is whole, and in the order of files, bytes and kinds.
+pub fn table(alloc: Global, files: Vec<FileTree>) -> Result<ClassTable, TableError>
+    requires few { AreFew (definitions files.items) }
+    ensures whole { IfOk result IsTable }
+    ensures table { IfOk result (IsTableOf (definitions files.items)) }
+    ensures limits { IfOk result KeepsLimits }
+    ensures refusal { IfErr result IsRefusal }
+    ensures places { (n : ℕ) → 0 < n → AreClassesWithin n (definitions files.items) → IfErr result (IsPlacedRefusal n) }
+{
+    let definitions = definitions_of(alloc, files)?;
+    let ancestry = settle_classes(alloc, &definitions)?;
+    let places = places_of(alloc, &definitions)?;
+    let entries = entries_of(alloc, definitions, &ancestry)?;
+    let faults = feature_faults(alloc, &entries, &places)?;
+    refuse_faults(faults)?;
+    Ok(ClassTable::from_entries(entries))
+}

@@ -1,0 +1,207 @@
+//! The faults of classes: their names, their parents, their number, and the chains that they make (the Cool manual,
+//! section 3).
+
+ghost use Rattle.std.specs.Prelude.{◌≡◌, ℕ, ◌-◌, ◌<◌, ◌≤◌, ◌^◌, ◌≢◌, List, [], length, IfOk, IfErr, OnOk, IfSome, IfNone, IsSome, codes, false};
+ghost use Rattle.std.specs.List.{AllByRecursion};
+ghost use Rattle.cool_syntax.specs.TreesWithinLimits.{IsTypeWithin, AreClassesWithin};
+ghost use Rattle.cool_syntax.specs.declared.file_tree.ClassDef as tree;
+ghost use Rattle.cool_classes.specs.declared.fault.TableError.TheVariants as error;
+ghost use Rattle.cool_classes.specs.FaultLists.{rank, IsRefusal, IsPlacedRefusal};
+ghost use Rattle.cool_classes.specs.Names.{shown, FindsFirst};
+ghost use Rattle.cool_classes.specs.Settled.{basic_names, names_with_basic, parent_meant, parents_meant, IsParentKnown, AreNamedAnew, AreSettled, AddsFaults};
+
+use crate::MOST_CLASSES;
+use crate::basic::BASIC_CLASSES;
+use crate::class_id::{BOOL, ClassId, INT, IO, OBJECT, STRING};
+use crate::depths::depths;
+use crate::fault::{ClassFault, ClassKind, TableError};
+use crate::fault_list::{add_fault, refuse_faults};
+use crate::names::{Names, add_name, class_of};
+use cool_syntax::{ClassDef, Place, TypeRef};
+use indexmap::IndexMap;
+use std::alloc::{AllocError, Global};
+
+/// Where the definitions stand in the table: the parent of each and its depth.
+#[derive(Drop)]
+pub(crate) struct Ancestry {
+    pub(crate) parents: Vec<ClassId>,
+    pub(crate) depths: Vec<Option<u32>>,
+}
+
+/// The names of the basic classes. `Err` comes only for want of memory.
+fn basic_names<'a>(alloc: Global) -> Result<Names<'a>, TableError>
+    ensures memory { IfErr result (λ e. e ≡ error.Memory) }
+    ensures finds { IfOk result (λ names. FindsFirst (shown names.entries) basic_names) }
+{
+    let mut names = IndexMap::new(alloc);
+    add_name(&mut names, b"Object", OBJECT)?;
+    add_name(&mut names, b"IO", IO)?;
+    add_name(&mut names, b"Int", INT)?;
+    add_name(&mut names, b"Bool", BOOL)?;
+    add_name(&mut names, b"String", STRING)?;
+    Ok(names)
+}
+
+/// The fault of a class of this name: C2 where it is `SELF_TYPE`, else C1 where an earlier class has it.
+fn name_fault(name: &[u8], known: bool) -> Option<ClassKind>
+    ensures kind { IfSome result (λ kind. rank kind < 7) }
+    ensures no_self_type { IfNone result (name.now ≢ codes "SELF_TYPE") }
+    ensures anew { IfNone result (known ≡ false) }
+{
+    if name == b"SELF_TYPE".as_slice() {
+        Some(ClassKind::C2)
+    } else if known {
+        Some(ClassKind::C1)
+    } else {
+        None
+    }
+}
+
+/// The first class of each name, the basic classes first. Adds C1 and C2 for the names of definitions. `Err` comes only for
+/// want of memory.
+fn find_names<'a>(
+    alloc: Global,
+    definitions: &'a [ClassDef],
+    faults: &mut Vec<ClassFault>,
+) -> Result<Names<'a>, TableError>
+    requires few { length definitions.now < 2 ^ 32 - 5 }
+    ensures memory { IfErr result (λ e. e ≡ error.Memory) }
+    ensures finds { IfOk result (λ names. FindsFirst (shown names.entries) (names_with_basic definitions.now)) }
+    ensures adds { OnOk result (AddsFaults (λ n. AreClassesWithin n definitions.now) faults.old.items faults.new.items) }
+    ensures anew { OnOk result (faults.new.items ≡ [] → AreNamedAnew definitions.now (length definitions.now)) }
+{
+    let mut names = basic_names(alloc)?;
+    for index in 0..definitions.len() {
+        let definition = &definitions[index];
+        let name = definition.name.as_slice();
+        let class = ClassId(index as u32 + BASIC_CLASSES);
+        let known = add_name(&mut names, name, class)?;
+        add_fault(faults, name_fault(name, known), definition.at)?;
+    }
+    Ok(names)
+}
+
+/// The fault of a parent of this name: C2 where it is `SELF_TYPE`, C3 where no class has it, C4 where it is one of the
+/// basic classes from which none may inherit.
+fn parent_fault(name: &[u8], class: Option<ClassId>) -> Option<ClassKind>
+    ensures kind { IfSome result (λ kind. rank kind < 7) }
+    ensures known { IfNone result (IsSome class) }
+{
+    if name == b"SELF_TYPE".as_slice() {
+        return Some(ClassKind::C2);
+    }
+    match class {
+        None => Some(ClassKind::C3),
+        Some(INT | BOOL | STRING) => Some(ClassKind::C4),
+        Some(_) => None,
+    }
+}
+
+/// The parent of a definition: Object where it names none or no class. Adds C2, C3 or C4. `Err` comes only for want of
+/// memory.
+fn find_parent(
+    names: &Names<'_>,
+    parent: &Option<TypeRef>,
+    faults: &mut Vec<ClassFault>,
+) -> Result<ClassId, AllocError>
+    ensures parent { IfOk result (λ class. (all : List (List ℕ)) → FindsFirst (shown names.now.entries) all → class ≡ parent_meant all parent.now) }
+    ensures adds { OnOk result (AddsFaults (λ n. IfSome parent.now (IsTypeWithin n)) faults.old.items faults.new.items) }
+    ensures known { OnOk result (faults.new.items ≡ [] → (all : List (List ℕ)) → FindsFirst (shown names.now.entries) all → IsParentKnown all parent.now) }
+{
+    match parent {
+        None => Ok(OBJECT),
+        Some(named) => {
+            let class = class_of(names, named.name.as_slice());
+            add_fault(faults, parent_fault(named.name.as_slice(), class), named.at)?;
+            Ok(class.unwrap_or(OBJECT))
+        }
+    }
+}
+
+/// The parent of each definition. Adds C2, C3 and C4 for their names. `Err` comes only for want of memory.
+fn find_parents(
+    alloc: Global,
+    definitions: &[ClassDef],
+    names: &Names<'_>,
+    faults: &mut Vec<ClassFault>,
+) -> Result<Vec<ClassId>, AllocError>
+    requires finds { FindsFirst (shown names.now.entries) (names_with_basic definitions.now) }
+    ensures parents { IfOk result (λ parents. parents.items ≡ parents_meant (names_with_basic definitions.now) definitions.now) }
+    ensures adds { OnOk result (AddsFaults (λ n. AreClassesWithin n definitions.now) faults.old.items faults.new.items) }
+    ensures known { OnOk result (faults.new.items ≡ [] → AllByRecursion (λ (d : tree.ClassDef). IsParentKnown (names_with_basic definitions.now) d.parent) definitions.now) }
+{
+    let mut parents = Vec::new(alloc);
+    for definition in definitions {
+        let parent = find_parent(names, &definition.parent, faults)?;
+        parents.push(parent)?;
+    }
+    Ok(parents)
+}
+
+/// Adds C7 for the definition past the most, where there is one. `Err` comes only for want of memory.
+fn check_number(definitions: &[ClassDef], faults: &mut Vec<ClassFault>) -> Result<(), AllocError>
+    ensures adds { OnOk result (AddsFaults (λ n. AreClassesWithin n definitions.now) faults.old.items faults.new.items) }
+    ensures few { OnOk result (faults.new.items ≡ [] → length definitions.now ≤ MOST_CLASSES) }
+{
+    if definitions.len() > MOST_CLASSES {
+        add_fault(faults, Some(ClassKind::C7), definitions[MOST_CLASSES].at)?;
+    }
+    Ok(())
+}
+
+/// Adds C6 where no class is named Main. `Err` comes only for want of memory.
+fn check_main(names: &Names<'_>, faults: &mut Vec<ClassFault>) -> Result<(), AllocError>
+    ensures { OnOk result (AddsFaults (λ n. 0 < n) faults.old.items faults.new.items) }
+{
+    if class_of(names, b"Main").is_none() {
+        let at = Place {
+            file: 0,
+            line: 1,
+            byte: 0,
+        };
+        add_fault(faults, Some(ClassKind::C6), at)?;
+    }
+    Ok(())
+}
+
+/// Adds C5 for each of these definitions, which stand on cycles. `Err` comes only for want of memory.
+fn add_cyclic(
+    definitions: &[ClassDef],
+    cyclic: &[usize],
+    faults: &mut Vec<ClassFault>,
+) -> Result<(), AllocError>
+    requires within { AllByRecursion (λ (k : ℕ). k < length definitions.now) cyclic.now }
+    ensures adds { OnOk result (AddsFaults (λ n. AreClassesWithin n definitions.now) faults.old.items faults.new.items) }
+    ensures none { OnOk result (faults.new.items ≡ [] → cyclic.now ≡ []) }
+{
+    for class in cyclic {
+        add_fault(faults, Some(ClassKind::C5), definitions[*class].at)?;
+    }
+    Ok(())
+}
+
+/// Where the definitions stand. `Err` comes with the faults C1 to C7 in their order where there are any, and for want of
+/// memory.
+pub(crate) fn settle_classes(
+    alloc: Global,
+    definitions: &[ClassDef],
+) -> Result<Ancestry, TableError>
+    requires few { length definitions.now < 2 ^ 32 - 5 }
+    ensures parents { IfOk result (λ found. found.parents.items ≡ parents_meant (names_with_basic definitions.now) definitions.now) }
+    ensures settled { IfOk result (λ found. AreSettled definitions.now found.depths.items) }
+    ensures refusal { IfErr result IsRefusal }
+    ensures places { (n : ℕ) → 0 < n → AreClassesWithin n definitions.now → IfErr result (IsPlacedRefusal n) }
+{
+    let mut faults = Vec::new(alloc);
+    let names = find_names(alloc, definitions, &mut faults)?;
+    let parents = find_parents(alloc, definitions, &names, &mut faults)?;
+    let found = depths(alloc, &parents)?;
+    add_cyclic(definitions, &found.cyclic, &mut faults)?;
+    check_main(&names, &mut faults)?;
+    check_number(definitions, &mut faults)?;
+    refuse_faults(faults)?;
+    Ok(Ancestry {
+        parents,
+        depths: found.known,
+    })
+}

@@ -1,0 +1,205 @@
+//! The faults of the features of all classes (the Cool manual, sections 5, 6 and 8, and the limits of this compiler).
+
+ghost use Rattle.std.specs.Prelude.{◌≡◌, ◌<◌, ◌^◌, ◌+◌, ◌++◌, ℕ, [], length, IfOk, OnOk};
+ghost use Rattle.std.specs.List.{AllByRecursion};
+ghost use Rattle.cool_syntax.specs.TokenFacts.{IsPlaced};
+ghost use Rattle.cool_classes.specs.Definitions.{HasFewFormals};
+ghost use Rattle.cool_classes.specs.Entries.{classes};
+ghost use Rattle.cool_classes.specs.FaultLists.{IsOfFeatures};
+ghost use Rattle.cool_classes.specs.Lineages.{IsLineage, AreCounts};
+ghost use Rattle.cool_classes.specs.OwnNames.{IsScope};
+ghost use Rattle.cool_classes.specs.Resolved.{AreResolved, AreGood, ArePlaced};
+ghost use Rattle.cool_classes.specs.Features.{implementation};
+ghost use Rattle.cool_classes.specs.Chains.{features_of};
+ghost use Rattle.cool_classes.specs.FeatureFaults.{redefines_otherwise, is_doubled, method_faults, attribute_faults, one_feature_faults, features_faults, lacks_main, class_faults};
+
+use crate::basic::BASIC_CLASSES;
+use crate::class_id::ClassId;
+use crate::entry::Entry;
+use crate::fault::{ClassFault, ClassKind};
+use crate::feature_limits::{Counts, counts_of, is_over_limit};
+use crate::first_names::{first_place, is_first_at};
+use crate::lineage::{Lineage, lineage_of};
+use crate::own_names::{Scope, have_attribute, method_at, nearest_method, scope_of};
+use crate::signature_faults::{declares_otherwise, note, note_formals, note_type};
+use cool_syntax::{AttributeDef, Feature, MethodDef, Place};
+use std::alloc::{AllocError, Global};
+
+/// Whether a method declares other formals or another result than the nearest one of its name above its class.
+fn redefines_otherwise(scope: &Scope<'_>, lineage: &Lineage, method: &MethodDef) -> bool
+    requires scope { IsScope scope.now }
+    requires lineage { IsLineage scope.now.entries.now lineage.now }
+    ensures { result ≡ redefines_otherwise (classes scope.now.entries.now) method.now (implementation (classes scope.now.entries.now) lineage.now.above.items method.now.name) }
+{
+    match nearest_method(scope, lineage.above.as_slice(), method.name.as_slice()) {
+        Some(above) => declares_otherwise(scope, method, above),
+        None => false,
+    }
+}
+
+/// Notes the faults of the method at an index of a class. `Err` comes only for want of memory.
+fn note_method(
+    alloc: Global,
+    faults: &mut Vec<ClassFault>,
+    scope: &Scope<'_>,
+    lineage: &Lineage,
+    index: u32,
+    method: &MethodDef,
+) -> Result<(), AllocError>
+    requires scope { IsScope scope.now }
+    requires lineage { IsLineage scope.now.entries.now lineage.now }
+    requires few { length method.now.formals < 2 ^ 32 }
+    ensures { OnOk result (faults.new.items ≡ faults.old.items ++ method_faults (classes scope.now.entries.now) lineage.now.class lineage.now.above.items index method.now) }
+{
+    let own = &scope.own[lineage.class.0 as usize];
+    let first = is_first_at(&own.methods, method.name.as_slice(), index);
+    note(faults, !first, ClassKind::F1, method.at)?;
+    let otherwise = redefines_otherwise(scope, lineage, method);
+    note(faults, otherwise, ClassKind::F7, method.at)?;
+    note_formals(alloc, faults, scope, method.formals.as_slice())?;
+    note_type(faults, scope, &method.result)
+}
+
+/// Whether an earlier attribute of the class, or one of a class above it, has the name of the one at an index.
+fn is_doubled(scope: &Scope<'_>, lineage: &Lineage, name: &[u8], index: u32) -> bool
+    requires scope { IsScope scope.now }
+    requires lineage { IsLineage scope.now.entries.now lineage.now }
+    ensures { result ≡ is_doubled (classes scope.now.entries.now) lineage.now.class lineage.now.above.items index name.now }
+{
+    let own = &scope.own[lineage.class.0 as usize];
+    !is_first_at(&own.attributes, name, index)
+        || have_attribute(scope, lineage.above.as_slice(), name)
+}
+
+/// Notes the faults of the attribute at an index of a class. `Err` comes only for want of memory.
+fn note_attribute(
+    faults: &mut Vec<ClassFault>,
+    scope: &Scope<'_>,
+    lineage: &Lineage,
+    index: u32,
+    attribute: &AttributeDef,
+) -> Result<(), AllocError>
+    requires scope { IsScope scope.now }
+    requires lineage { IsLineage scope.now.entries.now lineage.now }
+    ensures { OnOk result (faults.new.items ≡ faults.old.items ++ attribute_faults (classes scope.now.entries.now) lineage.now.class lineage.now.above.items index attribute.now) }
+{
+    let name = attribute.name.as_slice();
+    note(
+        faults,
+        name == b"self".as_slice(),
+        ClassKind::F3,
+        attribute.at,
+    )?;
+    let doubled = is_doubled(scope, lineage, name, index);
+    note(faults, doubled, ClassKind::F2, attribute.at)?;
+    note_type(faults, scope, &attribute.declared)
+}
+
+/// Notes the faults of the feature at an index of a class. `Err` comes only for want of memory.
+fn note_feature(
+    alloc: Global,
+    faults: &mut Vec<ClassFault>,
+    scope: &Scope<'_>,
+    lineage: &Lineage,
+    index: u32,
+    feature: &Feature,
+) -> Result<(), AllocError>
+    requires scope { IsScope scope.now }
+    requires lineage { IsLineage scope.now.entries.now lineage.now }
+    requires few { HasFewFormals feature.now }
+    ensures { OnOk result (faults.new.items ≡ faults.old.items ++ one_feature_faults (classes scope.now.entries.now) lineage.now.class lineage.now.above.items index feature.now) }
+{
+    match feature {
+        Feature::Method(method) => note_method(alloc, faults, scope, lineage, index, method),
+        Feature::Attribute(attribute) => note_attribute(faults, scope, lineage, index, attribute),
+    }
+}
+
+/// Notes the faults of the features of a class. `Err` comes only for want of memory.
+fn note_features(
+    alloc: Global,
+    faults: &mut Vec<ClassFault>,
+    scope: &Scope<'_>,
+    lineage: &Lineage,
+) -> Result<(), AllocError>
+    requires scope { IsScope scope.now }
+    requires lineage { IsLineage scope.now.entries.now lineage.now }
+    ensures { OnOk result (faults.new.items ≡ faults.old.items ++ features_faults (classes scope.now.entries.now) lineage.now.class lineage.now.above.items 0 (features_of (classes scope.now.entries.now) lineage.now.class)) }
+{
+    let features = scope.entries[lineage.class.0 as usize].features.as_slice();
+    for index in 0..features.len() {
+        note_feature(
+            alloc,
+            faults,
+            scope,
+            lineage,
+            index as u32,
+            &features[index],
+        )?;
+    }
+    Ok(())
+}
+
+/// Whether a class is named Main and its first method main is missing or has formals.
+fn lacks_main(scope: &Scope<'_>, class: ClassId) -> bool
+    requires scope { IsScope scope.now }
+    requires within { class.0 < length scope.now.entries.now }
+    ensures { result ≡ lacks_main (classes scope.now.entries.now) class }
+{
+    let index = class.0 as usize;
+    if scope.entries[index].name.as_slice() != b"Main".as_slice() {
+        return false;
+    }
+    match first_place(&scope.own[index].methods, b"main") {
+        Some(main) => !method_at(scope, class, main).formals.as_slice().is_empty(),
+        None => true,
+    }
+}
+
+/// Notes the faults of a class whose name stands at a place. `Err` comes only for want of memory.
+fn note_class(
+    alloc: Global,
+    faults: &mut Vec<ClassFault>,
+    scope: &Scope<'_>,
+    counts: &Counts,
+    lineage: &Lineage,
+    at: Place,
+) -> Result<(), AllocError>
+    requires scope { IsScope scope.now }
+    requires lineage { IsLineage scope.now.entries.now lineage.now }
+    requires counts { AreCounts (length scope.now.entries.now) (classes scope.now.entries.now) counts.now }
+    ensures { OnOk result (faults.new.items ≡ faults.old.items ++ class_faults (classes scope.now.entries.now) lineage.now.class lineage.now.above.items at) }
+{
+    note_features(alloc, faults, scope, lineage)?;
+    note(faults, lacks_main(scope, lineage.class), ClassKind::F8, at)?;
+    note(
+        faults,
+        is_over_limit(scope, counts, lineage),
+        ClassKind::F9,
+        at,
+    )
+}
+
+/// The faults of the features of all classes, F1 to F9 as `ClassKind` says them, in no order that is promised. The places
+/// are those of the names of the classes behind the basic ones, in order. `Err` comes only for want of memory. The cost is
+/// that of climbing from each feature to the first class above it that has its name.
+pub(crate) fn feature_faults(
+    alloc: Global,
+    entries: &[Entry],
+    places: &[Place],
+) -> Result<Vec<ClassFault>, AllocError>
+    requires resolved { AreResolved entries.now }
+    requires places { length places.now + 5 ≡ length entries.now }
+    ensures kinds { IfOk result (λ faults. AllByRecursion IsOfFeatures faults.items) }
+    ensures good { IfOk result (λ faults. faults.items ≡ [] → AreGood (classes entries.now)) }
+    ensures places { (n : ℕ) → ArePlaced n entries.now places.now → IfOk result (λ faults. AllByRecursion (λ f. IsPlaced n f.at) faults.items) }
+{
+    let scope = scope_of(alloc, entries)?;
+    let counts = counts_of(alloc, &scope)?;
+    let mut faults = Vec::new(alloc);
+    for index in 0..places.len() {
+        let lineage = lineage_of(alloc, entries, ClassId(BASIC_CLASSES + index as u32))?;
+        note_class(alloc, &mut faults, &scope, &counts, &lineage, places[index])?;
+    }
+    Ok(faults)
+}

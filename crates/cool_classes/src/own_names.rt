@@ -1,0 +1,171 @@
+//! The names of classes, and in each class those of its features.
+
+ghost use Rattle.std.specs.Prelude.{◌≡◌, ◌<◌, ◌^◌, ◌++◌, ◌∷◌, [], Some, List, length, slice_get, IfOk, OnOk, IfSome};
+ghost use Rattle.std.specs.List.{AllByRecursion};
+ghost use Rattle.cool_syntax.specs.declared.file_tree.Feature.{Feature as AnyFeature};
+ghost use Rattle.cool_syntax.specs.declared.file_tree.Feature.TheVariants.{Method as IsMethod};
+ghost use Rattle.cool_classes.specs.declared.class_id.ClassId as number;
+ghost use Rattle.cool_classes.specs.declared.method.MethodRef.TheVariants.{User};
+ghost use Rattle.cool_classes.specs.Features.{own_method, implementation, HasMethod};
+ghost use Rattle.cool_classes.specs.Entries.{classes};
+ghost use Rattle.cool_classes.specs.Resolved.{AreResolved};
+ghost use Rattle.cool_classes.specs.OwnNames.{AreOwn, AreAllOwn, AreNamed, IsScope};
+ghost use Rattle.cool_classes.specs.FeatureFaults.{is_class, have_attribute};
+ghost use Rattle.cool_classes.specs.Chains.{features_of};
+
+use crate::basic::{BASIC_CLASSES, basic_method};
+use crate::class_id::ClassId;
+use crate::entry::Entry;
+use crate::first_names::{FirstNames, add_place, first_place};
+use crate::method::MethodRef;
+use cool_syntax::{Feature, MethodDef};
+use std::alloc::{AllocError, Global};
+
+/// The names of the methods and attributes that a class has of its own, each with the place of its first feature.
+#[derive(Drop)]
+pub(crate) struct OwnNames<'a> {
+    pub(crate) methods: FirstNames<'a>,
+    pub(crate) attributes: FirstNames<'a>,
+}
+
+/// The classes of entries by name, and the names of their features.
+#[derive(Drop)]
+pub(crate) struct Scope<'a> {
+    pub(crate) entries: &'a [Entry],
+    pub(crate) classes: FirstNames<'a>,
+    pub(crate) own: Vec<OwnNames<'a>>,
+}
+
+/// Notes the name of the next feature. `Err` comes only for want of memory.
+fn add_feature<'a>(
+    own: &mut OwnNames<'a>,
+    feature: &'a Feature,
+    place: u32,
+) -> Result<(), AllocError>
+    ensures { OnOk result ((fs : List AnyFeature) → place ≡ length fs → AreOwn own.old fs → AreOwn own.new (fs ++ feature.now ∷ [])) }
+{
+    match feature {
+        Feature::Method(method) => add_place(&mut own.methods, method.name.as_slice(), place),
+        Feature::Attribute(attribute) => {
+            add_place(&mut own.attributes, attribute.name.as_slice(), place)
+        }
+    }
+}
+
+/// The names of the features of a class. `Err` comes only for want of memory.
+fn own_names<'a>(alloc: Global, features: &'a [Feature]) -> Result<OwnNames<'a>, AllocError>
+    requires few { length features.now < 2 ^ 32 }
+    ensures { IfOk result (λ own. AreOwn own features.now) }
+{
+    let mut own = OwnNames {
+        methods: FirstNames::new(alloc),
+        attributes: FirstNames::new(alloc),
+    };
+    for index in 0..features.len() {
+        add_feature(&mut own, &features[index], index as u32)?;
+    }
+    Ok(own)
+}
+
+/// The names of the features of each class. `Err` comes only for want of memory.
+fn all_own_names<'a>(alloc: Global, entries: &'a [Entry]) -> Result<Vec<OwnNames<'a>>, AllocError>
+    requires resolved { AreResolved entries.now }
+    ensures { IfOk result (λ all. AreAllOwn (length entries.now) all.items (classes entries.now)) }
+{
+    let mut all = Vec::new(alloc);
+    for index in 0..entries.len() {
+        all.push(own_names(alloc, entries[index].features.as_slice())?)?;
+    }
+    Ok(all)
+}
+
+/// The names of classes. `Err` comes only for want of memory.
+fn class_names<'a>(alloc: Global, entries: &'a [Entry]) -> Result<FirstNames<'a>, AllocError>
+    requires few { length entries.now < 2 ^ 32 }
+    ensures { IfOk result (λ names. AreNamed names.entries entries.now) }
+{
+    let mut names = FirstNames::new(alloc);
+    for index in 0..entries.len() {
+        add_place(&mut names, entries[index].name.as_slice(), index as u32)?;
+    }
+    Ok(names)
+}
+
+/// The names of classes and of their features. `Err` comes only for want of memory.
+pub(crate) fn scope_of<'a>(alloc: Global, entries: &'a [Entry]) -> Result<Scope<'a>, AllocError>
+    requires resolved { AreResolved entries.now }
+    ensures scope { IfOk result (λ scope. IsScope scope) }
+    ensures entries { IfOk result (λ scope. scope.entries.now ≡ entries.now) }
+{
+    Ok(Scope {
+        entries,
+        classes: class_names(alloc, entries)?,
+        own: all_own_names(alloc, entries)?,
+    })
+}
+
+/// Whether a class has this name.
+pub(crate) fn is_class(scope: &Scope<'_>, name: &[u8]) -> bool
+    requires scope { IsScope scope.now }
+    ensures { result ≡ is_class (classes scope.now.entries.now) name.now }
+{
+    first_place(&scope.classes, name).is_some()
+}
+
+/// The method of a name that a class has of its own, the first where there are several.
+fn own_method(scope: &Scope<'_>, c: ClassId, name: &[u8]) -> Option<MethodRef>
+    requires scope { IsScope scope.now }
+    requires within { c.0 < length scope.now.entries.now }
+    ensures { result ≡ own_method (classes scope.now.entries.now) c name.now }
+{
+    if c.0 < BASIC_CLASSES {
+        return basic_method(c.0, name).map(MethodRef::Basic);
+    }
+    match first_place(&scope.own[c.0 as usize].methods, name) {
+        Some(index) => Some(MethodRef::User { owner: c, index }),
+        None => None,
+    }
+}
+
+/// The method of a name that these classes have, the first of them first.
+pub(crate) fn nearest_method(scope: &Scope<'_>, above: &[ClassId], name: &[u8]) -> Option<MethodRef>
+    requires scope { IsScope scope.now }
+    requires within { AllByRecursion (λ c. c.0 < length scope.now.entries.now) above.now }
+    ensures nearest { result ≡ implementation (classes scope.now.entries.now) above.now name.now }
+    ensures has { IfSome result (λ m. HasMethod (classes scope.now.entries.now) m) }
+{
+    for index in 0..above.len() {
+        let class = above[index];
+        if let Some(method) = own_method(scope, class, name) {
+            return Some(method);
+        }
+    }
+    None
+}
+
+/// Whether one of these classes has an attribute of this name.
+pub(crate) fn have_attribute(scope: &Scope<'_>, above: &[ClassId], name: &[u8]) -> bool
+    requires scope { IsScope scope.now }
+    requires within { AllByRecursion (λ c. c.0 < length scope.now.entries.now) above.now }
+    ensures { result ≡ have_attribute (classes scope.now.entries.now) above.now name.now }
+{
+    for index in 0..above.len() {
+        let class = above[index];
+        if first_place(&scope.own[class.0 as usize].attributes, name).is_some() {
+            return true;
+        }
+    }
+    false
+}
+
+/// The method at a place of a class.
+pub(crate) fn method_at<'a>(scope: &Scope<'a>, owner: ClassId, index: u32) -> &'a MethodDef
+    requires within { owner.0 < length scope.now.entries.now }
+    requires has { HasMethod (classes scope.now.entries.now) (User owner index) }
+    ensures { slice_get (features_of (classes scope.now.entries.now) owner) index ≡ Some (IsMethod result.now) }
+{
+    match &scope.entries[owner.0 as usize].features.as_slice()[index as usize] {
+        Feature::Method(method) => method,
+        Feature::Attribute(_) => unreachable!(),
+    }
+}

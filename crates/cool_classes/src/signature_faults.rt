@@ -1,0 +1,171 @@
+//! The faults of what features declare: types, formals, and methods that are defined again (the Cool manual, sections 5 and 6).
+
+ghost use Rattle.std.specs.Prelude.{◌≡◌, ℕ, ◌<◌, ◌^◌, ◌++◌, List, [], ◌∷◌, length, Option, OnOk};
+ghost use Rattle.cool_classes.specs.Features.{HasMethod, basic_formals, basic_result};
+ghost use Rattle.cool_classes.specs.Entries.{classes};
+ghost use Rattle.cool_classes.specs.OwnNames.{IsScope};
+ghost use Rattle.cool_classes.specs.FirstNames.{FindsPlaces, places_shown};
+ghost use Rattle.cool_classes.specs.FeatureFaults.{noted, type_faults, formal_faults, formals_faults, same_types, declared_types, declares_otherwise};
+
+use crate::fault::{ClassFault, ClassKind};
+use crate::first_names::{FirstNames, add_place, first_place};
+use crate::method::{BasicMethod, MethodRef};
+use crate::own_names::{Scope, is_class, method_at};
+use cool_syntax::{Formal, MethodDef, Place, TypeRef};
+use std::alloc::{AllocError, Global};
+
+/// Notes a fault where a test holds. `Err` comes only for want of memory.
+pub(crate) fn note(
+    faults: &mut Vec<ClassFault>,
+    holds: bool,
+    kind: ClassKind,
+    at: Place,
+) -> Result<(), AllocError>
+    ensures { OnOk result (faults.new.items ≡ faults.old.items ++ noted holds kind at) }
+{
+    if holds {
+        faults.push(ClassFault { kind, at })?;
+    }
+    Ok(())
+}
+
+/// Notes a type that is neither a class nor `SELF_TYPE` (F6). `Err` comes only for want of memory.
+pub(crate) fn note_type(
+    faults: &mut Vec<ClassFault>,
+    scope: &Scope<'_>,
+    declared: &TypeRef,
+) -> Result<(), AllocError>
+    requires scope { IsScope scope.now }
+    ensures { OnOk result (faults.new.items ≡ faults.old.items ++ type_faults (classes scope.now.entries.now) declared.now) }
+{
+    let name = declared.name.as_slice();
+    let known = name == b"SELF_TYPE".as_slice() || is_class(scope, name);
+    note(faults, !known, ClassKind::F6, declared.at)
+}
+
+/// Notes the faults of a formal behind those of these names (F3 to F6). `Err` comes only for want of memory.
+fn note_formal(
+    faults: &mut Vec<ClassFault>,
+    scope: &Scope<'_>,
+    before: &FirstNames<'_>,
+    formal: &Formal,
+) -> Result<(), AllocError>
+    requires scope { IsScope scope.now }
+    ensures { OnOk result ((row : List (Option (List ℕ))) → FindsPlaces (places_shown before.now.entries) row → faults.new.items ≡ faults.old.items ++ formal_faults (classes scope.now.entries.now) row formal.now) }
+{
+    let name = formal.name.as_slice();
+    note(faults, name == b"self".as_slice(), ClassKind::F3, formal.at)?;
+    let doubled = first_place(before, name).is_some();
+    note(faults, doubled, ClassKind::F4, formal.at)?;
+    let self_type = formal.declared.name.as_slice() == b"SELF_TYPE".as_slice();
+    note(faults, self_type, ClassKind::F5, formal.declared.at)?;
+    note_type(faults, scope, &formal.declared)
+}
+
+/// Notes the faults of formals. `Err` comes only for want of memory.
+pub(crate) fn note_formals(
+    alloc: Global,
+    faults: &mut Vec<ClassFault>,
+    scope: &Scope<'_>,
+    formals: &[Formal],
+) -> Result<(), AllocError>
+    requires scope { IsScope scope.now }
+    requires few { length formals.now < 2 ^ 32 }
+    ensures { OnOk result (faults.new.items ≡ faults.old.items ++ formals_faults (classes scope.now.entries.now) [] formals.now) }
+{
+    let mut before = FirstNames::new(alloc);
+    for index in 0..formals.len() {
+        let formal = &formals[index];
+        note_formal(faults, scope, &before, formal)?;
+        add_place(&mut before, formal.name.as_slice(), index as u32)?;
+    }
+    Ok(())
+}
+
+/// Whether two lists of formals declare the same types.
+fn same_formals(left: &[Formal], right: &[Formal]) -> bool
+    ensures { result ≡ same_types (declared_types left.now) (declared_types right.now) }
+{
+    if left.len() != right.len() {
+        return false;
+    }
+    for index in 0..left.len() {
+        let name = left[index].declared.name.as_slice();
+        if name != right[index].declared.name.as_slice() {
+            return false;
+        }
+    }
+    true
+}
+
+/// Whether there is one formal, and it is of this type.
+fn is_one_of(formals: &[Formal], name: &[u8]) -> bool
+    ensures { result ≡ same_types (declared_types formals.now) (name.now ∷ []) }
+{
+    match formals {
+        [formal] => formal.declared.name.as_slice() == name,
+        _ => false,
+    }
+}
+
+/// Whether there are two formals, both of this type.
+fn are_two_of(formals: &[Formal], name: &[u8]) -> bool
+    ensures { result ≡ same_types (declared_types formals.now) (name.now ∷ name.now ∷ []) }
+{
+    match formals {
+        [first, second] => {
+            first.declared.name.as_slice() == name && second.declared.name.as_slice() == name
+        }
+        _ => false,
+    }
+}
+
+/// Whether formals declare the types of those of a basic method (the Cool manual, section 8).
+fn fit_basic(formals: &[Formal], basic: BasicMethod) -> bool
+    ensures { result ≡ same_types (declared_types formals.now) (basic_formals basic) }
+{
+    match basic {
+        BasicMethod::OutString | BasicMethod::Concat => is_one_of(formals, b"String"),
+        BasicMethod::OutInt => is_one_of(formals, b"Int"),
+        BasicMethod::Substr => are_two_of(formals, b"Int"),
+        BasicMethod::Abort
+        | BasicMethod::TypeName
+        | BasicMethod::Copy
+        | BasicMethod::InString
+        | BasicMethod::InInt
+        | BasicMethod::Length => formals.is_empty(),
+    }
+}
+
+/// The name of the type of a basic method's result (the Cool manual, section 8).
+fn basic_result_name(basic: BasicMethod) -> &'static [u8]
+    ensures { result.now ≡ basic_result basic }
+{
+    match basic {
+        BasicMethod::Abort => b"Object",
+        BasicMethod::Copy | BasicMethod::OutString | BasicMethod::OutInt => b"SELF_TYPE",
+        BasicMethod::InInt | BasicMethod::Length => b"Int",
+        BasicMethod::TypeName | BasicMethod::InString | BasicMethod::Concat | BasicMethod::Substr =>
+            b"String",
+    }
+}
+
+/// Whether a method declares other formals or another result than the one above it.
+pub(crate) fn declares_otherwise(scope: &Scope<'_>, method: &MethodDef, above: MethodRef) -> bool
+    requires scope { IsScope scope.now }
+    requires has { HasMethod (classes scope.now.entries.now) above }
+    ensures { result ≡ declares_otherwise (classes scope.now.entries.now) method.now above }
+{
+    let formals = method.formals.as_slice();
+    let result = method.result.name.as_slice();
+    match above {
+        MethodRef::Basic(basic) => {
+            !(fit_basic(formals, basic) && result == basic_result_name(basic))
+        }
+        MethodRef::User { owner, index } => {
+            let other = method_at(scope, owner, index);
+            !(same_formals(formals, other.formals.as_slice())
+                && result == other.result.name.as_slice())
+        }
+    }
+}
