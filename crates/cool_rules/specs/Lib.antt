@@ -1,0 +1,3 @@
+pub mod Conformance
+pub mod Fits
+pub mod Scopes

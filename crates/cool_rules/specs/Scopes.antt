@@ -1,0 +1,31 @@
+-- The names in scope: bindings of names to types, the latest first (the Cool manual, section 12).
+use Rattle.std.specs.Prelude.{◌≡◌, ℕ, List, [], ◌∷◌, ◌++◌, codes, bytes_eq, if◌then◌else◌, Option, Some, None, refl}
+use Rattle.cool_classes.specs.declared.class_id.Ty.{Ty}
+use Rattle.cool_classes.specs.declared.class_id.Ty.TheVariants.{SelfType}
+use Rattle.cool_rules.specs.declared.scope.Entry.{Entry}
+
+pub record Binding : Type 0 where
+  pub name : List ℕ
+  pub type : Ty
+
+-- the type that the latest binding of a name gives
+abbrev pub found : List Binding → List ℕ → Option Ty
+found [] name = None
+found (b ∷ bs) name = if bytes_eq b.name name then Some b.type else found bs name
+
+-- the bindings without the latest
+abbrev pub left : List Binding → List Binding
+left [] = []
+left (b ∷ bs) = bs
+
+-- entries in the order in which they were made, seen with the latest first
+abbrev pub binding_of : Entry → Binding
+binding_of e = record { name = e.name.now; type = e.ty }
+
+abbrev pub latest_first : List Entry → List Binding
+latest_first [] = []
+latest_first (e ∷ es) = latest_first es ++ binding_of e ∷ []
+
+-- Worked example: a name that is bound twice has its later type.
+shadowed : (a b : Ty) → found (record { name = codes "x"; type = a } ∷ record { name = codes "y"; type = SelfType } ∷ record { name = codes "x"; type = b } ∷ []) (codes "x") ≡ Some a
+shadowed a b = refl

@@ -1,0 +1,50 @@
+//! Programs that the checker has accepted.
+
+ghost use Rattle.std.specs.Prelude.{◌≡◌};
+ghost use Rattle.cool_syntax.specs.declared.TheConstants.{MOST_FILES};
+ghost use Rattle.cool_rules.specs.Fits.{Fits};
+
+use cool_classes::ClassTable;
+use std::marker::Model;
+
+/// A program that the checker has accepted. A contract sees its class table, which keeps the limits (`Fits` of `specs/Fits.antt`).
+#[derive(Drop)]
+pub struct TypedProgram {
+    table: ClassTable,
+}
+
+impl Model for TypedProgram {
+    ghost use Rattle.std.specs.Prelude.{List};
+    ghost use Rattle.std.specs.Coded.{codes};
+    ghost use Rattle.cool_syntax.specs.TreeCode.{tree_code};
+    ghost use Rattle.cool_classes.specs.Chains.{Class};
+
+    ghost Value = { List Class };
+
+    ghost coded = { Prim.hlevel (codes, tree_code) };
+
+    ghost view = { λ p. p.table };
+
+    ghost use Rattle.cool_syntax.specs.declared.TheConstants.{MOST_FILES};
+    ghost use Rattle.cool_rules.specs.Fits.{Fits};
+
+    ghost invariant = { λ p. Fits p.table MOST_FILES };
+}
+
+impl TypedProgram {
+    /// The program of this table. It takes no memory.
+    pub fn new(table: ClassTable) -> TypedProgram
+        requires fits { Fits table MOST_FILES }
+        ensures { result ≡ table }
+    {
+        TypedProgram { table }
+    }
+
+    /// The classes of the program.
+    pub fn table(&self) -> &ClassTable
+        ensures table { result.now ≡ self.now }
+        ensures fits { Fits result.now MOST_FILES }
+    {
+        &self.table
+    }
+}

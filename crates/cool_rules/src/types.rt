@@ -1,0 +1,28 @@
+//! Types by name, and the classes that stand for types.
+
+ghost use Rattle.std.specs.Prelude.{◌≡◌, ◌<◌, length, IfSome};
+ghost use Rattle.cool_rules.specs.Conformance.{IsType, IsTypeNamed, class_of};
+
+use cool_classes::{ClassId, ClassTable, Ty};
+use cool_syntax::Name;
+
+/// The type of this name: a class, or `SELF_TYPE`. None where it is neither.
+pub fn type_named(t: &ClassTable, name: &Name) -> Option<Ty>
+    ensures named { IsTypeNamed t.now name.now result }
+    ensures is_type { IfSome result (IsType t.now) }
+{
+    if name.as_slice() == b"SELF_TYPE".as_slice() {
+        return Some(Ty::SelfType);
+    }
+    t.id(name).map(Ty::Class)
+}
+
+/// The class that a type stands for in a class: itself, or for `SELF_TYPE` the class in which it stands.
+pub fn class_of(c: ClassId, a: Ty) -> ClassId
+    ensures { result ≡ class_of c a }
+{
+    match a {
+        Ty::Class(class) => class,
+        Ty::SelfType => c,
+    }
+}
