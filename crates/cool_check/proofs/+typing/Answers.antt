@@ -1,0 +1,42 @@
+-- A fault in a part stands where the part does.
+use Rattle.std.proofs.Common.{◌≡◌, ◌<◌, Err, sym, subst, rules, arith}
+use Rattle.std.specs.Prelude.{IfErr}
+use Rattle.std.specs.List.{AllByRecursion}
+use Rattle.cool_syntax.specs.NodeLists.{all_trees, made, HasPartsBelow}
+use Rattle.cool_syntax.specs.TreesWithinLimits.{IsTreeWithin}
+use Rattle.cool_check.specs.Faults.{IsPlacedError}
+use Rattle.cool_check.proofs.PlacesOfParts.{tree_within, branch_within, ids_below}
+use Rattle.cool_check.proofs.+typing.Goals as goal
+
+pub binding::type_of_branches-returns-in_err-class-clause-places : goal.binding::type_of_branches-returns-in_err-class-clause-places
+binding::type_of_branches-returns-in_err-class-clause-places t c = λ n h.
+    let within = branch_within n c.args.setting.now.body.now c.args.branches.now c.loop-branch.branch-index c.branch-item.result (omega arith) c.branch-item.is h in
+    let same : c.from_residual.result ≡ Err c.in_err-class.field-0.0 = search rules in
+    subst (λ r. IfErr r (IsPlacedError n)) (sym same) (c.in_err-class.ensures.places n within.0 within.1)
+
+pub binding::type_of_branches-returns-in_err-found-clause-places : goal.binding::type_of_branches-returns-in_err-found-clause-places
+binding::type_of_branches-returns-in_err-found-clause-places t c = λ n h.
+    let within = branch_within n c.args.setting.now.body.now c.args.branches.now c.loop-branch.branch-index c.branch-item.result (omega arith) c.branch-item.is h in
+    let same : c.from_residual-in_err-found.result ≡ Err c.in_err-found.field-0.0 = search rules in
+    subst (λ r. IfErr r (IsPlacedError n)) (sym same) (c.in_err-found.ensures.places n within.2)
+
+pub called::type_of_call-returns-in_err-class-in-StaticDispatch-clause-places : goal.called::type_of_call-returns-in_err-class-in-StaticDispatch-clause-places
+called::type_of_call-returns-in_err-class-in-StaticDispatch-clause-places t c = λ n h.
+    let parts = subst (λ m. IsTreeWithin n (made (all_trees c.args.setting.now.body.now) m)) c.in-StaticDispatch.is h in
+    let same : c.from_residual-in_err-class-in-StaticDispatch.result ≡ Err c.in_err-class-in-StaticDispatch.field-0.0 = search rules in
+    subst (λ r. IfErr r (IsPlacedError n)) (sym same) (c.in_err-class-in-StaticDispatch.ensures.places n parts.2.1)
+
+pub called::type_of_call-type_of_result-requires-in-StaticDispatch-clause-args : goal.called::type_of_call-type_of_result-requires-in-StaticDispatch-clause-args
+called::type_of_call-type_of_result-requires-in-StaticDispatch-clause-args t c =
+    let parts = subst (HasPartsBelow c.args.id.0) c.in-StaticDispatch.is c.requires.parts in
+    subst (AllByRecursion (λ arg. arg.0 < _)) (sym c.as_slice-in-StaticDispatch-2.ensures) (ids_below c.args.id.0 _ c.in-StaticDispatch.args c.requires.below parts.1)
+
+pub expression::types_of-returns-in_err-type_of-clause-places : goal.expression::types_of-returns-in_err-type_of-clause-places
+expression::types_of-returns-in_err-type_of-clause-places t c = λ n h.
+    let same : c.from_residual.result ≡ Err c.in_err-type_of.field-0.0 = search rules in
+    subst (λ r. IfErr r (IsPlacedError n)) (sym same) (c.in_err-type_of.ensures.places n (tree_within n c.args.setting.now.body.now c.args.items.now c.loop-item.item-index _ (omega arith) h))
+
+pub expression::type_of_last-returns-in_err-last-clause-places : goal.expression::type_of_last-returns-in_err-last-clause-places
+expression::type_of_last-returns-in_err-last-clause-places t c = λ n h.
+    let same : c.from_residual.result ≡ Err c.in_err-last.field-0.0 = search rules in
+    subst (λ r. IfErr r (IsPlacedError n)) (sym same) (c.in_err-last.ensures.places n (tree_within n c.args.setting.now.body.now c.args.items.now c.loop-item.item-index _ (omega arith) h))

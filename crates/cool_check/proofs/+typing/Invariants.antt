@@ -1,0 +1,61 @@
+-- Parts have smaller numbers. Behind the parts that were checked the scope is as before, and the types are types of the table.
+use Rattle.std.proofs.Common.{◌≡◌, ◌+◌, ◌*◌, ◌<◌, length, drop}
+use Rattle.std.specs.Prelude.{IfSome}
+use Rattle.std.specs.List.{AllByRecursion}
+use Rattle.cool_rules.specs.Conformance.{IsType}
+use Rattle.cool_check.proofs.+typing.Given as goal
+
+abbrev pub decreases-expression::type_of : goal.decreases-expression::type_of
+decreases-expression::type_of l = 8 * l.id.0 + 4
+
+abbrev pub decreases-expression::type_of_control : goal.decreases-expression::type_of_control
+decreases-expression::type_of_control l = 8 * l.id.0 + 3
+
+abbrev pub decreases-called::type_of_call : goal.decreases-called::type_of_call
+decreases-called::type_of_call l = 8 * l.id.0 + 3
+
+abbrev pub decreases-binding::type_of_binding : goal.decreases-binding::type_of_binding
+decreases-binding::type_of_binding l = 8 * l.id.0 + 3
+
+abbrev pub decreases-operator::type_of_unary : goal.decreases-operator::type_of_unary
+decreases-operator::type_of_unary l = 8 * l.id.0 + 3
+
+abbrev pub decreases-operator::type_of_binary : goal.decreases-operator::type_of_binary
+decreases-operator::type_of_binary l = 8 * l.id.0 + 3
+
+abbrev pub decreases-binding::type_within : goal.decreases-binding::type_within
+decreases-binding::type_within l = 8 * l.body.0 + 5
+
+abbrev pub decreases-binding::type_of_option : goal.decreases-binding::type_of_option
+decreases-binding::type_of_option l = 8 * l.end.0
+
+abbrev pub decreases-binding::type_of_branches : goal.decreases-binding::type_of_branches
+decreases-binding::type_of_branches l = 8 * l.end.0
+
+abbrev pub decreases-expression::type_of_last : goal.decreases-expression::type_of_last
+decreases-expression::type_of_last l = 8 * l.end.0
+
+abbrev pub decreases-expression::types_of : goal.decreases-expression::types_of
+decreases-expression::types_of l = 8 * l.end.0
+
+abbrev pub invariant-binding::type_of_branches-loop-branch : goal.invariant-binding::type_of_branches-loop-branch
+invariant-binding::type_of_branches-loop-branch l = record {
+  scope : l.locals ≡ l.fn.locals;
+  joined : IfSome l.joined (IsType l.setting.table.now);
+  below : AllByRecursion (λ branch. branch.body.0 < l.fn.end.0) (drop l.branch-index l.branches);
+}
+
+abbrev pub invariant-expression::type_of_last-loop-item : goal.invariant-expression::type_of_last-loop-item
+invariant-expression::type_of_last-loop-item l = record {
+  scope : l.locals ≡ l.fn.locals;
+  last : IsType l.setting.table.now l.last;
+  below : AllByRecursion (λ item. item.0 < l.fn.end.0) (drop l.item-index l.items);
+}
+
+abbrev pub invariant-expression::types_of-loop-item : goal.invariant-expression::types_of-loop-item
+invariant-expression::types_of-loop-item l = record {
+  scope : l.locals ≡ l.fn.locals;
+  types : AllByRecursion (IsType l.setting.table.now) l.types.items;
+  each : length l.types.items ≡ l.item-index;
+  below : AllByRecursion (λ item. item.0 < l.fn.end.0) (drop l.item-index l.items);
+}

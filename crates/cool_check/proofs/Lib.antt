@@ -1,0 +1,5 @@
+pub mod FaultsInOrder
+pub mod OrderOfKinds
+pub mod PlacedFaults
+pub mod PlacesOfParts
+pub mod TypesInScope

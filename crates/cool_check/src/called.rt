@@ -1,0 +1,144 @@
+//! The types of dispatches.
+
+ghost use Rattle.std.specs.Prelude.{◌≡◌, ◌<◌, ℕ, length, map, IfOk, IfErr, OnOk};
+ghost use Rattle.std.specs.List.{AllByRecursion};
+ghost use Rattle.cool_syntax.specs.Tree.{of_list, tree_size};
+ghost use Rattle.cool_syntax.specs.NodeLists.{all_trees, at_id, made, HasPartsBelow};
+ghost use Rattle.cool_syntax.specs.TokenFacts.{IsPlaced};
+ghost use Rattle.cool_syntax.specs.TreesWithinLimits.{AreTreesWithin, IsTreeWithin};
+ghost use Rattle.cool_pool.specs.Groups.{IsCall};
+ghost use Rattle.cool_rules.specs.Conformance.{IsType};
+ghost use Rattle.cool_check.specs.Faults.{IsPlacedError};
+ghost use Rattle.cool_check.specs.Settings.{HaveTypes, IsSound};
+
+use crate::expression::{type_of, types_of};
+use crate::fault::{CheckError, TypeKind};
+use crate::setting::Setting;
+use cool_classes::{ClassId, Ty};
+use cool_rules::{Scope, class_of, conforms, type_named};
+use cool_syntax::{Name, Node, NodeId, Place, TypeRef};
+
+/// The type of a dispatch, whose parts have numbers below this one.
+#[cycle(typing)]
+pub(crate) fn type_of_call<'a>(
+    setting: &Setting<'a, '_>,
+    locals: &mut Scope<'a>,
+    id: NodeId,
+    node: &'a Node,
+) -> Result<Ty, CheckError>
+    requires group { IsCall node.now }
+    requires sound { IsSound setting.now }
+    requires below { id.0 < tree_size setting.now.body.now }
+    requires parts { HasPartsBelow id.0 node.now }
+    requires locals { HaveTypes setting.now.table.now locals.old }
+    ensures is_type { IfOk result (IsType setting.now.table.now) }
+    ensures scope { OnOk result (locals.new ≡ locals.old) }
+    ensures places { (n : ℕ) → IsTreeWithin n (made (all_trees setting.now.body.now) node.now) → IfErr result (IsPlacedError n) }
+{
+    match node {
+        Node::Dispatch {
+            at,
+            receiver,
+            name,
+            args,
+        } => {
+            let object = type_of(setting, locals, *receiver)?;
+            let given = types_of(setting, locals, id, args.as_slice())?;
+            let class = class_of(setting.class, object);
+            let called = Called {
+                at: *at,
+                class,
+                object,
+                name,
+            };
+            type_of_result(setting, &called, args.as_slice(), &given)
+        }
+        Node::StaticDispatch {
+            at,
+            receiver,
+            class,
+            name,
+            args,
+        } => {
+            let object = type_of(setting, locals, *receiver)?;
+            let given = types_of(setting, locals, id, args.as_slice())?;
+            let class = static_class(setting, class, object)?;
+            let called = Called {
+                at: *at,
+                class,
+                object,
+                name,
+            };
+            type_of_result(setting, &called, args.as_slice(), &given)
+        }
+        _ => unreachable!(),
+    }
+}
+
+/// A call: its place, the class in which the method is looked for, the type of the receiver, and the method's name.
+#[derive(Clone, Copy)]
+struct Called<'a> {
+    at: Place,
+    class: ClassId,
+    object: Ty,
+    name: &'a Name,
+}
+
+/// The class behind `@` for a receiver of this type.
+fn static_class(
+    setting: &Setting<'_, '_>,
+    class: &TypeRef,
+    object: Ty,
+) -> Result<ClassId, CheckError>
+    requires sound { IsSound setting.now }
+    requires object { IsType setting.now.table.now object }
+    ensures is_class { IfOk result (λ found. found.0 < length setting.now.table.now) }
+    ensures places { (n : ℕ) → IsPlaced n class.now.at → IfErr result (IsPlacedError n) }
+{
+    match type_named(setting.table, &class.name) {
+        Some(Ty::SelfType) => Err(CheckError::at(TypeKind::E7, class.at)),
+        None => Err(CheckError::at(TypeKind::E11, class.at)),
+        Some(Ty::Class(found)) => {
+            if conforms(setting.table, setting.class, object, Ty::Class(found)) {
+                Ok(found)
+            } else {
+                Err(CheckError::at(TypeKind::E8, class.at))
+            }
+        }
+    }
+}
+
+/// The type of a call with these arguments, which have these types.
+fn type_of_result(
+    setting: &Setting<'_, '_>,
+    called: &Called<'_>,
+    args: &[NodeId],
+    given: &[Ty],
+) -> Result<Ty, CheckError>
+    requires sound { IsSound setting.now }
+    requires class { called.now.class.0 < length setting.now.table.now }
+    requires object { IsType setting.now.table.now called.now.object }
+    requires args { AllByRecursion (λ arg. arg.0 < tree_size setting.now.body.now) args.now }
+    requires given { AllByRecursion (IsType setting.now.table.now) given.now }
+    requires each { length given.now ≡ length args.now }
+    ensures is_type { IfOk result (IsType setting.now.table.now) }
+    ensures places { (n : ℕ) → IsPlaced n called.now.at → AreTreesWithin n (of_list (map (at_id (all_trees setting.now.body.now)) args.now)) → IfErr result (IsPlacedError n) }
+{
+    let Some(method) = setting.table.find_method(called.class, called.name) else {
+        return Err(CheckError::at(TypeKind::E4, called.at));
+    };
+    if setting.table.formal_count(method) as usize != args.len() {
+        return Err(CheckError::at(TypeKind::E5, called.at));
+    }
+    for index in 0..args.len() {
+        let formal = setting.table.formal(method, index as u32);
+        if !conforms(setting.table, setting.class, given[index], formal) {
+            let at = setting.body.node(args[index]).place();
+            return Err(CheckError::at(TypeKind::E6, at));
+        }
+    }
+    match setting.table.result(method) {
+        Ty::SelfType => Ok(called.object),
+        Ty::Class(class) => Ok(Ty::Class(class)),
+    }
+}

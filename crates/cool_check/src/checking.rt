@@ -1,0 +1,78 @@
+//! Checking all features of a program.
+
+ghost use Rattle.std.specs.Prelude.{◌≡◌, ◌<◌, ℕ, length, IfOk, IfErr, OnOk};
+ghost use Rattle.std.specs.List.{AllByRecursion};
+ghost use Rattle.cool_syntax.specs.declared.TheConstants.{MOST_FILES};
+ghost use Rattle.cool_syntax.specs.FaultOrder.{AreInOrder};
+ghost use Rattle.cool_syntax.specs.TokenFacts.{IsPlaced};
+ghost use Rattle.cool_syntax.specs.TreesWithinLimits.{IsFeatureWithin};
+ghost use Rattle.cool_classes.specs.declared.class_id.ClassId as number;
+ghost use Rattle.cool_classes.specs.Chains.{features_of};
+ghost use Rattle.cool_rules.specs.Fits.{Fits};
+ghost use Rattle.cool_check.specs.Faults.{AreWithin, IsPlacedRefusal, IsRefusal, standing_of};
+
+use crate::fault::{CheckAllError, CheckError, TypeFault};
+use crate::feature::{attribute_scope, check_among};
+use cool_classes::{ClassId, ClassTable};
+use cool_rules::TypedProgram;
+use cool_syntax::Listed;
+use std::alloc::{AllocError, Global};
+
+/// Checks all features of a program (Cool manual, section 12).
+///
+/// `Err(Faults(..))` comes where a feature is not well typed: it holds the first fault of each such feature, in the order of files,
+/// bytes and kinds. `Err(Memory)` comes only for want of memory.
+pub fn check(alloc: Global, t: ClassTable) -> Result<TypedProgram, CheckAllError>
+    requires fits { Fits t MOST_FILES }
+    ensures program { IfOk result (λ p. p ≡ t) }
+    ensures refusal { IfErr result IsRefusal }
+    ensures places { (n : ℕ) → AreWithin n t → IfErr result (IsPlacedRefusal n) }
+{
+    let faults = all_faults(alloc, &t)?;
+    if faults.is_empty() {
+        return Ok(TypedProgram::new(t));
+    }
+    Err(CheckAllError::Faults(Listed::new(in_order(faults))))
+}
+
+/// The faults in the order of files, bytes and kinds.
+fn in_order(mut faults: Vec<TypeFault>) -> Vec<TypeFault>
+    ensures order { AreInOrder standing_of result.items }
+    ensures length { length result.items ≡ length faults.items }
+    ensures places { (n : ℕ) → AllByRecursion (λ f. IsPlaced n f.at) faults.items → AllByRecursion (λ f. IsPlaced n f.at) result.items }
+{
+    faults.sort_unstable_by_key(|fault| (fault.at.file, fault.at.byte, fault.kind));
+    faults
+}
+
+/// The first fault of each feature that has one. `Err` comes only for want of memory.
+fn all_faults(alloc: Global, t: &ClassTable) -> Result<Vec<TypeFault>, AllocError>
+    ensures { (n : ℕ) → AreWithin n t.now → IfOk result (λ faults. AllByRecursion (λ f. IsPlaced n f.at) faults.items) }
+{
+    let mut faults = Vec::new(alloc);
+    for number in 0..t.count() {
+        add_faults(alloc, t, ClassId(number), &mut faults)?;
+    }
+    Ok(faults)
+}
+
+/// Adds the first fault of each feature of a class that has one. `Err` comes only for want of memory.
+fn add_faults(
+    alloc: Global,
+    t: &ClassTable,
+    c: ClassId,
+    faults: &mut Vec<TypeFault>,
+) -> Result<(), AllocError>
+    requires class { c.0 < length t.now }
+    ensures { (n : ℕ) → AllByRecursion (IsFeatureWithin n) (features_of t.now c) → AllByRecursion (λ f. IsPlaced n f.at) faults.old.items → OnOk result (AllByRecursion (λ f. IsPlaced n f.at) faults.new.items) }
+{
+    let attributes = attribute_scope(alloc, t, c)?;
+    for feature in 0..t.features(c).len() {
+        match check_among(alloc, t, c, &attributes, feature as u32) {
+            Ok(()) => {}
+            Err(CheckError::Fault(fault)) => faults.push(fault)?,
+            Err(CheckError::Memory) => return Err(AllocError),
+        }
+    }
+    Ok(())
+}

@@ -1,0 +1,200 @@
+//! The types of expressions: names, constants, conditions, loops and blocks.
+
+ghost use Rattle.std.specs.Prelude.{◌≡◌, ◌<◌, ℕ, length, map, IfOk, IfErr, OnOk};
+ghost use Rattle.std.specs.List.{AllByRecursion};
+ghost use Rattle.cool_syntax.specs.Tree.{of_list, tree_size};
+ghost use Rattle.cool_syntax.specs.NodeLists.{all_trees, at_id, made, tree_at, HasPartsBelow};
+ghost use Rattle.cool_syntax.specs.TreesWithinLimits.{AreTreesWithin, IsTreeWithin};
+ghost use Rattle.cool_pool.specs.Groups.{IsControl, IsLeaf};
+ghost use Rattle.cool_rules.specs.Conformance.{IsType};
+ghost use Rattle.cool_check.specs.Faults.{IsPlacedError, StandsAt};
+ghost use Rattle.cool_check.specs.Settings.{HaveTypes, IsSound};
+
+use crate::binding::type_of_binding;
+use crate::called::type_of_call;
+use crate::fault::{CheckError, TypeKind};
+use crate::operator::{type_of_binary, type_of_unary};
+use crate::setting::Setting;
+use cool_classes::{BOOL, INT, OBJECT, STRING, Ty};
+use cool_rules::{Scope, join_types, type_named};
+use cool_syntax::{Name, Node, NodeId, Place};
+
+/// The type of the expression at this number.
+#[cycle(typing)]
+pub(crate) fn type_of<'a>(
+    setting: &Setting<'a, '_>,
+    locals: &mut Scope<'a>,
+    id: NodeId,
+) -> Result<Ty, CheckError>
+    requires sound { IsSound setting.now }
+    requires below { id.0 < tree_size setting.now.body.now }
+    requires locals { HaveTypes setting.now.table.now locals.old }
+    ensures is_type { IfOk result (IsType setting.now.table.now) }
+    ensures scope { OnOk result (locals.new ≡ locals.old) }
+    ensures places { (n : ℕ) → IsTreeWithin n (tree_at setting.now.body.now id) → IfErr result (IsPlacedError n) }
+{
+    let node = setting.body.node(id);
+    match node {
+        Node::Dispatch { .. } | Node::StaticDispatch { .. } => {
+            type_of_call(setting, locals, id, node)
+        }
+        Node::Let { .. } | Node::Case { .. } => type_of_binding(setting, locals, id, node),
+        Node::If { .. } | Node::While { .. } | Node::Block { .. } => {
+            type_of_control(setting, locals, id, node)
+        }
+        Node::Assign { .. } | Node::IsVoid { .. } | Node::Neg { .. } | Node::Not { .. } => {
+            type_of_unary(setting, locals, id, node)
+        }
+        Node::Arith { .. } | Node::Compare { .. } => type_of_binary(setting, locals, id, node),
+        Node::New { .. }
+        | Node::Id { .. }
+        | Node::Int { .. }
+        | Node::Str { .. }
+        | Node::Bool { .. } => type_of_leaf(setting, locals, node),
+    }
+}
+
+/// The type of a name, a constant or a new object.
+fn type_of_leaf(
+    setting: &Setting<'_, '_>,
+    locals: &Scope<'_>,
+    node: &Node,
+) -> Result<Ty, CheckError>
+    requires group { IsLeaf node.now }
+    requires sound { IsSound setting.now }
+    requires locals { HaveTypes setting.now.table.now locals.now }
+    ensures is_type { IfOk result (IsType setting.now.table.now) }
+    ensures places { (n : ℕ) → IsTreeWithin n (made (all_trees setting.now.body.now) node.now) → IfErr result (IsPlacedError n) }
+{
+    match node {
+        Node::Id { at, name } => type_of_name(setting, locals, *at, name),
+        Node::New { class, .. } => match type_named(setting.table, &class.name) {
+            Some(made) => Ok(made),
+            None => Err(CheckError::at(TypeKind::E11, class.at)),
+        },
+        Node::Int { .. } => Ok(Ty::Class(INT)),
+        Node::Str { .. } => Ok(Ty::Class(STRING)),
+        Node::Bool { .. } => Ok(Ty::Class(BOOL)),
+        _ => unreachable!(),
+    }
+}
+
+/// The type of a name: that of `self`, of the latest variable of this name or else of the attribute.
+pub(crate) fn type_of_name(
+    setting: &Setting<'_, '_>,
+    locals: &Scope<'_>,
+    at: Place,
+    name: &Name,
+) -> Result<Ty, CheckError>
+    requires sound { IsSound setting.now }
+    requires locals { HaveTypes setting.now.table.now locals.now }
+    ensures is_type { IfOk result (IsType setting.now.table.now) }
+    ensures fault { IfErr result (StandsAt at) }
+{
+    if is_self(name) {
+        return Ok(Ty::SelfType);
+    }
+    match locals.find(name).or(setting.attributes.find(name)) {
+        Some(found) => Ok(found),
+        None => Err(CheckError::at(TypeKind::E1, at)),
+    }
+}
+
+/// Whether this is the name `self`.
+pub(crate) fn is_self(name: &Name) -> bool {
+    name.as_slice() == b"self".as_slice()
+}
+
+/// The type of a condition, a loop or a block, whose parts have numbers below this one.
+#[cycle(typing)]
+fn type_of_control<'a>(
+    setting: &Setting<'a, '_>,
+    locals: &mut Scope<'a>,
+    id: NodeId,
+    node: &'a Node,
+) -> Result<Ty, CheckError>
+    requires group { IsControl node.now }
+    requires sound { IsSound setting.now }
+    requires below { id.0 < tree_size setting.now.body.now }
+    requires parts { HasPartsBelow id.0 node.now }
+    requires locals { HaveTypes setting.now.table.now locals.old }
+    ensures is_type { IfOk result (IsType setting.now.table.now) }
+    ensures scope { OnOk result (locals.new ≡ locals.old) }
+    ensures places { (n : ℕ) → IsTreeWithin n (made (all_trees setting.now.body.now) node.now) → IfErr result (IsPlacedError n) }
+{
+    match node {
+        Node::If { test, yes, no, .. } => {
+            let condition = type_of(setting, locals, *test)?;
+            let first = type_of(setting, locals, *yes)?;
+            let second = type_of(setting, locals, *no)?;
+            expect_bool(setting, *test, condition)?;
+            Ok(join_types(setting.table, setting.class, first, second))
+        }
+        Node::While { test, body, .. } => {
+            let condition = type_of(setting, locals, *test)?;
+            type_of(setting, locals, *body)?;
+            expect_bool(setting, *test, condition)?;
+            Ok(Ty::Class(OBJECT))
+        }
+        Node::Block { items, .. } => type_of_last(setting, locals, id, items.as_slice()),
+        _ => unreachable!(),
+    }
+}
+
+/// Refuses a condition that is not Bool.
+fn expect_bool(setting: &Setting<'_, '_>, test: NodeId, found: Ty) -> Result<(), CheckError>
+    requires below { test.0 < tree_size setting.now.body.now }
+    ensures places { (n : ℕ) → IsTreeWithin n (tree_at setting.now.body.now test) → IfErr result (IsPlacedError n) }
+{
+    if found == Ty::Class(BOOL) {
+        return Ok(());
+    }
+    Err(CheckError::at(TypeKind::E9, setting.body.node(test).place()))
+}
+
+/// The type of the last of some expressions, in order. A text has one at least; that of none is Object.
+#[cycle(typing)]
+fn type_of_last<'a>(
+    setting: &Setting<'a, '_>,
+    locals: &mut Scope<'a>,
+    end: NodeId,
+    items: &[NodeId],
+) -> Result<Ty, CheckError>
+    requires sound { IsSound setting.now }
+    requires below { end.0 < tree_size setting.now.body.now }
+    requires items { AllByRecursion (λ item. item.0 < end.0) items.now }
+    requires locals { HaveTypes setting.now.table.now locals.old }
+    ensures is_type { IfOk result (IsType setting.now.table.now) }
+    ensures scope { OnOk result (locals.new ≡ locals.old) }
+    ensures places { (n : ℕ) → AreTreesWithin n (of_list (map (at_id (all_trees setting.now.body.now)) items.now)) → IfErr result (IsPlacedError n) }
+{
+    let mut last = Ty::Class(OBJECT);
+    for item in items {
+        last = type_of(setting, locals, *item)?;
+    }
+    Ok(last)
+}
+
+/// The types of some expressions, in order.
+#[cycle(typing)]
+pub(crate) fn types_of<'a>(
+    setting: &Setting<'a, '_>,
+    locals: &mut Scope<'a>,
+    end: NodeId,
+    items: &[NodeId],
+) -> Result<Vec<Ty>, CheckError>
+    requires sound { IsSound setting.now }
+    requires below { end.0 < tree_size setting.now.body.now }
+    requires items { AllByRecursion (λ item. item.0 < end.0) items.now }
+    requires locals { HaveTypes setting.now.table.now locals.old }
+    ensures types { IfOk result (λ types. AllByRecursion (IsType setting.now.table.now) types.items) }
+    ensures each { IfOk result (λ types. length types.items ≡ length items.now) }
+    ensures scope { OnOk result (locals.new ≡ locals.old) }
+    ensures places { (n : ℕ) → AreTreesWithin n (of_list (map (at_id (all_trees setting.now.body.now)) items.now)) → IfErr result (IsPlacedError n) }
+{
+    let mut types = Vec::new(setting.alloc);
+    for item in items {
+        types.push(type_of(setting, locals, *item)?)?;
+    }
+    Ok(types)
+}

@@ -1,0 +1,107 @@
+//! Faults of typing (the Cool manual, sections 4 and 12).
+
+ghost use Rattle.std.specs.Prelude.{◌≡◌};
+ghost use Rattle.cool_check.specs.declared.fault.CheckError.TheVariants as error;
+ghost use Rattle.cool_check.specs.declared.fault.CheckAllError.TheVariants as all;
+
+use cool_syntax::{Listed, Place};
+use std::alloc::{AllocError, AllocFailed};
+
+/// A kind of typing fault. `at` is the place of the expression's own mark.
+#[derive(Clone, Copy, Debug, PartialEq, Eq, PartialOrd, Ord)]
+pub enum TypeKind {
+    /// A name that is not in scope. At the name; of an assignment at it.
+    E1,
+    /// An assignment to `self`. At it.
+    E2,
+    /// A value whose type does not conform to that of the variable that it is assigned to. At the assignment.
+    E3,
+    /// A dispatch of a method that the class does not have. At the method's name.
+    E4,
+    /// A dispatch with another number of arguments than the method has formals. At the method's name.
+    E5,
+    /// An argument that does not conform to its formal's type, the first one of a dispatch. At the argument.
+    E6,
+    /// `SELF_TYPE` behind `@`. At it.
+    E7,
+    /// A receiver that does not conform to the class behind `@`. At the class.
+    E8,
+    /// A condition that is not Bool. At the condition.
+    E9,
+    /// A `let` or a branch that binds `self`. At the name.
+    E10,
+    /// A type that is no class and not `SELF_TYPE`. At the type.
+    E11,
+    /// A branch of type `SELF_TYPE`. At the type.
+    E12,
+    /// A branch of the type of an earlier branch. At the type.
+    E13,
+    /// An operand of arithmetic, `<` or `<=` that is not Int. At the operator.
+    E14,
+    /// Operands of `=` of different types, one of which is Int, Bool or String. At the operator.
+    E15,
+    /// An operand of `not` that is not Bool. At the operator.
+    E16,
+    /// An initial value that does not conform to the declared type. At the name of the variable or attribute.
+    E17,
+    /// A body that does not conform to the result type. At the method's name.
+    E18,
+}
+
+/// A fault, and the place where it stands.
+#[derive(Clone, Copy, Debug, PartialEq, Eq)]
+pub struct TypeFault {
+    pub kind: TypeKind,
+    pub at: Place,
+}
+
+/// Why a feature was not found to be well typed.
+#[derive(Clone, Copy, Debug, PartialEq, Eq)]
+pub enum CheckError {
+    /// Want of memory.
+    Memory,
+    /// The first fault of the feature.
+    Fault(TypeFault),
+}
+
+impl CheckError {
+    /// A fault of this kind at this place.
+    pub(crate) fn at(kind: TypeKind, at: Place) -> CheckError
+        ensures { result ≡ error.Fault (record { kind = kind; at = at }) }
+    {
+        CheckError::Fault(TypeFault { kind, at })
+    }
+}
+
+impl From<AllocError> for CheckError {
+    ghost from_gives = { λ _ e. e ≡ error.Memory };
+
+    fn from(_error: AllocError) -> CheckError {
+        CheckError::Memory
+    }
+}
+
+impl<T: Drop> From<AllocFailed<T>> for CheckError {
+    ghost from_gives = { λ _ e. e ≡ error.Memory };
+
+    fn from(_error: AllocFailed<T>) -> CheckError {
+        CheckError::Memory
+    }
+}
+
+/// Why there is no program.
+#[derive(Debug, Drop)]
+pub enum CheckAllError {
+    /// Want of memory.
+    Memory,
+    /// The first fault of each feature that has one, in the order of files, bytes and kinds.
+    Faults(Listed<TypeFault>),
+}
+
+impl From<AllocError> for CheckAllError {
+    ghost from_gives = { λ _ e. e ≡ all.Memory };
+
+    fn from(_error: AllocError) -> CheckAllError {
+        CheckAllError::Memory
+    }
+}

@@ -1,0 +1,18 @@
+//! The type checker of Cool (the Cool manual, section 12).
+//!
+//! Comes in: a class table. Goes out: the program, where each feature is well typed, or the first fault of each feature that is not.
+//! `TypeKind` says when each fault comes and where it stands.
+#![tactic(auto)]
+
+mod binding;
+mod called;
+mod checking;
+mod expression;
+mod fault;
+mod feature;
+mod operator;
+mod setting;
+
+pub use checking::check;
+pub use fault::{CheckAllError, CheckError, TypeFault, TypeKind};
+pub use feature::check_feature;

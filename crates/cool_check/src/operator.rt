@@ -1,0 +1,160 @@
+//! The types of assignments and operators.
+
+ghost use Rattle.std.specs.Prelude.{◌≡◌, ◌<◌, ℕ, IfOk, IfErr, OnOk};
+ghost use Rattle.cool_syntax.specs.Tree.{tree_size};
+ghost use Rattle.cool_syntax.specs.NodeLists.{all_trees, made, tree_at, HasPartsBelow};
+ghost use Rattle.cool_syntax.specs.TreesWithinLimits.{IsTreeWithin};
+ghost use Rattle.cool_pool.specs.Groups.{IsBinary, IsUnary};
+ghost use Rattle.cool_rules.specs.Conformance.{IsType};
+ghost use Rattle.cool_check.specs.Faults.{IsPlacedError, StandsAt};
+ghost use Rattle.cool_classes.specs.declared.class_id.Ty.TheVariants.{Class as IsClass};
+ghost use Rattle.cool_check.specs.Settings.{HaveTypes, IsSound};
+
+use crate::expression::{is_self, type_of, type_of_name};
+use crate::fault::{CheckError, TypeKind};
+use crate::setting::Setting;
+use cool_classes::{BOOL, ClassId, INT, STRING, Ty};
+use cool_rules::{Scope, conforms};
+use cool_syntax::{CompareOp, Name, Node, NodeId, Place};
+
+/// The type of an assignment or of an operator with one operand, which has a number below this one.
+#[cycle(typing)]
+pub(crate) fn type_of_unary<'a>(
+    setting: &Setting<'a, '_>,
+    locals: &mut Scope<'a>,
+    id: NodeId,
+    node: &'a Node,
+) -> Result<Ty, CheckError>
+    requires group { IsUnary node.now }
+    requires sound { IsSound setting.now }
+    requires below { id.0 < tree_size setting.now.body.now }
+    requires parts { HasPartsBelow id.0 node.now }
+    requires locals { HaveTypes setting.now.table.now locals.old }
+    ensures is_type { IfOk result (IsType setting.now.table.now) }
+    ensures scope { OnOk result (locals.new ≡ locals.old) }
+    ensures places { (n : ℕ) → IsTreeWithin n (made (all_trees setting.now.body.now) node.now) → IfErr result (IsPlacedError n) }
+{
+    match node {
+        Node::Assign { at, name, value } => {
+            let given = type_of(setting, locals, *value)?;
+            assigned(setting, locals, *at, name, given)
+        }
+        Node::IsVoid { value, .. } => {
+            type_of(setting, locals, *value)?;
+            Ok(Ty::Class(BOOL))
+        }
+        Node::Neg { at, value } => {
+            let found = type_of(setting, locals, *value)?;
+            expect(found, INT, TypeKind::E14, *at)
+        }
+        Node::Not { at, value } => {
+            let found = type_of(setting, locals, *value)?;
+            expect(found, BOOL, TypeKind::E16, *at)
+        }
+        _ => unreachable!(),
+    }
+}
+
+/// The type of an assignment to a name of a value of this type.
+fn assigned(
+    setting: &Setting<'_, '_>,
+    locals: &Scope<'_>,
+    at: Place,
+    name: &Name,
+    given: Ty,
+) -> Result<Ty, CheckError>
+    requires sound { IsSound setting.now }
+    requires locals { HaveTypes setting.now.table.now locals.now }
+    requires given { IsType setting.now.table.now given }
+    ensures is_type { IfOk result (IsType setting.now.table.now) }
+    ensures fault { IfErr result (StandsAt at) }
+{
+    if is_self(name) {
+        return Err(CheckError::at(TypeKind::E2, at));
+    }
+    let declared = type_of_name(setting, locals, at, name)?;
+    if conforms(setting.table, setting.class, given, declared) {
+        Ok(given)
+    } else {
+        Err(CheckError::at(TypeKind::E3, at))
+    }
+}
+
+/// The class that an operand must have, where it has it, and else this fault.
+fn expect(found: Ty, class: ClassId, kind: TypeKind, at: Place) -> Result<Ty, CheckError>
+    ensures found { IfOk result (λ t. t ≡ found) }
+    ensures fault { IfErr result (StandsAt at) }
+{
+    if found == Ty::Class(class) {
+        Ok(found)
+    } else {
+        Err(CheckError::at(kind, at))
+    }
+}
+
+/// The type of an operator with two operands, which have numbers below this one.
+#[cycle(typing)]
+pub(crate) fn type_of_binary<'a>(
+    setting: &Setting<'a, '_>,
+    locals: &mut Scope<'a>,
+    id: NodeId,
+    node: &'a Node,
+) -> Result<Ty, CheckError>
+    requires group { IsBinary node.now }
+    requires sound { IsSound setting.now }
+    requires below { id.0 < tree_size setting.now.body.now }
+    requires parts { HasPartsBelow id.0 node.now }
+    requires locals { HaveTypes setting.now.table.now locals.old }
+    ensures is_type { IfOk result (IsType setting.now.table.now) }
+    ensures scope { OnOk result (locals.new ≡ locals.old) }
+    ensures places { (n : ℕ) → IsTreeWithin n (made (all_trees setting.now.body.now) node.now) → IfErr result (IsPlacedError n) }
+{
+    match node {
+        Node::Arith {
+            at,
+            left,
+            right,
+            ..
+        } => {
+            let first = type_of(setting, locals, *left)?;
+            let second = type_of(setting, locals, *right)?;
+            expect(first, INT, TypeKind::E14, *at)?;
+            expect(second, INT, TypeKind::E14, *at)
+        }
+        Node::Compare {
+            at,
+            op,
+            left,
+            right,
+        } => {
+            let first = type_of(setting, locals, *left)?;
+            let second = type_of(setting, locals, *right)?;
+            compared(*op, first, second, *at)
+        }
+        _ => unreachable!(),
+    }
+}
+
+/// The type of a comparison of operands of these types.
+fn compared(op: CompareOp, first: Ty, second: Ty, at: Place) -> Result<Ty, CheckError>
+    ensures bool { IfOk result (λ t. t ≡ IsClass BOOL) }
+    ensures fault { IfErr result (StandsAt at) }
+{
+    match op {
+        CompareOp::Less | CompareOp::LessEqual => {
+            expect(first, INT, TypeKind::E14, at)?;
+            expect(second, INT, TypeKind::E14, at)?;
+        }
+        CompareOp::Equal => {
+            if first != second && (has_values(first) || has_values(second)) {
+                return Err(CheckError::at(TypeKind::E15, at));
+            }
+        }
+    }
+    Ok(Ty::Class(BOOL))
+}
+
+/// Whether a type is Int, Bool or String, whose objects are compared by value.
+fn has_values(a: Ty) -> bool {
+    matches!(a, Ty::Class(INT | BOOL | STRING))
+}
