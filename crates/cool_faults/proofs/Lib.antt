@@ -1,0 +1,9 @@
+pub mod AllItems
+pub mod DefinitionsOfTrees
+pub mod FindingsInARow
+pub mod LexicalFaults
+pub mod OrderOfFaults
+pub mod SlicesParsed
+pub mod SyntaxFaults
+pub mod TablesFit
+pub mod VerdictsOfPhases

@@ -1,0 +1,9 @@
+-- What was found goes on with what is found in the files left.
+use Rattle.std.proofs.Common.{drop}
+use Rattle.cool_faults.specs.Files.{bytes_of}
+use Rattle.cool_faults.specs.Phases.{IsLexed, IsLexical}
+use Rattle.cool_faults.proofs.FindingsInARow.{GoesOn}
+use Rattle.cool_faults.proofs.lexing.lex_files.Given as goal
+
+abbrev pub invariant-loop-index : goal.invariant-loop-index
+invariant-loop-index l = GoesOn IsLexed IsLexical (bytes_of l.fn.files) l.index (bytes_of (drop l.index l.fn.files)) l.found

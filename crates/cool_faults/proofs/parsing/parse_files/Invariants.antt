@@ -1,0 +1,8 @@
+-- What was found goes on with what is found in the files left.
+use Rattle.std.proofs.Common.{drop}
+use Rattle.cool_faults.specs.Phases.{IsParsed, IsSyntactic}
+use Rattle.cool_faults.proofs.FindingsInARow.{GoesOn}
+use Rattle.cool_faults.proofs.parsing.parse_files.Given as goal
+
+abbrev pub invariant-loop-index : goal.invariant-loop-index
+invariant-loop-index l = GoesOn IsParsed IsSyntactic l.fn.files l.index (drop l.index l.fn.files) l.found

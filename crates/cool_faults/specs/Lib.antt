@@ -1,0 +1,4 @@
+pub mod Files
+pub mod Phases
+pub mod Texts
+pub mod Verdicts

@@ -1,0 +1,47 @@
+//! Whether files are a program.
+
+ghost use Rattle.std.specs.Prelude.{◌≤◌, IfOk, MatchResult, length};
+ghost use Rattle.cool_syntax.specs.declared.TheConstants.{MOST_FILES, MOST_SOURCE_BYTES};
+ghost use Rattle.cool_faults.specs.Files.{bytes_of, total};
+ghost use Rattle.cool_faults.specs.Phases.{IsRefusedWith};
+ghost use Rattle.cool_faults.specs.Verdicts.{IsAccepted, IsVerdict};
+
+use crate::classes::class_table;
+use crate::fault::{Refusal, Verdict};
+use crate::lexing::lex_files;
+use crate::parsing::parse_files;
+use crate::typing::typed_program;
+use cool_rules::TypedProgram;
+use std::alloc::{AllocError, Global};
+
+/// Whether files are a program, by the Cool manual and the limits of this compiler. There are at most 64, and they have at most
+/// 1,048,576 bytes together.
+///
+/// The faults are those of the first phase that finds any, in the order of files, bytes and kinds: of the lexer or the parser the first
+/// of each file, of classes and then of features all, of typing the first of each feature. `Err` comes only for want of memory.
+pub fn accept(alloc: Global, files: &[Vec<u8>]) -> Result<Verdict, AllocError>
+    requires few { length files.now ≤ MOST_FILES }
+    requires small { total (bytes_of files.now) ≤ MOST_SOURCE_BYTES }
+    ensures verdict { IfOk result (IsVerdict (bytes_of files.now)) }
+{
+    match program(alloc, files) {
+        Ok(program) => Ok(Verdict::Accepted(program)),
+        Err(Refusal::Faults(faults)) => Ok(Verdict::Refused(faults)),
+        Err(Refusal::Memory) => Err(AllocError),
+    }
+}
+
+/// The program that files are.
+///
+/// `Err(Faults(..))` comes where they are none, and holds the faults of the first phase that finds any. `Err(Memory)` comes only for
+/// want of memory.
+fn program(alloc: Global, files: &[Vec<u8>]) -> Result<TypedProgram, Refusal>
+    requires few { length files.now ≤ MOST_FILES }
+    requires small { total (bytes_of files.now) ≤ MOST_SOURCE_BYTES }
+    ensures { MatchResult result (IsAccepted (bytes_of files.now)) (IsRefusedWith (bytes_of files.now)) }
+{
+    let lexed = lex_files(alloc, files)?;
+    let trees = parse_files(alloc, lexed.as_slice())?;
+    let classes = class_table(alloc, trees)?;
+    typed_program(alloc, classes)
+}

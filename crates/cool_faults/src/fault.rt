@@ -1,0 +1,66 @@
+//! Faults of all phases, and the verdict on files.
+
+ghost use Rattle.std.specs.Prelude.{◌≡◌};
+ghost use Rattle.cool_faults.specs.declared.fault.Refusal.TheVariants as refusal;
+ghost use Rattle.cool_faults.specs.Verdicts.{place_of};
+
+use cool_check::TypeFault;
+use cool_classes::ClassFault;
+use cool_lexer::LexFault;
+use cool_parser::ParseFault;
+use cool_rules::TypedProgram;
+use cool_syntax::{Listed, Place};
+use std::alloc::AllocError;
+
+/// A fault of a file.
+#[derive(Clone, Copy, Debug, PartialEq, Eq)]
+pub enum Fault {
+    /// A lexical fault, L1 to L8.
+    Lex(LexFault),
+    /// A token where none such may stand, S1.
+    Syntax(ParseFault),
+    /// A fault of the classes, C1 to C7, or of their features, F1 to F9.
+    Class(ClassFault),
+    /// A fault of typing, E1 to E18.
+    Typing(TypeFault),
+}
+
+impl Fault {
+    /// The place of the fault.
+    pub fn place(&self) -> Place
+        ensures { result ≡ place_of self.now }
+    {
+        match self {
+            Fault::Lex(fault) => fault.at,
+            Fault::Syntax(fault) => fault.at,
+            Fault::Class(fault) => fault.at,
+            Fault::Typing(fault) => fault.at,
+        }
+    }
+}
+
+/// What is said of files.
+#[derive(Drop)]
+pub enum Verdict {
+    /// They are this program.
+    Accepted(TypedProgram),
+    /// They have these faults, in the order of files, bytes and kinds.
+    Refused(Listed<Fault>),
+}
+
+/// Why files are no program.
+#[derive(Drop)]
+pub(crate) enum Refusal {
+    /// Want of memory.
+    Memory,
+    /// The faults of the first phase that finds any, in the order of files, bytes and kinds.
+    Faults(Listed<Fault>),
+}
+
+impl From<AllocError> for Refusal {
+    ghost from_gives = { λ _ e. e ≡ refusal.Memory };
+
+    fn from(_error: AllocError) -> Refusal {
+        Refusal::Memory
+    }
+}

@@ -1,0 +1,20 @@
+//! Whether source files are a program, and if not, which faults stand where.
+//!
+//! Comes in: the bytes of source files. Goes out: the program, or the faults of the first phase that finds any, and their lines.
+//! `specs/Verdicts.antt` and `specs/Texts.antt` define what they are, and `specs/Phases.antt` what each phase finds.
+#![tactic(auto)]
+
+mod acceptance;
+mod classes;
+mod fault;
+mod findings;
+mod lexing;
+mod parsing;
+#[cfg(test)]
+mod tests;
+mod text;
+mod typing;
+
+pub use acceptance::accept;
+pub use fault::{Fault, Verdict};
+pub use text::fault_text;

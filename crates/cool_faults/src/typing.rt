@@ -1,0 +1,45 @@
+//! Typing all features.
+
+ghost use Rattle.std.specs.Prelude.{◌≡◌, ℕ, map, IfOk, IfErr};
+ghost use Rattle.cool_syntax.specs.declared.TheConstants.{MOST_FILES};
+ghost use Rattle.cool_rules.specs.Fits.{Fits};
+ghost use Rattle.cool_check.specs.Faults.{AreWithin};
+ghost use Rattle.cool_faults.specs.declared.fault.Fault.TheVariants as phase;
+ghost use Rattle.cool_faults.specs.Phases.{ArePlaced, IsTypeRefusal};
+
+use crate::fault::{Fault, Refusal};
+use cool_check::{CheckAllError, TypeFault, check};
+use cool_classes::ClassTable;
+use cool_rules::TypedProgram;
+use cool_syntax::Listed;
+use std::alloc::{AllocError, Global};
+
+/// The program of a table.
+///
+/// `Err(Faults(..))` comes where a feature is not well typed, and holds the first fault of each such feature, in order. `Err(Memory)`
+/// comes only for want of memory.
+pub(crate) fn typed_program(alloc: Global, classes: ClassTable) -> Result<TypedProgram, Refusal>
+    requires fits { Fits classes MOST_FILES }
+    ensures program { IfOk result (λ p. p ≡ classes) }
+    ensures refusal { IfErr result IsTypeRefusal }
+    ensures places { (n : ℕ) → AreWithin n classes → IfErr result (ArePlaced n) }
+{
+    match check(alloc, classes) {
+        Ok(program) => Ok(program),
+        Err(CheckAllError::Faults(faults)) => Err(Refusal::Faults(Listed::new(of_typing(
+            alloc,
+            faults.as_slice(),
+        )?))),
+        Err(CheckAllError::Memory) => Err(Refusal::Memory),
+    }
+}
+
+/// The faults as faults of files. `Err` comes only for want of memory.
+fn of_typing(alloc: Global, faults: &[TypeFault]) -> Result<Vec<Fault>, AllocError>
+    ensures { IfOk result (λ all. all.items ≡ map phase.Typing faults.now) }
+{
+    faults
+        .iter()
+        .map(|fault| Fault::Typing(*fault))
+        .collect(alloc)
+}
