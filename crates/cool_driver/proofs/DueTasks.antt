@@ -1,66 +1,123 @@
 -- What is left to do is what is due.
-use Rattle.std.proofs.Common.{◌≡◌, ◌≢◌, ℕ, ◌<◌, ◌≤◌, List, [], ◌++◌, length, Some, refl, sym, subst, inl, inr, arith}
-use Rattle.std.specs.Prelude.{codes, decimal, Option, Result, Ok, Err, IfOk}
-use Rattle.std.proofs.Math.ListN.{length-append}
-use Rattle.cool_ports.specs.Counts.{Rose}
-use Rattle.cool_ports.specs.ShelfFiles.{FileMap, MayHold, IsMissing, IsLonger}
+use Rattle.std.proofs.Common.{◌≡◌, ℕ, ◌<◌, ◌≤◌, true, List, [], ◌∷◌, length, Some, refl, sym, ◌∙◌, ap, inl, inr, eqb-true, arith}
+use Rattle.std.specs.Prelude.{◌&&◌, Option, Result, Ok, Err, IfOk}
+use Rattle.std.specs.List.{list_all}
+use Rattle.std.proofs.lemmas.Bool.{and_parts}
+use Rattle.std.proofs.lemmas.Option.{cond_some, option_and_then_some}
+use Rattle.cool_syntax.specs.declared.TheConstants.{MOST_FILES}
+use Rattle.cool_faults.specs.Files.{total}
+use Rattle.cool_ports.specs.ShelfFiles.{FileMap}
 use Rattle.cool_ports.specs.declared.shelf.ShelfFault.{ShelfFault}
 use Rattle.cool_ports.specs.declared.shelf.ShelfFault.TheVariants as faults
-use Rattle.mips_isa.specs.declared.line.AsmFault.{AsmFault}
-use Rattle.mips_image.specs.declared.image_error.ImageError.{ImageError}
-use Rattle.cool_driver.specs.CommandLine.{plan_of, most_bytes}
-use Rattle.cool_driver.specs.Notes.{refused_note, missing_note, unread_note, too_large_note, image_fault, image_note, asm_words, asm_note}
-use Rattle.cool_driver.specs.Ends.{Request, Due, IsRead}
-use Rattle.cool_driver.specs.Ends.Due.{refused, unfit, misread, missing, unread, too_large}
-use Rattle.cool_driver.specs.Tasks.{code_of, fault_note, IsTaskOf, IsDue, IsFileTask}
+use Rattle.cool_driver.specs.CommandLine.{command_of, is_name, is_number_of_files, plan_of, most_bytes}
+use Rattle.cool_driver.specs.Notes.{missing_note, unread_note, too_large_note, too_many_note}
+use Rattle.cool_driver.specs.Ends.{Request, Due, IsRead, IsReadUpTo, AreHeld}
+use Rattle.cool_driver.specs.Ends.Due.{checked, refused, not_yet, unfit, misread, too_many, missing, unread, too_large}
+use Rattle.cool_driver.specs.Reading.{IsStopAt}
+use Rattle.cool_driver.specs.Tasks.{fault_note, IsTaskOf, IsTaskOfFile, IsTaskOfChecked, IsTaskOfRun, IsLine, IsDue, IsFileTask}
 use Rattle.cool_driver.specs.declared.command_line.Command.{Command}
 use Rattle.cool_driver.specs.declared.command_line.Command.TheVariants as command
 use Rattle.cool_driver.specs.declared.status.Status.TheVariants as statuses
 use Rattle.cool_driver.specs.declared.task.Task.{Task}
-use Rattle.cool_driver.specs.declared.task.Task.TheVariants.{Note, Run, Execute}
+use Rattle.cool_driver.specs.declared.task.Task.TheVariants.{Tell, Run, Execute}
+use Rattle.cool_driver.proofs.NoteLines.{line_due}
 
--- the notes of a file that was read are not empty
-some_refused : (name : List ℕ) → 0 < length (refused_note name)
-some_refused name = omega (arith, length-append name (codes ":1: N1: not yet\n"))
+-- the number of files is one that the command takes
+pub plan_number : (words names : List (List ℕ)) (asked : Command) → plan_of words ≡ Some (asked, names) → is_number_of_files asked (length names) ≡ true
+plan_number [] names asked e = absurd cc
+plan_number (word ∷ given) names asked e =
+    option_and_then_some _ (command_of word) _ e (λ found is f.
+    let test = cond_some (is_number_of_files found (length given) && list_all is_name given) (found, given) (asked, names) f in
+    let both = and_parts (is_number_of_files found (length given)) (list_all is_name given) test.0 in
+    let same : found ≡ asked = ap (λ (plan : Command × List (List ℕ)). plan.0) test.1 in
+    let all : given ≡ names = ap (λ (plan : Command × List (List ℕ)). plan.1) test.1 in
+    sym (ap (λ (c : Command). is_number_of_files c (length names)) same) ∙ sym (ap (λ (ns : List (List ℕ)). is_number_of_files found (length ns)) all) ∙ both.0)
 
-some_unfit : (name : List ℕ) (fault : ImageError) → 0 < length (image_note name fault)
-some_unfit name fault = omega (arith, length-append name (codes ": " ++ image_fault fault))
+-- for files that `check` names
+checked_due : (r : Request) (names contents : List (List ℕ)) (task : Task) → IsRead r command.Check names contents → IsTaskOfChecked names contents task → IsDue r task
+checked_due r names contents (Tell status lines) read (are, inl h) = rw (h.0, h.1) (checked names contents h.2.0 read h.2.1, are, λ e. omega (arith, e))
+checked_due r names contents (Tell status lines) read (are, inr h) = rw (h.0, h.1.2) (refused command.Check names contents h.1.0 read tt h.1.1, are, λ e. omega (arith, e))
+checked_due r names contents (Run image) read h = absurd h
+checked_due r names contents (Execute image) read h = absurd h
 
-some_misread : (name : List ℕ) (fault : AsmFault) → 0 < length (asm_note name fault)
-some_misread name fault = omega (arith, length-append name (codes ":" ++ (decimal fault.line ++ (codes ": " ++ (asm_words fault.kind ++ codes "\n")))))
+-- for files that `run` names
+run_due : (r : Request) (names contents : List (List ℕ)) (task : Task) → IsRead r command.Run names contents → is_number_of_files command.Run (length names) ≡ true → IsTaskOfRun names contents task → IsDue r task
+run_due r [] contents (Tell status lines) read some (are, other, one, inl h) = absurd cc
+run_due r (name ∷ names) contents (Tell status lines) read some (are, other, one, inl h) = rw (one, h.2) (not_yet name names contents h.0 read other h.1, are, λ e. omega (arith, e))
+run_due r names contents (Tell status lines) read some (are, other, one, inr h) = rw (one, h.2) (refused command.Run names contents h.0 read other h.1, are, λ e. omega (arith, e))
+run_due r names contents (Run image) read some h = (names, contents, h.0, read, h.1, h.2)
+run_due r names contents (Execute image) read some h = absurd h
 
--- for a file that was read
-task_due : (r : Request) (asked : Command) (name bytes : List ℕ) (task : Task) → IsRead r asked name bytes → IsTaskOf asked name bytes task → IsDue r task
-task_due r command.Run name bytes (Note status text) read h = rw (h.0, h.1) (refused name bytes read h.2, some_refused name, λ e. omega (arith, e))
-task_due r command.Run name bytes (Run image) read h = (name, bytes, h.0, read, h.1, h.2)
-task_due r command.Run name bytes (Execute image) read h = absurd h
-task_due r command.Exec name bytes (Note status text) read (twelve, inl h) = rw (twelve, h.1) (unfit name bytes h.0 read h.2 h.3, some_unfit name h.0, λ e. omega (arith, e))
-task_due r command.Exec name bytes (Note status text) read (twelve, inr h) = rw (twelve, h.1) (misread name bytes h.0 read h.2, some_misread name h.0, λ e. omega (arith, e))
-task_due r command.Exec name bytes (Run image) read h = absurd h
-task_due r command.Exec name bytes (Execute image) read h = (name, bytes, read, h)
+-- for the file that `exec` names
+file_due : (r : Request) (name bytes : List ℕ) (task : Task) → IsRead r command.Exec (name ∷ []) (bytes ∷ []) → IsTaskOfFile name bytes task → IsDue r task
+file_due r name bytes (Tell status lines) read (twelve, are, inl h) = rw (twelve, h.1) (unfit name bytes h.0 read h.2 h.3, are, λ e. omega (arith, e))
+file_due r name bytes (Tell status lines) read (twelve, are, inr h) = rw (twelve, h.1) (misread name bytes h.0 read h.2, are, λ e. omega (arith, e))
+file_due r name bytes (Run image) read h = absurd h
+file_due r name bytes (Execute image) read h = (name, bytes, read, h)
 
--- for a file that was read, for any words that ask for it and over any input
-pub file_task : {E : Type 0} (files : Option FileMap) (before after most : ℕ) (asked taken : Command) (name bytes given : List ℕ) (result : Result Task E)
-    → asked ≡ taken → most ≡ most_bytes asked → given ≡ bytes → MayHold files name bytes → length bytes ≤ most → after ≡ before
-    → IfOk result (IsTaskOf taken name given) → IfOk result (IsFileTask files before after asked name)
-file_task files before after most asked taken name bytes given (Err e) same limit whole held within calm h = tt
-file_task files before after most asked taken name bytes given (Ok task) same limit whole held within calm h = λ words input plan.
+-- `exec` names one file
+exec_due : (r : Request) (names contents : List (List ℕ)) (task : Task) → IsRead r command.Exec names contents → length names ≡ 1 → AreHeld r.files names contents → IsTaskOf command.Exec names contents task → IsDue r task
+exec_due r [] contents task read one held h = absurd (omega arith)
+exec_due r (name ∷ []) [] task read one held h = absurd held
+exec_due r (name ∷ []) (bytes ∷ []) task read one held h = file_due r name bytes task read h
+exec_due r (name ∷ []) (bytes ∷ more ∷ contents) task read one held h = absurd held.1
+exec_due r (name ∷ more ∷ names) contents task read one held h = absurd (omega arith)
+
+-- for files that were read
+task_due : (r : Request) (asked : Command) (names contents : List (List ℕ)) (task : Task) → IsRead r asked names contents → is_number_of_files asked (length names) ≡ true → IsTaskOf asked names contents task → IsDue r task
+task_due r command.Check names contents task read number h = checked_due r names contents task read h
+task_due r command.Run names contents task read number h = run_due r names contents task read number h
+task_due r command.Exec names contents task read number h = exec_due r names contents task read (eqb-true (length names) 1 number) read.held h
+
+-- what follows for each task follows for one that was made
+pub for_task : {E : Type 0} (P Q : Task → Type 0) (result : Result Task E) → ((task : Task) → P task → Q task) → IfOk result P → IfOk result Q
+for_task P Q (Err e) f h = tt
+for_task P Q (Ok task) f h = f task h
+
+-- for files that were read, for any words that ask for them and over any input
+pub file_task : (files : Option FileMap) (before after : ℕ) (asked : Command) (names contents : List (List ℕ)) (task : Task)
+    → AreHeld files names contents → length names ≤ MOST_FILES → total contents ≤ most_bytes asked → after ≡ before → IsTaskOf asked names contents task → IsFileTask files before after asked names task
+file_task files before after asked names contents task held few within calm h words input plan =
     let r : Request = record { words = words; files = files; faults_before = before; faults_after = after; input = input } in
-    let read : IsRead r asked name bytes = record { plan = plan; held = held; within = omega (arith, within, limit); calm = calm } in
-    task_due r asked name bytes task read (subst (λ (c : Command). IsTaskOf c name bytes task) (sym same) (subst (λ (bs : List ℕ). IsTaskOf taken name bs task) whole h))
+    let read : IsRead r asked names contents = record { plan = plan; few = few; held = held; within = within; calm = calm } in
+    task_due r asked names contents task read (plan_number words names asked plan) h
 
--- for a file that was not read
-pub fault_due : (r : Request) (asked : Command) (most : ℕ) (name : List ℕ) (fault : ShelfFault) (note : List ℕ) → plan_of r.words ≡ Some (asked, name) → most ≡ most_bytes asked
-    → fault_note name fault ≡ Some note → (fault ≡ faults.Missing → IsMissing r.files name r.faults_before r.faults_after)
-    → (fault ≡ faults.TooLarge → IsLonger r.files name most r.faults_before r.faults_after) → (fault ≡ faults.Failed → Rose r.faults_before r.faults_after)
-    → Due r 10 [] note r.input × (0 < length note) × (code_of statuses.FileFault ≢ 7)
-fault_due r asked most name faults.Missing note p limit e gone long failed =
+-- for too many files
+pub many_task : (files : Option FileMap) (faults : ℕ) (asked : Command) (names : List (List ℕ)) (task : Task) → MOST_FILES < length names → IsLine statuses.FileFault too_many_note task → IsFileTask files faults faults asked names task
+many_task files faults asked names task many h words input plan =
+    let r : Request = record { words = words; files = files; faults_before = faults; faults_after = faults; input = input } in
+    line_due r statuses.FileFault too_many_note task h (omega arith) (λ e. omega (arith, e)) (too_many asked names plan many refl)
+
+-- the files before the one that was refused were read
+read_before : (r : Request) (asked : Command) (names : List (List ℕ)) (name : List ℕ) (fault : ShelfFault) → plan_of r.words ≡ Some (asked, names) → length names ≤ MOST_FILES
+    → (s : IsStopAt r.files r.faults_before r.faults_after names (most_bytes asked) name fault) → IsReadUpTo r asked name s.contents
+read_before r asked names name fault plan few s = record {
+  front = s.front;
+  rest = s.rest;
+  plan = plan ∙ ap (λ (ns : List (List ℕ)). Some (asked, ns)) s.stands;
+  few = omega (arith, few, ap length s.stands);
+  held = s.held;
+  within = s.within;
+}
+
+-- for a file that was refused
+stop_due : (r : Request) (asked : Command) (names : List (List ℕ)) (name : List ℕ) (fault : ShelfFault) (note : List ℕ) → plan_of r.words ≡ Some (asked, names) → length names ≤ MOST_FILES
+    → IsStopAt r.files r.faults_before r.faults_after names (most_bytes asked) name fault → fault_note name fault ≡ Some note → Due r 10 [] note r.input × (0 < length note)
+stop_due r asked names name faults.Missing note plan few s e =
     let same : missing_note name ≡ note = cc in
-    rw (← same) (missing asked name p (gone refl), omega arith, λ e. omega (arith, e))
-fault_due r asked most name faults.Failed note p limit e gone long failed =
+    rw (← same) (missing asked name s.contents (read_before r asked names name faults.Missing plan few s) s.cause, omega arith)
+stop_due r asked names name faults.Failed note plan few s e =
     let same : unread_note name ≡ note = cc in
-    rw (← same) (unread asked name p (failed refl), omega arith, λ e. omega (arith, e))
-fault_due r asked most name faults.TooLarge note p limit e gone long failed =
+    rw (← same) (unread asked name s.contents (read_before r asked names name faults.Failed plan few s) s.cause, omega arith)
+stop_due r asked names name faults.TooLarge note plan few s e =
     let same : too_large_note ≡ note = cc in
-    rw (← same) (too_large asked name p (subst (λ (n : ℕ). IsLonger r.files name n r.faults_before r.faults_after) limit (long refl)), omega arith, λ e. omega (arith, e))
-fault_due r asked most name faults.Memory note p limit e gone long failed = absurd cc
+    rw (← same) (too_large asked name s.contents (read_before r asked names name faults.TooLarge plan few s) s.cause, omega arith)
+stop_due r asked names name faults.Memory note plan few s e = absurd s.cause
+
+-- the same, for any words that ask for these files and over any input
+pub stop_task : (files : Option FileMap) (before after : ℕ) (asked : Command) (names : List (List ℕ)) (name : List ℕ) (fault : ShelfFault) (note : List ℕ) (task : Task) → length names ≤ MOST_FILES
+    → IsStopAt files before after names (most_bytes asked) name fault → fault_note name fault ≡ Some note → IsLine statuses.FileFault note task → IsFileTask files before after asked names task
+stop_task files before after asked names name fault note task few s e h words input plan =
+    let r : Request = record { words = words; files = files; faults_before = before; faults_after = after; input = input } in
+    let due = stop_due r asked names name fault note plan few s e in
+    line_due r statuses.FileFault note task h due.1 (λ e. omega (arith, e)) due.0

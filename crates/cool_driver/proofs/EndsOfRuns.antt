@@ -1,5 +1,5 @@
 -- How a call ends that ran an image.
-use Rattle.std.proofs.Common.{◌≡◌, ◌≢◌, ◌∙◌, ◌⊎◌, inl, inr, refl, sym, ap, subst, ℕ, List, [], arith}
+use Rattle.std.proofs.Common.{◌≡◌, ◌≢◌, ◌∙◌, ◌⊎◌, inl, inr, refl, sym, ap, subst, ℕ, List, [], ◌∷◌, arith}
 use Rattle.std.specs.Prelude.{Option, Some, None}
 use Rattle.cool_ports.specs.Counts.{Rose}
 use Rattle.cool_ports.specs.SinkBytes.{appended}
@@ -31,7 +31,7 @@ pub record IsRun (c : Call) (halt : Halt) : Type 0 where
   pub name : List ℕ
   pub bytes : List ℕ
   pub image : ImageParts
-  pub read : IsRead c.request Exec name bytes
+  pub read : IsRead c.request Exec (name ∷ []) (bytes ∷ [])
   pub is : IsRunnable image bytes
   pub last : MachineParts
   pub ran : (input : List ℕ) → c.request.input ≡ Some input
@@ -44,7 +44,7 @@ pub is_run : (c : Call) (name bytes : List ℕ) (image : ImageParts) (heap stack
     → ((input : List ℕ) → state_of loaded input [] ≡ start image (segments_of image heap stack) input) → loaded.cpu.memory.text ≡ image.text → segments loaded.cpu.memory ≡ segments_of image heap stack
     → ((first : Option (List ℕ)) (s : State) → IsIn first s loaded given c.out.held_before → Ran loaded.cpu.memory.text (segments loaded.cpu.memory) DEFAULT_STEPS s first halt last c.left c.out.held_after)
     → Counted halt c.input_before c.input_after c.out.faults_before c.out.faults_after
-    → halt ≡ halt' → IsRead c.request Exec name bytes → IsRunnable image bytes → c.request.input ≡ given → IsRun c halt'
+    → halt ≡ halt' → IsRead c.request Exec (name ∷ []) (bytes ∷ []) → IsRunnable image bytes → c.request.input ≡ given → IsRun c halt'
 is_run c name bytes image heap stack loaded last halt halt' given least most state text same ran counted ends read is told =
     subst (λ (h : Halt). IsRun c h) ends (record {
       name = name;
@@ -60,7 +60,7 @@ is_run c name bytes image heap stack loaded last halt halt' given least most sta
 -- The output was written, and a status and a note are due, as far as the input tells.
 pub record IsFinished (c : Call) (status : ℕ) (note : List ℕ) : Type 0 where
   pub told : (input : List ℕ) → c.request.input ≡ Some input → (output : List ℕ) × Due c.request status output note c.left × Got c.out output
-  pub untold : (name : List ℕ) × (bytes : List ℕ) × (image : ImageParts) × IsRead c.request Exec name bytes × IsRunnable image bytes
+  pub untold : (name : List ℕ) × (bytes : List ℕ) × (image : ImageParts) × IsRead c.request Exec (name ∷ []) (bytes ∷ []) × IsRunnable image bytes
       × (IsEnd status note ⊎ ((status ≡ 7) × (note ≡ read_fault_note)))
   pub out : c.out.faults_after ≡ c.out.faults_before
   pub calm : status ≢ 7 → c.input_after ≡ c.input_before
@@ -80,8 +80,8 @@ pub finished_ends : (c : Call) (status : ℕ) (note : List ℕ) → IsFinished c
 finished_ends c status note f got = finished_by_cases c status note f got c.request.input refl
 
 -- the input tells where it has to
-told_input : (c : Call) (name bytes : List ℕ) → IsRead c.request Exec name bytes → TellsInput c.request → (input : List ℕ) × (c.request.input ≡ Some input)
-told_input c name bytes read tells = tells name read.plan
+told_input : (c : Call) (name bytes : List ℕ) → IsRead c.request Exec (name ∷ []) (bytes ∷ []) → TellsInput c.request → (input : List ℕ) × (c.request.input ≡ Some input)
+told_input c name bytes read tells = tells (name ∷ []) read.plan
 
 -- the write of the note failed
 note_failed : (c : Call) (status : ℕ) (note : List ℕ) → IsFinished c status note → GotPart c.notes [] note → Ends c 8
@@ -100,7 +100,7 @@ noted_ends c status answered note f (inr (is, part)) =
     subst (λ (s : Status). Ends c (code_of s)) (sym is) (note_failed c (code_of status) note f part)
 
 -- what is due for a run that ended so
-executed_so : (r : Request) (name bytes : List ℕ) (image : ImageParts) (input : List ℕ) (o : Outcome) → IsRead r Exec name bytes → IsRunnable image bytes → r.input ≡ Some input → run_of image input ≡ o
+executed_so : (r : Request) (name bytes : List ℕ) (image : ImageParts) (input : List ℕ) (o : Outcome) → IsRead r Exec (name ∷ []) (bytes ∷ []) → IsRunnable image bytes → r.input ≡ Some input → run_of image input ≡ o
     → Due r (status_of o) (left_by o).output (note_of o) (Some (left_by o).input)
 executed_so r name bytes image input o read is given ends =
     subst (λ (o : Outcome). Due r (status_of o) (left_by o).output (note_of o) (Some (left_by o).input)) ends (executed name bytes image input read is given)

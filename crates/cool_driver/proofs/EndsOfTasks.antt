@@ -1,14 +1,13 @@
 -- A task that was done ends a call as it should.
-use Rattle.std.proofs.Common.{◌≡◌, ◌≢◌, ℕ, ◌⊎◌, inl, inr, List, [], ◌++◌, Some, refl, sym, ap, subst, arith}
+use Rattle.std.proofs.Common.{◌≡◌, ◌≢◌, ℕ, inl, inr, List, [], ◌++◌, sym, subst, arith}
 use Rattle.std.specs.List.{concat}
-use Rattle.cool_syntax.specs.SimpleForm.{Simple}
 use Rattle.cool_driver.specs.Notes.{end_text}
-use Rattle.cool_driver.specs.Ends.{Request, Due, IsRead, Call, Ends, TellsInput, FailedOutput, FailedNote, Got, GotPart, Writing}
+use Rattle.cool_driver.specs.SimpleFiles.{AreSimple}
+use Rattle.cool_driver.specs.Ends.{Due, IsRead, Call, Ends, Got, Writing}
 use Rattle.cool_driver.specs.Ends.Due.{ran}
 use Rattle.cool_driver.specs.Ends.Writing.{by_run}
 use Rattle.cool_driver.specs.Tasks.{code_of, Noted, RunsSimple}
 use Rattle.cool_driver.specs.declared.status.Status.{Status}
-use Rattle.cool_driver.specs.declared.status.Status.TheVariants as statuses
 use Rattle.cool_driver.specs.declared.command_line.Command.TheVariants.{Run}
 use Rattle.cool_driver.proofs.EndsOfDue.{ends_written, ends_write_fault, ends_without_memory}
 
@@ -32,14 +31,14 @@ note_ends c status answered note due other out alone (inr failed) =
     (ends_write_fault c (inr failed.1.1) (λ _. inr (code_of status, [], note, due_left c (code_of status) [] note alone due, out, failed.1)))
 
 -- a program of the simple form ran, or a write failed, or memory ran out
-pub simple_ends : (c : Call) (name bytes : List ℕ) (strings : List (List ℕ)) (answered : Status) → IsRead c.request Run name bytes → Simple bytes strings
+pub simple_ends : (c : Call) (names contents strings : List (List ℕ)) (answered : Status) → IsRead c.request Run names contents → AreSimple contents strings
     → Got c.notes [] → Untouched c → RunsSimple c.out (concat strings ++ end_text) answered → Ends c (code_of answered)
-simple_ends c name bytes strings answered read is notes alone (inl done) =
+simple_ends c names contents strings answered read is notes alone (inl done) =
     subst (λ (s : Status). Ends c (code_of s)) (sym done.0)
-    (ends_written c 0 (concat strings ++ end_text) [] (due_left c 0 (concat strings ++ end_text) [] alone (ran name bytes strings read is)) done.1 notes (λ _. alone.calm) (λ e. absurd (omega (arith, e))))
-simple_ends c name bytes strings answered read is notes alone (inr (inl failed)) =
+    (ends_written c 0 (concat strings ++ end_text) [] (due_left c 0 (concat strings ++ end_text) [] alone (ran names contents strings read is)) done.1 notes (λ _. alone.calm) (λ e. absurd (omega (arith, e))))
+simple_ends c names contents strings answered read is notes alone (inr (inl failed)) =
     subst (λ (s : Status). Ends c (code_of s)) (sym failed.0)
     (ends_write_fault c (inl failed.1.1)
-    (λ _. inl ([], concat strings ++ end_text, subst (λ left. Writing c.request [] (concat strings ++ end_text) left) (sym alone.left) (by_run name bytes strings read is), failed.1, notes)))
-simple_ends c name bytes strings answered read is notes alone (inr (inr memory)) =
+    (λ _. inl ([], concat strings ++ end_text, subst (λ left. Writing c.request [] (concat strings ++ end_text) left) (sym alone.left) (by_run names contents strings read is), failed.1, notes)))
+simple_ends c names contents strings answered read is notes alone (inr (inr memory)) =
     subst (λ (s : Status). Ends c (code_of s)) (sym memory.0) (ends_without_memory c memory.1 notes alone.left alone.calm)

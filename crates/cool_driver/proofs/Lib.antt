@@ -3,6 +3,10 @@ pub mod ReadingLexemes
 pub mod ReadingStrings
 pub mod SpelledCalls
 pub mod ReadingIsSimple
+pub mod HeldFiles
+pub mod ReadingNames
+pub mod NoteLines
+pub mod Plans
 pub mod RunningPrints
 pub mod PlainStrings
 pub mod DueTasks

@@ -1,14 +1,16 @@
 -- Reading from the left finds just the programs of the simple form, and the strings that they write.
-use Rattle.std.proofs.Common.{◌≡◌, ℕ, ◌≤◌, List, [], length, ◌++◌, flat_map, refl, Some, None, if◌then◌else◌, nat_le, ◌&&◌, le-leb, leb-true}
+use Rattle.std.proofs.Common.{◌≡◌, ℕ, ◌+◌, ◌≤◌, inl, inr, Bool, true, false, List, [], ◌∷◌, length, ◌++◌, flat_map, codes, refl, ap, ◌∙◌, Some, None, if◌then◌else◌, nat_le, ◌&&◌, le-leb, leb-true, arith}
 use Rattle.std.specs.Prelude.{Option}
-use Rattle.std.specs.List.{prefix_len}
-use Rattle.std.proofs.lemmas.Bool.{and_parts}
+use Rattle.std.specs.List.{prefix_len, list_all, AllByRecursion}
+use Rattle.std.proofs.Math.ListN.{length-append}
+use Rattle.std.proofs.lemmas.Bool.{and_parts, cond_both}
 use Rattle.std.proofs.lemmas.Option.{cond_some, option_and_then_some}
 use Rattle.cool_syntax.specs.declared.TheConstants.{MOST_CALLS}
 use Rattle.cool_syntax.specs.SimpleForm.{Simple, is_blank, AreBlanks, call, head, tail}
-use Rattle.cool_driver.specs.SimpleReading.{lexemes_at, calls_at, program_at}
-use Rattle.cool_driver.specs.Ends.{NotSimple}
-use Rattle.cool_driver.proofs.ReadingLexemes.{lexemes_found, lexemes_read, AreBlanks-from_len, prefix_len-blanks}
+use Rattle.cool_driver.specs.SimpleFiles.{IsBlankFile, AreSimple, AreNotSimple}
+use Rattle.cool_driver.specs.SimpleReading.{lexemes_at, calls_at, program_at, is_blank_file, programs_at}
+use Rattle.cool_driver.proofs.ReadingStrings.{cond_found}
+use Rattle.cool_driver.proofs.ReadingLexemes.{front_ends, lexemes_found, lexemes_read, AreBlanks-from_len, prefix_len-blanks}
 use Rattle.cool_driver.proofs.SpelledCalls.{AreCalls, calls_found, calls_read}
 
 -- where the parts of a program are read, the bytes are a program
@@ -42,11 +44,71 @@ simple_is_program bytes strings simple =
     let end = lexemes_read tail [] calls.0 refl calls.2 in
     program_read bytes front.0 calls.0 end.0 strings front.1 calls.1 end.1 end.2 simple.some
 
+-- a file that is tested as blank is one of blanks
+blank_file : (bytes : List ℕ) → is_blank_file bytes ≡ true → IsBlankFile bytes
+blank_file bytes e = AreBlanks-from_len bytes (leb-true _ _ e)
+
+-- a file of blanks is tested as one
+file_is_blank : (bytes : List ℕ) → IsBlankFile bytes → is_blank_file bytes ≡ true
+file_is_blank bytes h = le-leb _ _ (prefix_len-blanks bytes h)
+
+-- the same for several files
+blank_files : (files : List (List ℕ)) → list_all is_blank_file files ≡ true → AllByRecursion IsBlankFile files
+blank_files [] e = tt
+blank_files (bytes ∷ files) e =
+    let both = and_parts (is_blank_file bytes) (list_all is_blank_file files) e in
+    (blank_file bytes both.0, blank_files files both.1)
+
+-- and files of blanks are
+files_are_blank : (files : List (List ℕ)) → AllByRecursion IsBlankFile files → list_all is_blank_file files ≡ true
+files_are_blank [] h = refl
+files_are_blank (bytes ∷ files) h = rw (file_is_blank bytes h.0, files_are_blank files h.1)
+
+-- blanks do not reach over the first lexeme of a program
+begins_solid : (bytes : List ℕ) (strings : List (List ℕ)) → Simple bytes strings → length bytes ≤ prefix_len is_blank bytes → ⊥
+begins_solid bytes strings simple h =
+    let (gap, rest, split, blanks, enough, later) = simple.spelled in
+    let ends : prefix_len is_blank (gap ++ 99 ∷ (codes "lass" ++ rest)) ≡ length gap = front_ends is_blank gap 99 (codes "lass" ++ rest) blanks refl in
+    let reach : prefix_len is_blank bytes ≡ length gap = ap (prefix_len is_blank) split ∙ ends in
+    let long : length bytes ≡ length gap + length (codes "class" ++ rest) = ap length split ∙ length-append gap (codes "class" ++ rest) in
+    omega (arith, h, reach, long)
+
+-- a program is no blank file, whatever the test says
+not_blank_by : (bytes : List ℕ) (strings : List (List ℕ)) → Simple bytes strings → (b : Bool) → is_blank_file bytes ≡ b → is_blank_file bytes ≡ false
+not_blank_by bytes strings simple true e = absurd (begins_solid bytes strings simple (leb-true _ _ e))
+not_blank_by bytes strings simple false e = e
+
+-- a program is tested as no blank file
+not_blank : (bytes : List ℕ) (strings : List (List ℕ)) → Simple bytes strings → is_blank_file bytes ≡ false
+not_blank bytes strings simple = not_blank_by bytes strings simple (is_blank_file bytes) refl
+
+-- files that are read are a program that writes the strings that were read
+pub programs_are_simple : (files strings : List (List ℕ)) → programs_at files ≡ Some strings → AreSimple files strings
+programs_are_simple [] strings e = absurd cc
+programs_are_simple (bytes ∷ files) strings e =
+    cond_both (is_blank_file bytes) (programs_at files) (if list_all is_blank_file files then program_at bytes else None) (λ o. o ≡ Some strings → AreSimple (bytes ∷ files) strings)
+    (λ blank f. inr (blank_file bytes blank, programs_are_simple files strings f))
+    (λ other f.
+    let found = cond_found (list_all is_blank_file files) (program_at bytes) strings f in
+    inl (program_is_simple bytes strings found.1, blank_files files found.0))
+    e
+
+-- files that are a program are read, and the strings that it writes are what is read
+pub simple_are_programs : (files strings : List (List ℕ)) → AreSimple files strings → programs_at files ≡ Some strings
+simple_are_programs [] strings h = absurd h
+simple_are_programs (bytes ∷ files) strings (inl h) = rw (not_blank bytes strings h.0, files_are_blank files h.1) (simple_is_program bytes strings h.0)
+simple_are_programs (bytes ∷ files) strings (inr h) = rw (file_is_blank bytes h.0) (simple_are_programs files strings h.1)
+
+-- what was read is not both nothing and something
 none_is_some : {X : Type 0} (read : Option X) (x : X) → read ≡ None → read ≡ Some x → ⊥
 none_is_some read x e f = cc
 
--- where no strings are read, the bytes are no program of the simple form
-pub not_simple : (bytes : List ℕ) → program_at bytes ≡ None → NotSimple bytes
-not_simple bytes e strings h =
-    let read = simple_is_program bytes strings h in
-    absurd (none_is_some (program_at bytes) strings e read)
+-- where no strings are read, the files are no program of the simple form
+pub not_simple : (files : List (List ℕ)) → programs_at files ≡ None → AreNotSimple files
+not_simple files e strings h = none_is_some (programs_at files) strings e (simple_are_programs files strings h)
+
+-- one of the files is the program
+pub simple_file : (files strings : List (List ℕ)) → AreSimple files strings → (bytes : List ℕ) × Simple bytes strings
+simple_file [] strings h = absurd h
+simple_file (bytes ∷ files) strings (inl h) = (bytes, h.0)
+simple_file (bytes ∷ files) strings (inr h) = simple_file files strings h.1

@@ -25,7 +25,7 @@ module _ (p : ℕ → Bool) where
   front_passes (b ∷ bs) = cond_both (p b) _ _ (λ n. AllByRecursion (λ c. IsTrue (p c)) (take n (b ∷ bs))) (λ e. rw one-add (e, front_passes bs)) (λ e. tt)
 
   -- the count ends at the first element that does not pass
-  front_ends : (gap : List ℕ) (b : ℕ) (rest : List ℕ) → AllByRecursion (λ c. IsTrue (p c)) gap → p b ≡ false → prefix_len p (gap ++ b ∷ rest) ≡ length gap
+  pub front_ends : (gap : List ℕ) (b : ℕ) (rest : List ℕ) → AllByRecursion (λ c. IsTrue (p c)) gap → p b ≡ false → prefix_len p (gap ++ b ∷ rest) ≡ length gap
   front_ends [] b rest h e = rw e
   front_ends (g ∷ gs) b rest h e = rw (h.0, front_ends gs b rest h.1 e, one-add)
 

@@ -12,7 +12,7 @@ behind_backslash true bytes = 92 ∷ bytes
 behind_backslash false bytes = bytes
 
 -- a value that a test lets through was there, and the test passed
-cond_found : {A : Type 0} (b : Bool) (o : Option A) (y : A) → cond b o None ≡ Some y → (b ≡ true) × (o ≡ Some y)
+pub cond_found : {A : Type 0} (b : Bool) (o : Option A) (y : A) → cond b o None ≡ Some y → (b ≡ true) × (o ≡ Some y)
 cond_found true o y e = (refl, e)
 cond_found false o y e = cc
 

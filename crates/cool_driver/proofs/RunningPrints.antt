@@ -1,21 +1,20 @@
 -- The words that print strings print just them, in order, and then exit.
-use Rattle.std.proofs.Common.{◌≡◌, ◌∙◌, ap, arith, refl, sym, cond, not, ℕ, zero, suc, ◌+◌, ◌-◌, ◌*◌, ◌/◌, ◌%◌, ◌<◌, ◌≤◌, true, false, List, [], ◌∷◌, ◌++◌, length, drop, get_or, append_assoc, append-nil}
-use Rattle.std.specs.Prelude.{◌==◌, Some, bit_or, flat_map, IsTrue, nat_le, nat_lt, pos}
+use Rattle.std.proofs.Common.{◌≡◌, ◌∙◌, ap, arith, refl, sym, ℕ, zero, suc, ◌+◌, ◌-◌, ◌*◌, ◌/◌, ◌%◌, ◌<◌, ◌≤◌, true, false, List, [], ◌∷◌, ◌++◌, length, drop, get_or, append_assoc, append-nil}
+use Rattle.std.specs.Prelude.{◌==◌, Some, bit_or, nat_lt, pos}
 use Rattle.std.specs.List.{AllByRecursion, concat}
 use Rattle.std.proofs.Math.ListN.{length-append}
-use Rattle.std.proofs.Math.Seq.{drop-append_seam, get_or-append_seam}
+use Rattle.std.proofs.Math.Seq.{get_or-append_seam}
 use Rattle.std.proofs.lemmas.List.{get_or-append-add, get_or_append_left}
 use Rattle.std.proofs.lemmas.Nat.{or_shifted}
 use Rattle.mips_isa.specs.ImageBounds.{ImageParts, text_start}
 use Rattle.mips_isa.specs.Bytes.{Bytes, Segments, lies, data_start, heap_start, segments_of, bytes_of_image}
 use Rattle.mips_isa.specs.Decoding.{decoded}
 use Rattle.mips_isa.specs.Words.{fields, InRange}
-use Rattle.mips_isa.specs.declared.instr.Instr.{Instr}
 use Rattle.mips_isa.specs.declared.instr.Instr.TheVariants.{Imm, Lui, Syscall}
 use Rattle.mips_isa.specs.declared.instr.ImmOp.TheVariants.{Ori}
-use Rattle.mips_isa.specs.Machine.{Core, Next, On, Call, Registers, set_register, step, act}
-use Rattle.mips_isa.specs.Calls.{State, Outcome, Running, Exited, call, string_at, string_in, up_to_zero, segment_end, print_string}
-use Rattle.mips_isa.specs.Run.{after, and_then, run, start, start_core}
+use Rattle.mips_isa.specs.Machine.{Core, On, Call, Registers, set_register, step}
+use Rattle.mips_isa.specs.Calls.{State, Outcome, Exited, string_at, up_to_zero, print_string}
+use Rattle.mips_isa.specs.Run.{run, start}
 use Rattle.mips_isa.proofs.WordsAreDecoded.{decoded-word_of}
 use Rattle.mips_isa.proofs.WalkingText.{drop_one_more, text_step, run_on, run_call}
 use Rattle.cool_driver.specs.Emitted.{HasNoZero, print_words, exit_words, prints, data_of, text_of}

@@ -1,10 +1,11 @@
--- Which words are a command line: `run FILE` or `exec FILE`.
-use Rattle.std.specs.Prelude.{◌≢◌, ℕ, Bool, not, ◌&&◌, ◌==◌, nat_le, bytes_eq, if◌then◌else◌, List, [], ◌∷◌, length, codes, slice_index, Option, Some, None, option_map, map, string_bytes, String}
-use Rattle.std.specs.List.{list_any}
+-- Which words are a command line: `check FILES`, `run FILES` or `exec FILE`.
+use Rattle.std.specs.Prelude.{◌≢◌, ℕ, Bool, not, ◌&&◌, ◌==◌, nat_le, bytes_eq, if◌then◌else◌, List, [], ◌∷◌, length, codes, slice_index, Option, Some, None, option_and_then, map, string_bytes, String}
+use Rattle.std.specs.List.{list_any, list_all}
 use Rattle.std.specs.Global.{Global}
-use Rattle.cool_driver.specs.declared.TheConstants.{MOST_SOURCE_BYTES, MOST_IMAGE_BYTES}
+use Rattle.cool_syntax.specs.declared.TheConstants.{MOST_SOURCE_BYTES}
+use Rattle.cool_driver.specs.declared.TheConstants.{MOST_IMAGE_BYTES}
 use Rattle.cool_driver.specs.declared.command_line.Command.{Command}
-use Rattle.cool_driver.specs.declared.command_line.Command.TheVariants.{Run, Exec}
+use Rattle.cool_driver.specs.declared.command_line.Command.TheVariants.{Check, Run, Exec}
 
 -- the words as lists of bytes
 abbrev pub words_of : List (String Global) → List (List ℕ)
@@ -15,20 +16,28 @@ abbrev pub is_name : List ℕ → Bool
 is_name name = not (slice_index name 0 == 45) && (nat_le (length name) 4096 && not (list_any (λ b. b == 0) name))
 
 abbrev pub command_of : List ℕ → Option Command
-command_of word = if bytes_eq word (codes "run") then Some Run else (if bytes_eq word (codes "exec") then Some Exec else None)
+command_of word =
+    if bytes_eq word (codes "check") then Some Check
+    else (if bytes_eq word (codes "run") then Some Run else (if bytes_eq word (codes "exec") then Some Exec else None))
 
--- the command, and the file that it is about
-abbrev pub plan_of : List (List ℕ) → Option (Command × List ℕ)
+-- `exec` takes one file, each other command one or more
+abbrev pub is_number_of_files : Command → ℕ → Bool
+is_number_of_files Exec n = n == 1
+is_number_of_files Check n = nat_le 1 n
+is_number_of_files Run n = nat_le 1 n
+
+-- the command, and the files that it is about
+abbrev pub plan_of : List (List ℕ) → Option (Command × List (List ℕ))
 plan_of [] = None
-plan_of (word ∷ []) = None
-plan_of (word ∷ name ∷ []) = if is_name name then option_map (λ command. (command, name)) (command_of word) else None
-plan_of (word ∷ name ∷ more ∷ rest) = None
+plan_of (word ∷ names) =
+    option_and_then (λ command. if is_number_of_files command (length names) && list_all is_name names then Some (command, names) else None) (command_of word)
 
--- the most bytes of the file
+-- the most bytes of all files together
 abbrev pub most_bytes : Command → ℕ
+most_bytes Check = MOST_SOURCE_BYTES
 most_bytes Run = MOST_SOURCE_BYTES
 most_bytes Exec = MOST_IMAGE_BYTES
 
 -- the words do not ask to take of the input
 abbrev pub TakesNoInput : List (List ℕ) → Type 0
-TakesNoInput words = (name : List ℕ) → plan_of words ≢ Some (Exec, name)
+TakesNoInput words = (names : List (List ℕ)) → plan_of words ≢ Some (Exec, names)

@@ -1,7 +1,11 @@
 -- How a call of `cool` ends: what is due for the words over the shelf's files and the input, and what came of it.
-use Rattle.std.specs.Prelude.{◌≡◌, ◌≢◌, ℕ, ◌<◌, ◌≤◌, ◌⊎◌, true, false, List, [], ◌++◌, length, Option, Some, None}
+use Rattle.std.specs.Prelude.{◌≡◌, ◌≢◌, ℕ, ◌<◌, ◌≤◌, ◌⊎◌, ◌-◌, true, false, List, [], ◌∷◌, ◌++◌, length, Contains, Option, Some, None}
 use Rattle.std.specs.List.{concat}
-use Rattle.cool_syntax.specs.SimpleForm.{Simple}
+use Rattle.cool_syntax.specs.declared.TheConstants.{MOST_FILES}
+use Rattle.cool_classes.specs.Chains.{Class}
+use Rattle.cool_faults.specs.declared.fault.Fault.{Fault}
+use Rattle.cool_faults.specs.Files.{total}
+use Rattle.cool_faults.specs.Verdicts.{IsAccepted, IsRefused}
 use Rattle.cool_ports.specs.Counts.{last_count, Rose}
 use Rattle.cool_ports.specs.ShelfFiles.{FileMap, MayHold, IsMissing, IsLonger}
 use Rattle.cool_ports.specs.SinkBytes.{appended, GotPrefix}
@@ -12,10 +16,11 @@ use Rattle.mips_image.specs.ImageReading.{first_fault}
 use Rattle.mips_image.specs.declared.image_error.ImageError.{ImageError}
 use Rattle.spim_machine.specs.Ends.{FailsReading, call_with}
 use Rattle.cool_driver.specs.CommandLine.{plan_of, most_bytes}
-use Rattle.cool_driver.specs.Notes.{end_text, refused_note, usage_note, missing_note, unread_note, too_large_note, read_fault_note, image_note, asm_note}
+use Rattle.cool_driver.specs.Notes.{end_text, not_yet_note, refused_note, usage_note, missing_note, unread_note, too_many_note, too_large_note, read_fault_note, image_note, asm_note}
+use Rattle.cool_driver.specs.SimpleFiles.{AreSimple, AreNotSimple}
 use Rattle.cool_driver.specs.Execution.{IsImageOf, IsRunnable, is_text_file, segments_by_default, run_of, ComesTo, left_by, status_of, note_of, IsEnd}
 use Rattle.cool_driver.specs.declared.command_line.Command.{Command}
-use Rattle.cool_driver.specs.declared.command_line.Command.TheVariants.{Run, Exec}
+use Rattle.cool_driver.specs.declared.command_line.Command.TheVariants.{Check, Run, Exec}
 
 -- What a call was asked: its words, the files that the shelf tells, the shelf's count of faults before and after, and what the
 -- input tells that it has left at first.
@@ -26,43 +31,70 @@ pub record Request : Type 0 where
   pub faults_after : ℕ
   pub input : Option (List ℕ)
 
--- the bytes are no program of the simple form
-abbrev pub NotSimple : List ℕ → Type 0
-NotSimple bytes = (strings : List (List ℕ)) → Simple bytes strings → ⊥
+-- the files of these names have these bytes, as far as the shelf tells
+abbrev pub AreHeld : Option FileMap → List (List ℕ) → List (List ℕ) → Type 0
+AreHeld files [] [] = Unit {0}
+AreHeld files [] (bytes ∷ contents) = ⊥
+AreHeld files (name ∷ names) [] = ⊥
+AreHeld files (name ∷ names) (bytes ∷ contents) = MayHold files name bytes × AreHeld files names contents
 
--- The file that the words name for this command has these bytes, as far as the shelf tells, and is not too large; no fault came.
-pub record IsRead (r : Request) (command : Command) (name bytes : List ℕ) : Type 0 where
-  pub plan : plan_of r.words ≡ Some (command, name)
-  pub held : MayHold r.files name bytes
-  pub within : length bytes ≤ most_bytes command
+-- The files that the words name for this command have these bytes, as far as the shelf tells, and are not too many and not too large;
+-- no fault came.
+pub record IsRead (r : Request) (command : Command) (names contents : List (List ℕ)) : Type 0 where
+  pub plan : plan_of r.words ≡ Some (command, names)
+  pub few : length names ≤ MOST_FILES
+  pub held : AreHeld r.files names contents
+  pub within : total contents ≤ most_bytes command
   pub calm : r.faults_after ≡ r.faults_before
+
+-- The files before the one of this name have these bytes, as far as the shelf tells, and are not too large.
+pub record IsReadUpTo (r : Request) (command : Command) (name : List ℕ) (contents : List (List ℕ)) : Type 0 where
+  pub front : List (List ℕ)
+  pub rest : List (List ℕ)
+  pub plan : plan_of r.words ≡ Some (command, front ++ name ∷ rest)
+  pub few : length (front ++ name ∷ rest) ≤ MOST_FILES
+  pub held : AreHeld r.files front contents
+  pub within : total contents ≤ most_bytes command
+
+-- the command refuses such files for their faults: `run` looks for a program of the simple form first, and `exec` never does
+abbrev pub MayRefuse : Command → List (List ℕ) → Type 0
+MayRefuse Check contents = Unit {0}
+MayRefuse Run contents = AreNotSimple contents
+MayRefuse Exec contents = ⊥
 
 -- What is due: the status, the output, the note, and what is left of the input.
 pub data Due (r : Request) : ℕ → List ℕ → List ℕ → Option (List ℕ) → Type 0 where
-  -- `run`: the strings of the program in order, and the end text
-  ran : (name bytes : List ℕ) (strings : List (List ℕ)) → IsRead r Run name bytes → Simple bytes strings → Due r 0 (concat strings ++ end_text) [] r.input
-  refused : (name bytes : List ℕ) → IsRead r Run name bytes → NotSimple bytes → Due r 1 [] (refused_note name) r.input
+  -- `check`: nothing, where the files are accepted
+  checked : (names contents : List (List ℕ)) (p : List Class) → IsRead r Check names contents → IsAccepted contents p → Due r 0 [] [] r.input
+  -- `check` and `run`: a line for each fault
+  refused : (command : Command) (names contents : List (List ℕ)) (faults : List Fault) → IsRead r command names contents → MayRefuse command contents → IsRefused contents faults
+      → Due r 1 [] (refused_note names faults) r.input
+  -- `run`: the strings of the program in order, and the end text; no other program can be compiled yet
+  ran : (names contents strings : List (List ℕ)) → IsRead r Run names contents → AreSimple contents strings → Due r 0 (concat strings ++ end_text) [] r.input
+  not_yet : (name : List ℕ) (names contents : List (List ℕ)) (p : List Class) → IsRead r Run (name ∷ names) contents → AreNotSimple contents → IsAccepted contents p → Due r 1 [] (not_yet_note name) r.input
   -- `exec`: as the run of the image ends
-  executed : (name bytes : List ℕ) (image : ImageParts) (input : List ℕ) → IsRead r Exec name bytes → IsRunnable image bytes → r.input ≡ Some input
+  executed : (name bytes : List ℕ) (image : ImageParts) (input : List ℕ) → IsRead r Exec (name ∷ []) (bytes ∷ []) → IsRunnable image bytes → r.input ≡ Some input
       → Due r (status_of (run_of image input)) (left_by (run_of image input)).output (note_of (run_of image input)) (Some (left_by (run_of image input)).input)
   -- `exec`: the run comes to a call that fails to read, over what is left
   unread_input : (name bytes : List ℕ) (image : ImageParts) (input : List ℕ) (at : State) (output : List ℕ) (left : Option (List ℕ))
-      → IsRead r Exec name bytes → IsRunnable image bytes → r.input ≡ Some input
+      → IsRead r Exec (name ∷ []) (bytes ∷ []) → IsRunnable image bytes → r.input ≡ Some input
       → ComesTo image input at → FailsReading (call_with (segments_by_default image) at) at (Some []) left (Some output)
       → Due r 7 output read_fault_note left
-  unfit : (name bytes : List ℕ) (fault : ImageError) → IsRead r Exec name bytes → is_text_file bytes ≡ false → first_fault bytes ≡ Some fault → Due r 12 [] (image_note name fault) r.input
-  misread : (name bytes : List ℕ) (fault : AsmFault) → IsRead r Exec name bytes → is_text_file bytes ≡ true → Due r 12 [] (asm_note name fault) r.input
-  -- both
+  unfit : (name bytes : List ℕ) (fault : ImageError) → IsRead r Exec (name ∷ []) (bytes ∷ []) → is_text_file bytes ≡ false → first_fault bytes ≡ Some fault → Due r 12 [] (image_note name fault) r.input
+  misread : (name bytes : List ℕ) (fault : AsmFault) → IsRead r Exec (name ∷ []) (bytes ∷ []) → is_text_file bytes ≡ true → Due r 12 [] (asm_note name fault) r.input
+  -- all
   usage : plan_of r.words ≡ None → r.faults_after ≡ r.faults_before → Due r 2 [] usage_note r.input
-  missing : (command : Command) (name : List ℕ) → plan_of r.words ≡ Some (command, name) → IsMissing r.files name r.faults_before r.faults_after → Due r 10 [] (missing_note name) r.input
-  unread : (command : Command) (name : List ℕ) → plan_of r.words ≡ Some (command, name) → Rose r.faults_before r.faults_after → Due r 10 [] (unread_note name) r.input
-  too_large : (command : Command) (name : List ℕ) → plan_of r.words ≡ Some (command, name) → IsLonger r.files name (most_bytes command) r.faults_before r.faults_after → Due r 10 [] too_large_note r.input
+  too_many : (command : Command) (names : List (List ℕ)) → plan_of r.words ≡ Some (command, names) → MOST_FILES < length names → r.faults_after ≡ r.faults_before → Due r 10 [] too_many_note r.input
+  missing : (command : Command) (name : List ℕ) (contents : List (List ℕ)) → IsReadUpTo r command name contents → IsMissing r.files name r.faults_before r.faults_after → Due r 10 [] (missing_note name) r.input
+  unread : (command : Command) (name : List ℕ) (contents : List (List ℕ)) → IsReadUpTo r command name contents → Rose r.faults_before r.faults_after → Due r 10 [] (unread_note name) r.input
+  too_large : (command : Command) (name : List ℕ) (contents : List (List ℕ)) → IsReadUpTo r command name contents → IsLonger r.files name (most_bytes command - total contents) r.faults_before r.faults_after
+      → Due r 10 [] too_large_note r.input
 
 -- What is written when a write of the output fails: what was written before, what is being written, and what is left of the input.
 pub data Writing (r : Request) : List ℕ → List ℕ → Option (List ℕ) → Type 0 where
-  by_run : (name bytes : List ℕ) (strings : List (List ℕ)) → IsRead r Run name bytes → Simple bytes strings → Writing r [] (concat strings ++ end_text) r.input
+  by_run : (names contents strings : List (List ℕ)) → IsRead r Run names contents → AreSimple contents strings → Writing r [] (concat strings ++ end_text) r.input
   -- the run of the image comes to a call that prints these bytes
-  by_exec : (name bytes : List ℕ) (image : ImageParts) (input : List ℕ) (at : State) (printed : List ℕ) → IsRead r Exec name bytes → IsRunnable image bytes → r.input ≡ Some input
+  by_exec : (name bytes : List ℕ) (image : ImageParts) (input : List ℕ) (at : State) (printed : List ℕ) → IsRead r Exec (name ∷ []) (bytes ∷ []) → IsRunnable image bytes → r.input ≡ Some input
       → ComesTo image input at → call (segments_by_default image) at ≡ print at printed → Writing r at.output printed (Some at.input)
 
 -- What a sink held, and its count of faults, before a call and after it.
@@ -102,7 +134,7 @@ FailedNote c = (due : ℕ) × (output : List ℕ) × (note : List ℕ) × Due c.
 -- some end of a run, or of a read that failed.
 abbrev pub EndsUntold : Call → ℕ → Type 0
 EndsUntold c status =
-    (name : List ℕ) × (bytes : List ℕ) × (image : ImageParts) × IsRead c.request Exec name bytes × IsRunnable image bytes × (c.request.input ≡ None)
+    (name : List ℕ) × (bytes : List ℕ) × (image : ImageParts) × IsRead c.request Exec (name ∷ []) (bytes ∷ []) × IsRunnable image bytes × (c.request.input ≡ None)
     × (note : List ℕ) × (IsEnd status note ⊎ ((status ≡ 7) × (note ≡ read_fault_note))) × Got c.notes note
 
 -- the shelf tells these files, and no fault of it can have come
@@ -111,7 +143,7 @@ Told r files = (r.files ≡ Some files) × (r.faults_before < last_count) × (r.
 
 -- the input tells what it has left, where the command takes of it
 abbrev pub TellsInput : Request → Type 0
-TellsInput r = (name : List ℕ) → plan_of r.words ≡ Some (Exec, name) → (input : List ℕ) × (r.input ≡ Some input)
+TellsInput r = (names : List (List ℕ)) → plan_of r.words ≡ Some (Exec, names) → (input : List ℕ) × (r.input ≡ Some input)
 
 -- so it is, unless a write failed or memory ran out
 abbrev pub Unless : ℕ → Type 0 → Type 0
@@ -133,15 +165,21 @@ pub record Ends (c : Call) (status : ℕ) : Type 0 where
   -- status 2 comes where there is no plan, and only there
   pub usage_only : status ≡ 2 → plan_of c.request.words ≡ None
   pub usage_exactly : plan_of c.request.words ≡ None → Unless status (status ≡ 2)
-  -- status 10 comes where the named file is missing or too large, and else only where the shelf failed
-  pub missing_exactly : (files : FileMap) (command : Command) (name : List ℕ) → Told c.request files → plan_of c.request.words ≡ Some (command, name) → files name ≡ None → Unless status (status ≡ 10)
-  pub too_large_exactly : (files : FileMap) (command : Command) (name bytes : List ℕ) → Told c.request files → plan_of c.request.words ≡ Some (command, name) → files name ≡ Some bytes → most_bytes command < length bytes → Unless status (status ≡ 10)
-  -- `run`: status 1 comes where the file was read and is no program of the simple form, and status 0 where it is one
-  pub refused_exactly : (files : FileMap) (name bytes : List ℕ) → Told c.request files → IsRead c.request Run name bytes → NotSimple bytes → Unless status (status ≡ 1)
-  pub ran_exactly : (files : FileMap) (name bytes : List ℕ) (strings : List (List ℕ)) → Told c.request files → IsRead c.request Run name bytes → Simple bytes strings → Unless status (status ≡ 0)
+  -- status 10 comes where there are too many files, or one is missing, or all are too large, and else only where the shelf failed
+  pub too_many_exactly : (command : Command) (names : List (List ℕ)) → plan_of c.request.words ≡ Some (command, names) → MOST_FILES < length names → Unless status (status ≡ 10)
+  pub missing_exactly : (files : FileMap) (command : Command) (names : List (List ℕ)) (name : List ℕ) → Told c.request files → plan_of c.request.words ≡ Some (command, names) → Contains names name → files name ≡ None
+      → Unless status (status ≡ 10)
+  pub too_large_exactly : (files : FileMap) (command : Command) (names contents : List (List ℕ)) → Told c.request files → plan_of c.request.words ≡ Some (command, names) → AreHeld (Some files) names contents
+      → most_bytes command < total contents → Unless status (status ≡ 10)
+  -- `check`: status 0 or 1 comes where the files were read; which of them, `written` says
+  pub checked_exactly : (files : FileMap) (names contents : List (List ℕ)) → Told c.request files → IsRead c.request Check names contents → Unless status ((status ≡ 0) ⊎ (status ≡ 1))
+  -- `run`: status 1 comes where the files were read and are no program of the simple form, and status 0 where they are one
+  pub refused_exactly : (files : FileMap) (names contents : List (List ℕ)) → Told c.request files → IsRead c.request Run names contents → AreNotSimple contents → Unless status (status ≡ 1)
+  pub ran_exactly : (files : FileMap) (names contents strings : List (List ℕ)) → Told c.request files → IsRead c.request Run names contents → AreSimple contents strings → Unless status (status ≡ 0)
   -- `exec`: status 12 comes where the file was read, is no text and no image, and the status of the run's end where it is an image
-  pub unfit_exactly : (files : FileMap) (name bytes : List ℕ) → Told c.request files → IsRead c.request Exec name bytes → is_text_file bytes ≡ false → ((image : ImageParts) → IsImageOf image bytes → ⊥) → Unless status (status ≡ 12)
-  pub executed_exactly : (files : FileMap) (name bytes : List ℕ) (image : ImageParts) (input : List ℕ) → Told c.request files → IsRead c.request Exec name bytes → IsImageOf image bytes → c.request.input ≡ Some input
+  pub unfit_exactly : (files : FileMap) (name bytes : List ℕ) → Told c.request files → IsRead c.request Exec (name ∷ []) (bytes ∷ []) → is_text_file bytes ≡ false → ((image : ImageParts) → IsImageOf image bytes → ⊥)
+      → Unless status (status ≡ 12)
+  pub executed_exactly : (files : FileMap) (name bytes : List ℕ) (image : ImageParts) (input : List ℕ) → Told c.request files → IsRead c.request Exec (name ∷ []) (bytes ∷ []) → IsImageOf image bytes → c.request.input ≡ Some input
       → Unless status ((status ≡ 7) ⊎ (status ≡ status_of (run_of image input)))
   -- no fault is passed over
   pub out_fault : c.out.faults_before < c.out.faults_after → status ≡ 8

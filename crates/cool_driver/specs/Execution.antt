@@ -1,5 +1,5 @@
 -- What `exec` does with the bytes of a file: the image that they are, its run, and how that ends.
-use Rattle.std.specs.Prelude.{◌≡◌, ℕ, ◌==◌, ◌⊎◌, not, if◌then◌else◌, Bool, true, List, [], ◌∷◌, Option, None}
+use Rattle.std.specs.Prelude.{◌≡◌, ℕ, ◌==◌, ◌⊎◌, not, if◌then◌else◌, Bool, true, List, [], ◌∷◌, None}
 use Rattle.mips_isa.specs.ImageBounds.{ImageParts, IsImage}
 use Rattle.mips_isa.specs.Bytes.{Segments, segments_of}
 use Rattle.mips_isa.specs.Lines.{Line}

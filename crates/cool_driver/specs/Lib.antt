@@ -1,3 +1,5 @@
+pub mod Reading
+pub mod SimpleFiles
 pub mod SimpleReading
 pub mod Emitted
 pub mod CommandLine

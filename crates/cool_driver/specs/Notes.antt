@@ -1,7 +1,10 @@
 -- The texts that are written: the end of a run, and the notes.
-use Rattle.std.specs.Prelude.{ℕ, List, [], ◌++◌, codes, decimal}
+use Rattle.std.specs.Prelude.{ℕ, List, [], ◌++◌, map, codes, decimal}
+use Rattle.std.specs.List.{concat}
 use Rattle.std.specs.Int.{w32, to_be_bytes}
 use Rattle.hex.specs.Hex.{encode_lower}
+use Rattle.cool_faults.specs.declared.fault.Fault.{Fault}
+use Rattle.cool_faults.specs.Texts.{fault_line}
 use Rattle.mips_isa.specs.declared.trap.Trap.{Trap}
 use Rattle.mips_isa.specs.declared.trap.TrapKind.{TrapKind}
 use Rattle.mips_isa.specs.declared.trap.TrapKind.TheVariants.{BadAddress, Unaligned, Overflow, NoInstruction, BadCall}
@@ -15,8 +18,13 @@ use Rattle.mips_image.specs.declared.image_error.ImageError.TheVariants.{Memory,
 abbrev pub end_text : List ℕ
 end_text = codes "COOL program successfully executed\n"
 
-abbrev pub refused_note : List ℕ → List ℕ
-refused_note name = name ++ codes ":1: N1: not yet\n"
+-- a program that is accepted, but cannot be compiled yet
+abbrev pub not_yet_note : List ℕ → List ℕ
+not_yet_note name = name ++ codes ":1: N1: not yet\n"
+
+-- a line for each fault of the files of these names
+abbrev pub refused_note : List (List ℕ) → List Fault → List ℕ
+refused_note names faults = concat (map (fault_line names) faults)
 
 abbrev pub usage_note : List ℕ
 usage_note = codes "cool: bad command line\n"
@@ -26,6 +34,9 @@ missing_note name = codes "cool: " ++ (name ++ codes ": missing\n")
 
 abbrev pub unread_note : List ℕ → List ℕ
 unread_note name = codes "cool: " ++ (name ++ codes ": read failed\n")
+
+abbrev pub too_many_note : List ℕ
+too_many_note = codes "cool: too many files\n"
 
 abbrev pub too_large_note : List ℕ
 too_large_note = codes "cool: files too large\n"

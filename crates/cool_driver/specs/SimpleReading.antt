@@ -2,7 +2,7 @@
 -- `proofs/ReadingIsSimple.antt`.
 use Rattle.std.specs.Prelude.{◌≡◌, ℕ, zero, suc, ◌==◌, ◌&&◌, nat_le, bytes_eq, Bool, true, false, if◌then◌else◌, List, [], ◌∷◌, ◌++◌, length, take, drop, codes, Option, Some, None, option_map, option_and_then, map, Result, Ok, Err}
 use Rattle.std.specs.Global.{Vec}
-use Rattle.std.specs.List.{prefix_len}
+use Rattle.std.specs.List.{list_all, prefix_len}
 use Rattle.cool_syntax.specs.declared.TheConstants.{MOST_BYTES, MOST_CALLS}
 use Rattle.cool_syntax.specs.SimpleForm.{Spaced, is_blank, close, head, tail}
 use Rattle.cool_driver.specs.declared.simple_form.SimpleError.{SimpleError}
@@ -78,3 +78,11 @@ program_at bytes = do
   front ← lexemes_at head bytes
   rest ← lexemes_at tail (calls_at MOST_CALLS front).1
   if nat_le 1 (length (calls_at MOST_CALLS front).0) && nat_le (length rest) (prefix_len is_blank rest) then Some (calls_at MOST_CALLS front).0 else None
+
+abbrev pub is_blank_file : List ℕ → Bool
+is_blank_file bytes = nat_le (length bytes) (prefix_len is_blank bytes)
+
+-- the strings of the first file that is not blank, where all behind it are
+abbrev pub programs_at : List (List ℕ) → Option (List (List ℕ))
+programs_at [] = None
+programs_at (bytes ∷ files) = if is_blank_file bytes then programs_at files else (if list_all is_blank_file files then program_at bytes else None)

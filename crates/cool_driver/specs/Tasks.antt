@@ -1,7 +1,11 @@
 -- What is left to do once the words and the files were read: a note to write, or an image to run.
-use Rattle.std.specs.Prelude.{◌≡◌, ◌≢◌, ℕ, ◌<◌, ◌⊎◌, true, false, List, [], ◌++◌, Option, Some, None, string_bytes, length}
-use Rattle.std.specs.List.{concat}
-use Rattle.cool_syntax.specs.SimpleForm.{Simple}
+use Rattle.std.specs.Prelude.{◌≡◌, ◌≢◌, ℕ, ◌<◌, ◌⊎◌, true, false, List, [], ◌∷◌, ◌++◌, Option, Some, None, get_or, map, length}
+use Rattle.std.specs.List.{concat, AllByRecursion}
+use Rattle.std.specs.Global.{Vec}
+use Rattle.cool_classes.specs.Chains.{Class}
+use Rattle.cool_faults.specs.declared.fault.Fault.{Fault}
+use Rattle.cool_faults.specs.Texts.{fault_line}
+use Rattle.cool_faults.specs.Verdicts.{IsAccepted, IsRefused}
 use Rattle.cool_ports.specs.declared.shelf.ShelfFault.{ShelfFault}
 use Rattle.cool_ports.specs.declared.shelf.ShelfFault.TheVariants as faults
 use Rattle.cool_ports.specs.ShelfFiles.{FileMap}
@@ -11,15 +15,17 @@ use Rattle.mips_isa.specs.declared.line.AsmFault.{AsmFault}
 use Rattle.mips_image.specs.ImageReading.{first_fault}
 use Rattle.mips_image.specs.declared.image_error.ImageError.{ImageError}
 use Rattle.cool_driver.specs.CommandLine.{plan_of}
-use Rattle.cool_driver.specs.Notes.{end_text, refused_note, missing_note, unread_note, too_large_note, image_note, asm_note}
+use Rattle.cool_driver.specs.Notes.{end_text, not_yet_note, refused_note, missing_note, unread_note, too_large_note, image_note, asm_note}
 use Rattle.cool_driver.specs.Execution.{IsRunnable, is_text_file, run_of}
-use Rattle.cool_driver.specs.Ends.{Request, Due, IsRead, NotSimple, SinkUse, Got, GotPart}
+use Rattle.cool_driver.specs.Ends.{Request, Due, IsRead, SinkUse, Got, GotPart}
+use Rattle.cool_driver.specs.SimpleFiles.{AreSimple, AreNotSimple}
+use Rattle.cool_driver.specs.SimpleReading.{texts}
 use Rattle.cool_driver.specs.declared.command_line.Command.{Command}
 use Rattle.cool_driver.specs.declared.command_line.Command.TheVariants as command
 use Rattle.cool_driver.specs.declared.status.Status.{Status}
 use Rattle.cool_driver.specs.declared.status.Status.TheVariants as statuses
 use Rattle.cool_driver.specs.declared.task.Task.{Task}
-use Rattle.cool_driver.specs.declared.task.Task.TheVariants.{Note, Run, Execute}
+use Rattle.cool_driver.specs.declared.task.Task.TheVariants.{Tell, Run, Execute}
 
 abbrev pub code_of : Status → ℕ
 code_of statuses.Done = 0
@@ -35,6 +41,13 @@ code_of statuses.Memory = 9
 code_of statuses.FileFault = 10
 code_of statuses.Trapped = 11
 code_of statuses.Unfit = 12
+
+-- lines of a note, none of them empty, and the note that they are
+abbrev pub AreLines : List (Vec ℕ) → Type 0
+AreLines lines = AllByRecursion (λ line. 0 < length line.items) lines
+
+abbrev pub note_of : List (Vec ℕ) → List ℕ
+note_of lines = concat (texts lines)
 
 -- the note of a file that was not read
 abbrev pub fault_note : List ℕ → ShelfFault → Option (List ℕ)
@@ -55,26 +68,58 @@ IsUnfit name bytes note = (fault : ImageError) × (note ≡ image_note name faul
 abbrev pub IsMisread : List ℕ → List ℕ → List ℕ → Type 0
 IsMisread name bytes note = (fault : AsmFault) × (note ≡ asm_note name fault) × (is_text_file bytes ≡ true)
 
--- what is left to do for a file of this name that has these bytes
-abbrev pub IsTaskOf : Command → List ℕ → List ℕ → Task → Type 0
-IsTaskOf command.Run name bytes (Note status text) = (code_of status ≡ 1) × (string_bytes text ≡ refused_note name) × NotSimple bytes
-IsTaskOf command.Run name bytes (Run image) = (strings : List (List ℕ)) × Simple bytes strings × Prints image (concat strings ++ end_text)
-IsTaskOf command.Run name bytes (Execute image) = ⊥
-IsTaskOf command.Exec name bytes (Note status text) = (code_of status ≡ 12) × (IsUnfit name bytes (string_bytes text) ⊎ IsMisread name bytes (string_bytes text))
-IsTaskOf command.Exec name bytes (Run image) = ⊥
-IsTaskOf command.Exec name bytes (Execute image) = IsRunnable image bytes
+-- what is left to do for a file of this name that `exec` names and that has these bytes
+abbrev pub IsTaskOfFile : List ℕ → List ℕ → Task → Type 0
+IsTaskOfFile name bytes (Tell status lines) = (code_of status ≡ 12) × AreLines lines.items × (IsUnfit name bytes (note_of lines.items) ⊎ IsMisread name bytes (note_of lines.items))
+IsTaskOfFile name bytes (Run image) = ⊥
+IsTaskOfFile name bytes (Execute image) = IsRunnable image bytes
+
+-- what is left to do for files of these names that `check` names and that have these bytes
+abbrev pub IsTaskOfChecked : List (List ℕ) → List (List ℕ) → Task → Type 0
+IsTaskOfChecked names contents (Tell status lines) =
+    AreLines lines.items
+    × (((code_of status ≡ 0) × (note_of lines.items ≡ []) × ((p : List Class) × IsAccepted contents p))
+    ⊎ ((code_of status ≡ 1) × ((faults : List Fault) × IsRefused contents faults × (note_of lines.items ≡ refused_note names faults))))
+IsTaskOfChecked names contents (Run image) = ⊥
+IsTaskOfChecked names contents (Execute image) = ⊥
+
+-- what is left to do for files of these names that `run` names and that have these bytes
+abbrev pub IsTaskOfRun : List (List ℕ) → List (List ℕ) → Task → Type 0
+IsTaskOfRun names contents (Tell status lines) =
+    AreLines lines.items × AreNotSimple contents × (code_of status ≡ 1)
+    × (((p : List Class) × IsAccepted contents p × (note_of lines.items ≡ not_yet_note (get_or names 0 [])))
+    ⊎ ((faults : List Fault) × IsRefused contents faults × (note_of lines.items ≡ refused_note names faults)))
+IsTaskOfRun names contents (Run image) = (strings : List (List ℕ)) × AreSimple contents strings × Prints image (concat strings ++ end_text)
+IsTaskOfRun names contents (Execute image) = ⊥
+
+abbrev pub IsTaskOf : Command → List (List ℕ) → List (List ℕ) → Task → Type 0
+IsTaskOf command.Check names contents task = IsTaskOfChecked names contents task
+IsTaskOf command.Run names contents task = IsTaskOfRun names contents task
+IsTaskOf command.Exec names contents task = IsTaskOfFile (get_or names 0 []) (get_or contents 0 []) task
+
+-- one line
+abbrev pub IsLine : Status → List ℕ → Task → Type 0
+IsLine status line (Tell told lines) = (told ≡ status) × (texts lines.items ≡ line ∷ [])
+IsLine status line (Run image) = ⊥
+IsLine status line (Execute image) = ⊥
+
+-- a line for each fault of files of these names
+abbrev pub AreLinesOf : List (List ℕ) → List Fault → Task → Type 0
+AreLinesOf names faults (Tell status lines) = (code_of status ≡ 1) × (texts lines.items ≡ map (fault_line names) faults)
+AreLinesOf names faults (Run image) = ⊥
+AreLinesOf names faults (Execute image) = ⊥
 
 -- what is left to do is what is due
 abbrev pub IsDue : Request → Task → Type 0
-IsDue r (Note status text) = Due r (code_of status) [] (string_bytes text) r.input × (0 < length (string_bytes text)) × (code_of status ≢ 7)
+IsDue r (Tell status lines) = Due r (code_of status) [] (note_of lines.items) r.input × AreLines lines.items × (code_of status ≢ 7)
 IsDue r (Run image) =
-    (name : List ℕ) × (bytes : List ℕ) × (strings : List (List ℕ)) × IsRead r command.Run name bytes × Simple bytes strings × Prints image (concat strings ++ end_text)
-IsDue r (Execute image) = (name : List ℕ) × (bytes : List ℕ) × IsRead r command.Exec name bytes × IsRunnable image bytes
+    (names : List (List ℕ)) × (contents : List (List ℕ)) × (strings : List (List ℕ)) × IsRead r command.Run names contents × AreSimple contents strings × Prints image (concat strings ++ end_text)
+IsDue r (Execute image) = (name : List ℕ) × (bytes : List ℕ) × IsRead r command.Exec (name ∷ []) (bytes ∷ []) × IsRunnable image bytes
 
--- what is left to do for any words that name this file for this command, over a shelf of these files, and for any input
-abbrev pub IsFileTask : Option FileMap → ℕ → ℕ → Command → List ℕ → Task → Type 0
-IsFileTask files before after command name task =
-    (words : List (List ℕ)) (input : Option (List ℕ)) → plan_of words ≡ Some (command, name)
+-- what is left to do for any words that name these files for this command, over a shelf of these files, and for any input
+abbrev pub IsFileTask : Option FileMap → ℕ → ℕ → Command → List (List ℕ) → Task → Type 0
+IsFileTask files before after command names task =
+    (words : List (List ℕ)) (input : Option (List ℕ)) → plan_of words ≡ Some (command, names)
     → IsDue (record { words = words; files = files; faults_before = before; faults_after = after; input = input }) task
 
 -- A note was written and this status answered, or the write failed.

@@ -1,6 +1,6 @@
 //! Runs of images within the default limits.
 
-ghost use Rattle.std.specs.Prelude.{◌≡◌, List, ℕ};
+ghost use Rattle.std.specs.Prelude.{◌≡◌, List, [], ◌∷◌, ℕ};
 ghost use Rattle.cool_driver.specs.Execution.{IsRunnable};
 ghost use Rattle.cool_driver.specs.Ends.{Request, IsRead, Ends};
 ghost use Rattle.cool_driver.specs.Tasks.{code_of, Prints, RunsSimple};
@@ -55,7 +55,7 @@ pub fn execute<I: Source, O: Sink, E: Sink>(
     out: &mut O,
     notes: &mut E,
 ) -> Status
-    ensures ends { (r : Request) (name bytes : List ℕ) → IsRead r command.Exec name bytes → IsRunnable image.now bytes → r.input ≡ I.left input.old → Ends (record {
+    ensures ends { (r : Request) (name bytes : List ℕ) → IsRead r command.Exec (name ∷ []) (bytes ∷ []) → IsRunnable image.now bytes → r.input ≡ I.left input.old → Ends (record {
       request = r;
       out = record {
         held_before = O.held out.old;

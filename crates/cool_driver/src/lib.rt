@@ -14,6 +14,7 @@ mod command_line;
 mod execution;
 mod notes;
 mod program;
+mod reading;
 mod simple_form;
 mod status;
 mod task;
@@ -22,13 +23,10 @@ mod tests;
 
 use cool_ports::{Failed, Shelf, Sink, Source};
 use execution::{execute, run_simple};
-use notes::tell;
+use notes::tell_lines;
 pub use status::Status;
 use std::alloc::{AllocError, Global};
 use task::{Task, find_task};
-
-/// The most bytes of all source files of a command.
-pub const MOST_SOURCE_BYTES: u64 = 1_048_576;
 
 /// The most bytes of a file for `exec`: those of the greatest image.
 pub const MOST_IMAGE_BYTES: u64 = 532_676_628;
@@ -82,7 +80,7 @@ pub fn cool<F: Shelf, I: Source, O: Sink, E: Sink>(
 {
     let status = match find_task(alloc, words, files) {
         Err(AllocError) => Status::Memory,
-        Ok(Task::Note(status, note)) => tell(notes, status, note.as_bytes()),
+        Ok(Task::Tell(status, lines)) => tell_lines(notes, status, &lines),
         Ok(Task::Run(image)) => run_simple(alloc, &image, out),
         Ok(Task::Execute(image)) => execute(alloc, &image, input, out, notes),
     };

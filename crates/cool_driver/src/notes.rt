@@ -3,7 +3,7 @@
 ghost use Rattle.std.specs.Prelude.{◌≡◌, ◌+◌, ◌<◌, ◌≤◌, ◌++◌, length};
 ghost use Rattle.arrayvec.specs.ArrayString.{array_string_len};
 ghost use Rattle.cool_driver.specs.Notes.{digits, trap_words, trap_note};
-ghost use Rattle.cool_driver.specs.Tasks.{Noted};
+ghost use Rattle.cool_driver.specs.Tasks.{AreLines, Noted, note_of};
 
 use crate::status::Status;
 use arrayvec::ArrayString;
@@ -24,6 +24,24 @@ pub fn tell<E: Sink>(notes: &mut E, status: Status, note: &[u8]) -> Status
         Ok(()) => status,
         Err(Failed) => Status::WriteFault,
     }
+}
+
+/// Writes lines one by one and answers this status, or that a write failed.
+pub fn tell_lines<E: Sink>(notes: &mut E, status: Status, lines: &[Vec<u8>]) -> Status
+    requires { AreLines lines.now }
+    ensures { Noted (record {
+      held_before = E.held notes.old;
+      held_after = E.held notes.new;
+      faults_before = E.faults notes.old;
+      faults_after = E.faults notes.new;
+    }) (note_of lines.now) status result }
+{
+    for line in lines {
+        if notes.put(line).is_err() {
+            return Status::WriteFault;
+        }
+    }
+    status
 }
 
 /// The note of a trap. It takes no memory: it is made when the machine has run.

@@ -1,9 +1,9 @@
 //! Reads a program of the simple form: its main only writes string constants.
 
 ghost use Rattle.std.specs.Prelude.{◌≡◌, ◌≤◌, ◌==◌, length, IfOk, IfErr, true, false, option_copied, Some};
-ghost use Rattle.std.specs.List.{prefix_len};
+ghost use Rattle.std.specs.List.{list_all, prefix_len};
 ghost use Rattle.cool_syntax.specs.SimpleForm.{is_blank, head, tail};
-ghost use Rattle.cool_driver.specs.SimpleReading.{Gives, lexeme_at, lexemes_at, string_at, call_head, call_tail, call_at, calls_at, program_at, texts};
+ghost use Rattle.cool_driver.specs.SimpleReading.{Gives, lexeme_at, lexemes_at, string_at, call_head, call_tail, call_at, calls_at, is_blank_file, program_at, programs_at, texts};
 ghost use Rattle.cool_driver.specs.declared.simple_form.SimpleError.TheVariants.{Memory};
 
 use cool_syntax::{MOST_BYTES, MOST_CALLS};
@@ -137,11 +137,11 @@ fn read_calls(alloc: Global, bytes: &[u8]) -> Result<(Vec<Vec<u8>>, &[u8]), Simp
     Ok((strings, rest))
 }
 
-/// The strings that a program of the simple form writes, in order.
+/// The strings that a file of the simple form writes, in order.
 ///
-/// `NotSimple` comes exactly where the bytes are no such program.
+/// `NotSimple` comes exactly where the bytes are no such file.
 #[tactic(auto, unfolding(crate::specs::SimpleReading::program_at))]
-pub fn read_program(alloc: Global, bytes: &[u8]) -> Result<Vec<Vec<u8>>, SimpleError>
+fn read_program(alloc: Global, bytes: &[u8]) -> Result<Vec<Vec<u8>>, SimpleError>
     ensures { Gives (λ strings. texts strings.items) result (program_at bytes.now) }
 {
     let Some(front) = skip_head(bytes) else {
@@ -155,6 +155,40 @@ pub fn read_program(alloc: Global, bytes: &[u8]) -> Result<Vec<Vec<u8>>, SimpleE
         return Err(SimpleError::NotSimple);
     }
     Ok(strings)
+}
+
+/// The strings that files of the simple form write: one of them is such a program, and all others are blank.
+///
+/// `NotSimple` comes exactly where the files are not so.
+pub fn read_programs(alloc: Global, files: &[Vec<u8>]) -> Result<Vec<Vec<u8>>, SimpleError>
+    ensures { Gives (λ strings. texts strings.items) result (programs_at (texts files.now)) }
+{
+    for index in 0..files.len() {
+        if !is_blank_file(&files[index]) {
+            if !are_blank_files(&files[index + 1..]) {
+                return Err(SimpleError::NotSimple);
+            }
+            return read_program(alloc, &files[index]);
+        }
+    }
+    Err(SimpleError::NotSimple)
+}
+
+fn is_blank_file(bytes: &[u8]) -> bool
+    ensures { result ≡ is_blank_file bytes.now }
+{
+    bytes.len() <= leading_blanks(bytes)
+}
+
+fn are_blank_files(files: &[Vec<u8>]) -> bool
+    ensures { result ≡ list_all is_blank_file (texts files.now) }
+{
+    for index in 0..files.len() {
+        if !is_blank_file(&files[index]) {
+            return false;
+        }
+    }
+    true
 }
 
 fn skip_head(bytes: &[u8]) -> Option<&[u8]>

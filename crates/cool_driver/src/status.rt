@@ -6,9 +6,9 @@ ghost use Rattle.cool_driver.specs.Tasks.{code_of};
 /// How a call ends.
 #[derive(Clone, Copy, Debug, PartialEq, Eq)]
 pub enum Status {
-    /// The run ended well.
+    /// The run ended well, or the files were accepted.
     Done = 0,
-    /// The file is no program.
+    /// The files are no program, or none that can be compiled yet.
     Refused = 1,
     /// The words are no command line.
     Usage = 2,
@@ -26,7 +26,7 @@ pub enum Status {
     WriteFault = 8,
     /// Memory ran out.
     Memory = 9,
-    /// The file was not read.
+    /// A file was not read, or there are too many.
     FileFault = 10,
     /// The machine trapped.
     Trapped = 11,

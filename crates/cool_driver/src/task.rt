@@ -5,19 +5,25 @@ ghost use Rattle.std.specs.List.{concat, AllByRecursion};
 ghost use Rattle.cool_driver.specs.CommandLine.{words_of};
 ghost use Rattle.cool_driver.specs.SimpleReading.{texts};
 ghost use Rattle.cool_driver.specs.Emitted.{HasNoZero, data_of};
-ghost use Rattle.cool_syntax.specs.declared.TheConstants.{MOST_CALLS};
-ghost use Rattle.cool_driver.specs.declared.TheConstants.{MOST_SOURCE_BYTES, MOST_IMAGE_BYTES};
+ghost use Rattle.cool_syntax.specs.declared.TheConstants.{MOST_CALLS, MOST_FILES, MOST_SOURCE_BYTES};
+ghost use Rattle.cool_driver.specs.declared.TheConstants.{MOST_IMAGE_BYTES};
 ghost use Rattle.cool_driver.specs.Notes.{end_text, image_note, asm_words, asm_note};
 ghost use Rattle.cool_driver.specs.Execution.{is_text_file};
 ghost use Rattle.mips_isa.specs.Lines.{Line};
 ghost use Rattle.mips_isa.specs.Assembly.{fault_of, image_of};
-ghost use Rattle.cool_driver.specs.Tasks.{fault_note, Prints, IsTaskOf, IsDue, IsFileTask};
+ghost use Rattle.cool_faults.specs.Files.{total};
+ghost use Rattle.cool_faults.specs.Verdicts.{place_of};
+ghost use Rattle.cool_driver.specs.CommandLine.{is_number_of_files, most_bytes};
+ghost use Rattle.cool_driver.specs.Tasks.{fault_note, Prints, IsLine, AreLinesOf, IsTaskOf, IsTaskOfFile, IsTaskOfChecked, IsTaskOfRun, IsDue, IsFileTask};
 
 use crate::command_line::{Command, read_words};
 use crate::program::compile;
-use crate::simple_form::{SimpleError, read_program};
+use crate::reading::{ReadError, read_files};
+use crate::simple_form::{SimpleError, read_programs};
 use crate::status::Status;
+use cool_faults::{Fault, Verdict, accept, fault_text};
 use cool_ports::{Shelf, ShelfFault};
+use cool_syntax::MOST_FILES;
 use mips_asm::assemble;
 use mips_image::{ImageError, read_image};
 use mips_isa::{AsmError, AsmFault, AsmKind, Image};
@@ -30,8 +36,8 @@ const IMAGE_START: u8 = 127;
 /// What is left to do.
 #[derive(Drop)]
 pub enum Task {
-    /// To write this note, and end with this status.
-    Note(Status, String),
+    /// To write these lines as notes, and end with this status.
+    Tell(Status, Vec<Vec<u8>>),
     /// To run the image of a program of the simple form.
     Run(Image),
     /// To run this image over the input.
@@ -53,46 +59,107 @@ pub fn find_task<F: Shelf>(
     }) task) }
 {
     match read_words(words) {
-        Some(plan) => find_file_task(alloc, plan.command, plan.name, files),
-        None => {
-            let note = String::from_str(alloc, "cool: bad command line\n")?;
-            Ok(Task::Note(Status::Usage, note))
-        }
+        Some(plan) => find_file_task(alloc, plan.command, plan.names, files),
+        None => tell_line(alloc, Status::Usage, b"cool: bad command line\n"),
     }
 }
 
-/// What is left to do for a file of this name. `Err` comes only for want of memory.
+/// To write this one line. `Err` comes only for want of memory.
+fn tell_line(alloc: Global, status: Status, line: &[u8]) -> Result<Task, AllocError>
+    ensures { IfOk result (IsLine status line.now) }
+{
+    let mut lines = Vec::new(alloc);
+    lines.push(Vec::from_slice(alloc, line)?)?;
+    Ok(Task::Tell(status, lines))
+}
+
+/// What is left to do for files of these names. `Err` comes only for want of memory.
 fn find_file_task<F: Shelf>(
     alloc: Global,
     command: Command,
-    name: &str,
+    names: &[String],
     files: &mut F,
 ) -> Result<Task, AllocError>
-    ensures { IfOk result (IsFileTask (F.files files.old) (F.faults files.old) (F.faults files.new) command name.now) }
+    requires { is_number_of_files command (length names.now) ≡ true }
+    ensures { IfOk result (IsFileTask (F.files files.old) (F.faults files.old) (F.faults files.new) command (words_of names.now)) }
 {
-    match files.read(alloc, name, command.most_bytes()) {
-        Ok(bytes) => match command {
-            Command::Run => accept(alloc, name, &bytes),
-            Command::Exec => load(alloc, name, &bytes),
-        },
-        Err(fault) => {
+    if names.len() > MOST_FILES {
+        return tell_line(alloc, Status::FileFault, b"cool: too many files\n");
+    }
+    match read_files(alloc, names, command.most_bytes(), files) {
+        Ok(contents) => find_content_task(alloc, command, names, &contents),
+        Err(ReadError::Refused(name, fault)) => {
             let note = note_of_fault(alloc, name, fault)?;
-            Ok(Task::Note(Status::FileFault, note))
+            tell_line(alloc, Status::FileFault, note.as_bytes())
         }
+        Err(ReadError::Memory) => Err(AllocError),
     }
 }
 
-/// What is left to do to run a file of this name that has these bytes.
-fn accept(alloc: Global, name: &str, bytes: &[u8]) -> Result<Task, AllocError>
-    requires { length bytes.now ≤ MOST_SOURCE_BYTES }
-    ensures { IfOk result (IsTaskOf Command.Run name.now bytes.now) }
+/// What is left to do for files of these names that have these bytes.
+fn find_content_task(
+    alloc: Global,
+    command: Command,
+    names: &[String],
+    contents: &[Vec<u8>],
+) -> Result<Task, AllocError>
+    requires each { length names.now ≡ length contents.now }
+    requires number { is_number_of_files command (length names.now) ≡ true }
+    requires few { length contents.now ≤ MOST_FILES }
+    requires small { total (texts contents.now) ≤ most_bytes command }
+    ensures { IfOk result (IsTaskOf command (words_of names.now) (texts contents.now)) }
 {
-    match read_program(alloc, bytes) {
+    match command {
+        Command::Check => check_files(alloc, names, contents),
+        Command::Run => compile_files(alloc, names, contents),
+        Command::Exec => load(alloc, names[0].as_str(), &contents[0]),
+    }
+}
+
+/// What is left to do to check files of these names that have these bytes.
+fn check_files(alloc: Global, names: &[String], contents: &[Vec<u8>]) -> Result<Task, AllocError>
+    requires each { length names.now ≡ length contents.now }
+    requires some { 0 < length names.now }
+    requires few { length contents.now ≤ MOST_FILES }
+    requires small { total (texts contents.now) ≤ MOST_SOURCE_BYTES }
+    ensures { IfOk result (IsTaskOfChecked (words_of names.now) (texts contents.now)) }
+{
+    match accept(alloc, contents)? {
+        Verdict::Accepted(_) => Ok(Task::Tell(Status::Done, Vec::new(alloc))),
+        Verdict::Refused(faults) => refuse(alloc, names, faults.as_slice()),
+    }
+}
+
+/// To write the lines of faults of files of these names.
+fn refuse(alloc: Global, names: &[String], faults: &[Fault]) -> Result<Task, AllocError>
+    requires { AllByRecursion (λ f. (place_of f).file < length names.now) faults.now }
+    ensures { IfOk result (AreLinesOf (words_of names.now) faults.now) }
+{
+    let mut lines = Vec::new(alloc);
+    for fault in faults {
+        lines.push(fault_text(alloc, names, fault)?)?;
+    }
+    Ok(Task::Tell(Status::Refused, lines))
+}
+
+/// What is left to do to run files of these names that have these bytes.
+fn compile_files(alloc: Global, names: &[String], contents: &[Vec<u8>]) -> Result<Task, AllocError>
+    requires each { length names.now ≡ length contents.now }
+    requires some { 0 < length names.now }
+    requires few { length contents.now ≤ MOST_FILES }
+    requires small { total (texts contents.now) ≤ MOST_SOURCE_BYTES }
+    ensures { IfOk result (IsTaskOfRun (words_of names.now) (texts contents.now)) }
+{
+    match read_programs(alloc, contents) {
         Ok(strings) => Ok(Task::Run(compile_with_end(alloc, strings)?)),
-        Err(SimpleError::NotSimple) => {
-            let note = format!(in alloc; "{name}:1: N1: not yet\n")?;
-            Ok(Task::Note(Status::Refused, note))
-        }
+        Err(SimpleError::NotSimple) => match accept(alloc, contents)? {
+            Verdict::Accepted(_) => {
+                let name = names[0].as_str();
+                let note = format!(in alloc; "{name}:1: N1: not yet\n")?;
+                tell_line(alloc, Status::Refused, note.as_bytes())
+            }
+            Verdict::Refused(faults) => refuse(alloc, names, faults.as_slice()),
+        },
         Err(SimpleError::Memory) => Err(AllocError),
     }
 }
@@ -100,7 +167,7 @@ fn accept(alloc: Global, name: &str, bytes: &[u8]) -> Result<Task, AllocError>
 /// What is left to do to execute a file of this name that has these bytes.
 fn load(alloc: Global, name: &str, bytes: &[u8]) -> Result<Task, AllocError>
     requires { length bytes.now ≤ MOST_IMAGE_BYTES }
-    ensures { IfOk result (IsTaskOf Command.Exec name.now bytes.now) }
+    ensures { IfOk result (IsTaskOfFile name.now bytes.now) }
 {
     if bytes.first() == Some(&IMAGE_START) {
         load_image(alloc, name, bytes)
@@ -112,13 +179,13 @@ fn load(alloc: Global, name: &str, bytes: &[u8]) -> Result<Task, AllocError>
 /// What is left to do to execute an image.
 fn load_image(alloc: Global, name: &str, bytes: &[u8]) -> Result<Task, AllocError>
     requires { is_text_file bytes.now ≡ false }
-    ensures { IfOk result (IsTaskOf Command.Exec name.now bytes.now) }
+    ensures { IfOk result (IsTaskOfFile name.now bytes.now) }
 {
     match read_image(alloc, bytes) {
         Ok(image) => Ok(Task::Execute(image)),
         Err(fault) => {
             let note = image_note(alloc, name, fault)?;
-            Ok(Task::Note(Status::Unfit, note))
+            tell_line(alloc, Status::Unfit, note.as_bytes())
         }
     }
 }
@@ -127,13 +194,13 @@ fn load_image(alloc: Global, name: &str, bytes: &[u8]) -> Result<Task, AllocErro
 fn load_text(alloc: Global, name: &str, bytes: &[u8]) -> Result<Task, AllocError>
     requires text { is_text_file bytes.now ≡ true }
     requires small { length bytes.now ≤ MOST_IMAGE_BYTES }
-    ensures { IfOk result (IsTaskOf Command.Exec name.now bytes.now) }
+    ensures { IfOk result (IsTaskOfFile name.now bytes.now) }
 {
     match assemble_text(alloc, bytes) {
         Ok(image) => Ok(Task::Execute(image)),
         Err(AsmError::Fault(fault)) => {
             let note = asm_note(alloc, name, fault)?;
-            Ok(Task::Note(Status::Unfit, note))
+            tell_line(alloc, Status::Unfit, note.as_bytes())
         }
         Err(AsmError::Memory) => Err(AllocError),
     }

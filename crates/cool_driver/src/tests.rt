@@ -1,6 +1,6 @@
 //! Whole calls over objects in memory.
 
-mod sources;
+mod checks;
 
 use crate::cool;
 use cool_ports::{MemShelf, MemSink, MemSource, Source};
@@ -138,27 +138,66 @@ fn accepted_forms(rt: HostRuntime) -> Result<(), Fail> {
     Ok(())
 }
 
+/// Files that are no program of the simple form, with what `run` says of them.
+static REFUSED: [(&str, &str); 13] = [
+    (
+        "class Maininherits IO{main():Object{{out_string(\"a\");}};};",
+        "S1: unexpected token",
+    ),
+    (
+        "Class Main inherits IO{main():Object{{out_string(\"a\");}};};",
+        "N1: not yet",
+    ),
+    (
+        "class Main inherits IO{main():Object{{}};};",
+        "S1: unexpected token",
+    ),
+    (
+        "class Main inherits IO{main():Object{{out_string(\"a\")}};};",
+        "S1: unexpected token",
+    ),
+    (
+        "class Main inherits IO{main():Object{{out_string(\"a\");}};}",
+        "S1: unexpected token",
+    ),
+    (
+        "class Main inherits IO{main():Object{{out_string(\"a\");}};};;",
+        "S1: unexpected token",
+    ),
+    (
+        "class Main inherits IO{main():Object{{out_string(\"\\t\");}};};",
+        "N1: not yet",
+    ),
+    (
+        "class Main inherits IO{main():Object{{out_string(\"\x7f\");}};};",
+        "N1: not yet",
+    ),
+    (
+        "class Main inherits IO{main():Object{{out_string(\"\t\");}};};",
+        "N1: not yet",
+    ),
+    (
+        "class Main inherits IO{main():Object{{out_string(\"\n\");}};};",
+        "L2: string not closed",
+    ),
+    (
+        "class Main inherits IO{main():Object{{out_int(1);}};};",
+        "N1: not yet",
+    ),
+    (
+        "class Main inherits IO{main():Object{{out_string(\"a",
+        "L2: string not closed",
+    ),
+    ("", "C6: no class Main"),
+];
+
 #[test]
 fn refused_forms(rt: HostRuntime) -> Result<(), Fail> {
     let alloc = rt.alloc();
-    let rows = [
-        "class Maininherits IO{main():Object{{out_string(\"a\");}};};",
-        "Class Main inherits IO{main():Object{{out_string(\"a\");}};};",
-        "class Main inherits IO{main():Object{{}};};",
-        "class Main inherits IO{main():Object{{out_string(\"a\")}};};",
-        "class Main inherits IO{main():Object{{out_string(\"a\");}};}",
-        "class Main inherits IO{main():Object{{out_string(\"a\");}};};;",
-        "class Main inherits IO{main():Object{{out_string(\"\\t\");}};};",
-        "class Main inherits IO{main():Object{{out_string(\"\x7f\");}};};",
-        "class Main inherits IO{main():Object{{out_string(\"\t\");}};};",
-        "class Main inherits IO{main():Object{{out_string(\"\n\");}};};",
-        "class Main inherits IO{main():Object{{out_int(1);}};};",
-        "class Main inherits IO{main():Object{{out_string(\"a",
-        "",
-    ];
-    let note = b"p.cl:1: N1: not yet\n";
-    for text in rows {
-        World::new(alloc, "p.cl", text.as_bytes())?.ends(&rt, alloc, "run p.cl", 1, b"", note)?;
+    for (text, words) in &REFUSED {
+        let note = format!(in alloc; "p.cl:1: {words}\n")?;
+        let world = World::new(alloc, "p.cl", text.as_bytes())?;
+        world.ends(&rt, alloc, "run p.cl", 1, b"", note.as_bytes())?;
     }
     Ok(())
 }
@@ -251,7 +290,7 @@ fn large_files(rt: HostRuntime) -> Result<(), Fail> {
     let alloc = rt.alloc();
     // Blanks alone are no program, however many fit.
     let rows = [
-        (1_048_576, 1, "p.cl:1: N1: not yet\n"),
+        (1_048_576, 1, "p.cl:1: C6: no class Main\n"),
         (1_048_577, 10, "cool: files too large\n"),
     ];
     for (size, status, note) in rows {
@@ -677,9 +716,11 @@ fn command_lines(rt: HostRuntime) -> Result<(), Fail> {
     for line in [
         "",
         "fly p.cl",
+        "check",
+        "check -p.cl",
         "run",
-        "run p.cl q.cl",
         "run -p.cl",
+        "run p.cl -q.cl",
         "exec",
         "exec p.img q.img",
         "exec -p.img",

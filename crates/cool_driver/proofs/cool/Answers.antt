@@ -1,18 +1,18 @@
-use Rattle.std.proofs.Common.{◌≡◌, ◌≢◌, [], ◌++◌, refl, sym, ap}
-use Rattle.std.specs.Prelude.{None, Some}
+use Rattle.std.proofs.Common.{◌++◌, refl, sym}
+use Rattle.std.specs.Prelude.{None}
 use Rattle.std.specs.List.{concat}
 use Rattle.cool_ports.proofs.GettingBytes.{appended-nil}
 use Rattle.cool_driver.specs.Notes.{end_text}
 use Rattle.cool_driver.proofs.EndsOfDue.{ends_without_memory}
 use Rattle.cool_driver.proofs.EndsOfTasks.{note_ends, simple_ends}
 use Rattle.cool_driver.proofs.cool.Goals as goal
-use Rattle.cool_driver.proofs.cool.Goals.{in-Err, in-Ok-Note, in-Ok-Run, in-Ok-Execute}
+use Rattle.cool_driver.proofs.cool.Goals.{in-Err, in-Ok-Tell, in-Ok-Run, in-Ok-Execute}
 
--- no note is empty
-pub tell-status-requires : goal.tell-status-requires
-tell-status-requires g c =
-    let due = rw c.in-Ok-Note.field-0-is at (c.in-Ok-Note.ensures None) in
-    rw c.as_bytes.ensures.value due.1
+-- no line is empty
+pub tell_lines-status-requires : goal.tell_lines-status-requires
+tell_lines-status-requires g c =
+    let due = rw c.in-Ok-Tell.field-0-is at (c.in-Ok-Tell.ensures None) in
+    rw c.deref.ensures.value due.1
 
 -- an image of the simple form prints
 pub run_simple-status-requires : goal.run_simple-status-requires
@@ -24,11 +24,11 @@ pub returns-clause-input : goal.returns-clause-input
 returns-clause-input g c none =
     elim c.match-find_task.branch [
       | in-Err w ↦ w.input-is
-      | in-Ok-Note w ↦ w.input-is
+      | in-Ok-Tell w ↦ w.input-is
       | in-Ok-Run w ↦ w.input-is
       | in-Ok-Execute w ↦
           let due = rw w.in-Ok-Execute.field-0-is at (w.in-Ok-Execute.ensures None) in
-          absurd (none due.0 due.2.plan)
+          absurd (none _ due.2.plan)
     ]
 
 pub returns-clause-ends : goal.returns-clause-ends
@@ -36,9 +36,9 @@ returns-clause-ends g c =
     let left = g.I.Source.left c.args.input.now in
     elim c.match-find_task.branch [
       | in-Err w ↦ rw (c.code.ensures, w.status-is, w.out-is, w.notes-is, w.input-is) (ends_without_memory _ (sym (appended-nil _), refl) (sym (appended-nil _), refl) refl refl)
-      | in-Ok-Note w ↦
-          let due = rw w.in-Ok-Note.field-0-is at (w.in-Ok-Note.ensures left) in
-          let told = rw w.as_bytes.ensures.value at w.tell-status.ensures in
+      | in-Ok-Tell w ↦
+          let due = rw w.in-Ok-Tell.field-0-is at (w.in-Ok-Tell.ensures left) in
+          let told = rw w.deref.ensures.value at w.tell_lines-status.ensures in
           rw (c.code.ensures, w.status-is, w.out-is, w.notes-is, w.input-is) (note_ends _ _ _ _ due.0 due.2 (sym (appended-nil _), refl) (record { left = refl; calm = refl }) told)
       | in-Ok-Run w ↦
           let due = rw w.in-Ok-Run.field-0-is at (w.in-Ok-Run.ensures left) in

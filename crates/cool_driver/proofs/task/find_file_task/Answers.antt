@@ -1,24 +1,54 @@
-use Rattle.std.proofs.Common.{◌≤◌, length, ap, arith}
-use Rattle.std.specs.Prelude.{Err}
-use Rattle.cool_driver.proofs.DueTasks.{file_task, fault_due}
+use Rattle.std.proofs.Common.{◌≡◌, ◌≤◌, ◌<◌, ℕ, List, length, Some, sym, ap, ◌∙◌, subst, arith}
+use Rattle.std.specs.Prelude.{string_bytes}
+use Rattle.std.proofs.lemmas.List.{length-map}
+use Rattle.cool_syntax.specs.declared.TheConstants.{MOST_FILES}
+use Rattle.cool_faults.specs.Files.{total}
+use Rattle.cool_driver.specs.CommandLine.{words_of, most_bytes}
+use Rattle.cool_driver.specs.SimpleReading.{texts}
+use Rattle.cool_driver.specs.Reading.{IsStopAt}
+use Rattle.cool_driver.specs.Tasks.{IsTaskOf, fault_note}
+use Rattle.std.specs.Global.{Vec}
+use Rattle.cool_driver.proofs.HeldFiles.{held_length}
+use Rattle.cool_driver.proofs.DueTasks.{for_task, file_task, many_task, stop_task}
 use Rattle.cool_driver.proofs.task.find_file_task.Goals as goal
 
--- the file was read, to run it
-pub returns-in-Run : goal.returns-in-Run
-returns-in-Run g c =
-    let read = c.in-Ok.ensures in
-    let within : length c.in-Ok.bytes.items ≤ c.most_bytes.result = omega (arith, read.within, c.deref.ensures.len, ap length c.deref.ensures.value) in
-    file_task _ _ _ _ _ _ _ _ _ _ c.in-Run.is c.most_bytes.ensures c.deref.ensures.value read.read within read.no_fault c.accept.ensures
+-- there are too many files
+pub returns-then-names-gt-MOST_FILES : goal.returns-then-names-gt-MOST_FILES
+returns-then-names-gt-MOST_FILES g c =
+    let many : MOST_FILES < length (words_of c.args.names.now) = omega (arith, length-map c.args.names.now string_bytes, c.if-names-gt-MOST_FILES.true) in
+    for_task _ _ c.tell_line.result (λ task h. many_task _ _ c.args.command (words_of c.args.names.now) task many h) c.tell_line.ensures
 
--- the file was read, to execute it
+-- there are as many files as names
+pub find_content_task-requires-clause-each : goal.find_content_task-requires-clause-each
+find_content_task-requires-clause-each g c =
+    let held = held_length (g.F.Shelf.files c.args.files.now) (words_of c.args.names.now) (texts c.in-Ok.contents.items) c.in-Ok.ensures.held in
+    omega (arith, held, length-map c.args.names.now string_bytes, length-map c.in-Ok.contents.items (λ file. file.items), ap length c.deref.ensures.value)
+
+pub find_content_task-requires-clause-few : goal.find_content_task-requires-clause-few
+find_content_task-requires-clause-few g c =
+    let held = held_length (g.F.Shelf.files c.args.files.now) (words_of c.args.names.now) (texts c.in-Ok.contents.items) c.in-Ok.ensures.held in
+    omega (arith, held, length-map c.args.names.now string_bytes, length-map c.in-Ok.contents.items (λ file. file.items), ap length c.deref.ensures.value, c.if-names-gt-MOST_FILES.false)
+
+-- the files were read
 pub returns-in-Ok : goal.returns-in-Ok
 returns-in-Ok g c =
     let read = c.in-Ok.ensures in
-    let within : length c.in-Ok.bytes.items ≤ c.most_bytes.result = omega (arith, read.within, c.deref-in-Exec.ensures.len, ap length c.deref-in-Exec.ensures.value) in
-    file_task _ _ _ _ _ _ _ _ _ _ c.in-Exec.is c.most_bytes.ensures c.deref-in-Exec.ensures.value read.read within read.no_fault c.load.ensures
+    let few : length (words_of c.args.names.now) ≤ MOST_FILES = omega (arith, length-map c.args.names.now string_bytes, c.if-names-gt-MOST_FILES.false) in
+    let within : total (texts c.in-Ok.contents.items) ≤ most_bytes c.args.command = omega (arith, read.within, c.most_bytes.ensures) in
+    for_task _ _ c.find_content_task.result
+    (λ task h. file_task _ _ _ c.args.command (words_of c.args.names.now) (texts c.in-Ok.contents.items) task read.held few within read.calm
+    (subst (λ (files : List (Vec ℕ)). IsTaskOf c.args.command (words_of c.args.names.now) (texts files) task) c.deref.ensures.value h))
+    c.find_content_task.ensures
 
--- the file was not read
-pub returns : goal.returns
-returns g c words input plan =
-    let read = c.in-Err.ensures in
-    fault_due _ c.args.command _ c.args.name.now c.in-Err.fault _ plan c.most_bytes.ensures c.in_ok-note-in-Err.ensures (λ e. read.missing (ap Err e)) (λ e. read.too_large (ap Err e)) (λ e. read.failed (ap Err e))
+-- a file was refused
+pub returns-in_ok-note-in-Err-Refused : goal.returns-in_ok-note-in-Err-Refused
+returns-in_ok-note-in-Err-Refused g c =
+    let few : length (words_of c.args.names.now) ≤ MOST_FILES = omega (arith, length-map c.args.names.now string_bytes, c.if-names-gt-MOST_FILES.false) in
+    let refused = c.in-Err-Refused in
+    let stop = rw refused.field-0-is at refused.ensures.stop in
+    let told = rw refused.field-0-is at c.in_ok-note-in-Err-Refused.ensures in
+    let note : fault_note refused.name.now refused.fault ≡ Some c.as_bytes.result.now = told ∙ ap Some (sym c.as_bytes.ensures.value) in
+    for_task _ _ c.tell_line-in-Err-Refused.result
+    (λ task h. stop_task _ _ _ c.args.command (words_of c.args.names.now) refused.name.now refused.fault c.as_bytes.result.now task few
+    (subst (λ (most : ℕ). IsStopAt (g.F.Shelf.files c.args.files.now) (g.F.Shelf.faults c.args.files.now) (g.F.Shelf.faults c.read_files.new.files) (words_of c.args.names.now) most refused.name.now refused.fault) c.most_bytes.ensures stop) note h)
+    c.tell_line-in-Err-Refused.ensures

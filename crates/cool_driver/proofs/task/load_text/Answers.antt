@@ -1,4 +1,6 @@
-use Rattle.std.proofs.Common.{inr}
+use Rattle.std.proofs.Common.{inr, ◌∙◌}
+use Rattle.cool_driver.proofs.NoteLines.{misread_line}
+use Rattle.cool_driver.proofs.DueTasks.{for_task}
 use Rattle.cool_driver.proofs.task.load_text.Goals as goal
 
 -- the text is assembled
@@ -6,3 +8,10 @@ pub returns-in-Ok : goal.returns-in-Ok
 returns-in-Ok c =
     let lines = c.in-Ok.ensures in
     inr (record { text = c.requires.text; lines = lines.0; no_fault = lines.1; image_is = lines.2 })
+
+-- it has a fault
+pub returns-in_ok-note-in-Err-Fault : goal.returns-in_ok-note-in-Err-Fault
+returns-in_ok-note-in-Err-Fault c =
+    for_task _ _ c.tell_line.result
+    (λ task h. misread_line c.args.name.now c.args.bytes.now c.as_bytes.result.now task (c.in-Err-Fault.fault, c.as_bytes.ensures.value ∙ c.in_ok-note-in-Err-Fault.ensures, c.requires.text) h)
+    c.tell_line.ensures

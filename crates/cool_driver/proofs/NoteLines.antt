@@ -1,0 +1,116 @@
+-- The lines of notes: none is empty, and what a task tells is what its lines are.
+use Rattle.std.proofs.Common.{◌≡◌, ◌≢◌, ℕ, ◌+◌, ◌<◌, List, [], ◌∷◌, ◌++◌, length, get_or, drop, map, inl, inr, sym, ◌∙◌, ap, append-nil, arith}
+use Rattle.std.specs.Prelude.{codes, decimal}
+use Rattle.std.specs.Global.{Vec}
+use Rattle.std.specs.List.{concat, AllByRecursion}
+use Rattle.std.proofs.Math.ListN.{length-append}
+use Rattle.std.proofs.lemmas.List.{at_drop_more}
+use Rattle.cool_syntax.specs.TokenFacts.{IsPlaced}
+use Rattle.cool_classes.specs.Chains.{Class}
+use Rattle.cool_faults.specs.declared.fault.Fault.{Fault}
+use Rattle.cool_faults.specs.Texts.{fault_words, fault_line}
+use Rattle.cool_faults.specs.Verdicts.{place_of, IsAccepted, IsRefused}
+use Rattle.cool_driver.specs.Notes.{not_yet_note, image_fault, image_note, asm_words, asm_note}
+use Rattle.cool_driver.specs.SimpleFiles.{AreNotSimple}
+use Rattle.cool_driver.specs.SimpleReading.{texts}
+use Rattle.cool_driver.specs.Ends.{Request, Due}
+use Rattle.cool_driver.specs.Tasks.{code_of, AreLines, note_of, IsUnfit, IsMisread, IsTaskOfFile, IsTaskOfChecked, IsTaskOfRun, IsLine, AreLinesOf, IsDue}
+use Rattle.cool_driver.specs.declared.status.Status.{Status}
+use Rattle.cool_driver.specs.declared.status.Status.TheVariants as statuses
+use Rattle.cool_driver.specs.declared.task.Task.{Task}
+use Rattle.cool_driver.specs.declared.task.Task.TheVariants.{Tell, Run, Execute}
+use Rattle.mips_isa.specs.declared.line.AsmFault.{AsmFault}
+use Rattle.mips_image.specs.declared.image_error.ImageError.{ImageError}
+
+-- the line of a fault is not empty
+some_line : (names : List (List ℕ)) (fault : Fault) → 0 < length (fault_line names fault)
+some_line names fault =
+    omega (arith, length-append (get_or names (place_of fault).file []) (codes ":" ++ (decimal (place_of fault).line ++ (codes ": " ++ (fault_words fault ++ codes "\n")))))
+
+-- so none of the lines of faults is
+some_lines : (names : List (List ℕ)) (faults : List Fault) → AllByRecursion (λ line. 0 < length line) (map (fault_line names) faults)
+some_lines names [] = tt
+some_lines names (fault ∷ faults) = (some_line names fault, some_lines names faults)
+
+-- the note of files that cannot be compiled yet is not empty
+some_not_yet : (name : List ℕ) → 0 < length (not_yet_note name)
+some_not_yet name = omega (arith, length-append name (codes ":1: N1: not yet\n"))
+
+-- the note of a file that is no image is not empty
+some_unfit : (name : List ℕ) (fault : ImageError) → 0 < length (image_note name fault)
+some_unfit name fault = omega (arith, length-append name (codes ": " ++ image_fault fault))
+
+-- nor is that of a text with a fault
+some_misread : (name : List ℕ) (fault : AsmFault) → 0 < length (asm_note name fault)
+some_misread name fault = omega (arith, length-append name (codes ":" ++ (decimal fault.line ++ (codes ": " ++ (asm_words fault.kind ++ codes "\n")))))
+
+-- lines that are these texts, none of which is empty
+pub are_lines : (lines : List (Vec ℕ)) (all : List (List ℕ)) → texts lines ≡ all → AllByRecursion (λ line. 0 < length line) all → AreLines lines
+are_lines [] all e h = tt
+are_lines (v ∷ lines) [] e h = absurd cc
+are_lines (v ∷ lines) (x ∷ all) e h =
+    let same : v.items ≡ x = cc in
+    let rest : texts lines ≡ all = cc in
+    (omega (arith, ap length same, h.0), are_lines lines all rest h.1)
+
+-- a note of one line is that line
+one_line : (lines : List (Vec ℕ)) (line : List ℕ) → texts lines ≡ line ∷ [] → note_of lines ≡ line
+one_line lines line e = ap concat e ∙ append-nil line
+
+-- what is due where one line is told
+pub line_due : (r : Request) (status : Status) (line : List ℕ) (task : Task) → IsLine status line task → 0 < length line → code_of status ≢ 7 → Due r (code_of status) [] line r.input → IsDue r task
+line_due r status line (Tell told lines) h some other due = rw (h.0, one_line lines.items line h.1) (due, are_lines lines.items (line ∷ []) h.1 (some, tt), other)
+line_due r status line (Run image) h some other due = absurd h
+line_due r status line (Execute image) h some other due = absurd h
+
+-- the faults of files that `check` names
+pub checked_lines : (names contents : List (List ℕ)) (faults : List Fault) (task : Task) → IsRefused contents faults → AreLinesOf names faults task → IsTaskOfChecked names contents task
+checked_lines names contents faults (Tell status lines) is h = (are_lines lines.items _ h.1 (some_lines names faults), inr (h.0, (faults, is, ap concat h.1)))
+checked_lines names contents faults (Run image) is h = absurd h
+checked_lines names contents faults (Execute image) is h = absurd h
+
+-- the faults of files that `run` names
+pub run_lines : (names contents : List (List ℕ)) (faults : List Fault) (task : Task) → AreNotSimple contents → IsRefused contents faults → AreLinesOf names faults task → IsTaskOfRun names contents task
+run_lines names contents faults (Tell status lines) other is h = (are_lines lines.items _ h.1 (some_lines names faults), other, h.0, inr (faults, is, ap concat h.1))
+run_lines names contents faults (Run image) other is h = absurd h
+run_lines names contents faults (Execute image) other is h = absurd h
+
+-- files that are accepted, but cannot be compiled yet
+pub not_yet_line : (names contents : List (List ℕ)) (p : List Class) (line : List ℕ) (task : Task) → AreNotSimple contents → IsAccepted contents p → line ≡ not_yet_note (get_or names 0 []) → IsLine statuses.Refused line task
+    → IsTaskOfRun names contents task
+not_yet_line names contents p line (Tell status lines) other is same h =
+    let some : 0 < length line = rw same (some_not_yet (get_or names 0 [])) in
+    (are_lines lines.items (line ∷ []) h.1 (some, tt), other, ap code_of h.0, inl (p, is, one_line lines.items line h.1 ∙ same))
+not_yet_line names contents p line (Run image) other is same h = absurd h
+not_yet_line names contents p line (Execute image) other is same h = absurd h
+
+-- a file that is no image
+pub unfit_line : (name bytes line : List ℕ) (task : Task) → IsUnfit name bytes line → IsLine statuses.Unfit line task → IsTaskOfFile name bytes task
+unfit_line name bytes line (Tell status lines) is h =
+    let some : 0 < length line = rw is.1 (some_unfit name is.0) in
+    let same : note_of lines.items ≡ image_note name is.0 = one_line lines.items line h.1 ∙ is.1 in
+    (ap code_of h.0, are_lines lines.items (line ∷ []) h.1 (some, tt), inl (is.0, same, is.2, is.3))
+unfit_line name bytes line (Run image) is h = absurd h
+unfit_line name bytes line (Execute image) is h = absurd h
+
+-- a text with a fault
+pub misread_line : (name bytes line : List ℕ) (task : Task) → IsMisread name bytes line → IsLine statuses.Unfit line task → IsTaskOfFile name bytes task
+misread_line name bytes line (Tell status lines) is h =
+    let some : 0 < length line = rw is.1 (some_misread name is.0) in
+    let same : note_of lines.items ≡ asm_note name is.0 = one_line lines.items line h.1 ∙ is.1 in
+    (ap code_of h.0, are_lines lines.items (line ∷ []) h.1 (some, tt), inr (is.0, same, is.2))
+misread_line name bytes line (Run image) is h = absurd h
+misread_line name bytes line (Execute image) is h = absurd h
+
+-- the line at a number, in front of those behind it
+pub note_at : (lines : List (Vec ℕ)) (i : ℕ) (line : Vec ℕ) → i < length lines → line ≡ get_or lines i line → line.items ++ note_of (drop (i + 1) lines) ≡ note_of (drop i lines)
+note_at lines i line h is = sym (at_drop_more note_of lines i line h ∙ ap (λ (v : Vec ℕ). v.items ++ note_of (drop (i + 1) lines)) (sym is))
+
+-- faults that stand in one of so many files
+all_below : (files names : ℕ) (faults : List Fault) → files ≡ names → AllByRecursion (λ f. IsPlaced files (place_of f)) faults → AllByRecursion (λ f. (place_of f).file < names) faults
+all_below files names [] same h = tt
+all_below files names (fault ∷ faults) same h = (omega (arith, h.0.0, same), all_below files names faults same h.1)
+
+-- the faults of files that have names stand in such files
+pub have_names : (names : ℕ) (contents : List (List ℕ)) (faults : List Fault) → IsRefused contents faults → 0 < names → length contents ≡ names → AllByRecursion (λ f. (place_of f).file < names) faults
+have_names names contents faults is some same = all_below (length contents) names faults same (is.places (omega arith))

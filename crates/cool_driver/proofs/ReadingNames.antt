@@ -1,0 +1,71 @@
+-- The files of names are read one after another, until one is refused.
+use Rattle.std.proofs.Common.{◌≡◌, ◌≢◌, ℕ, ◌+◌, ◌-◌, ◌<◌, List, [], ◌∷◌, ◌++◌, length, get_or, take, drop, refl, sym, ◌∙◌, ap, subst, take-append-drop, arith}
+use Rattle.std.specs.Prelude.{Option, string_bytes, String}
+use Rattle.std.specs.Global.{Global, Vec}
+use Rattle.std.proofs.lemmas.List.{get_or-map, at_drop_more, map_more, map_push, map-append}
+use Rattle.cool_ports.specs.Counts.{Rose}
+use Rattle.cool_ports.specs.ShelfFiles.{FileMap, MayHold, IsMissing, IsLonger}
+use Rattle.cool_ports.specs.declared.shelf.ShelfFault.{ShelfFault}
+use Rattle.cool_ports.specs.declared.shelf.ShelfFault.TheVariants as faults
+use Rattle.cool_faults.specs.Files.{total}
+use Rattle.cool_driver.specs.CommandLine.{words_of}
+use Rattle.cool_driver.specs.Ends.{AreHeld}
+use Rattle.cool_driver.specs.Reading.{IsCause, IsStopAt}
+use Rattle.cool_driver.specs.SimpleReading.{texts}
+use Rattle.cool_driver.proofs.HeldFiles.{held_more, total-push}
+
+-- the name at a number behind those before it
+names_more : (names : List (String Global)) (i : ℕ) (name : String Global) → i < length names → name ≡ get_or names i name → words_of (take (i + 1) names) ≡ words_of (take i names) ++ string_bytes name ∷ []
+names_more names i name h is = map_more string_bytes names i name h ∙ ap (λ (n : String Global). words_of (take i names) ++ string_bytes n ∷ []) (sym is)
+
+-- and between those before it and those behind it
+names_cut : (names : List (String Global)) (i : ℕ) (name : String Global) → i < length names → name ≡ get_or names i name → words_of names ≡ words_of (take i names) ++ string_bytes name ∷ words_of (drop (i + 1) names)
+names_cut names i name h is =
+    ap words_of (sym (take-append-drop i names)) ∙ map-append string_bytes (take i names) (drop i names)
+    ∙ ap (λ (ns : List (List ℕ)). words_of (take i names) ++ ns) (at_drop_more words_of names i name h ∙ ap (λ (n : String Global). string_bytes n ∷ words_of (drop (i + 1) names)) (sym is))
+
+-- the first name
+pub first_name : (names : List (String Global)) (name : String Global) → 0 < length names → name ≡ get_or names 0 name → string_bytes name ≡ get_or (words_of names) 0 []
+first_name names name some is = ap string_bytes is ∙ sym (get_or-map string_bytes names 0 name [] some)
+
+-- one more file was read
+pub held_turn : (told now : Option FileMap) (names : List (String Global)) (i : ℕ) (name : String Global) (given : List ℕ) (contents more : List (Vec ℕ)) (file : Vec ℕ) → now ≡ told → i < length names → name ≡ get_or names i name → given ≡ string_bytes name
+    → AreHeld told (words_of (take i names)) (texts contents) → MayHold now given file.items → more ≡ contents ++ file ∷ [] → AreHeld told (words_of (take (i + 1) names)) (texts more)
+held_turn told now names i name given contents more file same h is called held got pushed =
+    let here : MayHold told (string_bytes name) file.items = subst (λ (n : List ℕ). MayHold told n file.items) called (subst (λ (t : Option FileMap). MayHold t given file.items) same got) in
+    let all : texts more ≡ texts contents ++ file.items ∷ [] = ap texts pushed ∙ map_push _ _ _ in
+    subst (λ (ns : List (List ℕ)). AreHeld told ns (texts more)) (sym (names_more names i name h is))
+    (subst (λ (cs : List (List ℕ)). AreHeld told (words_of (take i names) ++ string_bytes name ∷ []) cs) (sym all) (held_more told (words_of (take i names)) (texts contents) (string_bytes name) file.items held here))
+
+-- what the files so far have together
+pub total_turn : (contents more : List (Vec ℕ)) (file : Vec ℕ) → more ≡ contents ++ file ∷ [] → total (texts more) ≡ total (texts contents) + length file.items
+total_turn contents more file pushed =
+    let all : texts more ≡ texts contents ++ file.items ∷ [] = ap texts pushed ∙ map_push _ _ _ in
+    ap total all ∙ total-push (texts contents) file.items
+
+-- the cause of a refusal
+pub cause_of : (files : Option FileMap) (before after : ℕ) (name : List ℕ) (most : ℕ) (fault : ShelfFault) → (fault ≡ faults.Missing → IsMissing files name before after) → (fault ≡ faults.TooLarge → IsLonger files name most before after)
+    → (fault ≡ faults.Failed → Rose before after) → fault ≢ faults.Memory → IsCause files before after name most fault
+cause_of files before after name most faults.Missing gone long failed other = gone refl
+cause_of files before after name most faults.Failed gone long failed other = failed refl
+cause_of files before after name most faults.TooLarge gone long failed other = long refl
+cause_of files before after name most faults.Memory gone long failed other = absurd (other refl)
+
+-- a file was refused behind those that were read
+pub stop_at : (told now : Option FileMap) (before now_before after : ℕ) (names : List (String Global)) (i : ℕ) (name : String Global) (given : List ℕ) (contents : List (Vec ℕ)) (most left : ℕ) (fault : ShelfFault)
+    → now ≡ told → now_before ≡ before → i < length names → name ≡ get_or names i name → given ≡ string_bytes name
+    → AreHeld told (words_of (take i names)) (texts contents) → total (texts contents) + left ≡ most → IsCause now now_before after given left fault → IsStopAt told before after (words_of names) most given fault
+stop_at told now before now_before after names i name given contents most left fault same calm h is called held rest cause =
+    let most_left : left ≡ most - total (texts contents) = omega arith in
+    record {
+      front = words_of (take i names);
+      rest = words_of (drop (i + 1) names);
+      contents = texts contents;
+      stands = names_cut names i name h is ∙ ap (λ (n : List ℕ). words_of (take i names) ++ n ∷ words_of (drop (i + 1) names)) (sym called);
+      held = held;
+      within = omega arith;
+      cause =
+          subst (λ (t : Option FileMap). IsCause t before after given (most - total (texts contents)) fault) same
+          (subst (λ (b : ℕ). IsCause now b after given (most - total (texts contents)) fault) calm
+          (subst (λ (m : ℕ). IsCause now now_before after given m fault) most_left cause));
+    }

@@ -1,0 +1,32 @@
+use Rattle.std.proofs.Common.{ap, ◌∙◌, arith}
+use Rattle.std.specs.Prelude.{Err}
+use Rattle.cool_driver.proofs.ReadingNames.{held_turn, total_turn, cause_of, stop_at}
+use Rattle.cool_driver.proofs.reading.read_files.Goals as goal
+
+-- a file was refused
+pub returns-in_default : goal.returns-in_default
+returns-in_default g c =
+    let so_far = c.loop-index.invariant in
+    let read = c.in-Err.ensures in
+    record {
+      held = tt;
+      within = tt;
+      calm = tt;
+      stop = stop_at _ _ _ _ _ c.args.names.now c.loop-index.index c.index-names-index.result c.as_str-name.result.now c.loop-index.contents.items c.args.most c.loop-index.left c.in-Err.fault so_far.kept so_far.calm c.loop-index-test.true c.index-names-index.is
+          c.as_str-name.ensures.value so_far.held so_far.rest
+          (cause_of _ _ _ c.as_str-name.result.now c.loop-index.left c.in-Err.fault (λ e. read.missing (ap Err e)) (λ e. read.too_large (ap Err e)) (λ e. read.failed (ap Err e)) c.in_default.not-Memory);
+    }
+
+-- one more file was read
+pub loop-index-preserved : goal.loop-index-preserved
+loop-index-preserved g c =
+    let read = c.in-Ok.ensures in
+    let so_far = c.loop-index.invariant in
+    let pushed = c.in_ok-push-in-Ok.ensures.items in
+    record {
+      held = held_turn _ _ c.args.names.now c.loop-index.index c.index-names-index.result c.as_str-name.result.now c.loop-index.contents.items c.push.new.self.items c.in-Ok.bytes so_far.kept c.loop-index-test.true c.index-names-index.is c.as_str-name.ensures.value
+          so_far.held read.read pushed;
+      rest = omega (arith, total_turn c.loop-index.contents.items c.push.new.self.items c.in-Ok.bytes pushed, so_far.rest, read.within, c.len.ensures);
+      calm = read.no_fault ∙ so_far.calm;
+      kept = c.read.ensures.kept ∙ so_far.kept;
+    }

@@ -1,0 +1,73 @@
+//! Reading the files of a command.
+
+ghost use Rattle.std.specs.Prelude.{◌≡◌, ◌+◌, ◌<◌, ◌≤◌, ◌^◌, length, IfOk, IfErr, OnOk};
+ghost use Rattle.cool_faults.specs.Files.{total};
+ghost use Rattle.cool_driver.specs.CommandLine.{words_of};
+ghost use Rattle.cool_driver.specs.Ends.{AreHeld};
+ghost use Rattle.cool_driver.specs.Reading.{IsStop};
+ghost use Rattle.cool_driver.specs.SimpleReading.{texts};
+
+use cool_ports::{Shelf, ShelfFault};
+use std::alloc::{AllocError, AllocFailed, Global};
+
+/// Why not all files were read.
+#[derive(Clone, Copy)]
+pub enum ReadError<'a> {
+    /// Want of memory.
+    Memory,
+    /// The shelf refused the file of this name.
+    Refused(&'a str, ShelfFault),
+}
+
+impl<'a> From<AllocError> for ReadError<'a> {
+    ghost use Rattle.std.specs.Prelude.{◌≡◌};
+    ghost use Rattle.cool_driver.specs.declared.reading.ReadError.TheVariants as error;
+
+    ghost from_gives = { λ _ e. e ≡ error.Memory };
+
+    fn from(_error: AllocError) -> ReadError<'a> {
+        ReadError::Memory
+    }
+}
+
+impl<'a, T: Drop> From<AllocFailed<T>> for ReadError<'a> {
+    ghost use Rattle.std.specs.Prelude.{◌≡◌};
+    ghost use Rattle.cool_driver.specs.declared.reading.ReadError.TheVariants as error;
+
+    ghost from_gives = { λ _ e. e ≡ error.Memory };
+
+    fn from(_error: AllocFailed<T>) -> ReadError<'a> {
+        ReadError::Memory
+    }
+}
+
+/// The bytes of the files of these names, in order; they have at most so many together.
+pub fn read_files<'a, F: Shelf>(
+    alloc: Global,
+    names: &'a [String],
+    most: u64,
+    files: &mut F,
+) -> Result<Vec<Vec<u8>>, ReadError<'a>>
+    requires { most < 2 ^ 40 }
+    ensures held { IfOk result (λ contents. AreHeld (F.files files.old) (words_of names.now) (texts contents.items)) }
+    ensures within { IfOk result (λ contents. total (texts contents.items) ≤ most) }
+    ensures calm { OnOk result (F.faults files.new ≡ F.faults files.old) }
+    ensures stop { IfErr result (IsStop (F.files files.old) (F.faults files.old) (F.faults files.new) (words_of names.now) most) }
+{
+    let mut contents = Vec::new(alloc);
+    let mut left = most;
+    for index in 0..names.len() {
+        let name = names[index].as_str();
+        match files.read(alloc, name, left) {
+            Ok(bytes) => {
+                left -= bytes.len() as u64;
+                contents.push(bytes)?;
+            }
+            Err(fault) => match fault {
+                ShelfFault::Memory => return Err(ReadError::Memory),
+                _ => return Err(ReadError::Refused(name, fault)),
+            },
+        }
+    }
+    Ok(contents)
+}
