@@ -1,0 +1,3 @@
+class A { };
+class A { };
+class Main { main() : Object { 0 }; };

@@ -1,0 +1,2 @@
+class A inherits B { };
+class Main { main() : Object { 0 }; };

@@ -1,0 +1,2 @@
+class A inherits Int { };
+class Main { main() : Object { 0 }; };

@@ -1,0 +1,2 @@
+class A inherits A { };
+class Main { main() : Object { 0 }; };

@@ -1,0 +1,1 @@
+class Main { main() : Object { self <- zz }; a : Object <- self <- 1; };

@@ -1,0 +1,1 @@
+class Main { a : SELF_TYPE; main() : Object { a <- new Main }; b : Int <- a <- self.q(); };

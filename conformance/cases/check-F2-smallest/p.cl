@@ -1,0 +1,2 @@
+class A { x : Int; x : Int; };
+class Main { main() : Object { 0 }; };

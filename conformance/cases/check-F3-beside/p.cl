@@ -1,0 +1,2 @@
+class A { self() : Int { 1 }; f(self : Int, self : Int) : Int { 1 }; };
+class Main { main() : Object { 0 }; };

@@ -1,0 +1,2 @@
+class A { self : Int; };
+class Main { main() : Object { 0 }; };

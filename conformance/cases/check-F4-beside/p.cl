@@ -1,0 +1,2 @@
+class A { f(x : Int, y : Z, x : SELF_TYPE, x : Int) : Int { 1 }; };
+class Main { main() : Object { 0 }; };

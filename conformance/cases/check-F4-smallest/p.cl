@@ -1,0 +1,2 @@
+class A { f(x : Int, x : Int) : Int { 1 }; };
+class Main { main() : Object { 0 }; };

@@ -1,0 +1,2 @@
+class A { x : B; };
+class Main { main() : Object { 0 }; };

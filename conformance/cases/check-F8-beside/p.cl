@@ -1,0 +1,1 @@
+class Main { main : Int; main(x : Int) : Object { 1 }; main() : Object { 1 }; };

@@ -1,0 +1,2 @@
+class Main { main() : Object { 1 (* (* "open *) }; };
+_ *

@@ -1,0 +1,2 @@
+class A { f( : Int { 1 }; };
+class Main { main() : Object { ) }; };

@@ -1,0 +1,5 @@
+class Main {
+  a : Int;
+  main() : Object { a < a
+    < a };
+};

@@ -1,0 +1,4 @@
+class Main {
+  a : Int;
+  main() : Object { a + not a = a };
+};

@@ -1,0 +1,4 @@
+class B {
+  f() : Int { true };
+  g() : Int { x };
+};
