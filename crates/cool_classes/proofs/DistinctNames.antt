@@ -1,14 +1,13 @@
 -- Classes whose names no earlier class has have names of their own.
-use Rattle.std.proofs.Common.{◌≡◌, ◌≢◌, ◌⊎◌, inl, inr, ℕ, zero, suc, ◌+◌, ◌-◌, ◌<◌, ◌≤◌, List, [], ◌∷◌, ◌++◌, length, take, get_or, Option, Some, None, Bool, true, false, cond, sym, ap, ◌∙◌, refl, subst, arith, true≢false}
+use Rattle.std.proofs.Common.{◌≡◌, ◌≢◌, inl, inr, ℕ, zero, suc, ◌+◌, ◌<◌, List, [], ◌∷◌, length, take, get_or, Some, None, Bool, true, false, cond, sym, ap, ◌∙◌, refl, arith}
 use Rattle.std.specs.Prelude.{bytes_eq, codes}
-use Rattle.std.proofs.lemmas.List.{length-map, length-take-le, get_or-take}
+use Rattle.std.proofs.lemmas.List.{length-take-le, get_or-take}
 use Rattle.std.proofs.lemmas.Bool.{cases_order}
 use Rattle.std.proofs.lemmas.Slice.Eq.{bytes_eq-Decides}
 use Rattle.cool_syntax.specs.declared.file_tree.ClassDef.{ClassDef}
-use Rattle.cool_classes.specs.declared.class_id.ClassId.{ClassId}
 use Rattle.cool_classes.specs.Chains.{class_number}
 use Rattle.cool_classes.specs.Names.{first_named}
-use Rattle.cool_classes.specs.Settled.{basic_names, names_in, names_with_basic, AreNamedAnew}
+use Rattle.cool_classes.specs.Settled.{names_with_basic, AreNamedAnew}
 use Rattle.cool_classes.proofs.NamesOfDefinitions.{names_long}
 
 -- a name that is there is found

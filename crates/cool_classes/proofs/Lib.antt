@@ -3,6 +3,7 @@ pub mod AttributesOfChains
 pub mod BasicDepths
 pub mod BasicLimits
 pub mod BasicTable
+pub mod ClassesNamed
 pub mod Climbs
 pub mod DistinctNames
 pub mod EntriesInOrder

@@ -1,6 +1,7 @@
 -- Methods of chains: the first one of a name, and what a climb for it keeps.
-use Rattle.std.proofs.Common.{◌≡◌, ℕ, suc, ◌+◌, ◌<◌, List, [], ◌∷◌, length, slice_get, Option, Some, None, ap, sym, ◌∙◌, refl, subst, arith, Bool, true, false, cond}
+use Rattle.std.proofs.Common.{◌≡◌, ℕ, suc, ◌+◌, ◌<◌, List, [], ◌∷◌, length, get_or, drop, slice_get, Option, Some, None, ap, sym, ◌∙◌, refl, subst, arith, Bool, true, false, cond}
 use Rattle.std.specs.Prelude.{bytes_eq, IfSome, option_map, nat_lt}
+use Rattle.std.proofs.lemmas.List.{at_drop_more}
 use Rattle.cool_syntax.specs.declared.file_tree.Feature.{Feature}
 use Rattle.cool_syntax.specs.declared.file_tree.Feature.TheVariants.{Method, Attribute}
 use Rattle.cool_classes.specs.declared.class_id.ClassId.{ClassId}
@@ -92,3 +93,15 @@ own_has p c f within =
 
 pub found_has : (p : List Class) (c : ClassId) (f : List ℕ) (m : MethodRef) → c.0 < length p → own_method p c f ≡ Some m → HasMethod p m
 found_has p c f m within e = subst (λ (o : Option MethodRef). IfSome o (HasMethod p)) e (own_has p c f within)
+
+-- the nearest method of some classes is that of the first where it has one
+pub nearest_here : (p : List Class) (ds : List ClassId) (k : ℕ) (d : ClassId) (f : List ℕ) (m : MethodRef) → k < length ds → own_method p (get_or ds k d) f ≡ Some m
+    → implementation p (drop k ds) f ≡ Some m
+nearest_here p ds k d f m within e =
+    at_drop_more (λ (xs : List ClassId). implementation p xs f) ds k d within ∙ ap (λ (o : Option MethodRef). first_of o (implementation p (drop (k + 1) ds) f)) e
+
+-- and that of the others where the first has none
+pub nearest_later : (p : List Class) (ds : List ClassId) (k : ℕ) (d : ClassId) (f : List ℕ) → k < length ds → own_method p (get_or ds k d) f ≡ None
+    → implementation p (drop (k + 1) ds) f ≡ implementation p (drop k ds) f
+nearest_later p ds k d f within e =
+    sym (at_drop_more (λ (xs : List ClassId). implementation p xs f) ds k d within ∙ ap (λ (o : Option MethodRef). first_of o (implementation p (drop (k + 1) ds) f)) e)

@@ -4,6 +4,7 @@ use Rattle.std.specs.Prelude.{bytes_eq}
 use Rattle.std.specs.Map.{lookup}
 use Rattle.std.specs.HashMap.{get}
 use Rattle.std.specs.Option.{option_copied}
+use Rattle.std.specs.Global.{Vec}
 use Rattle.std.proofs.lemmas.List.{map-append}
 use Rattle.std.proofs.lemmas.Slice.Eq.{bytes_eq-Decides}
 use denote.Ref.{Bor}
@@ -16,20 +17,20 @@ pub or_else : Option ℕ → Option ℕ → Option ℕ
 or_else None o = o
 or_else (Some c) o = Some c
 
--- names are compared byte by byte, behind references
-abbrev pub same_key : Bor (List ℕ) → Bor (List ℕ) → Bool
-same_key x y = bytes_eq x.now y.now
+-- names are compared byte by byte, as lists
+abbrev pub same_key : Vec ℕ → Vec ℕ → Bool
+same_key x y = bytes_eq x.items y.items
 
--- a look-up behind references finds what it finds among the names
-pub shown_lookup : (f : List ℕ) (entries : List (Bor (List ℕ) × ℕ)) → lookup (λ key. bytes_eq f key.now) entries ≡ lookup (bytes_eq f) (places_shown entries)
+-- a look-up among keys finds what it finds among the names
+pub shown_lookup : (f : List ℕ) (entries : List (Vec ℕ × ℕ)) → lookup (λ key. bytes_eq f key.items) entries ≡ lookup (bytes_eq f) (places_shown entries)
 shown_lookup f [] = refl
-shown_lookup f (entry ∷ rest) = ap (λ (o : Option ℕ). cond (bytes_eq f entry.0.now) (Some entry.1) o) (shown_lookup f rest)
+shown_lookup f (entry ∷ rest) = ap (λ (o : Option ℕ). cond (bytes_eq f entry.0.items) (Some entry.1) o) (shown_lookup f rest)
 
 -- a new name comes behind the others
-pub shown_after : {S : Type 0} (m : IndexMap (Bor (List ℕ)) ℕ S) (key : Bor (List ℕ)) (place : ℕ)
-    → get same_key m key ≡ None → places_shown (insert_entry same_key m.entries key place) ≡ places_shown m.entries ++ (key.now, place) ∷ []
+pub shown_after : {S : Type 0} (m : IndexMap (Vec ℕ) ℕ S) (key : Vec ℕ) (place : ℕ)
+    → get same_key m key ≡ None → places_shown (insert_entry same_key m.entries key place) ≡ places_shown m.entries ++ (key.items, place) ∷ []
 shown_after m key place none =
-    ap places_shown (insert_entry-new same_key m key place none) ∙ map-append (λ (entry : Bor (List ℕ) × ℕ). (entry.0.now, entry.1)) m.entries ((key, place) ∷ [])
+    ap places_shown (insert_entry-new same_key m key place none) ∙ map-append (λ (entry : Vec ℕ × ℕ). (entry.0.items, entry.1)) m.entries ((key, place) ∷ [])
 
 -- the first place of a name in a row with one more name
 pub first_more : (k : ℕ) (row : List (Option (List ℕ))) (name f : List ℕ)

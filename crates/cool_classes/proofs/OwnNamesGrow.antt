@@ -1,12 +1,12 @@
 -- The names of features and of classes, when one more is noted, and what they find.
 use Rattle.std.proofs.Common.{◌≡◌, ℕ, ◌+◌, ◌<◌, ◌≤◌, List, [], ◌∷◌, ◌++◌, map, length, get_or, take, drop, Option, Some, None, is_some, ◌||◌, Bool, true, false, cond, ap, sym, ◌∙◌, refl, subst, arith}
 use Rattle.std.specs.Prelude.{bytes_eq, nat_lt, option_map}
+use Rattle.std.specs.Global.{Vec}
 use Rattle.std.specs.List.{AllByRecursion}
 use Rattle.std.proofs.lemmas.Bool.{ltb-true, ltb-false, le-ltb}
 use Rattle.std.proofs.lemmas.Bool.Decides.{same_from_decides}
 use Rattle.std.proofs.lemmas.List.{map-append, length-map, length-append, get_or_append_left, get_or_push, take_more, drop_more, at_drop_more}
 use Rattle.std.proofs.lemmas.Slice.Eq.{bytes_eq-Decides}
-use denote.Ref.{Bor}
 use Rattle.cool_syntax.specs.declared.file_tree.Feature.{Feature}
 use Rattle.cool_syntax.specs.declared.file_tree.Feature.TheVariants.{Method, Attribute}
 use Rattle.cool_syntax.specs.declared.file_tree.MethodDef.{MethodDef}
@@ -31,7 +31,7 @@ row_next name fs x o e entries finds =
     subst (FindsPlaces entries) (ap (λ (y : Option (List ℕ)). map name fs ++ y ∷ []) (sym e) ∙ sym (map-append name fs (x ∷ []))) finds
 
 -- one more method
-pub own_method_next : (own : OwnNames) (methods : List (Bor (List ℕ) × ℕ)) (fs : List Feature) (x : Feature) (m : MethodDef) → x ≡ Method m → AreOwn own fs
+pub own_method_next : (own : OwnNames) (methods : List (Vec ℕ × ℕ)) (fs : List Feature) (x : Feature) (m : MethodDef) → x ≡ Method m → AreOwn own fs
     → FindsPlaces (places_shown methods) (map method_name fs ++ Some m.name ∷ [])
     → FindsPlaces (places_shown methods) (map method_name (fs ++ x ∷ [])) × FindsPlaces (places_shown own.attributes.entries) (map attribute_name (fs ++ x ∷ []))
 own_method_next own methods fs x m is have finds = (
@@ -40,7 +40,7 @@ own_method_next own methods fs x m is have finds = (
 )
 
 -- one more attribute
-pub own_attribute_next : (own : OwnNames) (attributes : List (Bor (List ℕ) × ℕ)) (fs : List Feature) (x : Feature) (a : AttributeDef) → x ≡ Attribute a → AreOwn own fs
+pub own_attribute_next : (own : OwnNames) (attributes : List (Vec ℕ × ℕ)) (fs : List Feature) (x : Feature) (a : AttributeDef) → x ≡ Attribute a → AreOwn own fs
     → FindsPlaces (places_shown attributes) (map attribute_name fs ++ Some a.name ∷ [])
     → FindsPlaces (places_shown own.methods.entries) (map method_name (fs ++ x ∷ [])) × FindsPlaces (places_shown attributes) (map attribute_name (fs ++ x ∷ []))
 own_attribute_next own attributes fs x a is have finds = (
@@ -49,7 +49,7 @@ own_attribute_next own attributes fs x a is have finds = (
 )
 
 -- one more class
-pub named_next : (entries : List (Bor (List ℕ) × ℕ)) (es : List Entry) (k : ℕ) (d : Entry) → k < length es
+pub named_next : (entries : List (Vec ℕ × ℕ)) (es : List Entry) (k : ℕ) (d : Entry) → k < length es
     → FindsPlaces (places_shown entries) (map (λ (c : Class). Some c.name) (classes (take k es)) ++ Some (get_or es k d).name ∷ []) → AreNamed entries (take (k + 1) es)
 named_next entries es k d within finds =
     let more : classes (take (k + 1) es) ≡ classes (take k es) ++ class_of (get_or es k d) ∷ [] = ap classes (take_more es k d within) ∙ map-append class_of (take k es) (get_or es k d ∷ []) in
@@ -93,11 +93,14 @@ pub own_of_user : (p : List Class) (c : ClassId) (f : List ℕ) (o : Option ℕ)
 own_of_user p c f o past e =
     ap (user_method c) e ∙ sym (ap (λ (b : Bool). cond b (option_map Basic (method_among (basic_methods c.0) f)) (user_method c (first_method 0 (features_of p c) f))) (le-ltb c.0 5 past))
 
+-- the names of one class among those of all
+pub own_at : (count : ℕ) (all : List OwnNames) (p : List Class) (c : ClassId) (own : OwnNames) → AreAllOwn count all p → c.0 < count → own ≡ get_or all c.0 own → AreOwn own (features_of p c)
+own_at count all p c own have within read = subst (λ (o : OwnNames). AreOwn o (features_of p c)) (sym read) (have.own c.0 own within)
+
 -- the names of a class of a scope
 pub own_there : (scope : Scope) (c : ClassId) (own : OwnNames) → IsScope scope → c.0 < length scope.entries.now → own ≡ get_or scope.own.items c.0 own
     → AreOwn own (features_of (classes scope.entries.now) c)
-own_there scope c own is within read =
-    subst (λ (o : OwnNames). AreOwn o (features_of (classes scope.entries.now) c)) (sym read) (is.own.own c.0 own within)
+own_there scope c own is within read = own_at (length scope.entries.now) scope.own.items (classes scope.entries.now) c own is.own within read
 
 -- a class that has an attribute, among others
 pub attribute_here : (p : List Class) (ds : List ClassId) (k : ℕ) (d : ClassId) (f : List ℕ) → k < length ds

@@ -1,7 +1,7 @@
 -- Names in a row, some of its places without one: where each name stands first.
 use Rattle.std.specs.Prelude.{◌≡◌, ℕ, ◌+◌, List, [], ◌∷◌, map, Option, Some, None, Bool, false, nat_eq, codes, bytes_eq, if◌then◌else◌, refl}
 use Rattle.std.specs.Map.{lookup}
-use denote.Ref.{Bor}
+use Rattle.std.specs.Global.{Vec}
 use Rattle.cool_syntax.specs.declared.file_tree.Feature.{Feature}
 use Rattle.cool_syntax.specs.declared.file_tree.Feature.TheVariants.{Method, Attribute}
 
@@ -16,9 +16,9 @@ abbrev pub is_place : ℕ → Option ℕ → Bool
 is_place k None = false
 is_place k (Some j) = nat_eq j k
 
--- the entries of a map, whose keys are names behind references
-abbrev pub places_shown : List (Bor (List ℕ) × ℕ) → List (List ℕ × ℕ)
-places_shown = map (λ entry. (entry.0.now, entry.1))
+-- the entries of a map, whose keys are names of its own
+abbrev pub places_shown : List (Vec ℕ × ℕ) → List (List ℕ × ℕ)
+places_shown = map (λ entry. (entry.0.items, entry.1))
 
 -- a look-up of any name finds its first place
 abbrev pub FindsPlaces : List (List ℕ × ℕ) → List (Option (List ℕ)) → Type 0

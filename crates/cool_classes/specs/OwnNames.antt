@@ -1,12 +1,12 @@
 -- The names of the features of classes, each with the first feature of that name.
 use Rattle.std.specs.Prelude.{◌≡◌, ℕ, ◌<◌, List, map, length, get_or, Some}
 use Rattle.cool_syntax.specs.declared.file_tree.Feature.{Feature}
-use denote.Ref.{Bor}
+use Rattle.std.specs.Global.{Vec}
 use Rattle.cool_classes.specs.declared.entry.Entry.{Entry}
 use Rattle.cool_classes.specs.declared.own_names.OwnNames.{OwnNames}
 use Rattle.cool_classes.specs.declared.own_names.Scope.{Scope}
 use Rattle.cool_classes.specs.Chains.{Class, features_of, class_number}
-use Rattle.cool_classes.specs.Entries.{classes}
+use Rattle.cool_classes.specs.Entries.{classes, AreWhole}
 use Rattle.cool_classes.specs.FirstNames.{places_shown, FindsPlaces, method_name, attribute_name}
 use Rattle.cool_classes.specs.Resolved.{AreResolved}
 
@@ -21,8 +21,14 @@ pub record AreAllOwn (count : ℕ) (all : List OwnNames) (p : List Class) : Type
   pub own : (c : ℕ) (d : OwnNames) → c < count → AreOwn (get_or all c d) (features_of p (class_number c))
 
 -- the names of classes
-abbrev pub AreNamed : List (Bor (List ℕ) × ℕ) → List Entry → Type 0
+abbrev pub AreNamed : List (Vec ℕ × ℕ) → List Entry → Type 0
 AreNamed entries es = FindsPlaces (places_shown entries) (map (λ (c : Class). Some c.name) (classes es))
+
+-- the entries of a whole table, by the names of its classes and with those of their features
+pub record IsIndexed (es : List Entry) (places : List (Vec ℕ × ℕ)) (all : List OwnNames) : Type 0 where
+  pub whole : AreWhole es
+  pub names : AreNamed places es
+  pub own : AreAllOwn (length es) all (classes es)
 
 -- the classes of resolved entries, by their names and with those of their features
 pub record IsScope (scope : Scope) : Type 0 where

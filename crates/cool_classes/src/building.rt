@@ -102,5 +102,5 @@ pub fn table(alloc: Global, files: Vec<FileTree>) -> Result<ClassTable, TableErr
     let entries = entries_of(alloc, definitions, &ancestry)?;
     let faults = feature_faults(alloc, &entries, &places)?;
     refuse_faults(faults)?;
-    Ok(ClassTable::from_entries(entries))
+    Ok(ClassTable::from_entries(alloc, entries)?)
 }

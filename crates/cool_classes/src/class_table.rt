@@ -10,7 +10,9 @@ ghost use Rattle.cool_classes.specs.Entries.{classes, AreWhole};
 
 use crate::class_id::{ClassId, Ty};
 use crate::entry::Entry;
+use crate::first_names::FirstNames;
 use crate::method::{AttributeRef, MethodRef};
+use crate::own_names::{OwnNames, all_own_names, class_names};
 use crate::{attributes, climbing, lookup, signature};
 use cool_syntax::{Feature, Name};
 use std::alloc::{AllocError, Global};
@@ -21,6 +23,10 @@ use std::marker::Model;
 #[derive(Drop)]
 pub struct ClassTable {
     entries: Vec<Entry>,
+    /// The names of the classes.
+    names: FirstNames,
+    /// The names of the features of each class.
+    own: Vec<OwnNames>,
 }
 
 impl Model for ClassTable {
@@ -33,20 +39,27 @@ impl Model for ClassTable {
 
     ghost coded = { Prim.hlevel (codes, tree_code) };
 
-    ghost use Rattle.cool_classes.specs.Entries.{classes, AreWhole};
+    ghost use Rattle.cool_classes.specs.Entries.{classes};
+    ghost use Rattle.cool_classes.specs.OwnNames.{IsIndexed};
 
     ghost view = { λ s. classes s.entries.items };
 
-    ghost invariant = { λ s. AreWhole s.entries.items };
+    ghost invariant = { λ s. IsIndexed s.entries.items s.names.entries s.own.items };
 }
 
 impl ClassTable {
-    /// A table of these entries.
-    pub(crate) fn from_entries(entries: Vec<Entry>) -> ClassTable
+    /// A table of these entries. `Err` comes only for want of memory.
+    pub(crate) fn from_entries(alloc: Global, entries: Vec<Entry>) -> Result<ClassTable, AllocError>
         requires whole { AreWhole entries.items }
-        ensures { result ≡ classes entries.items }
+        ensures { IfOk result (λ table. table ≡ classes entries.items) }
     {
-        ClassTable { entries }
+        let names = class_names(alloc, &entries)?;
+        let own = all_own_names(alloc, &entries)?;
+        Ok(ClassTable {
+            entries,
+            names,
+            own,
+        })
     }
 
     /// How many classes there are.
@@ -86,7 +99,7 @@ impl ClassTable {
     pub fn id(&self, name: &Name) -> Option<ClassId>
         ensures { IsNamed self.now name.now result }
     {
-        lookup::class_named(self.entries.as_slice(), name.as_slice())
+        lookup::class_named(&self.names, name.as_slice())
     }
 
     /// The parent of a class: none for Object alone.
@@ -123,7 +136,12 @@ impl ClassTable {
         ensures nearest { (ds : List number.ClassId) → IsChain self.now (Some c) ds → result ≡ implementation self.now ds name.now }
         ensures has { IfSome result (λ m. HasMethod self.now m) }
     {
-        lookup::find_method(self.entries.as_slice(), c, name.as_slice())
+        lookup::find_method(
+            self.entries.as_slice(),
+            self.own.as_slice(),
+            c,
+            name.as_slice(),
+        )
     }
 
     /// The attributes of a class with those that it inherits: from the greatest ancestor down, in textual order. `Err`
@@ -149,7 +167,7 @@ impl ClassTable {
         requires has { HasAttribute self.now attribute }
         ensures { Denotes self.now (attribute_type self.now attribute) result }
     {
-        signature::attribute_type(self.entries.as_slice(), attribute)
+        signature::attribute_type(self.entries.as_slice(), &self.names, attribute)
     }
 
     /// How many formals a method has.
@@ -166,7 +184,7 @@ impl ClassTable {
         requires within { i < length (formals_of self.now method) }
         ensures { Denotes self.now (get_or (formals_of self.now method) i []) result }
     {
-        signature::formal(self.entries.as_slice(), method, i)
+        signature::formal(self.entries.as_slice(), &self.names, method, i)
     }
 
     /// The type of the result of a method.
@@ -174,6 +192,6 @@ impl ClassTable {
         requires has { HasMethod self.now method }
         ensures { Denotes self.now (result_of self.now method) result }
     {
-        signature::result(self.entries.as_slice(), method)
+        signature::result(self.entries.as_slice(), &self.names, method)
     }
 }

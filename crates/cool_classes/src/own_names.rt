@@ -11,7 +11,7 @@ ghost use Rattle.cool_classes.specs.Entries.{classes};
 ghost use Rattle.cool_classes.specs.Resolved.{AreResolved};
 ghost use Rattle.cool_classes.specs.OwnNames.{AreOwn, AreAllOwn, AreNamed, IsScope};
 ghost use Rattle.cool_classes.specs.FeatureFaults.{is_class, have_attribute};
-ghost use Rattle.cool_classes.specs.Chains.{features_of};
+ghost use Rattle.cool_classes.specs.Chains.{Class, features_of};
 
 use crate::basic::{BASIC_CLASSES, basic_method};
 use crate::class_id::ClassId;
@@ -23,37 +23,43 @@ use std::alloc::{AllocError, Global};
 
 /// The names of the methods and attributes that a class has of its own, each with the place of its first feature.
 #[derive(Drop)]
-pub(crate) struct OwnNames<'a> {
-    pub(crate) methods: FirstNames<'a>,
-    pub(crate) attributes: FirstNames<'a>,
+pub(crate) struct OwnNames {
+    pub(crate) methods: FirstNames,
+    pub(crate) attributes: FirstNames,
 }
 
 /// The classes of entries by name, and the names of their features.
 #[derive(Drop)]
 pub(crate) struct Scope<'a> {
     pub(crate) entries: &'a [Entry],
-    pub(crate) classes: FirstNames<'a>,
-    pub(crate) own: Vec<OwnNames<'a>>,
+    pub(crate) classes: FirstNames,
+    pub(crate) own: Vec<OwnNames>,
 }
 
 /// Notes the name of the next feature. `Err` comes only for want of memory.
-fn add_feature<'a>(
-    own: &mut OwnNames<'a>,
-    feature: &'a Feature,
+fn add_feature(
+    alloc: Global,
+    own: &mut OwnNames,
+    feature: &Feature,
     place: u32,
 ) -> Result<(), AllocError>
     ensures { OnOk result ((fs : List AnyFeature) → place ≡ length fs → AreOwn own.old fs → AreOwn own.new (fs ++ feature.now ∷ [])) }
 {
     match feature {
-        Feature::Method(method) => add_place(&mut own.methods, method.name.as_slice(), place),
+        Feature::Method(method) => add_place(
+            alloc,
+            &mut own.methods,
+            method.name.as_slice(),
+            place,
+        ),
         Feature::Attribute(attribute) => {
-            add_place(&mut own.attributes, attribute.name.as_slice(), place)
+            add_place(alloc, &mut own.attributes, attribute.name.as_slice(), place)
         }
     }
 }
 
 /// The names of the features of a class. `Err` comes only for want of memory.
-fn own_names<'a>(alloc: Global, features: &'a [Feature]) -> Result<OwnNames<'a>, AllocError>
+fn own_names(alloc: Global, features: &[Feature]) -> Result<OwnNames, AllocError>
     requires few { length features.now < 2 ^ 32 }
     ensures { IfOk result (λ own. AreOwn own features.now) }
 {
@@ -62,14 +68,14 @@ fn own_names<'a>(alloc: Global, features: &'a [Feature]) -> Result<OwnNames<'a>,
         attributes: FirstNames::new(alloc),
     };
     for index in 0..features.len() {
-        add_feature(&mut own, &features[index], index as u32)?;
+        add_feature(alloc, &mut own, &features[index], index as u32)?;
     }
     Ok(own)
 }
 
 /// The names of the features of each class. `Err` comes only for want of memory.
-fn all_own_names<'a>(alloc: Global, entries: &'a [Entry]) -> Result<Vec<OwnNames<'a>>, AllocError>
-    requires resolved { AreResolved entries.now }
+pub(crate) fn all_own_names(alloc: Global, entries: &[Entry]) -> Result<Vec<OwnNames>, AllocError>
+    requires few_features { (c : number.ClassId) → c.0 < length (classes entries.now) → length (features_of (classes entries.now) c) < 2 ^ 32 }
     ensures { IfOk result (λ all. AreAllOwn (length entries.now) all.items (classes entries.now)) }
 {
     let mut all = Vec::new(alloc);
@@ -80,13 +86,18 @@ fn all_own_names<'a>(alloc: Global, entries: &'a [Entry]) -> Result<Vec<OwnNames
 }
 
 /// The names of classes. `Err` comes only for want of memory.
-fn class_names<'a>(alloc: Global, entries: &'a [Entry]) -> Result<FirstNames<'a>, AllocError>
+pub(crate) fn class_names(alloc: Global, entries: &[Entry]) -> Result<FirstNames, AllocError>
     requires few { length entries.now < 2 ^ 32 }
     ensures { IfOk result (λ names. AreNamed names.entries entries.now) }
 {
     let mut names = FirstNames::new(alloc);
     for index in 0..entries.len() {
-        add_place(&mut names, entries[index].name.as_slice(), index as u32)?;
+        add_place(
+            alloc,
+            &mut names,
+            entries[index].name.as_slice(),
+            index as u32,
+        )?;
     }
     Ok(names)
 }
@@ -113,15 +124,13 @@ pub(crate) fn is_class(scope: &Scope<'_>, name: &[u8]) -> bool
 }
 
 /// The method of a name that a class has of its own, the first where there are several.
-fn own_method(scope: &Scope<'_>, c: ClassId, name: &[u8]) -> Option<MethodRef>
-    requires scope { IsScope scope.now }
-    requires within { c.0 < length scope.now.entries.now }
-    ensures { result ≡ own_method (classes scope.now.entries.now) c name.now }
+pub(crate) fn own_method(own: &OwnNames, c: ClassId, name: &[u8]) -> Option<MethodRef>
+    ensures { (p : List Class) → AreOwn own.now (features_of p c) → result ≡ own_method p c name.now }
 {
     if c.0 < BASIC_CLASSES {
         return basic_method(c.0, name).map(MethodRef::Basic);
     }
-    match first_place(&scope.own[c.0 as usize].methods, name) {
+    match first_place(&own.methods, name) {
         Some(index) => Some(MethodRef::User { owner: c, index }),
         None => None,
     }
@@ -136,7 +145,7 @@ pub(crate) fn nearest_method(scope: &Scope<'_>, above: &[ClassId], name: &[u8]) 
 {
     for index in 0..above.len() {
         let class = above[index];
-        if let Some(method) = own_method(scope, class, name) {
+        if let Some(method) = own_method(&scope.own[class.0 as usize], class, name) {
             return Some(method);
         }
     }

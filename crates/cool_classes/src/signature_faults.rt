@@ -47,7 +47,7 @@ pub(crate) fn note_type(
 fn note_formal(
     faults: &mut Vec<ClassFault>,
     scope: &Scope<'_>,
-    before: &FirstNames<'_>,
+    before: &FirstNames,
     formal: &Formal,
 ) -> Result<(), AllocError>
     requires scope { IsScope scope.now }
@@ -77,7 +77,7 @@ pub(crate) fn note_formals(
     for index in 0..formals.len() {
         let formal = &formals[index];
         note_formal(faults, scope, &before, formal)?;
-        add_place(&mut before, formal.name.as_slice(), index as u32)?;
+        add_place(alloc, &mut before, formal.name.as_slice(), index as u32)?;
     }
     Ok(())
 }

@@ -22,7 +22,7 @@ use std::test::Fail;
 fn basic_table(alloc: Global) -> Result<ClassTable, AllocError>
     ensures { IfOk result (λ table. table ≡ basic_classes) }
 {
-    Ok(ClassTable::from_entries(basic_entries(alloc)?))
+    ClassTable::from_entries(alloc, basic_entries(alloc)?)
 }
 
 #[test]

@@ -64,5 +64,5 @@ returns-clause-table c =
     let ds = c.in_ok-definitions.definitions.items in
     let os = c.in_ok-ancestry.ancestry.depths.items in
     let settled = subst (λ (xs : List ClassDef). AreSettled xs os) c.deref.ensures.value c.in_ok-ancestry.ensures.settled in
-    subst (IsTableOf (definitions c.args.files.items)) (sym (c.from_entries.ensures ∙ ap classes c.in_ok-entries.ensures))
+    subst (IsTableOf (definitions c.args.files.items)) (sym (c.in_ok-from_entries.ensures ∙ ap classes c.in_ok-entries.ensures))
     (subst (λ (xs : List ClassDef). IsTableOf xs (classes (entries_of ds os))) c.in_ok-definitions.ensures (table_by ds os settled))

@@ -2,6 +2,7 @@
 use Rattle.std.proofs.Common.{◌≡◌, ◌++◌, ◌∷◌, [], ℕ, List, Some, is_some, true, false, ap, sym, ◌∙◌, subst}
 use Rattle.std.specs.Prelude.{bytes_eq}
 use Rattle.std.specs.Map.{lookup}
+use Rattle.std.specs.Global.{Vec}
 use Rattle.cool_classes.specs.FirstNames.{places_shown, FindsPlaces}
 use Rattle.cool_classes.proofs.NamePlaces.{shown_lookup, shown_after, finds_new, finds_old, copied_some, nothing_there}
 use Rattle.cool_classes.proofs.first_names.add_place.Goals as goal
@@ -18,8 +19,14 @@ pub returns : goal.returns
 returns c row number finds =
     let es = c.args.names.now.entries in
     let name = c.args.name.now in
-    let absent : is_some (lookup (λ key. bytes_eq name key.now) es) ≡ false =
+    let absent : is_some (lookup (λ key. bytes_eq name key.items) es) ≡ false =
     ap is_some (sym c.get.ensures.value) ∙ copied_some c.get.result ∙ sym c.is_some.ensures ∙ c.if-is_some.false in
-    let none = nothing_there (lookup (λ key. bytes_eq name key.now) es) absent in
-    let after : places_shown c.insert.new.self.entries ≡ places_shown es ++ (name, c.args.place) ∷ [] = ap places_shown c.in_ok-insert.ensures.entries ∙ shown_after c.args.names.now c.args.name c.args.place none in
+    let none = nothing_there (lookup (λ key. bytes_eq name key.items) es) absent in
+    let key = c.in_ok-from_slice.field-0 in
+    let copy : key.items ≡ name = c.in_ok-from_slice.ensures.items in
+    let new = ap (λ (n : List ℕ). lookup (λ (k : Vec ℕ). bytes_eq n k.items) es) copy ∙ none in
+    let shown : places_shown c.insert.new.self.entries ≡ places_shown es ++ (key.items, c.args.place) ∷ [] =
+    ap places_shown c.in_ok-insert.ensures.entries ∙ shown_after c.args.names.now key c.args.place new in
+    let after : places_shown c.insert.new.self.entries ≡ places_shown es ++ (name, c.args.place) ∷ [] =
+    shown ∙ ap (λ (n : List ℕ). places_shown es ++ (n, c.args.place) ∷ []) copy in
     subst (λ (now : List (List ℕ × ℕ)). FindsPlaces now (row ++ Some name ∷ [])) (sym after) (finds_new (places_shown es) row name c.args.place number finds)

@@ -1,22 +1,19 @@
--- The first class of the name, or no class.
-use Rattle.std.proofs.Common.{◌<◌, length, ap, sym, ◌∙◌, arith}
-use Rattle.cool_classes.specs.Chains.{Class, class_number}
-use Rattle.cool_classes.proofs.Seen.{class_read, entry_there, within_classes, within_entries, same_name}
+-- The class at the first place of the name, or no class.
+use Rattle.std.proofs.Common.{map, Some, None, sym, ◌∙◌, subst}
+use Rattle.cool_classes.specs.Chains.{Class}
+use Rattle.cool_classes.specs.Entries.{classes}
+use Rattle.cool_classes.specs.Tables.{IsNamed}
+use Rattle.cool_classes.proofs.ClassesNamed.{named_by}
 use Rattle.cool_classes.proofs.lookup.class_named.Goals as goal
 
-pub returns-then-eq : goal.returns-then-eq
-returns-then-eq c =
-    let es = c.args.entries.now in
-    let id = class_number c.loop-index.index in
-    let within = c.loop-index-test.true in (
-      within_classes es id within,
-      ap (λ (x : Class). x.name) (class_read es id c.index-entries-index.result within) ∙ sym c.as_slice.ensures
-          ∙ same_name c.eq.result c.as_slice.result.now c.args.name.now c.eq.ensures c.if-eq.true,
-    )
+pub returns-in_err-place : goal.returns-in_err-place
+returns-in_err-place c es named =
+    let p = classes es in
+    let first = c.first_place.ensures (map (λ (d : Class). Some d.name) p) named in
+    subst (IsNamed p c.args.name.now) (sym c.from_residual.ensures) (named_by p c.args.name.now None (sym c.in_err-place.was ∙ first))
 
 pub returns : goal.returns
-returns c d within same =
-    let es = c.args.entries.now in
-    let inside : d.0 < length es = within_entries es d within in
-    let past = c.loop-index-test.false in
-    c.loop-index.invariant d.0 (omega arith) (sym (ap (λ (x : Class). x.name) (entry_there es d inside)) ∙ same)
+returns c es named =
+    let p = classes es in
+    let first = c.first_place.ensures (map (λ (d : Class). Some d.name) p) named in
+    named_by p c.args.name.now (Some c.in_ok-place.place) (sym c.in_ok-place.was ∙ first)

@@ -14,7 +14,7 @@ own_names-requires c =
     let es = c.args.entries.now in
     let id = class_number c.loop-index.index in
     let features : features_of (classes es) id ≡ c.as_slice.result.now = ap (λ (x : Class). x.features) (class_read es id c.index-entries-index.result c.loop-index-test.true) ∙ sym c.as_slice.ensures in
-    record { few = subst (λ (fs : List Feature). length fs < 4294967296) features (c.requires.resolved.few_features id (within_classes es id c.loop-index-test.true)) }
+    record { few = subst (λ (fs : List Feature). length fs < 4294967296) features (c.requires.few_features id (within_classes es id c.loop-index-test.true)) }
 
 pub loop-index-preserved : goal.loop-index-preserved
 loop-index-preserved c =

@@ -9,8 +9,8 @@ use Rattle.cool_classes.proofs.Seen.{class_read, within_entries}
 use Rattle.cool_classes.proofs.Signatures.{method_within, feature_there, method_typed, formal_typed, formal_named, formal_within}
 use Rattle.cool_classes.proofs.signature.formal.Goals as goal
 
-pub type_named-requires-clause-known : goal.type_named-requires-clause-known
-type_named-requires-clause-known c =
+pub type_named-requires : goal.type_named-requires
+type_named-requires c =
     let es = c.args.entries.now in
     let p = classes es in
     let owner = c.in-User.owner in
@@ -20,7 +20,8 @@ type_named-requires-clause-known c =
     let typed = method_typed p owner c.as_slice.result.now c.in-User.index c.index-as_slice-index.result c.in-Method.found c.requires.whole.table has.0 same within c.index-as_slice-index.is c.in-Method.is in
     let there = feature_there (features_of p owner) c.as_slice.result.now c.in-User.index c.index-as_slice-index.result (Method c.in-Method.found) same within c.index-as_slice-index.is c.in-Method.is in
     let i_within = formal_within p c.args.method owner c.in-User.index c.in-Method.found c.as_slice-in-Method.result.now c.args.i c.in-User.is there c.as_slice-in-Method.ensures c.requires.within in
-    formal_typed p c.in-Method.found c.as_slice-in-Method.result.now c.args.i c.index-as_slice-i.result c.as_slice-in-Method-2.result.now typed c.as_slice-in-Method.ensures i_within c.as_slice-in-Method-2.ensures
+    let known = formal_typed p c.in-Method.found c.as_slice-in-Method.result.now c.args.i c.index-as_slice-i.result c.as_slice-in-Method-2.result.now typed c.as_slice-in-Method.ensures i_within c.as_slice-in-Method-2.ensures in
+    record { known = (es, c.requires.names, known) }
 
 pub returns-in-Method : goal.returns-in-Method
 returns-in-Method c =
@@ -35,4 +36,4 @@ returns-in-Method c =
     subst (λ (name : List ℕ). Denotes p name c.type_named.result)
     (formal_named p c.args.method owner c.in-User.index c.in-Method.found c.as_slice-in-Method.result.now c.args.i c.index-as_slice-i.result c.as_slice-in-Method-2.result.now c.in-User.is there
     c.as_slice-in-Method.ensures i_within c.as_slice-in-Method-2.ensures)
-    c.type_named.ensures
+    (c.type_named.ensures es c.requires.names)

@@ -11,5 +11,5 @@ returns c ds h =
     let es = c.self.inside.entries.items in
     let chain = subst (λ (p : List Class). IsChain p (Some c.args.c) ds) (sym c.self.view_is) h in
     let within = subst (λ (p : List Class). c.args.c.0 < length p) (sym c.self.view_is) c.requires.within in
-    chain_length (classes es) (depth_at es) c.self.invariant.grounded c.args.c within ds chain
+    chain_length (classes es) (depth_at es) c.self.invariant.whole.grounded c.args.c within ds chain
     ∙ ap (λ (n : ℕ). n + 1) (sym (c.depth.ensures ∙ ap (λ (xs : List Entry). depth_at xs c.args.c) c.as_slice.ensures.value))

@@ -13,4 +13,4 @@ returns-clause-above c =
     let within = subst (λ (p : List Class). c.args.c.0 < length p) (sym c.self.view_is) c.requires.within in
     let is = sym (c.parent.ensures ∙ ap (λ (xs : List Entry). parent_of (classes xs) c.args.c) c.as_slice.ensures.value) in
     subst (λ (p : List Class). IfSome c.parent.result (λ q. q.0 < length p)) c.self.view_is
-    (parent_within (classes es) (depth_at es) c.self.invariant.grounded c.args.c within c.parent.result is)
+    (parent_within (classes es) (depth_at es) c.self.invariant.whole.grounded c.args.c within c.parent.result is)
