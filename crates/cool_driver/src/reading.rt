@@ -1,6 +1,6 @@
 //! Reading the files of a command.
 
-ghost use Rattle.std.specs.Prelude.{◌≡◌, ◌+◌, ◌<◌, ◌≤◌, ◌^◌, length, IfOk, IfErr, OnOk};
+ghost use Rattle.std.specs.Prelude.{◌≡◌, ◌<◌, ◌≤◌, ◌^◌, IfOk, IfErr, OnOk};
 ghost use Rattle.cool_faults.specs.Files.{total};
 ghost use Rattle.cool_driver.specs.CommandLine.{words_of};
 ghost use Rattle.cool_driver.specs.Ends.{AreHeld};

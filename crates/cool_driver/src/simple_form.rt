@@ -1,6 +1,6 @@
 //! Reads a program of the simple form: its main only writes string constants.
 
-ghost use Rattle.std.specs.Prelude.{◌≡◌, ◌≤◌, ◌==◌, length, IfOk, IfErr, true, false, option_copied, Some};
+ghost use Rattle.std.specs.Prelude.{◌≡◌, ◌≤◌, length, true, false, option_copied, Some};
 ghost use Rattle.std.specs.List.{list_all, prefix_len};
 ghost use Rattle.cool_syntax.specs.SimpleForm.{is_blank, head, tail};
 ghost use Rattle.cool_driver.specs.SimpleReading.{Gives, lexeme_at, lexemes_at, string_at, call_head, call_tail, call_at, calls_at, is_blank_file, program_at, programs_at, texts};
