@@ -69,6 +69,20 @@ fn files(rt: HostRuntime) -> Result<(), Fail> {
     Ok(())
 }
 
+#[test]
+fn longest_string(rt: HostRuntime) -> Result<(), Fail> {
+    let alloc = rt.alloc();
+    // A backslash and a newline denote one byte.
+    for (count, notes) in [(1_023, ""), (1_024, "p.cl:1: L4: string too long\n")] {
+        let letters = repeated(alloc, "a", count)?;
+        let text = format!(in alloc;
+            "class Main inherits IO {{ main() : Object {{ {{ out_string(\"{letters}\\\n\"); }} }}; }};"
+        )?;
+        checks(&rt, alloc, text.as_str(), notes)?;
+    }
+    Ok(())
+}
+
 /// Expressions, with their fault.
 static EXPRESSIONS: [(&str, &str); 17] = [
     ("zz", "E1: unknown name"),
