@@ -6,13 +6,13 @@ use Rattle.cool_syntax.specs.declared.place.Place.{Place}
 use Rattle.cool_syntax.specs.declared.token.Token.{Token}
 use Rattle.cool_syntax.specs.declared.file_tree.FileTree.{FileTree}
 use Rattle.cool_syntax.specs.FeatureSizes.{IsBoundedClass}
+use Rattle.cool_syntax.specs.Grammar.{IsUnexpected}
 use Rattle.cool_syntax.specs.TokenFacts.{IsPlaced, AreWithinLimits}
 use Rattle.cool_syntax.specs.TokenFacts as tokens
 use Rattle.cool_syntax.specs.TreesWithinLimits.{AreClassesWithin}
 use Rattle.cool_syntax.specs.Weights.{classes_weight}
 use Rattle.cool_lexer.specs.declared.lexer.Lexed.{Lexed}
 use Rattle.cool_parser.specs.FaultPlaces.{IsTokenOrEnd}
-use Rattle.cool_parser.specs.Machine.{parsed, Unexpected}
 use Rattle.cool_faults.specs.declared.fault.Fault.{Fault}
 use Rattle.cool_faults.specs.declared.fault.Fault.TheVariants.{Lex, Syntax, Class as OfClasses, Typing}
 use Rattle.cool_faults.specs.Files.{total}
@@ -39,7 +39,7 @@ whole_of file bytes l t h g =
         number = g.number;
         tokens = l.tokens.items;
         lexes = h.lexes;
-        parses = sym (ap (parsed l.tokens.items) h.end) ∙ g.whole;
+        parses = g.whole;
       };
       limits = λ files less. g.limits files (h.limits files less);
       weight = omega (arith, g.weight, h.weight);
@@ -91,7 +91,7 @@ syntax_faults (phase.good i l ls t ts fs g rest) (bytes ∷ files) h =
 syntax_faults (phase.bad i l ls f ts fs b rest) [] h = absurd h
 syntax_faults (phase.bad i l ls (Lex f) ts fs b rest) (bytes ∷ files) h = absurd b
 syntax_faults (phase.bad i l ls (Syntax f) ts fs b rest) (bytes ∷ files) h =
-    let unexpected : parsed l.tokens.items (end_of i bytes) ≡ Unexpected f.at = sym (ap (parsed l.tokens.items) h.0.end) ∙ b.0 in
+    let unexpected : IsUnexpected l.tokens.items (end_of i bytes) f.at = subst (λ end. IsUnexpected l.tokens.items end f.at) h.0.end b.0 in
     verdict.bad i bytes files fs l.tokens.items f h.0.lexes unexpected (syntax_faults rest files h.1)
 syntax_faults (phase.bad i l ls (OfClasses f) ts fs b rest) (bytes ∷ files) h = absurd b
 syntax_faults (phase.bad i l ls (Typing f) ts fs b rest) (bytes ∷ files) h = absurd b

@@ -4,13 +4,13 @@ use Rattle.std.specs.List.{AllByRecursion}
 use Rattle.cool_syntax.specs.declared.file_tree.FileTree.{FileTree}
 use Rattle.cool_syntax.specs.FaultOrder.{AreInOrder}
 use Rattle.cool_syntax.specs.FeatureSizes.{IsBoundedClass}
+use Rattle.cool_syntax.specs.Grammar.{Parses, IsUnexpected}
 use Rattle.cool_syntax.specs.LexicalStructure.{Lexes, LexFault as IsLexFault, FitsRuns, first_run}
 use Rattle.cool_syntax.specs.TokenFacts.{AreWithinLimits, AreRising, IsPlaced, weights}
 use Rattle.cool_syntax.specs.TreesWithinLimits.{AreClassesWithin}
 use Rattle.cool_syntax.specs.Weights.{classes_weight}
 use Rattle.cool_lexer.specs.declared.lexer.Lexed.{Lexed}
 use Rattle.cool_parser.specs.FaultPlaces.{IsTokenOrEnd}
-use Rattle.cool_parser.specs.Machine.{parsed, Whole, Unexpected}
 use Rattle.cool_faults.specs.declared.fault.Fault.{Fault}
 use Rattle.cool_faults.specs.declared.fault.Fault.TheVariants.{Lex, Syntax, Class as OfClasses, Typing}
 use Rattle.cool_faults.specs.declared.fault.Refusal.{Refusal}
@@ -64,7 +64,7 @@ IsLexical file bytes (Typing f) = ⊥
 -- tokens are this tree, which keeps the limits that they keep
 pub record IsParsed (file : ℕ) (lexed : Lexed) (tree : FileTree) : Type 0 where
   pub number : tree.file ≡ file
-  pub whole : parsed lexed.tokens.items lexed.end ≡ Whole tree.classes
+  pub whole : Parses lexed.tokens.items tree.classes
   pub limits : (files : ℕ) → AreWithinLimits files lexed.tokens.items → AreClassesWithin files tree.classes
   pub weight : classes_weight tree.classes ≤ weights lexed.tokens.items
   pub bounded : FitsRuns first_run lexed.tokens.items → AllByRecursion IsBoundedClass tree.classes
@@ -72,7 +72,7 @@ pub record IsParsed (file : ℕ) (lexed : Lexed) (tree : FileTree) : Type 0 wher
 -- the fault of tokens that are no tree
 abbrev pub IsSyntactic : ℕ → Lexed → Fault → Type 0
 IsSyntactic file lexed (Lex f) = ⊥
-IsSyntactic file lexed (Syntax f) = (parsed lexed.tokens.items lexed.end ≡ Unexpected f.at) × IsTokenOrEnd lexed.tokens.items lexed.end f.at
+IsSyntactic file lexed (Syntax f) = IsUnexpected lexed.tokens.items lexed.end f.at × IsTokenOrEnd lexed.tokens.items lexed.end f.at
 IsSyntactic file lexed (OfClasses f) = ⊥
 IsSyntactic file lexed (Typing f) = ⊥
 

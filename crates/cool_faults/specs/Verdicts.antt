@@ -8,11 +8,11 @@ use Rattle.cool_syntax.specs.declared.lexical.LexKind.{LexKind}
 use Rattle.cool_syntax.specs.declared.lexical.LexKind.TheVariants as lexical
 use Rattle.cool_syntax.specs.declared.file_tree.FileTree.{FileTree}
 use Rattle.cool_syntax.specs.FaultOrder.{Standing, AreInOrder}
+use Rattle.cool_syntax.specs.Grammar.{Parses, IsUnexpected}
 use Rattle.cool_syntax.specs.LexicalStructure.{Lexes, LexFault as IsLexFault, place_at}
 use Rattle.cool_syntax.specs.TokenFacts.{IsPlaced}
 use Rattle.cool_lexer.specs.declared.error.LexFault.{LexFault}
 use Rattle.cool_parser.specs.declared.fault.ParseFault.{ParseFault}
-use Rattle.cool_parser.specs.Machine.{parsed, Whole, Unexpected}
 use Rattle.cool_classes.specs.Chains.{Class}
 use Rattle.cool_classes.specs.Definitions.{definitions, IsTableOf}
 use Rattle.cool_classes.specs.FaultLists.{rank as class_rank}
@@ -59,7 +59,7 @@ pub record IsTree (file : ℕ) (bytes : List ℕ) (tree : FileTree) : Type 0 whe
   pub number : tree.file ≡ file
   pub tokens : List Token
   pub lexes : Lexes file bytes tokens
-  pub parses : parsed tokens (end_of file bytes) ≡ Whole tree.classes
+  pub parses : Parses tokens tree.classes
 
 -- the files, of which the first has this number, are these trees
 abbrev pub AreTrees : ℕ → List (List ℕ) → List FileTree → Type 0
@@ -79,7 +79,7 @@ pub data LexFaults : ℕ → List (List ℕ) → List Fault → Type 0 where
 pub data SyntaxFaults : ℕ → List (List ℕ) → List Fault → Type 0 where
   none : (file : ℕ) → SyntaxFaults file [] []
   good : (file : ℕ) (bytes : List ℕ) (files : List (List ℕ)) (faults : List Fault) (tree : FileTree) → IsTree file bytes tree → SyntaxFaults (file + 1) files faults → SyntaxFaults file (bytes ∷ files) faults
-  bad : (file : ℕ) (bytes : List ℕ) (files : List (List ℕ)) (faults : List Fault) (tokens : List Token) (fault : ParseFault) → Lexes file bytes tokens → parsed tokens (end_of file bytes) ≡ Unexpected fault.at
+  bad : (file : ℕ) (bytes : List ℕ) (files : List (List ℕ)) (faults : List Fault) (tokens : List Token) (fault : ParseFault) → Lexes file bytes tokens → IsUnexpected tokens (end_of file bytes) fault.at
       → SyntaxFaults (file + 1) files faults → SyntaxFaults file (bytes ∷ files) (Syntax fault ∷ faults)
 
 -- all are faults of classes and features, or all are faults of typing

@@ -1,10 +1,17 @@
--- What `parse` answers, by the outcome of the tokens.
-use Rattle.std.specs.Prelude.{◌≡◌}
+-- What `parse` answers where it answers no tree.
+use Rattle.std.specs.Prelude.{◌≡◌, List}
+use Rattle.cool_syntax.specs.declared.place.Place.{Place}
+use Rattle.cool_syntax.specs.declared.token.Token.{Token}
+use Rattle.cool_syntax.specs.Grammar.{IsUnexpected}
 use Rattle.cool_parser.specs.declared.fault.ParseError.{ParseError}
 use Rattle.cool_parser.specs.declared.fault.ParseError.TheVariants.{Memory, Fault}
-use Rattle.cool_parser.specs.Machine.{Outcome, Unexpected}
 
--- a fault is told where it stands; want of memory tells nothing
-abbrev pub IsFault : Outcome → ParseError → Type 0
-IsFault o (Fault f) = o ≡ Unexpected f.at
-IsFault o Memory = Unit {0}
+-- a fault is the first one of the tokens; want of memory tells nothing
+abbrev pub IsFault : List Token → Place → ParseError → Type 0
+IsFault tokens end (Fault f) = IsUnexpected tokens end f.at
+IsFault tokens end Memory = Unit {0}
+
+-- a fault at this place, or want of memory
+abbrev pub IsFaultAt : Place → ParseError → Type 0
+IsFaultAt at (Fault f) = f.at ≡ at
+IsFaultAt at Memory = Unit {0}

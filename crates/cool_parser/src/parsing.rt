@@ -1,13 +1,16 @@
 //! Parsing a file.
 
-ghost use Rattle.std.specs.Prelude.{◌≡◌, ℕ, ◌≤◌, ◌-◌, ◌+◌, ◌<◌, ◌^◌, [], length, IfOk, IfErr, MatchResult};
+ghost use Rattle.std.specs.Prelude.{◌≡◌, ℕ, ◌≤◌, ◌-◌, ◌+◌, ◌<◌, ◌^◌, List, [], length, IfOk, IfErr, MatchResult};
 ghost use Rattle.std.specs.List.{AllByRecursion};
 ghost use Rattle.cool_syntax.specs.declared.TheConstants.{MOST_SOURCE_BYTES};
 ghost use Rattle.cool_syntax.specs.LexicalStructure.{first_run, FitsRuns};
 ghost use Rattle.cool_syntax.specs.TokenFacts.{AreWithinLimits, weights};
 ghost use Rattle.cool_parser.specs.declared.fault.ParseError.TheVariants.{Memory};
-ghost use Rattle.cool_parser.specs.Machine.{parsed, Whole};
-ghost use Rattle.cool_parser.specs.Answers.{IsFault};
+ghost use Rattle.cool_syntax.specs.declared.place.Place.{Place};
+ghost use Rattle.cool_syntax.specs.declared.file_tree.ClassDef.{ClassDef};
+ghost use Rattle.cool_syntax.specs.Grammar.{Parses, IsUnexpected};
+ghost use Rattle.cool_syntax.specs.WrittenTrees.{AreClassesWritable};
+ghost use Rattle.cool_parser.specs.Answers.{IsFault, IsFaultAt};
 ghost use Rattle.cool_parser.specs.FaultPlaces.{IsPlaceIn};
 ghost use Rattle.cool_syntax.specs.FeatureSizes.{IsBoundedClass};
 ghost use Rattle.cool_syntax.specs.TreesWithinLimits.{AreClassesWithin};
@@ -27,8 +30,13 @@ use std::alloc::{AllocError, Global};
 pub fn parse(alloc: Global, file: u32, tokens: &[Token], end: Place) -> Result<FileTree, ParseError>
     requires { length tokens.now ≤ MOST_SOURCE_BYTES }
     ensures file { IfOk result (λ tree. tree.file ≡ file) }
-    ensures whole { IfOk result (λ tree. parsed tokens.now end ≡ Whole tree.classes) }
-    ensures fault { IfErr result (λ error. IsFault (parsed tokens.now end) error) }
+    ensures whole { IfOk result (λ tree. Parses tokens.now tree.classes) }
+    ensures fault { IfErr result (λ error. IsFault tokens.now end error) }
+    // the tree of tokens that are a file, and the first fault of others, are the only ones
+    ensures only { (classes : List ClassDef) → Parses tokens.now classes → MatchResult result (λ tree. tree.classes ≡ classes) (λ error. error ≡ Memory) }
+    ensures first { (at : Place) → IsUnexpected tokens.now end at → MatchResult result (λ tree. ⊥) (IsFaultAt at) }
+    ensures unambiguous { (classes others : List ClassDef) → Parses tokens.now classes → Parses tokens.now others → classes ≡ others }
+    ensures writable { IfOk result (λ tree. AreClassesWritable tree.classes) }
     ensures place { IfErr result (λ error. IsPlaceIn tokens.now end error) }
     ensures empty { tokens.now ≡ [] → MatchResult result (λ tree. tree.classes ≡ []) (λ error. error ≡ Memory) }
     ensures limits { (files : ℕ) → AreWithinLimits files tokens.now → IfOk result (λ tree. AreClassesWithin files tree.classes) }

@@ -2,6 +2,7 @@ pub mod Bare
 pub mod Falls
 pub mod FaultOrder
 pub mod FeatureSizes
+pub mod Grammar
 pub mod Groups
 pub mod Lexemes
 pub mod LexicalStructure
@@ -13,3 +14,4 @@ pub mod TreeCode
 pub mod TreesWithinLimits
 pub mod View
 pub mod Weights
+pub mod WrittenTrees

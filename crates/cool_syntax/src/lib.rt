@@ -19,7 +19,10 @@ mod place;
 mod tests;
 mod text;
 mod token;
+mod token_list;
 mod type_ref;
+mod written;
+mod written_file;
 
 pub use body::Body;
 pub use comparison::same_expr;
@@ -35,6 +38,7 @@ pub use place::Place;
 pub use text::{Bytes, Name};
 pub use token::{Key, Sign, Token, TokenKind};
 pub use type_ref::TypeRef;
+pub use written_file::tokens_of;
 
 /// The most source files of a command.
 pub const MOST_FILES: usize = 64;

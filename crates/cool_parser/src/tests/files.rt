@@ -1,8 +1,11 @@
 //! Whole files with their classes and features.
 
+ghost use Rattle.cool_syntax.specs.WrittenTrees.{AreClassesWritable};
+
 use crate::parse;
 use crate::tests::shown::file;
 use crate::tests::words::{end, tokens};
+use cool_syntax::{FileTree, tokens_of};
 use std::alloc::Global;
 use std::process::Abort;
 use std::test::Fail;
@@ -32,8 +35,22 @@ fn compare(rt: &impl Abort, alloc: Global, text: &str, want: &str) -> Result<(),
         Ok(tree) => {
             assert_eq!(rt; tree.file, 3, "at {text:?}");
             assert_eq!(rt; file(alloc, &tree)?.as_str(), want, "at {text:?}");
+            compare_written(rt, alloc, &tree, want)
         }
         Err(error) => panic!(rt; "{error:?} at {text:?}"),
+    }
+}
+
+/// Parses the tokens that a file is written as, and compares its classes.
+fn compare_written(rt: &impl Abort, alloc: Global, tree: &FileTree, want: &str) -> Result<(), Fail>
+    requires { AreClassesWritable tree.now.classes }
+{
+    let tokens = tokens_of(alloc, tree)?;
+    let tokens = tokens.as_slice();
+    assert!(rt; tokens.len() <= 1_048_576);
+    match parse(alloc, 3, tokens, end(tokens)) {
+        Ok(again) => assert_eq!(rt; file(alloc, &again)?.as_str(), want),
+        Err(error) => panic!(rt; "{error:?} at {want:?}"),
     }
     Ok(())
 }

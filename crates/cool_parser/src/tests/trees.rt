@@ -1,9 +1,12 @@
 //! Expressions with their trees.
 
+ghost use Rattle.std.specs.Prelude.{IfOk};
+ghost use Rattle.cool_syntax.specs.WrittenTrees.{AreClassesWritable};
+
 use crate::parse;
 use crate::tests::shown::{at, forms, types};
 use crate::tests::words::{FRONT, end, in_a_method, place, tokens};
-use cool_syntax::{Body, Feature, FileTree, Key, NodeId, Sign, Token, TokenKind};
+use cool_syntax::{Body, Feature, FileTree, Key, NodeId, Sign, Token, TokenKind, tokens_of};
 use std::alloc::Global;
 use std::process::Abort;
 use std::test::Fail;
@@ -207,7 +210,9 @@ fn first_body(tree: &FileTree) -> Option<&Body> {
 }
 
 /// The tree of a file with this expression as the body of its one method.
-fn whole(rt: &impl Abort, alloc: Global, expression: &str) -> Result<FileTree, Fail> {
+fn whole(rt: &impl Abort, alloc: Global, expression: &str) -> Result<FileTree, Fail>
+    ensures { IfOk result (λ tree. AreClassesWritable tree.classes) }
+{
     let text = in_a_method(alloc, expression)?;
     let tokens = tokens(alloc, text.as_str())?;
     let tokens = tokens.as_slice();
@@ -222,6 +227,31 @@ fn whole(rt: &impl Abort, alloc: Global, expression: &str) -> Result<FileTree, F
 fn makes_trees(rt: HostRuntime) -> Result<(), Fail> {
     for (text, want) in &TREES {
         let tree = whole(&rt, rt.alloc(), text)?;
+        let body = first_body(&tree).expect(&rt, "a body");
+        let forms = forms(rt.alloc(), body)?;
+        let last = forms.last().expect(&rt, "a node");
+        assert_eq!(rt; last.as_str(), *want, "at {text:?}");
+    }
+    Ok(())
+}
+
+/// Parses the tokens that a file is written as.
+fn again(rt: &impl Abort, alloc: Global, tree: &FileTree) -> Result<FileTree, Fail>
+    requires { AreClassesWritable tree.now.classes }
+{
+    let tokens = tokens_of(alloc, tree)?;
+    let tokens = tokens.as_slice();
+    assert!(rt; tokens.len() <= 1_048_576);
+    match parse(alloc, 0, tokens, end(tokens)) {
+        Ok(tree) => Ok(tree),
+        Err(error) => panic!(rt; "{error:?}"),
+    }
+}
+
+#[test]
+fn writes_trees(rt: HostRuntime) -> Result<(), Fail> {
+    for (text, want) in &TREES {
+        let tree = again(&rt, rt.alloc(), &whole(&rt, rt.alloc(), text)?)?;
         let body = first_body(&tree).expect(&rt, "a body");
         let forms = forms(rt.alloc(), body)?;
         let last = forms.last().expect(&rt, "a node");

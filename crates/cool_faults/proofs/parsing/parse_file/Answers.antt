@@ -1,7 +1,8 @@
--- The tree is a good finding.
-use Rattle.std.proofs.Common.{inl, refl, ◌∷◌, []}
+-- The tree is a good finding, and the fault a bad one.
+use Rattle.std.proofs.Common.{inl, inr, refl, ◌∷◌, []}
 use Rattle.std.proofs.lemmas.Slice.{pushed}
-use Rattle.cool_faults.proofs.SlicesParsed.{parsed_slice}
+use Rattle.cool_faults.specs.declared.fault.Fault.TheVariants.{Syntax}
+use Rattle.cool_faults.proofs.SlicesParsed.{parsed_slice, fault_slice}
 use Rattle.cool_faults.proofs.parsing.parse_file.Goals as goal
 
 pub returns-in_ok-push-in-Ok : goal.returns-in_ok-push-in-Ok
@@ -12,4 +13,14 @@ returns-in_ok-push-in-Ok c =
       parsed_slice c.args.file c.args.lexed.now c.as_slice.result.now c.in-Ok.tree c.as_slice.ensures.value e.file e.whole e.limits e.weight e.bounded,
       pushed (c.in-Ok.tree ∷ []) refl c.in_ok-push-in-Ok.was c.push.ensures,
       refl,
+    )
+
+pub returns-in_ok-push-in-Err-Fault : goal.returns-in_ok-push-in-Err-Fault
+returns-in_ok-push-in-Err-Fault c =
+    let e = c.in-Err-Fault.ensures in
+    inr (
+      Syntax c.in-Err-Fault.fault,
+      fault_slice c.args.file c.args.lexed.now c.as_slice.result.now c.in-Err-Fault.fault c.as_slice.ensures.value (rw c.in-Err-Fault.field-0-is at e.fault) (rw c.in-Err-Fault.field-0-is at e.place),
+      refl,
+      pushed (Syntax c.in-Err-Fault.fault ∷ []) refl c.in_ok-push-in-Err-Fault.was c.push-in-Err-Fault.ensures,
     )

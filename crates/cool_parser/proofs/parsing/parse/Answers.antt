@@ -1,5 +1,6 @@
 use Rattle.std.proofs.Common.{◌≡◌, ◌≤◌, ◌+◌, length, drop, get_or, Some, None, IfSome, sym, subst, ◌∙◌, ap, arith}
 use Rattle.std.proofs.lemmas.List.{drop_all}
+use Rattle.cool_syntax.proofs.ParsedTreesAreWritable.{parsed_writable}
 use Rattle.cool_parser.specs.declared.mode.Mode.TheVariants as mode
 use Rattle.cool_parser.specs.Machine.{State, moved, step, outcome, parsed, start, Whole, Unexpected}
 use Rattle.cool_parser.specs.Waiting.{Good}
@@ -9,6 +10,7 @@ use Rattle.cool_parser.proofs.BoundedFeatures.{classes_bounded}
 use Rattle.cool_parser.proofs.FilesWithinLimits.{classes_within}
 use Rattle.cool_parser.proofs.WeightsOfFiles.{classes_weigh}
 use Rattle.cool_parser.proofs.ParsingAFile.{any_place, more, unfinished, finished}
+use Rattle.cool_parser.proofs.ParsingIsTheGrammar.{sound, stops, whole_only, fault_only, whole_or_fault, fault_or_whole, one_tree}
 use Rattle.cool_parser.proofs.PlacesOfFaults.{fault_place, empty_whole, empty_no_fault}
 use Rattle.cool_parser.proofs.parsing.parse.Goals as goal
 
@@ -21,8 +23,9 @@ loop-i-init c =
       light = omega (arith, ap (λ x. length x.nodes) new, ap (λ x. length x.stack) new);
     }
 
-pub returns-in-None-clause-fault : goal.returns-in-None-clause-fault
-returns-in-None-clause-fault c =
+-- the place of the token is where the machine stops
+refused : (c : goal.After-drop-parser-in-None) → parsed c.args.tokens.now c.args.end ≡ Unexpected c.index-tokens-i.result.at
+refused c =
     let t = c.index-tokens-i.result in
     let made = c.in_ok-next.ensures in
     let room = c.in_ok-make_room.ensures in
@@ -32,6 +35,24 @@ returns-in-None-clause-fault c =
     ∙ more c.args.tokens.now c.loop-i.i t c.loop-i.parser c.loop-i.mode None t.at c.args.end c.loop-i-test.true
     (ap (λ x. step c.loop-i.parser c.loop-i.mode x.kind x.at) (sym c.index-tokens-i.is) ∙ stepped)
     ∙ ap (λ x. Unexpected x.at) (sym c.index-tokens-i.is)
+
+pub returns-in-None-clause-fault : goal.returns-in-None-clause-fault
+returns-in-None-clause-fault c = stops c.args.tokens.now c.args.end c.index-tokens-i.result.at (refused c)
+
+pub returns-in-None-clause-only : goal.returns-in-None-clause-only
+returns-in-None-clause-only c = λ classes p. fault_or_whole c.args.tokens.now c.args.end c.index-tokens-i.result.at classes (refused c) p
+
+pub returns-in-None-clause-first : goal.returns-in-None-clause-first
+returns-in-None-clause-first c = λ at u. fault_only c.args.tokens.now c.args.end c.index-tokens-i.result.at at (refused c) u
+
+pub returns-in-None-clause-unambiguous : goal.returns-in-None-clause-unambiguous
+returns-in-None-clause-unambiguous c = one_tree c.args.tokens.now c.args.end
+
+pub returns-in_err-make_room-clause-unambiguous : goal.returns-in_err-make_room-clause-unambiguous
+returns-in_err-make_room-clause-unambiguous c = one_tree c.args.tokens.now c.args.end
+
+pub returns-in_err-next-clause-unambiguous : goal.returns-in_err-next-clause-unambiguous
+returns-in_err-next-clause-unambiguous c = one_tree c.args.tokens.now c.args.end
 
 pub loop-i-preserved : goal.loop-i-preserved
 loop-i-preserved c =
@@ -62,7 +83,11 @@ returns-in_default c =
     record {
       file = tt;
       whole = tt;
-      fault = fault;
+      fault = stops c.args.tokens.now c.args.end c.args.end fault;
+      only = λ classes p. fault_or_whole c.args.tokens.now c.args.end c.args.end classes fault p;
+      first = λ at u. fault_only c.args.tokens.now c.args.end c.args.end at fault u;
+      unambiguous = one_tree c.args.tokens.now c.args.end;
+      writable = tt;
       place = fault_place c.args.tokens.now c.args.end c.args.end fault;
       empty = λ e. empty_no_fault c.args.tokens.now c.args.end c.args.end fault e;
       limits = λ files l. tt;
@@ -71,11 +96,26 @@ returns-in_default c =
     }
 
 pub returns-in-None-clause-place : goal.returns-in-None-clause-place
-returns-in-None-clause-place c = fault_place c.args.tokens.now c.args.end c.index-tokens-i.result.at (returns-in-None-clause-fault c)
+returns-in-None-clause-place c = fault_place c.args.tokens.now c.args.end c.index-tokens-i.result.at (refused c)
 
 -- the classes that are handed out, as those of the whole file
 whole : (c : goal.After-drop-parser-inside-in-File-1) → parsed c.args.tokens.now c.args.end ≡ Whole c.parser.inside.classes
 whole c = finished c.args.tokens.now c.loop-i.i c.loop-i.parser c.loop-i.mode c.args.end c.parser.inside.classes c.loop-i-test.false c.in-File.is (ap (λ x. x.classes) c.parser.view_is) (c.loop-i.invariant.same c.args.end)
+
+pub returns-in-File-clause-whole : goal.returns-in-File-clause-whole
+returns-in-File-clause-whole c = sound c.args.tokens.now c.args.end c.parser.inside.classes (whole c)
+
+pub returns-in-File-clause-only : goal.returns-in-File-clause-only
+returns-in-File-clause-only c = λ classes p. whole_only c.args.tokens.now c.args.end c.parser.inside.classes classes (whole c) p
+
+pub returns-in-File-clause-first : goal.returns-in-File-clause-first
+returns-in-File-clause-first c = λ at u. whole_or_fault c.args.tokens.now c.args.end at c.parser.inside.classes (whole c) u
+
+pub returns-in-File-clause-unambiguous : goal.returns-in-File-clause-unambiguous
+returns-in-File-clause-unambiguous c = one_tree c.args.tokens.now c.args.end
+
+pub returns-in-File-clause-writable : goal.returns-in-File-clause-writable
+returns-in-File-clause-writable c = parsed_writable c.args.tokens.now c.parser.inside.classes (sound c.args.tokens.now c.args.end c.parser.inside.classes (whole c))
 
 pub returns-in-File-clause-empty : goal.returns-in-File-clause-empty
 returns-in-File-clause-empty c = empty_whole c.args.tokens.now c.args.end c.parser.inside.classes (whole c)
