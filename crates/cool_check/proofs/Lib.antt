@@ -1,5 +1,9 @@
+pub mod ClassesAmong
 pub mod FaultsInOrder
+pub mod Misfits
 pub mod OrderOfKinds
+pub mod PartsLeft
 pub mod PlacedFaults
 pub mod PlacesOfParts
+pub mod RulesOfTables
 pub mod TypesInScope

@@ -1,6 +1,6 @@
 //! The types of `let` and `case`.
 
-ghost use Rattle.std.specs.Prelude.{◌≡◌, ◌<◌, ℕ, length, map, IfOk, IfErr, IfSome, OnOk};
+ghost use Rattle.std.specs.Prelude.{◌≡◌, ◌<◌, ℕ, [], Ok, None, length, map, IfOk, IfErr, IfSome, OnOk};
 ghost use Rattle.std.specs.List.{AllByRecursion};
 ghost use Rattle.std.specs.Option.{option_map};
 ghost use Rattle.cool_syntax.specs.Tree.{of_option, of_twigs, tree_size};
@@ -10,13 +10,15 @@ ghost use Rattle.cool_syntax.specs.TreesWithinLimits.{AreCasesWithin, IsMaybeWit
 ghost use Rattle.cool_pool.specs.Groups.{IsBinding};
 ghost use Rattle.cool_rules.specs.Conformance.{IsType};
 ghost use Rattle.cool_check.specs.Faults.{IsPlacedError};
+ghost use Rattle.cool_check.specs.FirstFaults.{checked, maybe_checked, cases_checked, bound_type, branch_class, joined, bind, IsFirst};
+ghost use Rattle.cool_check.specs.Rules.{context, is_among};
 ghost use Rattle.cool_check.specs.Settings.{HaveTypes, IsSound};
 
 use crate::expression::{is_self, type_of};
 use crate::fault::{CheckError, TypeKind};
 use crate::setting::Setting;
 use cool_classes::{ClassId, OBJECT, Ty};
-use cool_rules::{Scope, conforms, join_types, type_named};
+use cool_rules::Scope;
 use cool_syntax::{Name, Node, NodeBranch, NodeId, Place, TypeRef};
 
 /// The type of a `let` or a `case`, whose parts have numbers below this one.
@@ -33,6 +35,8 @@ pub(crate) fn type_of_binding<'a>(
     requires parts { HasPartsBelow id.0 node.now }
     requires locals { HaveTypes setting.now.table.now locals.old }
     ensures is_type { IfOk result (IsType setting.now.table.now) }
+    ensures typed { IfOk result (λ t. checked (context setting.now) locals.old (made (all_trees setting.now.body.now) node.now) ≡ Ok t) }
+    ensures first { IfErr result (IsFirst (checked (context setting.now) locals.old (made (all_trees setting.now.body.now) node.now))) }
     ensures scope { OnOk result (locals.new ≡ locals.old) }
     ensures places { (n : ℕ) → IsTreeWithin n (made (all_trees setting.now.body.now) node.now) → IfErr result (IsPlacedError n) }
 {
@@ -73,6 +77,8 @@ fn type_of_option<'a>(
     requires init { IfSome init (λ value. value.0 < end.0) }
     requires locals { HaveTypes setting.now.table.now locals.old }
     ensures is_type { IfOk result (λ given. IfSome given (IsType setting.now.table.now)) }
+    ensures typed { IfOk result (λ given. maybe_checked (context setting.now) locals.old (of_option (option_map (at_id (all_trees setting.now.body.now)) init)) ≡ Ok given) }
+    ensures first { IfErr result (IsFirst (maybe_checked (context setting.now) locals.old (of_option (option_map (at_id (all_trees setting.now.body.now)) init)))) }
     ensures scope { OnOk result (locals.new ≡ locals.old) }
     ensures places { (n : ℕ) → IsMaybeWithin n (of_option (option_map (at_id (all_trees setting.now.body.now)) init)) → IfErr result (IsPlacedError n) }
 {
@@ -93,18 +99,18 @@ fn bound_type(
     requires sound { IsSound setting.now }
     requires given { IfSome given (IsType setting.now.table.now) }
     ensures is_type { IfOk result (IsType setting.now.table.now) }
+    ensures typed { IfOk result (λ t. bound_type (context setting.now) at name.now declared.now given ≡ Ok t) }
+    ensures first { IfErr result (IsFirst (bound_type (context setting.now) at name.now declared.now given)) }
     ensures places { (n : ℕ) → IsPlaced n at → IsPlaced n declared.now.at → IfErr result (IsPlacedError n) }
 {
     if is_self(name) {
         return Err(CheckError::at(TypeKind::E10, at));
     }
-    let Some(bound) = type_named(setting.table, &declared.name) else {
+    let Some(bound) = setting.type_named(&declared.name) else {
         return Err(CheckError::at(TypeKind::E11, declared.at));
     };
     match given {
-        Some(value) if !conforms(setting.table, setting.class, value, bound) => {
-            Err(CheckError::at(TypeKind::E17, at))
-        }
+        Some(value) if !setting.conforms(value, bound) => Err(CheckError::at(TypeKind::E17, at)),
         _ => Ok(bound),
     }
 }
@@ -123,6 +129,8 @@ fn type_within<'a>(
     requires locals { HaveTypes setting.now.table.now locals.old }
     requires bound { IsType setting.now.table.now bound }
     ensures is_type { IfOk result (IsType setting.now.table.now) }
+    ensures typed { IfOk result (λ t. checked (context setting.now) (bind name.now bound locals.old) (tree_at setting.now.body.now body) ≡ Ok t) }
+    ensures first { IfErr result (IsFirst (checked (context setting.now) (bind name.now bound locals.old) (tree_at setting.now.body.now body))) }
     ensures scope { OnOk result (locals.new ≡ locals.old) }
     ensures places { (n : ℕ) → IsTreeWithin n (tree_at setting.now.body.now body) → IfErr result (IsPlacedError n) }
 {
@@ -145,6 +153,8 @@ fn type_of_branches<'a>(
     requires branches { AllByRecursion (λ branch. branch.body.0 < end.0) branches.now }
     requires locals { HaveTypes setting.now.table.now locals.old }
     ensures is_type { IfOk result (IsType setting.now.table.now) }
+    ensures typed { IfOk result (λ t. cases_checked (context setting.now) locals.old [] None (of_twigs (map (twig_at (all_trees setting.now.body.now)) branches.now)) ≡ Ok t) }
+    ensures first { IfErr result (IsFirst (cases_checked (context setting.now) locals.old [] None (of_twigs (map (twig_at (all_trees setting.now.body.now)) branches.now)))) }
     ensures scope { OnOk result (locals.new ≡ locals.old) }
     ensures places { (n : ℕ) → AreCasesWithin n (of_twigs (map (twig_at (all_trees setting.now.body.now)) branches.now)) → IfErr result (IsPlacedError n) }
 {
@@ -165,9 +175,10 @@ fn joined_with(setting: &Setting<'_, '_>, earlier: Option<Ty>, found: Ty) -> Ty
     requires earlier { IfSome earlier (IsType setting.now.table.now) }
     requires found { IsType setting.now.table.now found }
     ensures is_type { IsType setting.now.table.now result }
+    ensures joined { result ≡ joined (context setting.now) earlier found }
 {
     match earlier {
-        Some(so_far) => join_types(setting.table, setting.class, so_far, found),
+        Some(so_far) => setting.join(so_far, found),
         None => found,
     }
 }
@@ -178,19 +189,29 @@ fn branch_class(
     branch: &NodeBranch,
     earlier: &[ClassId],
 ) -> Result<ClassId, CheckError>
+    requires sound { IsSound setting.now }
     ensures is_type { IfOk result (λ class. class.0 < length setting.now.table.now) }
+    ensures typed { IfOk result (λ class. branch_class (context setting.now) branch.now.at branch.now.name branch.now.declared earlier.now ≡ Ok class) }
+    ensures first { IfErr result (IsFirst (branch_class (context setting.now) branch.now.at branch.now.name branch.now.declared earlier.now)) }
     ensures places { (n : ℕ) → IsPlaced n branch.now.at → IsPlaced n branch.now.declared.at → IfErr result (IsPlacedError n) }
 {
     if is_self(&branch.name) {
         return Err(CheckError::at(TypeKind::E10, branch.at));
     }
     let at = branch.declared.at;
-    match type_named(setting.table, &branch.declared.name) {
+    match setting.type_named(&branch.declared.name) {
         Some(Ty::SelfType) => Err(CheckError::at(TypeKind::E12, at)),
         None => Err(CheckError::at(TypeKind::E11, at)),
-        Some(Ty::Class(class)) if earlier.contains(&class) => {
+        Some(Ty::Class(class)) if is_among(earlier, class) => {
             Err(CheckError::at(TypeKind::E13, at))
         }
         Some(Ty::Class(class)) => Ok(class),
     }
+}
+
+/// Whether a class is one of some.
+fn is_among(classes: &[ClassId], class: ClassId) -> bool
+    ensures { result ≡ is_among classes.now class }
+{
+    classes.contains(&class)
 }

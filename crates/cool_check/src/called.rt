@@ -1,21 +1,24 @@
 //! The types of dispatches.
 
-ghost use Rattle.std.specs.Prelude.{◌≡◌, ◌<◌, ℕ, length, map, IfOk, IfErr, OnOk};
+ghost use Rattle.std.specs.Prelude.{◌≡◌, ◌<◌, ℕ, Ok, length, map, IfOk, IfErr, IfSome, OnOk};
 ghost use Rattle.std.specs.List.{AllByRecursion};
 ghost use Rattle.cool_syntax.specs.Tree.{of_list, tree_size};
 ghost use Rattle.cool_syntax.specs.NodeLists.{all_trees, at_id, made, HasPartsBelow};
 ghost use Rattle.cool_syntax.specs.TokenFacts.{IsPlaced};
 ghost use Rattle.cool_syntax.specs.TreesWithinLimits.{AreTreesWithin, IsTreeWithin};
 ghost use Rattle.cool_pool.specs.Groups.{IsCall};
+ghost use Rattle.cool_classes.specs.Features.{HasMethod, formals_of};
 ghost use Rattle.cool_rules.specs.Conformance.{IsType};
 ghost use Rattle.cool_check.specs.Faults.{IsPlacedError};
+ghost use Rattle.cool_check.specs.FirstFaults.{checked, static_class, call_checked, misfit, resulting, IsFirst};
+ghost use Rattle.cool_check.specs.Rules.{context};
 ghost use Rattle.cool_check.specs.Settings.{HaveTypes, IsSound};
 
 use crate::expression::{type_of, types_of};
 use crate::fault::{CheckError, TypeKind};
 use crate::setting::Setting;
-use cool_classes::{ClassId, Ty};
-use cool_rules::{Scope, class_of, conforms, type_named};
+use cool_classes::{ClassId, MethodRef, Ty};
+use cool_rules::{Scope, class_of};
 use cool_syntax::{Name, Node, NodeId, Place, TypeRef};
 
 /// The type of a dispatch, whose parts have numbers below this one.
@@ -32,6 +35,8 @@ pub(crate) fn type_of_call<'a>(
     requires parts { HasPartsBelow id.0 node.now }
     requires locals { HaveTypes setting.now.table.now locals.old }
     ensures is_type { IfOk result (IsType setting.now.table.now) }
+    ensures typed { IfOk result (λ t. checked (context setting.now) locals.old (made (all_trees setting.now.body.now) node.now) ≡ Ok t) }
+    ensures first { IfErr result (IsFirst (checked (context setting.now) locals.old (made (all_trees setting.now.body.now) node.now))) }
     ensures scope { OnOk result (locals.new ≡ locals.old) }
     ensures places { (n : ℕ) → IsTreeWithin n (made (all_trees setting.now.body.now) node.now) → IfErr result (IsPlacedError n) }
 {
@@ -93,13 +98,15 @@ fn static_class(
     requires sound { IsSound setting.now }
     requires object { IsType setting.now.table.now object }
     ensures is_class { IfOk result (λ found. found.0 < length setting.now.table.now) }
+    ensures typed { IfOk result (λ found. static_class (context setting.now) class.now object ≡ Ok found) }
+    ensures first { IfErr result (IsFirst (static_class (context setting.now) class.now object)) }
     ensures places { (n : ℕ) → IsPlaced n class.now.at → IfErr result (IsPlacedError n) }
 {
-    match type_named(setting.table, &class.name) {
+    match setting.type_named(&class.name) {
         Some(Ty::SelfType) => Err(CheckError::at(TypeKind::E7, class.at)),
         None => Err(CheckError::at(TypeKind::E11, class.at)),
         Some(Ty::Class(found)) => {
-            if conforms(setting.table, setting.class, object, Ty::Class(found)) {
+            if setting.conforms(object, Ty::Class(found)) {
                 Ok(found)
             } else {
                 Err(CheckError::at(TypeKind::E8, class.at))
@@ -122,23 +129,53 @@ fn type_of_result(
     requires given { AllByRecursion (IsType setting.now.table.now) given.now }
     requires each { length given.now ≡ length args.now }
     ensures is_type { IfOk result (IsType setting.now.table.now) }
+    ensures typed { IfOk result (λ t. call_checked (context setting.now) called.now.at called.now.class called.now.object called.now.name.now (of_list (map (at_id (all_trees setting.now.body.now)) args.now)) given.now ≡ Ok t) }
+    ensures first { IfErr result (IsFirst (call_checked (context setting.now) called.now.at called.now.class called.now.object called.now.name.now (of_list (map (at_id (all_trees setting.now.body.now)) args.now)) given.now)) }
     ensures places { (n : ℕ) → IsPlaced n called.now.at → AreTreesWithin n (of_list (map (at_id (all_trees setting.now.body.now)) args.now)) → IfErr result (IsPlacedError n) }
 {
-    let Some(method) = setting.table.find_method(called.class, called.name) else {
+    let Some(method) = setting.method(called.class, called.name) else {
         return Err(CheckError::at(TypeKind::E4, called.at));
     };
     if setting.table.formal_count(method) as usize != args.len() {
         return Err(CheckError::at(TypeKind::E5, called.at));
     }
+    match misfit(setting, method, args, given) {
+        Some(at) => Err(CheckError::at(TypeKind::E6, at)),
+        None => Ok(resulting(called.object, setting.result(method))),
+    }
+}
+
+/// The place of the first argument that does not conform to its formal.
+fn misfit(
+    setting: &Setting<'_, '_>,
+    method: MethodRef,
+    args: &[NodeId],
+    given: &[Ty],
+) -> Option<Place>
+    requires sound { IsSound setting.now }
+    requires has { HasMethod setting.now.table.now method }
+    requires args { AllByRecursion (λ arg. arg.0 < tree_size setting.now.body.now) args.now }
+    requires given { AllByRecursion (IsType setting.now.table.now) given.now }
+    requires each { length given.now ≡ length args.now }
+    requires formals { length (formals_of setting.now.table.now method) ≡ length args.now }
+    ensures misfit { result ≡ misfit (context setting.now) (formals_of setting.now.table.now method) given.now (of_list (map (at_id (all_trees setting.now.body.now)) args.now)) }
+    ensures places { (n : ℕ) → AreTreesWithin n (of_list (map (at_id (all_trees setting.now.body.now)) args.now)) → IfSome result (IsPlaced n) }
+{
     for index in 0..args.len() {
-        let formal = setting.table.formal(method, index as u32);
-        if !conforms(setting.table, setting.class, given[index], formal) {
-            let at = setting.body.node(args[index]).place();
-            return Err(CheckError::at(TypeKind::E6, at));
+        let formal = setting.formal(method, index as u32);
+        if !setting.conforms(given[index], formal) {
+            return Some(setting.body.node(args[index]).place());
         }
     }
-    match setting.table.result(method) {
-        Ty::SelfType => Ok(called.object),
-        Ty::Class(class) => Ok(Ty::Class(class)),
+    None
+}
+
+/// The type of a call of a method with this result for a receiver of this type.
+fn resulting(receiver: Ty, declared: Ty) -> Ty
+    ensures { result ≡ resulting receiver declared }
+{
+    match declared {
+        Ty::SelfType => receiver,
+        Ty::Class(class) => Ty::Class(class),
     }
 }

@@ -1,7 +1,8 @@
 //! Checking all features of a program.
 
-ghost use Rattle.std.specs.Prelude.{◌≡◌, ◌<◌, ℕ, length, IfOk, IfErr, OnOk};
+ghost use Rattle.std.specs.Prelude.{◌≡◌, ◌<◌, ℕ, [], ◌++◌, length, IfOk, IfErr, OnOk};
 ghost use Rattle.std.specs.List.{AllByRecursion};
+ghost use Rattle.std.specs.List.Sorted.{IsPermutation};
 ghost use Rattle.cool_syntax.specs.declared.TheConstants.{MOST_FILES};
 ghost use Rattle.cool_syntax.specs.FaultOrder.{AreInOrder};
 ghost use Rattle.cool_syntax.specs.TokenFacts.{IsPlaced};
@@ -10,6 +11,7 @@ ghost use Rattle.cool_classes.specs.declared.class_id.ClassId as number;
 ghost use Rattle.cool_classes.specs.Chains.{features_of};
 ghost use Rattle.cool_rules.specs.Fits.{Fits};
 ghost use Rattle.cool_check.specs.Faults.{AreWithin, IsPlacedRefusal, IsRefusal, standing_of};
+ghost use Rattle.cool_check.specs.TypingFaults.{IsExactRefusal, features_faults, typing_faults};
 
 use crate::fault::{CheckAllError, CheckError, TypeFault};
 use crate::feature::{attribute_scope, check_among};
@@ -20,11 +22,13 @@ use std::alloc::{AllocError, Global};
 
 /// Checks all features of a program (Cool manual, section 12).
 ///
-/// `Err(Faults(..))` comes where a feature is not well typed: it holds the first fault of each such feature, in the order of files,
-/// bytes and kinds. `Err(Memory)` comes only for want of memory.
+/// `Ok` comes exactly where each feature is well typed. `Err(Faults(..))` comes exactly where one is not: it holds the first fault of
+/// each such feature (`specs/TypingFaults.antt`), in the order of files, bytes and kinds. `Err(Memory)` comes only for want of memory.
 pub fn check(alloc: Global, t: ClassTable) -> Result<TypedProgram, CheckAllError>
     requires fits { Fits t MOST_FILES }
     ensures program { IfOk result (λ p. p ≡ t) }
+    ensures typed { OnOk result (typing_faults t ≡ []) }
+    ensures exact { IfErr result (IsExactRefusal t) }
     ensures refusal { IfErr result IsRefusal }
     ensures places { (n : ℕ) → AreWithin n t → IfErr result (IsPlacedRefusal n) }
 {
@@ -37,6 +41,7 @@ pub fn check(alloc: Global, t: ClassTable) -> Result<TypedProgram, CheckAllError
 
 /// The faults in the order of files, bytes and kinds.
 fn in_order(mut faults: Vec<TypeFault>) -> Vec<TypeFault>
+    ensures permutation { IsPermutation faults.items result.items }
     ensures order { AreInOrder standing_of result.items }
     ensures length { length result.items ≡ length faults.items }
     ensures places { (n : ℕ) → AllByRecursion (λ f. IsPlaced n f.at) faults.items → AllByRecursion (λ f. IsPlaced n f.at) result.items }
@@ -47,7 +52,8 @@ fn in_order(mut faults: Vec<TypeFault>) -> Vec<TypeFault>
 
 /// The first fault of each feature that has one. `Err` comes only for want of memory.
 fn all_faults(alloc: Global, t: &ClassTable) -> Result<Vec<TypeFault>, AllocError>
-    ensures { (n : ℕ) → AreWithin n t.now → IfOk result (λ faults. AllByRecursion (λ f. IsPlaced n f.at) faults.items) }
+    ensures faults { IfOk result (λ faults. faults.items ≡ typing_faults t.now) }
+    ensures places { (n : ℕ) → AreWithin n t.now → IfOk result (λ faults. AllByRecursion (λ f. IsPlaced n f.at) faults.items) }
 {
     let mut faults = Vec::new(alloc);
     for number in 0..t.count() {
@@ -64,11 +70,13 @@ fn add_faults(
     faults: &mut Vec<TypeFault>,
 ) -> Result<(), AllocError>
     requires class { c.0 < length t.now }
-    ensures { (n : ℕ) → AllByRecursion (IsFeatureWithin n) (features_of t.now c) → AllByRecursion (λ f. IsPlaced n f.at) faults.old.items → OnOk result (AllByRecursion (λ f. IsPlaced n f.at) faults.new.items) }
+    ensures faults { OnOk result (faults.new.items ≡ faults.old.items ++ features_faults t.now c (features_of t.now c)) }
+    ensures places { (n : ℕ) → AllByRecursion (IsFeatureWithin n) (features_of t.now c) → AllByRecursion (λ f. IsPlaced n f.at) faults.old.items → OnOk result (AllByRecursion (λ f. IsPlaced n f.at) faults.new.items) }
 {
+    let features = t.features(c);
     let attributes = attribute_scope(alloc, t, c)?;
-    for feature in 0..t.features(c).len() {
-        match check_among(alloc, t, c, &attributes, feature as u32) {
+    for index in 0..features.len() {
+        match check_among(alloc, t, c, &attributes, index as u32, &features[index]) {
             Ok(()) => {}
             Err(CheckError::Fault(fault)) => faults.push(fault)?,
             Err(CheckError::Memory) => return Err(AllocError),

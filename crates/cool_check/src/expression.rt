@@ -1,22 +1,27 @@
 //! The types of expressions: names, constants, conditions, loops and blocks.
 
-ghost use Rattle.std.specs.Prelude.{◌≡◌, ◌<◌, ℕ, length, map, IfOk, IfErr, OnOk};
+ghost use Rattle.std.specs.Prelude.{◌≡◌, ◌<◌, ℕ, [], Ok, true, false, length, map, IfOk, IfErr, OnOk};
 ghost use Rattle.std.specs.List.{AllByRecursion};
-ghost use Rattle.cool_syntax.specs.Tree.{of_list, tree_size};
+ghost use Rattle.cool_syntax.specs.Tree.{of_list, place_of, tree_size};
 ghost use Rattle.cool_syntax.specs.NodeLists.{all_trees, at_id, made, tree_at, HasPartsBelow};
 ghost use Rattle.cool_syntax.specs.TreesWithinLimits.{AreTreesWithin, IsTreeWithin};
 ghost use Rattle.cool_pool.specs.Groups.{IsControl, IsLeaf};
 ghost use Rattle.cool_rules.specs.Conformance.{IsType};
 ghost use Rattle.cool_check.specs.Faults.{IsPlacedError, StandsAt};
+ghost use Rattle.cool_check.specs.FirstFaults.{checked, all_checked, last_checked, name_checked, same_type, is_self, bool, object, IsFirst};
+ghost use Rattle.cool_check.specs.Rules.{context};
 ghost use Rattle.cool_check.specs.Settings.{HaveTypes, IsSound};
+ghost use Rattle.cool_check.specs.declared.fault.CheckError.TheVariants as error;
+ghost use Rattle.cool_check.specs.declared.fault.TypeKind.TheVariants as kind;
+ghost use Rattle.cool_classes.specs.declared.class_id.Ty.TheVariants.{Class as IsClass};
 
 use crate::binding::type_of_binding;
 use crate::called::type_of_call;
 use crate::fault::{CheckError, TypeKind};
 use crate::operator::{type_of_binary, type_of_unary};
 use crate::setting::Setting;
-use cool_classes::{BOOL, INT, OBJECT, STRING, Ty};
-use cool_rules::{Scope, join_types, type_named};
+use cool_classes::{BOOL, ClassId, INT, OBJECT, STRING, Ty};
+use cool_rules::Scope;
 use cool_syntax::{Name, Node, NodeId, Place};
 
 /// The type of the expression at this number.
@@ -30,6 +35,8 @@ pub(crate) fn type_of<'a>(
     requires below { id.0 < tree_size setting.now.body.now }
     requires locals { HaveTypes setting.now.table.now locals.old }
     ensures is_type { IfOk result (IsType setting.now.table.now) }
+    ensures typed { IfOk result (λ t. checked (context setting.now) locals.old (tree_at setting.now.body.now id) ≡ Ok t) }
+    ensures first { IfErr result (IsFirst (checked (context setting.now) locals.old (tree_at setting.now.body.now id))) }
     ensures scope { OnOk result (locals.new ≡ locals.old) }
     ensures places { (n : ℕ) → IsTreeWithin n (tree_at setting.now.body.now id) → IfErr result (IsPlacedError n) }
 {
@@ -64,11 +71,13 @@ fn type_of_leaf(
     requires sound { IsSound setting.now }
     requires locals { HaveTypes setting.now.table.now locals.now }
     ensures is_type { IfOk result (IsType setting.now.table.now) }
+    ensures typed { IfOk result (λ t. checked (context setting.now) locals.now (made (all_trees setting.now.body.now) node.now) ≡ Ok t) }
+    ensures first { IfErr result (IsFirst (checked (context setting.now) locals.now (made (all_trees setting.now.body.now) node.now))) }
     ensures places { (n : ℕ) → IsTreeWithin n (made (all_trees setting.now.body.now) node.now) → IfErr result (IsPlacedError n) }
 {
     match node {
         Node::Id { at, name } => type_of_name(setting, locals, *at, name),
-        Node::New { class, .. } => match type_named(setting.table, &class.name) {
+        Node::New { class, .. } => match setting.type_named(&class.name) {
             Some(made) => Ok(made),
             None => Err(CheckError::at(TypeKind::E11, class.at)),
         },
@@ -89,6 +98,8 @@ pub(crate) fn type_of_name(
     requires sound { IsSound setting.now }
     requires locals { HaveTypes setting.now.table.now locals.now }
     ensures is_type { IfOk result (IsType setting.now.table.now) }
+    ensures typed { IfOk result (λ t. name_checked (context setting.now) locals.now at name.now ≡ Ok t) }
+    ensures first { IfErr result (IsFirst (name_checked (context setting.now) locals.now at name.now)) }
     ensures fault { IfErr result (StandsAt at) }
 {
     if is_self(name) {
@@ -101,7 +112,9 @@ pub(crate) fn type_of_name(
 }
 
 /// Whether this is the name `self`.
-pub(crate) fn is_self(name: &Name) -> bool {
+pub(crate) fn is_self(name: &Name) -> bool
+    ensures { result ≡ is_self name.now }
+{
     name.as_slice() == b"self".as_slice()
 }
 
@@ -119,6 +132,8 @@ fn type_of_control<'a>(
     requires parts { HasPartsBelow id.0 node.now }
     requires locals { HaveTypes setting.now.table.now locals.old }
     ensures is_type { IfOk result (IsType setting.now.table.now) }
+    ensures typed { IfOk result (λ t. checked (context setting.now) locals.old (made (all_trees setting.now.body.now) node.now) ≡ Ok t) }
+    ensures first { IfErr result (IsFirst (checked (context setting.now) locals.old (made (all_trees setting.now.body.now) node.now))) }
     ensures scope { OnOk result (locals.new ≡ locals.old) }
     ensures places { (n : ℕ) → IsTreeWithin n (made (all_trees setting.now.body.now) node.now) → IfErr result (IsPlacedError n) }
 {
@@ -128,7 +143,7 @@ fn type_of_control<'a>(
             let first = type_of(setting, locals, *yes)?;
             let second = type_of(setting, locals, *no)?;
             expect_bool(setting, *test, condition)?;
-            Ok(join_types(setting.table, setting.class, first, second))
+            Ok(setting.join(first, second))
         }
         Node::While { test, body, .. } => {
             let condition = type_of(setting, locals, *test)?;
@@ -144,12 +159,24 @@ fn type_of_control<'a>(
 /// Refuses a condition that is not Bool.
 fn expect_bool(setting: &Setting<'_, '_>, test: NodeId, found: Ty) -> Result<(), CheckError>
     requires below { test.0 < tree_size setting.now.body.now }
+    ensures holds { IfOk result (λ u. same_type found bool ≡ true) }
+    ensures fails { IfErr result (λ e. (same_type found bool ≡ false) × (e ≡ error.Fault (record { kind = kind.E9; at = place_of (tree_at setting.now.body.now test) }))) }
     ensures places { (n : ℕ) → IsTreeWithin n (tree_at setting.now.body.now test) → IfErr result (IsPlacedError n) }
 {
-    if found == Ty::Class(BOOL) {
+    if is_class(found, BOOL) {
         return Ok(());
     }
     Err(CheckError::at(TypeKind::E9, setting.body.node(test).place()))
+}
+
+/// Whether a type is this class.
+pub(crate) fn is_class(a: Ty, class: ClassId) -> bool
+    ensures { result ≡ same_type a (IsClass class) }
+{
+    match a {
+        Ty::Class(found) => found == class,
+        Ty::SelfType => false,
+    }
 }
 
 /// The type of the last of some expressions, in order. A text has one at least; that of none is Object.
@@ -165,6 +192,8 @@ fn type_of_last<'a>(
     requires items { AllByRecursion (λ item. item.0 < end.0) items.now }
     requires locals { HaveTypes setting.now.table.now locals.old }
     ensures is_type { IfOk result (IsType setting.now.table.now) }
+    ensures typed { IfOk result (λ t. last_checked (context setting.now) locals.old object (of_list (map (at_id (all_trees setting.now.body.now)) items.now)) ≡ Ok t) }
+    ensures first { IfErr result (IsFirst (last_checked (context setting.now) locals.old object (of_list (map (at_id (all_trees setting.now.body.now)) items.now)))) }
     ensures scope { OnOk result (locals.new ≡ locals.old) }
     ensures places { (n : ℕ) → AreTreesWithin n (of_list (map (at_id (all_trees setting.now.body.now)) items.now)) → IfErr result (IsPlacedError n) }
 {
@@ -189,6 +218,8 @@ pub(crate) fn types_of<'a>(
     requires locals { HaveTypes setting.now.table.now locals.old }
     ensures types { IfOk result (λ types. AllByRecursion (IsType setting.now.table.now) types.items) }
     ensures each { IfOk result (λ types. length types.items ≡ length items.now) }
+    ensures typed { IfOk result (λ types. all_checked (context setting.now) locals.old [] (of_list (map (at_id (all_trees setting.now.body.now)) items.now)) ≡ Ok types.items) }
+    ensures first { IfErr result (IsFirst (all_checked (context setting.now) locals.old [] (of_list (map (at_id (all_trees setting.now.body.now)) items.now)))) }
     ensures scope { OnOk result (locals.new ≡ locals.old) }
     ensures places { (n : ℕ) → AreTreesWithin n (of_list (map (at_id (all_trees setting.now.body.now)) items.now)) → IfErr result (IsPlacedError n) }
 {

@@ -1,25 +1,31 @@
 //! Checking one feature.
 
-ghost use Rattle.std.specs.Prelude.{◌≡◌, ◌<◌, ℕ, length, IfOk, IfErr, Some};
+ghost use Rattle.std.specs.Prelude.{◌≡◌, ◌<◌, ℕ, [], length, IfOk, IfErr, OnOk, Ok, Some};
 ghost use Rattle.std.specs.List.{AllByRecursion, slice_get};
+ghost use Rattle.cool_syntax.specs.declared.file_tree.Feature as syntax;
 ghost use Rattle.cool_syntax.specs.declared.file_tree.Feature.TheVariants.{Method, Attribute};
 ghost use Rattle.cool_syntax.specs.TreesWithinLimits.{IsFeatureWithin};
 ghost use Rattle.cool_classes.specs.Chains.{features_of};
+ghost use Rattle.cool_classes.specs.Tables.{IsTable};
 ghost use Rattle.cool_check.specs.Faults.{IsPlacedError};
-ghost use Rattle.cool_check.specs.Settings.{HaveTypes, IsSoundClass};
+ghost use Rattle.cool_check.specs.FirstFaults.{IsFirst};
+ghost use Rattle.cool_check.specs.Rules.{attribute_bindings, formal_bindings};
+ghost use Rattle.cool_check.specs.Settings.{HaveTypes, IsSound, IsSoundClass};
+ghost use Rattle.cool_check.specs.TypingFaults.{feature_checked};
 
 use crate::expression::type_of;
 use crate::fault::{CheckError, TypeKind};
 use crate::setting::Setting;
 use cool_classes::{AttributeRef, ClassId, ClassTable, MethodRef};
-use cool_rules::{Scope, conforms};
+use cool_rules::Scope;
 use cool_syntax::{AttributeDef, Feature, MethodDef};
 use std::alloc::{AllocError, Global};
 
 /// Checks one feature of a class, by its number among the features of the class (Cool manual, section 12).
 ///
-/// `Err(Fault(..))` comes where the feature is not well typed: it is the first fault in the order of checking, which goes through
-/// the parts of an expression from left to right. `Err(Memory)` comes only for want of memory.
+/// `Ok` comes exactly where the feature is well typed. `Err(Fault(..))` comes exactly where it is not: it is the first fault in the
+/// order of checking, which goes through the parts of an expression from left to right (`specs/FirstFaults.antt`). `Err(Memory)` comes
+/// only for want of memory.
 pub fn check_feature(
     alloc: Global,
     t: &ClassTable,
@@ -28,10 +34,20 @@ pub fn check_feature(
 ) -> Result<(), CheckError>
     requires class { c.0 < length t.now }
     requires feature { feature < length (features_of t.now c) }
+    ensures typed { (x : syntax.Feature) → slice_get (features_of t.now c) feature ≡ Some x → OnOk result (feature_checked t.now c x ≡ Ok tt) }
+    ensures first { (x : syntax.Feature) → slice_get (features_of t.now c) feature ≡ Some x → IfErr result (IsFirst (feature_checked t.now c x)) }
     ensures places { (n : ℕ) → AllByRecursion (IsFeatureWithin n) (features_of t.now c) → IfErr result (IsPlacedError n) }
 {
+    let features = t.features(c);
     let attributes = attribute_scope(alloc, t, c)?;
-    check_among(alloc, t, c, &attributes, feature)
+    check_among(
+        alloc,
+        t,
+        c,
+        &attributes,
+        feature,
+        &features[feature as usize],
+    )
 }
 
 /// The attributes of a class with those that it inherits, as a scope. `Err` comes only for want of memory.
@@ -40,8 +56,10 @@ pub(crate) fn attribute_scope(
     t: &ClassTable,
     c: ClassId,
 ) -> Result<Scope<'_>, AllocError>
+    requires table { IsTable t.now }
     requires class { c.0 < length t.now }
-    ensures { IfOk result (HaveTypes t.now) }
+    ensures types { IfOk result (HaveTypes t.now) }
+    ensures attributes { IfOk result (λ scope. scope ≡ attribute_bindings t.now c) }
 {
     let mut scope = Scope::new(alloc);
     for attribute in t.attributes(alloc, c)? {
@@ -50,24 +68,25 @@ pub(crate) fn attribute_scope(
     Ok(scope)
 }
 
-/// Checks one feature of a class with these attributes.
+/// Checks the feature at this position of a class with these attributes.
 pub(crate) fn check_among<'a>(
     alloc: Global,
     t: &'a ClassTable,
     c: ClassId,
     attributes: &Scope<'a>,
-    feature: u32,
+    index: u32,
+    feature: &'a Feature,
 ) -> Result<(), CheckError>
-    requires class { c.0 < length t.now }
-    requires attributes { HaveTypes t.now attributes.now }
-    requires feature { feature < length (features_of t.now c) }
-    ensures places { (n : ℕ) → AllByRecursion (IsFeatureWithin n) (features_of t.now c) → IfErr result (IsPlacedError n) }
+    requires class { IsSoundClass t.now c attributes.now }
+    requires attributes { attributes.now ≡ attribute_bindings t.now c }
+    requires feature { slice_get (features_of t.now c) index ≡ Some feature.now }
+    ensures typed { OnOk result (feature_checked t.now c feature.now ≡ Ok tt) }
+    ensures first { IfErr result (IsFirst (feature_checked t.now c feature.now)) }
+    ensures places { (n : ℕ) → IsFeatureWithin n feature.now → IfErr result (IsPlacedError n) }
 {
-    match &t.features(c)[feature as usize] {
-        Feature::Method(method) => check_method(alloc, t, c, attributes, feature, method),
-        Feature::Attribute(attribute) => {
-            check_attribute(alloc, t, c, attributes, feature, attribute)
-        }
+    match feature {
+        Feature::Method(method) => check_method(alloc, t, c, attributes, index, method),
+        Feature::Attribute(attribute) => check_attribute(alloc, t, c, attributes, index, attribute),
     }
 }
 
@@ -77,22 +96,16 @@ fn check_method<'a>(
     t: &'a ClassTable,
     c: ClassId,
     attributes: &Scope<'a>,
-    feature: u32,
+    index: u32,
     method: &'a MethodDef,
 ) -> Result<(), CheckError>
     requires class { IsSoundClass t.now c attributes.now }
-    requires method { slice_get (features_of t.now c) feature ≡ Some (Method method.now) }
+    requires attributes { attributes.now ≡ attribute_bindings t.now c }
+    requires method { slice_get (features_of t.now c) index ≡ Some (Method method.now) }
+    ensures typed { OnOk result (feature_checked t.now c (Method method.now) ≡ Ok tt) }
+    ensures first { IfErr result (IsFirst (feature_checked t.now c (Method method.now))) }
     ensures places { (n : ℕ) → IsFeatureWithin n (Method method.now) → IfErr result (IsPlacedError n) }
 {
-    let called = MethodRef::User {
-        owner: c,
-        index: feature,
-    };
-    let mut locals = Scope::new(alloc);
-    let formals = method.formals.as_slice();
-    for index in 0..formals.len() {
-        locals.enter(&formals[index].name, t.formal(called, index as u32))?;
-    }
     let setting = Setting {
         alloc,
         table: t,
@@ -100,12 +113,37 @@ fn check_method<'a>(
         attributes,
         body: &method.body,
     };
+    let called = MethodRef::User { owner: c, index };
+    let mut locals = formal_scope(&setting, index, method)?;
     let found = type_of(&setting, &mut locals, method.body.root())?;
-    if conforms(t, c, found, t.result(called)) {
+    if setting.conforms(found, setting.result(called)) {
         Ok(())
     } else {
         Err(CheckError::at(TypeKind::E18, method.at))
     }
+}
+
+/// The formals of the method at this position, as a scope. `Err` comes only for want of memory.
+fn formal_scope<'a>(
+    setting: &Setting<'a, '_>,
+    index: u32,
+    method: &'a MethodDef,
+) -> Result<Scope<'a>, AllocError>
+    requires sound { IsSound setting.now }
+    requires method { slice_get (features_of setting.now.table.now setting.now.class) index ≡ Some (Method method.now) }
+    ensures types { IfOk result (HaveTypes setting.now.table.now) }
+    ensures formals { IfOk result (λ scope. scope ≡ formal_bindings setting.now.table.now method.now.formals) }
+{
+    let called = MethodRef::User {
+        owner: setting.class,
+        index,
+    };
+    let mut locals = Scope::new(setting.alloc);
+    let formals = method.formals.as_slice();
+    for place in 0..formals.len() {
+        locals.enter(&formals[place].name, setting.formal(called, place as u32))?;
+    }
+    Ok(locals)
 }
 
 /// Checks an attribute: its initial value, where it has one, must conform to its type.
@@ -114,11 +152,14 @@ fn check_attribute<'a>(
     t: &'a ClassTable,
     c: ClassId,
     attributes: &Scope<'a>,
-    feature: u32,
+    index: u32,
     attribute: &'a AttributeDef,
 ) -> Result<(), CheckError>
     requires class { IsSoundClass t.now c attributes.now }
-    requires attribute { slice_get (features_of t.now c) feature ≡ Some (Attribute attribute.now) }
+    requires attributes { attributes.now ≡ attribute_bindings t.now c }
+    requires attribute { slice_get (features_of t.now c) index ≡ Some (Attribute attribute.now) }
+    ensures typed { OnOk result (feature_checked t.now c (Attribute attribute.now) ≡ Ok tt) }
+    ensures first { IfErr result (IsFirst (feature_checked t.now c (Attribute attribute.now))) }
     ensures places { (n : ℕ) → IsFeatureWithin n (Attribute attribute.now) → IfErr result (IsPlacedError n) }
 {
     let Some(body) = &attribute.init else {
@@ -132,11 +173,8 @@ fn check_attribute<'a>(
         body,
     };
     let found = type_of(&setting, &mut Scope::new(alloc), body.root())?;
-    let declared = t.attribute_type(AttributeRef {
-        owner: c,
-        index: feature,
-    });
-    if conforms(t, c, found, declared) {
+    let declared = setting.attribute(AttributeRef { owner: c, index });
+    if setting.conforms(found, declared) {
         Ok(())
     } else {
         Err(CheckError::at(TypeKind::E17, attribute.at))

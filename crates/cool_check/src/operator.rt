@@ -1,20 +1,23 @@
 //! The types of assignments and operators.
 
-ghost use Rattle.std.specs.Prelude.{◌≡◌, ◌<◌, ℕ, IfOk, IfErr, OnOk};
+ghost use Rattle.std.specs.Prelude.{◌≡◌, ◌<◌, ℕ, Ok, true, false, IfOk, IfErr, OnOk};
 ghost use Rattle.cool_syntax.specs.Tree.{tree_size};
 ghost use Rattle.cool_syntax.specs.NodeLists.{all_trees, made, tree_at, HasPartsBelow};
 ghost use Rattle.cool_syntax.specs.TreesWithinLimits.{IsTreeWithin};
 ghost use Rattle.cool_pool.specs.Groups.{IsBinary, IsUnary};
 ghost use Rattle.cool_rules.specs.Conformance.{IsType};
 ghost use Rattle.cool_check.specs.Faults.{IsPlacedError, StandsAt};
+ghost use Rattle.cool_check.specs.FirstFaults.{checked, assigned, compared, has_values, same_type, IsFirst};
+ghost use Rattle.cool_check.specs.Rules.{context};
+ghost use Rattle.cool_check.specs.declared.fault.CheckError.TheVariants as error;
 ghost use Rattle.cool_classes.specs.declared.class_id.Ty.TheVariants.{Class as IsClass};
 ghost use Rattle.cool_check.specs.Settings.{HaveTypes, IsSound};
 
-use crate::expression::{is_self, type_of, type_of_name};
+use crate::expression::{is_class, is_self, type_of, type_of_name};
 use crate::fault::{CheckError, TypeKind};
 use crate::setting::Setting;
 use cool_classes::{BOOL, ClassId, INT, STRING, Ty};
-use cool_rules::{Scope, conforms};
+use cool_rules::Scope;
 use cool_syntax::{CompareOp, Name, Node, NodeId, Place};
 
 /// The type of an assignment or of an operator with one operand, which has a number below this one.
@@ -31,6 +34,8 @@ pub(crate) fn type_of_unary<'a>(
     requires parts { HasPartsBelow id.0 node.now }
     requires locals { HaveTypes setting.now.table.now locals.old }
     ensures is_type { IfOk result (IsType setting.now.table.now) }
+    ensures typed { IfOk result (λ t. checked (context setting.now) locals.old (made (all_trees setting.now.body.now) node.now) ≡ Ok t) }
+    ensures first { IfErr result (IsFirst (checked (context setting.now) locals.old (made (all_trees setting.now.body.now) node.now))) }
     ensures scope { OnOk result (locals.new ≡ locals.old) }
     ensures places { (n : ℕ) → IsTreeWithin n (made (all_trees setting.now.body.now) node.now) → IfErr result (IsPlacedError n) }
 {
@@ -45,11 +50,13 @@ pub(crate) fn type_of_unary<'a>(
         }
         Node::Neg { at, value } => {
             let found = type_of(setting, locals, *value)?;
-            expect(found, INT, TypeKind::E14, *at)
+            expect(found, INT, TypeKind::E14, *at)?;
+            Ok(Ty::Class(INT))
         }
         Node::Not { at, value } => {
             let found = type_of(setting, locals, *value)?;
-            expect(found, BOOL, TypeKind::E16, *at)
+            expect(found, BOOL, TypeKind::E16, *at)?;
+            Ok(Ty::Class(BOOL))
         }
         _ => unreachable!(),
     }
@@ -67,26 +74,28 @@ fn assigned(
     requires locals { HaveTypes setting.now.table.now locals.now }
     requires given { IsType setting.now.table.now given }
     ensures is_type { IfOk result (IsType setting.now.table.now) }
+    ensures typed { IfOk result (λ t. assigned (context setting.now) locals.now at name.now given ≡ Ok t) }
+    ensures first { IfErr result (IsFirst (assigned (context setting.now) locals.now at name.now given)) }
     ensures fault { IfErr result (StandsAt at) }
 {
     if is_self(name) {
         return Err(CheckError::at(TypeKind::E2, at));
     }
     let declared = type_of_name(setting, locals, at, name)?;
-    if conforms(setting.table, setting.class, given, declared) {
+    if setting.conforms(given, declared) {
         Ok(given)
     } else {
         Err(CheckError::at(TypeKind::E3, at))
     }
 }
 
-/// The class that an operand must have, where it has it, and else this fault.
-fn expect(found: Ty, class: ClassId, kind: TypeKind, at: Place) -> Result<Ty, CheckError>
-    ensures found { IfOk result (λ t. t ≡ found) }
-    ensures fault { IfErr result (StandsAt at) }
+/// Refuses an operand of another class than this with this fault.
+fn expect(found: Ty, class: ClassId, kind: TypeKind, at: Place) -> Result<(), CheckError>
+    ensures holds { IfOk result (λ u. same_type found (IsClass class) ≡ true) }
+    ensures fails { IfErr result (λ e. (same_type found (IsClass class) ≡ false) × (e ≡ error.Fault (record { kind = kind; at = at }))) }
 {
-    if found == Ty::Class(class) {
-        Ok(found)
+    if is_class(found, class) {
+        Ok(())
     } else {
         Err(CheckError::at(kind, at))
     }
@@ -106,6 +115,8 @@ pub(crate) fn type_of_binary<'a>(
     requires parts { HasPartsBelow id.0 node.now }
     requires locals { HaveTypes setting.now.table.now locals.old }
     ensures is_type { IfOk result (IsType setting.now.table.now) }
+    ensures typed { IfOk result (λ t. checked (context setting.now) locals.old (made (all_trees setting.now.body.now) node.now) ≡ Ok t) }
+    ensures first { IfErr result (IsFirst (checked (context setting.now) locals.old (made (all_trees setting.now.body.now) node.now))) }
     ensures scope { OnOk result (locals.new ≡ locals.old) }
     ensures places { (n : ℕ) → IsTreeWithin n (made (all_trees setting.now.body.now) node.now) → IfErr result (IsPlacedError n) }
 {
@@ -119,7 +130,8 @@ pub(crate) fn type_of_binary<'a>(
             let first = type_of(setting, locals, *left)?;
             let second = type_of(setting, locals, *right)?;
             expect(first, INT, TypeKind::E14, *at)?;
-            expect(second, INT, TypeKind::E14, *at)
+            expect(second, INT, TypeKind::E14, *at)?;
+            Ok(Ty::Class(INT))
         }
         Node::Compare {
             at,
@@ -138,6 +150,8 @@ pub(crate) fn type_of_binary<'a>(
 /// The type of a comparison of operands of these types.
 fn compared(op: CompareOp, first: Ty, second: Ty, at: Place) -> Result<Ty, CheckError>
     ensures bool { IfOk result (λ t. t ≡ IsClass BOOL) }
+    ensures typed { IfOk result (λ t. compared op first second at ≡ Ok t) }
+    ensures first { IfErr result (IsFirst (compared op first second at)) }
     ensures fault { IfErr result (StandsAt at) }
 {
     match op {
@@ -146,7 +160,7 @@ fn compared(op: CompareOp, first: Ty, second: Ty, at: Place) -> Result<Ty, Check
             expect(second, INT, TypeKind::E14, at)?;
         }
         CompareOp::Equal => {
-            if first != second && (has_values(first) || has_values(second)) {
+            if !same_type(first, second) && (has_values(first) || has_values(second)) {
                 return Err(CheckError::at(TypeKind::E15, at));
             }
         }
@@ -155,6 +169,18 @@ fn compared(op: CompareOp, first: Ty, second: Ty, at: Place) -> Result<Ty, Check
 }
 
 /// Whether a type is Int, Bool or String, whose objects are compared by value.
-fn has_values(a: Ty) -> bool {
-    matches!(a, Ty::Class(INT | BOOL | STRING))
+fn has_values(a: Ty) -> bool
+    ensures { result ≡ has_values a }
+{
+    is_class(a, INT) || is_class(a, BOOL) || is_class(a, STRING)
+}
+
+/// Whether two types are one.
+fn same_type(a: Ty, b: Ty) -> bool
+    ensures { result ≡ same_type a b }
+{
+    match b {
+        Ty::Class(class) => is_class(a, class),
+        Ty::SelfType => matches!(a, Ty::SelfType),
+    }
 }

@@ -1,5 +1,5 @@
 -- A climb from a definition to the classes above it, one definition after another.
-use Rattle.std.proofs.Common.{◌≡◌, ◌≢◌, ◌⊎◌, inl, inr, ℕ, zero, suc, ◌+◌, ◌-◌, ◌<◌, ◌≤◌, List, ◌∷◌, length, get_or, set, Option, Some, None, Contains, sym, ap, ◌∙◌, refl, subst, cond, arith, get_or-set_other, get_or-set_same}
+use Rattle.std.proofs.Common.{◌≡◌, ◌≢◌, ◌⊎◌, inl, inr, ℕ, zero, suc, ◌+◌, ◌-◌, ◌<◌, ◌≤◌, List, ◌∷◌, length, get_or, set, Option, Some, None, Contains, sym, ap, ◌∙◌, refl, subst, cond, arith, get_or-set_other, get_or-set_same, true≢false, []}
 use Rattle.std.specs.Prelude.{is_some, is_none, IsSome}
 use Rattle.std.specs.List.{AllByRecursion}
 use Rattle.std.proofs.lemmas.List.{get_or-map, length-set}
@@ -8,7 +8,7 @@ use Rattle.cool_classes.specs.declared.class_id.ClassId.{ClassId}
 use Rattle.cool_classes.proofs.AllOfLists.{all_at}
 use Rattle.cool_classes.specs.declared.depths.Above.TheVariants.{Known}
 use Rattle.cool_classes.specs.Depths.{parents_with_basic, HasDepth}
-use Rattle.cool_classes.specs.Walks.{LeadsTo, unpassed, IsClimb}
+use Rattle.cool_classes.specs.Walks.{LeadsTo, unpassed, AreFresh, IsClimb}
 
 -- a climb so far: the path leads to a definition, and has those that the climb passed
 pub record Climbing (parents : List ClassId) (before : List (Option ℕ)) (start : ℕ) (passed : List (Option ℕ)) (path : List ℕ) (class : ℕ) : Type 0 where
@@ -19,6 +19,7 @@ pub record Climbing (parents : List ClassId) (before : List (Option ℕ)) (start
   pub noted : (k w : ℕ) → get_or passed k None ≡ Some w → (get_or before k None ≡ Some w) ⊎ ((w ≡ start) × Contains path k)
   pub starts : (class ≡ start) ⊎ IsSome (get_or passed start None)
   pub count : unpassed passed + length path ≡ unpassed before
+  pub fresh : AreFresh before passed path
 
 -- two numbers are one, or not
 pub same_or_other : (j k : ℕ) → (j ≡ k) ⊎ (j ≢ k)
@@ -61,6 +62,46 @@ count_less passed k start within none =
     let all = sum_by-set left_of passed k (Some start) None within in
     omega (arith, one, all)
 
+-- an option that has a value is not None
+pub some_or_none : {X : Type 0} (o : Option ℕ) → IsSome o → o ≡ None → X
+some_or_none None some none = absurd (true≢false (sym some))
+some_or_none (Some w) some none = absurd (cc)
+
+-- nothing was passed that is not passed now
+none_before : (b a : Option ℕ) → (IsSome b → IsSome a) → a ≡ None → b ≡ None
+none_before None a keeps none = refl
+none_before (Some w) a keeps none = some_or_none a (keeps refl) none
+
+-- what is passed stays passed
+marked_set : (passed : List (Option ℕ)) (class start k : ℕ) → class < length passed → IsSome (get_or passed k None) → IsSome (get_or (set passed class (Some start)) k None)
+marked_set passed class start k within some =
+    elim (same_or_other k class) [
+      | inl same ↦
+          ap (λ (n : ℕ). is_some (get_or (set passed class (Some start)) n None)) same ∙ ap (λ (o : Option ℕ). is_some o) (get_or-set_same passed class (Some start) None within)
+      | inr other ↦ ap (λ (o : Option ℕ). is_some o) (get_or-set_other passed class k (Some start) None other) ∙ some
+    ]
+
+all_marked : (passed : List (Option ℕ)) (class start : ℕ) → class < length passed → (path : List ℕ) → AllByRecursion (λ (k : ℕ). IsSome (get_or passed k None)) path
+    → AllByRecursion (λ (k : ℕ). IsSome (get_or (set passed class (Some start)) k None)) path
+all_marked passed class start within [] all = tt
+all_marked passed class start within (k ∷ ks) all = (marked_set passed class start k within all.0, all_marked passed class start within ks all.1)
+
+-- a definition that is not passed is none of those that are
+apart_by : (passed : List (Option ℕ)) (class : ℕ) → get_or passed class None ≡ None → (path : List ℕ) → AllByRecursion (λ (k : ℕ). IsSome (get_or passed k None)) path → AllByRecursion (λ (k : ℕ). k ≢ class) path
+apart_by passed class none [] all = tt
+apart_by passed class none (k ∷ ks) all =
+    ((λ e. some_or_none (get_or passed k None) all.0 (ap (λ (n : ℕ). get_or passed n None) e ∙ none)), apart_by passed class none ks all.1)
+
+-- one definition more is passed for the first time
+fresh_one : (before passed : List (Option ℕ)) (path : List ℕ) (class start : ℕ) → class < length passed → get_or passed class None ≡ None → AreFresh before passed path
+    → AreFresh before (set passed class (Some start)) (class ∷ path)
+fresh_one before passed path class start within none f = record {
+  fresh = (none_before (get_or before class None) (get_or passed class None) (f.kept class) none, f.fresh);
+  marked = (ap (λ (o : Option ℕ). is_some o) (get_or-set_same passed class (Some start) None within), all_marked passed class start within path f.marked);
+  apart = (apart_by passed class none path f.marked, f.apart);
+  kept = λ k some. marked_set passed class start k within (f.kept k some);
+}
+
 -- what stands after a definition is passed
 pub record Passing (parents : List ClassId) (before : List (Option ℕ)) (start : ℕ) (passed : List (Option ℕ)) (path : List ℕ) : Type 0 where
   pub same_passed : length passed ≡ length parents
@@ -68,6 +109,7 @@ pub record Passing (parents : List ClassId) (before : List (Option ℕ)) (start 
   pub noted : (k w : ℕ) → get_or passed k None ≡ Some w → (get_or before k None ≡ Some w) ⊎ ((w ≡ start) × Contains path k)
   pub starts : IsSome (get_or passed start None)
   pub count : unpassed passed + length path ≡ unpassed before
+  pub fresh : AreFresh before passed path
 
 -- a definition that is passed was so before, or is on the path
 noted_by : (before : List (Option ℕ)) (start : ℕ) (passed : List (Option ℕ)) (path : List ℕ) (class : ℕ) → class < length passed
@@ -110,6 +152,7 @@ pass_one parents before start passed path class c none =
       noted = noted_by before start passed path class within c.noted;
       starts = starts_by start passed class within c.starts;
       count = let less = count_less passed class start within none in let old = c.count in omega arith;
+      fresh = fresh_one before passed path class start within none c.fresh;
     }
 
 -- the climb goes on to a parent that is a definition
@@ -128,6 +171,7 @@ climb_on parents before start passed path class d c none all high =
       noted = p.noted;
       starts = inr p.starts;
       count = p.count;
+      fresh = p.fresh;
     }
 
 -- the climb comes to a parent that is a basic class
@@ -142,4 +186,6 @@ climb_done parents known before start passed path class depth d c none has low =
       passed = p.noted;
       starts = inr p.starts;
       count = p.count;
+      fresh = p.fresh;
+      comes_back = tt;
     }

@@ -1,15 +1,17 @@
 -- What walks find: depths that are right, or a cycle.
 use Rattle.std.proofs.Common.{◌≡◌, ◌≢◌, ◌⊎◌, inl, inr, ℕ, suc, ◌+◌, ◌-◌, ◌<◌, ◌≤◌, List, [], ◌∷◌, ◌++◌, length, take, drop, get_or, set, Option, Some, None, Contains, Bool, true, false, sym, ap, ◌∙◌, refl, subst, cond, arith, get_or-set_other, get_or-set_same, true≢false}
-use Rattle.std.specs.Prelude.{is_some, is_none, IsSome, nat_eq}
+use Rattle.std.specs.Prelude.{is_some, is_none, IsSome, nat_eq, replicate}
 use Rattle.std.specs.List.{AllByRecursion}
-use Rattle.std.proofs.lemmas.List.{length-set}
+use Rattle.std.proofs.lemmas.List.{length-set, length-replicate}
 use Rattle.std.proofs.lemmas.List.Sums.{count_by-le-length}
 use Rattle.std.proofs.Math.Seq.{take-append_seam}
 use Rattle.cool_classes.specs.declared.class_id.ClassId.{ClassId}
-use Rattle.cool_classes.specs.declared.depths.Above.TheVariants.{Known, Cycle}
+use Rattle.cool_classes.specs.declared.depths.Above.TheVariants.{Known, Cycle, Lost}
 use Rattle.cool_classes.specs.Depths.{parents_with_basic, HasDepth, AreDepths}
 use Rattle.cool_classes.specs.Walks.{LeadsTo, settled, cycle_of, unpassed, IsClimb, IsFound, AreWalked}
 use Rattle.cool_classes.proofs.AllOfLists.{all_append}
+use Rattle.std.proofs.lemmas.Option.{none-some}
+use Rattle.cool_classes.proofs.CyclesCaught.{caught_known, caught_cycle, caught_lost, caught_none, none_there}
 use Rattle.cool_classes.proofs.PassingDefinitions.{same_or_other, contains_cases}
 
 -- the depths that are known are right, and no greater than a bound
@@ -166,6 +168,7 @@ walked_known parents start known cyclic before after path d w same climb =
           subst (IsFound (settled path d known) cyclic) (sym same_start)
           (start_by (settled path d known) after cyclic start seen
           (elim climb.starts [ inl some ↦ inl (keeps start some) | inr passed ↦ inr passed ])));
+      cycles = caught_known parents start known (settled path d known) cyclic before after path d w.cycles climb keeps (λ k. settled_knows path d k known within) (λ k e is. (right k e is).0);
       within = w.within;
     }
 
@@ -206,8 +209,50 @@ walked_cycle parents start known cyclic before after path first w same climb =
       before = λ k v is. before_by before path start k v w.before (climb.passed k v is);
       seen = λ k v is. inr found;
       done = λ k less. inr found;
+      cycles = caught_cycle parents start known cyclic before after path first w.cycles climb there;
       within = all_append (λ (k : ℕ). k < length parents) cyclic (cycle_of first path) w.within (all_on_cycle (length parents) first path climb.within);
     }
+
+-- a walk that comes to a definition passed by an earlier one
+pub walked_lost : (parents : List ClassId) (start : ℕ) (known : List (Option ℕ)) (cyclic : List ℕ) (before after : List (Option ℕ)) (path : List ℕ)
+    → AreWalked parents start known cyclic before → length after ≡ length parents → IsClimb parents known before start after path Lost → AreWalked parents (start + 1) known cyclic after
+walked_lost parents start known cyclic before after path w same climb =
+    let (j, v, none, was) = climb.comes_to in
+    let found : cyclic ≢ [] = elim (w.seen j v was) [ inl some ↦ absurd (let d = is_known (get_or known j None) some in none_known (get_or known j None) d.0 d.1 none) | inr there ↦ there ] in
+    let count = climb.count in
+    record {
+      same_known = w.same_known;
+      same_passed = same;
+      right = w.right;
+      low = λ k e is. (let low = w.low k e is in omega arith);
+      before = λ k u is. before_by before path start k u w.before (climb.passed k u is);
+      seen = λ k u is. inr found;
+      done = λ k less. inr found;
+      cycles = caught_lost parents start known cyclic before after path w.cycles climb;
+      within = w.within;
+    }
+  where
+    none_known : (o : Option ℕ) (d : ℕ) → o ≡ Some d → o ≡ None → ⊥
+    none_known o d e n = none-some d (sym n ∙ e)
+
+-- before the first walk no definition is passed
+pub walked_none : (parents : List ClassId) (known passed : List (Option ℕ)) (cyclic : List ℕ) (n : ℕ) → n ≡ length parents → known ≡ replicate n None → passed ≡ replicate n None → cyclic ≡ []
+    → AreWalked parents 0 known cyclic passed
+walked_none parents known passed cyclic n long unknown clear none =
+    subst (λ (ks : List (Option ℕ)). AreWalked parents 0 ks cyclic passed) (sym unknown)
+    (subst (λ (ps : List (Option ℕ)). AreWalked parents 0 (replicate n None) cyclic ps) (sym clear)
+    (subst (λ (xs : List ℕ). AreWalked parents 0 (replicate n None) xs (replicate n None)) (sym none)
+    (record {
+      same_known = length-replicate n None ∙ long;
+      same_passed = length-replicate n None ∙ long;
+      right = λ k d is. absurd (none-some d (sym (none_there n k) ∙ is));
+      low = λ k d is. absurd (none-some d (sym (none_there n k) ∙ is));
+      before = λ k w is. absurd (none-some w (sym (none_there n k) ∙ is));
+      seen = λ k w is. absurd (none-some w (sym (none_there n k) ∙ is));
+      done = λ k less. absurd (omega arith);
+      cycles = caught_none parents (replicate n None) n;
+      within = tt;
+    })))
 
 -- a slice that was written in place
 pub written_back : (n : ℕ) (xs ys : List (Option ℕ)) → length xs ≡ n → take n (xs ++ drop (length xs) ys) ≡ xs

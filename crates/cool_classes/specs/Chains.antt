@@ -46,7 +46,7 @@ pub record IsJoin (p : List Class) (a b j : ClassId) : Type 0 where
   pub least : (k : ClassId) → Below p a k → Below p b k → Below p j k
 
 -- Worked examples: with A and B that inherit from Object, the chain of B is B, Object.
-abbrev three : List Class
+abbrev pub three : List Class
 three =
     record { name = codes "Object"; parent = None; features = [] }
     ∷ record { name = codes "A"; parent = Some (class_number 0); features = [] }

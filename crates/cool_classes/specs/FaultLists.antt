@@ -1,6 +1,7 @@
 -- The faults of classes and of features as lists: of which kinds they are, in which order and in which files.
 use Rattle.std.specs.Prelude.{◌≢◌, ◌⊎◌, ℕ, ◌<◌, List, []}
 use Rattle.std.specs.List.{AllByRecursion}
+use Rattle.std.specs.List.Sorted.{IsPermutation}
 use Rattle.cool_syntax.specs.FaultOrder.{Standing, AreInOrder}
 use Rattle.cool_syntax.specs.TokenFacts.{IsPlaced}
 use Rattle.cool_classes.specs.declared.fault.ClassFault.{ClassFault}
@@ -52,3 +53,8 @@ IsRefusal (Faults faults) = IsFaultList faults
 abbrev pub IsPlacedRefusal : ℕ → TableError → Type 0
 IsPlacedRefusal files Memory = Unit {0}
 IsPlacedRefusal files (Faults faults) = AllByRecursion (λ f. IsPlaced files f.at) faults
+
+-- an error is want of memory, or has exactly these faults, of which there is one at least, in order
+abbrev pub HasExactly : List ClassFault → TableError → Type 0
+HasExactly fs Memory = Unit {0}
+HasExactly fs (Faults faults) = (faults ≢ []) × IsPermutation fs faults × AreInOrder standing_of faults

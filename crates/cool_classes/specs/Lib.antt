@@ -1,9 +1,14 @@
 pub mod Chains
+pub mod ClassFaults
+pub mod ClassRows
+pub mod ClimbedChains
+pub mod Cycles
 pub mod Definitions
 pub mod Depths
 pub mod Entries
 pub mod FaultLists
 pub mod FeatureFaults
+pub mod FeatureRows
 pub mod Features
 pub mod FirstNames
 pub mod Limits

@@ -4,6 +4,7 @@ use Rattle.std.specs.List.{AllByRecursion, count_by}
 use Rattle.cool_classes.specs.declared.class_id.ClassId.{ClassId}
 use Rattle.cool_classes.specs.declared.depths.Above.{Above}
 use Rattle.cool_classes.specs.declared.depths.Above.TheVariants.{Known, Cycle, Lost}
+use Rattle.cool_classes.specs.Cycles.{IsOnCycle, AreApart}
 use Rattle.cool_classes.specs.Depths.{parents_with_basic, HasDepth}
 
 -- how many definitions no walk has passed
@@ -32,6 +33,19 @@ IsAbove parents known before start after path (Known d) =
 IsAbove parents known before start after path (Cycle k) = get_or after k None ≡ Some start
 IsAbove parents known before start after path Lost = (k w : ℕ) × (get_or known k None ≡ None) × (get_or before k None ≡ Some w)
 
+-- a climb that comes to no depth leads to a definition that it passed, or to one that was passed before
+abbrev pub ComesBack : List ClassId → List (Option ℕ) → List ℕ → Above → Type 0
+ComesBack parents before path (Known d) = Unit {0}
+ComesBack parents before path (Cycle k) = LeadsTo parents path (k + 5)
+ComesBack parents before path Lost = (k w : ℕ) × LeadsTo parents path (k + 5) × (get_or before k None ≡ Some w)
+
+-- the definitions of a path are passed, each for the first time
+pub record AreFresh (before after : List (Option ℕ)) (path : List ℕ) : Type 0 where
+  pub fresh : AllByRecursion (λ (k : ℕ). get_or before k None ≡ None) path
+  pub marked : AllByRecursion (λ (k : ℕ). IsSome (get_or after k None)) path
+  pub apart : AreApart path
+  pub kept : (k : ℕ) → IsSome (get_or before k None) → IsSome (get_or after k None)
+
 -- what a climb from a definition leaves behind
 pub record IsClimb (parents : List ClassId) (known before : List (Option ℕ)) (start : ℕ) (after : List (Option ℕ)) (path : List ℕ) (above : Above) : Type 0 where
   pub comes_to : IsAbove parents known before start after path above
@@ -39,6 +53,17 @@ pub record IsClimb (parents : List ClassId) (known before : List (Option ℕ)) (
   pub passed : (k w : ℕ) → get_or after k None ≡ Some w → (get_or before k None ≡ Some w) ⊎ ((w ≡ start) × Contains path k)
   pub starts : IsSome (get_or known start None) ⊎ IsSome (get_or after start None)
   pub count : unpassed after + length path ≡ unpassed before
+  pub fresh : AreFresh before after path
+  pub comes_back : ComesBack parents before path above
+
+-- the definitions on cycles among those that were passed are noted, each once; and so far each is passed whose depth is not known
+pub record AreCaught (parents : List ClassId) (start : ℕ) (known : List (Option ℕ)) (cyclic : List ℕ) (passed : List (Option ℕ)) : Type 0 where
+  pub noted : AllByRecursion (λ (k : ℕ). IsSome (get_or passed k None)) cyclic
+  pub only : AllByRecursion (IsOnCycle parents) cyclic
+  pub once : AreApart cyclic
+  pub closed : (k j : ℕ) (q : ClassId) → Contains cyclic k → get_or (parents_with_basic parents) (k + 5) None ≡ Some q → q.0 ≡ j + 5 → Contains cyclic j
+  pub caught : (k : ℕ) → IsSome (get_or passed k None) → IsOnCycle parents k → Contains cyclic k
+  pub met : (k : ℕ) → k < start → IsSome (get_or known k None) ⊎ IsSome (get_or passed k None)
 
 -- the depth of a definition is known, or a cycle is found
 abbrev pub IsFound : List (Option ℕ) → List ℕ → ℕ → Type 0
@@ -53,6 +78,7 @@ pub record AreWalked (parents : List ClassId) (start : ℕ) (known : List (Optio
   pub before : (k w : ℕ) → get_or passed k None ≡ Some w → w < start
   pub seen : (k w : ℕ) → get_or passed k None ≡ Some w → IsFound known cyclic k
   pub done : (k : ℕ) → k < start → IsFound known cyclic k
+  pub cycles : AreCaught parents start known cyclic passed
   pub within : AllByRecursion (λ (k : ℕ). k < length parents) cyclic
 
 -- Worked examples: the path of two definitions, the second last, below a class of depth 1.

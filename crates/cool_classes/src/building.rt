@@ -1,8 +1,10 @@
 //! The table that the trees of source files make.
 
-ghost use Rattle.std.specs.Prelude.{◌≡◌, ℕ, ◌<◌, map, IfOk, IfErr, Some};
+ghost use Rattle.std.specs.Prelude.{◌≡◌, ℕ, ◌<◌, [], map, IfOk, IfErr, OnOk, Some};
 ghost use Rattle.cool_syntax.specs.declared.file_tree.ClassDef as tree;
 ghost use Rattle.cool_syntax.specs.TreesWithinLimits.{AreClassesWithin};
+ghost use Rattle.cool_classes.specs.ClassFaults.{classes_meant, feature_phase, HasClassPhase, HasTableFaults};
+ghost use Rattle.cool_classes.specs.ClassRows.{HasRows, HasNoRow};
 ghost use Rattle.cool_classes.specs.Definitions.{definitions, AreFew, IsTableOf};
 ghost use Rattle.cool_classes.specs.FaultLists.{IsRefusal, IsPlacedRefusal};
 ghost use Rattle.cool_classes.specs.Limits.{KeepsLimits};
@@ -93,6 +95,11 @@ pub fn table(alloc: Global, files: Vec<FileTree>) -> Result<ClassTable, TableErr
     ensures whole { IfOk result IsTable }
     ensures table { IfOk result (IsTableOf (definitions files.items)) }
     ensures limits { IfOk result KeepsLimits }
+    ensures classes { IfOk result (λ table. table ≡ classes_meant (definitions files.items)) }
+    ensures faultless { OnOk result (HasClassPhase (definitions files.items) [] × (feature_phase (definitions files.items) ≡ [])) }
+    ensures exact { IfErr result (HasTableFaults (definitions files.items)) }
+    ensures rows { IfErr result (HasRows (definitions files.items)) }
+    ensures no_rows { OnOk result (HasNoRow (definitions files.items)) }
     ensures refusal { IfErr result IsRefusal }
     ensures places { (n : ℕ) → 0 < n → AreClassesWithin n (definitions files.items) → IfErr result (IsPlacedRefusal n) }
 {

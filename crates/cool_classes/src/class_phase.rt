@@ -1,11 +1,12 @@
 //! The faults of classes: their names, their parents, their number, and the chains that they make (the Cool manual,
 //! section 3).
 
-ghost use Rattle.std.specs.Prelude.{◌≡◌, ℕ, ◌-◌, ◌<◌, ◌≤◌, ◌^◌, ◌≢◌, List, [], length, IfOk, IfErr, OnOk, IfSome, IfNone, IsSome, codes, false};
+ghost use Rattle.std.specs.Prelude.{◌≡◌, ℕ, ◌-◌, ◌<◌, ◌≤◌, ◌^◌, ◌≢◌, List, [], ◌++◌, length, IfOk, IfErr, OnOk, IfSome, IfNone, IsSome, codes, false};
 ghost use Rattle.std.specs.List.{AllByRecursion};
 ghost use Rattle.cool_syntax.specs.TreesWithinLimits.{IsTypeWithin, AreClassesWithin};
 ghost use Rattle.cool_syntax.specs.declared.file_tree.ClassDef as tree;
 ghost use Rattle.cool_classes.specs.declared.fault.TableError.TheVariants as error;
+ghost use Rattle.cool_classes.specs.ClassFaults.{name_kind, names_faults, is_barred, parent_kind, parent_faults, parents_faults, cycle_faults, main_faults, number_faults, HasClassPhase, HasClassFaults};
 ghost use Rattle.cool_classes.specs.FaultLists.{rank, IsRefusal, IsPlacedRefusal};
 ghost use Rattle.cool_classes.specs.Names.{shown, FindsFirst};
 ghost use Rattle.cool_classes.specs.Settled.{basic_names, names_with_basic, parent_meant, parents_meant, IsParentKnown, AreNamedAnew, AreSettled, AddsFaults};
@@ -44,6 +45,7 @@ fn basic_names<'a>(alloc: Global) -> Result<Names<'a>, TableError>
 
 /// The fault of a class of this name: C2 where it is `SELF_TYPE`, else C1 where an earlier class has it.
 fn name_fault(name: &[u8], known: bool) -> Option<ClassKind>
+    ensures exact { result ≡ name_kind name.now known }
     ensures kind { IfSome result (λ kind. rank kind < 7) }
     ensures no_self_type { IfNone result (name.now ≢ codes "SELF_TYPE") }
     ensures anew { IfNone result (known ≡ false) }
@@ -68,6 +70,7 @@ fn find_names<'a>(
     ensures memory { IfErr result (λ e. e ≡ error.Memory) }
     ensures finds { IfOk result (λ names. FindsFirst (shown names.entries) (names_with_basic definitions.now)) }
     ensures adds { OnOk result (AddsFaults (λ n. AreClassesWithin n definitions.now) faults.old.items faults.new.items) }
+    ensures exact { OnOk result (faults.new.items ≡ faults.old.items ++ names_faults basic_names definitions.now) }
     ensures anew { OnOk result (faults.new.items ≡ [] → AreNamedAnew definitions.now (length definitions.now)) }
 {
     let mut names = basic_names(alloc)?;
@@ -84,6 +87,7 @@ fn find_names<'a>(
 /// The fault of a parent of this name: C2 where it is `SELF_TYPE`, C3 where no class has it, C4 where it is one of the
 /// basic classes from which none may inherit.
 fn parent_fault(name: &[u8], class: Option<ClassId>) -> Option<ClassKind>
+    ensures exact { result ≡ parent_kind name.now class }
     ensures kind { IfSome result (λ kind. rank kind < 7) }
     ensures known { IfNone result (IsSome class) }
 {
@@ -92,9 +96,16 @@ fn parent_fault(name: &[u8], class: Option<ClassId>) -> Option<ClassKind>
     }
     match class {
         None => Some(ClassKind::C3),
-        Some(INT | BOOL | STRING) => Some(ClassKind::C4),
+        Some(class) if is_barred(class) => Some(ClassKind::C4),
         Some(_) => None,
     }
+}
+
+/// Whether this is one of the classes Int, Bool and String.
+fn is_barred(class: ClassId) -> bool
+    ensures { result ≡ is_barred class }
+{
+    class == INT || class == BOOL || class == STRING
 }
 
 /// The parent of a definition: Object where it names none or no class. Adds C2, C3 or C4. `Err` comes only for want of
@@ -106,6 +117,7 @@ fn find_parent(
 ) -> Result<ClassId, AllocError>
     ensures parent { IfOk result (λ class. (all : List (List ℕ)) → FindsFirst (shown names.now.entries) all → class ≡ parent_meant all parent.now) }
     ensures adds { OnOk result (AddsFaults (λ n. IfSome parent.now (IsTypeWithin n)) faults.old.items faults.new.items) }
+    ensures exact { OnOk result ((all : List (List ℕ)) → FindsFirst (shown names.now.entries) all → faults.new.items ≡ faults.old.items ++ parent_faults all parent.now) }
     ensures known { OnOk result (faults.new.items ≡ [] → (all : List (List ℕ)) → FindsFirst (shown names.now.entries) all → IsParentKnown all parent.now) }
 {
     match parent {
@@ -128,6 +140,7 @@ fn find_parents(
     requires finds { FindsFirst (shown names.now.entries) (names_with_basic definitions.now) }
     ensures parents { IfOk result (λ parents. parents.items ≡ parents_meant (names_with_basic definitions.now) definitions.now) }
     ensures adds { OnOk result (AddsFaults (λ n. AreClassesWithin n definitions.now) faults.old.items faults.new.items) }
+    ensures exact { OnOk result (faults.new.items ≡ faults.old.items ++ parents_faults (names_with_basic definitions.now) definitions.now) }
     ensures known { OnOk result (faults.new.items ≡ [] → AllByRecursion (λ (d : tree.ClassDef). IsParentKnown (names_with_basic definitions.now) d.parent) definitions.now) }
 {
     let mut parents = Vec::new(alloc);
@@ -141,6 +154,7 @@ fn find_parents(
 /// Adds C7 for the definition past the most, where there is one. `Err` comes only for want of memory.
 fn check_number(definitions: &[ClassDef], faults: &mut Vec<ClassFault>) -> Result<(), AllocError>
     ensures adds { OnOk result (AddsFaults (λ n. AreClassesWithin n definitions.now) faults.old.items faults.new.items) }
+    ensures exact { OnOk result (faults.new.items ≡ faults.old.items ++ number_faults definitions.now) }
     ensures few { OnOk result (faults.new.items ≡ [] → length definitions.now ≤ MOST_CLASSES) }
 {
     if definitions.len() > MOST_CLASSES {
@@ -151,7 +165,8 @@ fn check_number(definitions: &[ClassDef], faults: &mut Vec<ClassFault>) -> Resul
 
 /// Adds C6 where no class is named Main. `Err` comes only for want of memory.
 fn check_main(names: &Names<'_>, faults: &mut Vec<ClassFault>) -> Result<(), AllocError>
-    ensures { OnOk result (AddsFaults (λ n. 0 < n) faults.old.items faults.new.items) }
+    ensures exact { OnOk result ((all : List (List ℕ)) → FindsFirst (shown names.now.entries) all → faults.new.items ≡ faults.old.items ++ main_faults all) }
+    ensures adds { OnOk result (AddsFaults (λ n. 0 < n) faults.old.items faults.new.items) }
 {
     if class_of(names, b"Main").is_none() {
         let at = Place {
@@ -172,6 +187,7 @@ fn add_cyclic(
 ) -> Result<(), AllocError>
     requires within { AllByRecursion (λ (k : ℕ). k < length definitions.now) cyclic.now }
     ensures adds { OnOk result (AddsFaults (λ n. AreClassesWithin n definitions.now) faults.old.items faults.new.items) }
+    ensures exact { OnOk result (faults.new.items ≡ faults.old.items ++ cycle_faults definitions.now cyclic.now) }
     ensures none { OnOk result (faults.new.items ≡ [] → cyclic.now ≡ []) }
 {
     for class in cyclic {
@@ -189,6 +205,8 @@ pub(crate) fn settle_classes(
     requires few { length definitions.now < 2 ^ 32 - 5 }
     ensures parents { IfOk result (λ found. found.parents.items ≡ parents_meant (names_with_basic definitions.now) definitions.now) }
     ensures settled { IfOk result (λ found. AreSettled definitions.now found.depths.items) }
+    ensures faultless { OnOk result (HasClassPhase definitions.now []) }
+    ensures exact { IfErr result (HasClassFaults definitions.now) }
     ensures refusal { IfErr result IsRefusal }
     ensures places { (n : ℕ) → 0 < n → AreClassesWithin n definitions.now → IfErr result (IsPlacedRefusal n) }
 {

@@ -7,6 +7,7 @@
 ghost use Rattle.std.specs.Prelude.{◌≡◌, ◌+◌, ◌-◌, ◌<◌, ◌^◌, ◌++◌, List, [], length, IfOk, OnOk};
 ghost use Rattle.cool_classes.specs.declared.class_id.ClassId as number;
 ghost use Rattle.std.specs.List.{AllByRecursion};
+ghost use Rattle.cool_classes.specs.Cycles.{AreCycles};
 ghost use Rattle.cool_classes.specs.Depths.{parents_with_basic, HasDepth, AreDepths};
 ghost use Rattle.cool_classes.specs.Walks.{settled, cycle_of, IsClimb, AreWalked};
 
@@ -136,6 +137,7 @@ pub(crate) fn depths(alloc: Global, parents: &[ClassId]) -> Result<Hierarchy, Al
     requires parents { AllByRecursion (λ q. q.0 < length parents.now + 5) parents.now }
     requires few { length parents.now < 2 ^ 32 - 5 }
     ensures cyclic { IfOk result (λ found. AllByRecursion (λ k. k < length parents.now) found.cyclic.items) }
+    ensures cycles { IfOk result (λ found. AreCycles parents.now found.cyclic.items) }
     ensures known { IfOk result (λ found. found.cyclic.items ≡ [] → AreDepths parents.now found.known.items) }
 {
     let mut found = Hierarchy {

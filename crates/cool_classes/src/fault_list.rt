@@ -6,7 +6,7 @@ ghost use Rattle.std.specs.List.Sorted.{IsPermutation};
 ghost use Rattle.cool_syntax.specs.FaultOrder.{AreInOrder};
 ghost use Rattle.cool_syntax.specs.TokenFacts.{IsPlaced};
 ghost use Rattle.cool_classes.specs.declared.fault.ClassFault as fault;
-ghost use Rattle.cool_classes.specs.FaultLists.{IsOfClasses, IsOfFeatures, standing_of, IsRefusal, IsPlacedRefusal};
+ghost use Rattle.cool_classes.specs.FaultLists.{IsOfClasses, IsOfFeatures, standing_of, HasExactly, IsRefusal, IsPlacedRefusal};
 ghost use Rattle.cool_classes.specs.Settled.{with_fault};
 
 use crate::fault::{ClassFault, ClassKind, TableError};
@@ -40,6 +40,7 @@ fn sort_faults(faults: &mut Vec<ClassFault>) -> Result<(), AllocError>
 pub(crate) fn refuse_faults(mut faults: Vec<ClassFault>) -> Result<(), TableError>
     requires phase { AllByRecursion IsOfClasses faults.items ⊎ AllByRecursion IsOfFeatures faults.items }
     ensures none { OnOk result (faults.items ≡ []) }
+    ensures exact { IfErr result (HasExactly faults.items) }
     ensures refusal { IfErr result IsRefusal }
     ensures places { (n : ℕ) → AllByRecursion (λ (f : fault.ClassFault). IsPlaced n f.at) faults.items → IfErr result (IsPlacedRefusal n) }
 {

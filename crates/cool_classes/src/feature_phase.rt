@@ -3,6 +3,7 @@
 ghost use Rattle.std.specs.Prelude.{◌≡◌, ◌<◌, ◌^◌, ◌+◌, ◌++◌, ℕ, [], length, IfOk, OnOk};
 ghost use Rattle.std.specs.List.{AllByRecursion};
 ghost use Rattle.cool_syntax.specs.TokenFacts.{IsPlaced};
+ghost use Rattle.cool_classes.specs.ClassFaults.{features_from};
 ghost use Rattle.cool_classes.specs.Definitions.{HasFewFormals};
 ghost use Rattle.cool_classes.specs.Entries.{classes};
 ghost use Rattle.cool_classes.specs.FaultLists.{IsOfFeatures};
@@ -190,6 +191,7 @@ pub(crate) fn feature_faults(
 ) -> Result<Vec<ClassFault>, AllocError>
     requires resolved { AreResolved entries.now }
     requires places { length places.now + 5 ≡ length entries.now }
+    ensures exact { IfOk result (λ faults. faults.items ≡ features_from (classes entries.now) 5 places.now) }
     ensures kinds { IfOk result (λ faults. AllByRecursion IsOfFeatures faults.items) }
     ensures good { IfOk result (λ faults. faults.items ≡ [] → AreGood (classes entries.now)) }
     ensures places { (n : ℕ) → ArePlaced n entries.now places.now → IfOk result (λ faults. AllByRecursion (λ f. IsPlaced n f.at) faults.items) }

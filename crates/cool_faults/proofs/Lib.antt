@@ -2,6 +2,7 @@ pub mod AllItems
 pub mod DefinitionsOfTrees
 pub mod FindingsInARow
 pub mod LexicalFaults
+pub mod OneVerdict
 pub mod OrderOfFaults
 pub mod SlicesParsed
 pub mod SyntaxFaults

@@ -1,14 +1,20 @@
 -- Faults of rising files stand in order; so do the faults of classes and of typing as faults of files.
 use Rattle.std.proofs.Common.{◌≡◌, ◌≢◌, inl, inr, ℕ, ◌+◌, ◌<◌, ◌≤◌, List, [], ◌∷◌, map, refl, sym, subst, arith}
 use Rattle.std.specs.List.{AllByRecursion}
+use Rattle.std.proofs.lemmas.List.Sorted.{IsPermutation-map}
+use Rattle.cool_syntax.specs.declared.file_tree.ClassDef.{ClassDef}
 use Rattle.cool_syntax.specs.FaultOrder.{Standing, IsNoLater, AreInOrder}
 use Rattle.cool_syntax.specs.TokenFacts.{IsPlaced}
 use Rattle.cool_classes.specs.declared.fault.ClassFault.{ClassFault}
+use Rattle.cool_classes.specs.declared.fault.TableError.TheVariants as error
+use Rattle.cool_classes.specs.ClassFaults.{feature_phase, HasTableFaults}
 use Rattle.cool_classes.specs.FaultLists as classes
 use Rattle.cool_check.specs.declared.fault.TypeFault.{TypeFault}
 use Rattle.cool_check.specs.Faults as typing
 use Rattle.cool_faults.specs.declared.fault.Fault.{Fault}
 use Rattle.cool_faults.specs.declared.fault.Fault.TheVariants.{Class as OfClasses, Typing}
+use Rattle.cool_faults.specs.declared.fault.Refusal.TheVariants as refusal
+use Rattle.cool_faults.specs.Phases.{AreTableFaults}
 use Rattle.cool_faults.specs.Verdicts.{IsOfClasses, IsOfTyping, place_of, standing_of}
 
 -- each fault stands in a file of a higher number than the one before, the first in this file or a later one; there are so many files
@@ -88,3 +94,12 @@ pub typing_refusal : (fs : List TypeFault) (gs : List Fault) → gs ≡ map Typi
 typing_refusal fs gs e h =
     subst (λ (l : List Fault). (l ≢ []) × AllByRecursion IsOfTyping l × AreInOrder standing_of l) (sym e)
     (some_mapped Typing fs h.0, typing_of_phase fs, typing_in_order fs h.1)
+
+-- the faults of a table, each as a fault of files
+pub table_refusal : (ds : List ClassDef) (fs : List ClassFault) (gs : List Fault) → gs ≡ map OfClasses fs → HasTableFaults ds (error.Faults fs) → AreTableFaults ds (refusal.Faults gs)
+table_refusal ds fs gs e h =
+    subst (λ (l : List Fault). AreTableFaults ds (refusal.Faults l)) (sym e)
+    (elim h.2 [
+      | inl classes ↦ inl (classes.0, classes.1, IsPermutation-map OfClasses classes.0 fs classes.2)
+      | inr features ↦ inr (features.0, IsPermutation-map OfClasses (feature_phase ds) fs features.1)
+    ])

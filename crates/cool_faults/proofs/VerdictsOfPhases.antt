@@ -1,23 +1,27 @@
 -- What each phase says of the files: they are refused, or their table fits.
-use Rattle.std.proofs.Common.{◌≡◌, ℕ, ◌+◌, ◌<◌, ◌≤◌, List, [], ◌∷◌, length, refl, sym, subst, arith}
+use Rattle.std.proofs.Common.{◌≡◌, ℕ, ◌+◌, ◌<◌, ◌≤◌, List, [], ◌∷◌, length, map, inl, inr, refl, sym, subst, arith}
 use Rattle.std.specs.List.{AllByRecursion}
-use Rattle.std.specs.Prelude.{Result, Ok, Err, MatchResult, IfOk, IfErr}
+use Rattle.std.specs.Prelude.{Result, Ok, Err, MatchResult, IfOk, IfErr, OnOk}
+use Rattle.std.specs.List.Sorted.{IsPermutation}
 use Rattle.std.specs.Global.{Vec}
 use Rattle.cool_syntax.specs.declared.TheConstants.{MOST_FILES, MOST_SOURCE_BYTES}
 use Rattle.cool_syntax.specs.declared.file_tree.FileTree.{FileTree}
 use Rattle.cool_syntax.specs.TreesWithinLimits.{AreClassesWithin}
 use Rattle.cool_lexer.specs.declared.lexer.Lexed.{Lexed}
 use Rattle.cool_classes.specs.Chains.{Class}
+use Rattle.cool_classes.specs.ClassFaults.{classes_meant, feature_phase, HasClassPhase}
 use Rattle.cool_classes.specs.Definitions.{definitions, AreFew, IsTableOf}
 use Rattle.cool_classes.specs.Limits.{KeepsLimits}
 use Rattle.cool_classes.specs.Tables.{IsTable}
 use Rattle.cool_check.specs.Faults.{AreWithin}
+use Rattle.cool_check.specs.TypingFaults.{typing_faults}
 use Rattle.cool_rules.specs.Fits.{Fits}
 use Rattle.cool_faults.specs.declared.fault.Refusal.{Refusal}
 use Rattle.cool_faults.specs.declared.fault.Refusal.TheVariants as refusal
+use Rattle.cool_faults.specs.declared.fault.Fault.TheVariants.{Typing}
 use Rattle.cool_faults.specs.Files.{bytes_of, total}
-use Rattle.cool_faults.specs.Phases.{AreFound, AreFaultsFound, IsLexed, IsLexical, IsParsed, IsSyntactic, IsClassRefusal, IsTypeRefusal, ArePlaced, IsRefusedWith}
-use Rattle.cool_faults.specs.Verdicts.{of_lexer, of_parser, of_classes, of_typing, IsAccepted}
+use Rattle.cool_faults.specs.Phases.{AreFound, AreFaultsFound, IsLexed, IsLexical, IsParsed, IsSyntactic, AreTableFaults, AreTypingFaults, IsClassRefusal, IsTypeRefusal, ArePlaced, IsRefusedWith}
+use Rattle.cool_faults.specs.Verdicts.{of_lexer, of_parser, of_classes, of_features, of_typing, IsAccepted}
 use Rattle.cool_faults.proofs.FindingsInARow.{AllFound, all_found}
 use Rattle.cool_faults.proofs.OrderOfFaults.{InRisingFiles, rising_in_order, rising_placed}
 use Rattle.cool_faults.proofs.LexicalFaults.{lexical_faults, lexical_rising}
@@ -81,14 +85,17 @@ pub trees_few : (files : List (List ℕ)) (ts : List FileTree) → total files �
 trees_few files ts small h = definitions_few (definitions ts) (omega (arith, definitions_light 0 files ts h))
 
 -- faults of classes or features refuse the files
-pub classes_refuse : (files : List (List ℕ)) (ts : List FileTree) (e : Refusal) → AllFound IsWhole 0 files ts → IsClassRefusal e
+pub classes_refuse : (files : List (List ℕ)) (ts : List FileTree) (e : Refusal) → AllFound IsWhole 0 files ts → AreTableFaults (definitions ts) e → IsClassRefusal e
     → ((n : ℕ) → 0 < n → AreClassesWithin n (definitions ts) → ArePlaced n e) → IsRefusedWith files e
-classes_refuse files ts refusal.Memory whole h placed = tt
-classes_refuse files ts (refusal.Faults faults) whole h placed =
+classes_refuse files ts refusal.Memory whole exact h placed = tt
+classes_refuse files ts (refusal.Faults faults) whole exact h placed =
     let all : 0 + length files ≤ length files = omega arith in
     record {
       some = h.0;
-      phase = of_classes ts (are_trees 0 files ts whole) h.1;
+      phase = elim exact [
+        | inl classes ↦ of_classes ts classes.0 (are_trees 0 files ts whole) classes.1 classes.2
+        | inr features ↦ of_features ts (are_trees 0 files ts whole) features.0 features.1
+      ];
       order = h.2;
       places = λ some. placed (length files) some (definitions_within (length files) 0 files ts all whole);
     }
@@ -101,36 +108,45 @@ table_of_trees_fits files ts p count small many few whole of t keeps =
     table_fits count p (definitions ts) few t keeps (definitions_bounded 0 files ts whole) (definitions_within count 0 files ts all whole)
     (omega (arith, definitions_light 0 files ts whole)) of
 
+-- no definition and no feature has a fault
+abbrev pub AreFaultless : List FileTree → Type 0
+AreFaultless ts = HasClassPhase (definitions ts) [] × (feature_phase (definitions ts) ≡ [])
+
 -- faults of typing refuse the files
-pub typing_refuses : (files : List (List ℕ)) (ts : List FileTree) (p : List Class) (e : Refusal) → AllFound IsWhole 0 files ts → IsTableOf (definitions ts) p → IsTable p → IsTypeRefusal e
-    → ((n : ℕ) → AreWithin n p → ArePlaced n e) → IsRefusedWith files e
-typing_refuses files ts p refusal.Memory whole of t h placed = tt
-typing_refuses files ts p (refusal.Faults faults) whole of t h placed =
+pub typing_refuses : (files : List (List ℕ)) (ts : List FileTree) (p : List Class) (e : Refusal) → AllFound IsWhole 0 files ts → IsTableOf (definitions ts) p → p ≡ classes_meant (definitions ts) → AreFaultless ts
+    → IsTable p → AreTypingFaults p e → IsTypeRefusal e → ((n : ℕ) → AreWithin n p → ArePlaced n e) → IsRefusedWith files e
+typing_refuses files ts p refusal.Memory whole of meant none t exact h placed = tt
+typing_refuses files ts p (refusal.Faults faults) whole of meant none t exact h placed =
     let all : 0 + length files ≤ length files = omega arith in
     let within : AreClassesWithin (length files) (definitions ts) = definitions_within (length files) 0 files ts all whole in
     record {
       some = h.0;
-      phase = of_typing ts p (are_trees 0 files ts whole) of h.1;
+      phase = of_typing ts (are_trees 0 files ts whole) none.0 none.1 (subst (λ (q : List Class). IsPermutation (map Typing (typing_faults q)) faults) meant exact);
       order = h.2;
       places = λ some. placed (length files) (table_within (length files) p (definitions ts) t (definitions_bounded 0 files ts whole) within of);
     }
 
 -- a table with no fault of typing is the program of the files
 pub table_accepted : (files : List (List ℕ)) (ts : List FileTree) (p q : List Class) → total files ≤ MOST_SOURCE_BYTES → length files ≤ MOST_FILES → AllFound IsWhole 0 files ts
-    → IsTableOf (definitions ts) p → IsTable p → KeepsLimits p → q ≡ p → IsAccepted files q
-table_accepted files ts p q small few whole of t keeps e =
+    → IsTableOf (definitions ts) p → p ≡ classes_meant (definitions ts) → AreFaultless ts → IsTable p → KeepsLimits p → q ≡ p → typing_faults p ≡ [] → IsAccepted files q
+table_accepted files ts p q small few whole of meant none t keeps e typed =
     let all : length files ≤ length files = omega arith in
     subst (IsAccepted files) (sym e)
     (record {
       trees = ts;
       are_trees = are_trees 0 files ts whole;
       table = of;
+      meant = meant;
+      classes = none.0;
+      features = none.1;
+      typing = typed;
       fits = table_of_trees_fits files ts p (length files) small all few whole of t keeps;
     })
 
 -- what typing answers is the verdict
 pub typing_decides : (files : List (List ℕ)) (ts : List FileTree) (p : List Class) (r : Result (List Class) Refusal) → total files ≤ MOST_SOURCE_BYTES → length files ≤ MOST_FILES
-    → AllFound IsWhole 0 files ts → IsTableOf (definitions ts) p → IsTable p → KeepsLimits p → IfOk r (λ q. q ≡ p) → IfErr r IsTypeRefusal → ((n : ℕ) → AreWithin n p → IfErr r (ArePlaced n))
+    → AllFound IsWhole 0 files ts → IsTableOf (definitions ts) p → p ≡ classes_meant (definitions ts) → AreFaultless ts → IsTable p → KeepsLimits p → IfOk r (λ q. q ≡ p) → OnOk r (typing_faults p ≡ [])
+    → IfErr r (AreTypingFaults p) → IfErr r IsTypeRefusal → ((n : ℕ) → AreWithin n p → IfErr r (ArePlaced n))
     → MatchResult r (IsAccepted files) (IsRefusedWith files)
-typing_decides files ts p (Ok q) small few whole of t keeps same refused placed = table_accepted files ts p q small few whole of t keeps same
-typing_decides files ts p (Err e) small few whole of t keeps same refused placed = typing_refuses files ts p e whole of t refused placed
+typing_decides files ts p (Ok q) small few whole of meant none t keeps same typed exact refused placed = table_accepted files ts p q small few whole of meant none t keeps same typed
+typing_decides files ts p (Err e) small few whole of meant none t keeps same typed exact refused placed = typing_refuses files ts p e whole of meant none t exact refused placed

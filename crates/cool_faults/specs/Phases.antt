@@ -1,6 +1,7 @@
 -- What a phase finds in its inputs, one after the other: a result of each good one, and a fault of each of the others.
-use Rattle.std.specs.Prelude.{◌≡◌, ◌≢◌, ◌⊎◌, ℕ, ◌+◌, ◌<◌, ◌≤◌, List, [], ◌∷◌, ◌++◌, length}
+use Rattle.std.specs.Prelude.{◌≡◌, ◌≢◌, ◌⊎◌, ℕ, ◌+◌, ◌<◌, ◌≤◌, List, [], ◌∷◌, ◌++◌, map, length}
 use Rattle.std.specs.List.{AllByRecursion}
+use Rattle.std.specs.List.Sorted.{IsPermutation}
 use Rattle.cool_syntax.specs.declared.file_tree.FileTree.{FileTree}
 use Rattle.cool_syntax.specs.FaultOrder.{AreInOrder}
 use Rattle.cool_syntax.specs.FeatureSizes.{IsBoundedClass}
@@ -11,6 +12,11 @@ use Rattle.cool_syntax.specs.TreesWithinLimits.{AreClassesWithin}
 use Rattle.cool_syntax.specs.Weights.{classes_weight}
 use Rattle.cool_lexer.specs.declared.lexer.Lexed.{Lexed}
 use Rattle.cool_parser.specs.FaultPlaces.{IsTokenOrEnd}
+use Rattle.cool_syntax.specs.declared.file_tree.ClassDef.{ClassDef}
+use Rattle.cool_classes.specs.declared.fault.ClassFault.{ClassFault}
+use Rattle.cool_classes.specs.Chains.{Class}
+use Rattle.cool_classes.specs.ClassFaults.{feature_phase, HasClassPhase}
+use Rattle.cool_check.specs.TypingFaults.{typing_faults}
 use Rattle.cool_faults.specs.declared.fault.Fault.{Fault}
 use Rattle.cool_faults.specs.declared.fault.Fault.TheVariants.{Lex, Syntax, Class as OfClasses, Typing}
 use Rattle.cool_faults.specs.declared.fault.Refusal.{Refusal}
@@ -85,6 +91,17 @@ IsClassRefusal (refusal.Faults faults) = (faults ≢ []) × AllByRecursion IsOfC
 abbrev pub IsTypeRefusal : Refusal → Type 0
 IsTypeRefusal refusal.Memory = Unit {0}
 IsTypeRefusal (refusal.Faults faults) = (faults ≢ []) × AllByRecursion IsOfTyping faults × AreInOrder standing_of faults
+
+-- the faults of classes where there are any, and else those of features, of these definitions, in some order; or want of memory
+abbrev pub AreTableFaults : List ClassDef → Refusal → Type 0
+AreTableFaults ds refusal.Memory = Unit {0}
+AreTableFaults ds (refusal.Faults faults) =
+    ((fs : List ClassFault) × HasClassPhase ds fs × IsPermutation (map OfClasses fs) faults) ⊎ (HasClassPhase ds [] × IsPermutation (map OfClasses (feature_phase ds)) faults)
+
+-- the faults of typing of a table, in some order; or want of memory
+abbrev pub AreTypingFaults : List Class → Refusal → Type 0
+AreTypingFaults p refusal.Memory = Unit {0}
+AreTypingFaults p (refusal.Faults faults) = IsPermutation (map Typing (typing_faults p)) faults
 
 -- the faults stand in one of so many files
 abbrev pub ArePlaced : ℕ → Refusal → Type 0

@@ -1,7 +1,8 @@
 -- What the parts of the compiler's front say of source files: their trees, a class table and its program, or the faults of the first
 -- part that finds any.
-use Rattle.std.specs.Prelude.{◌≡◌, ◌≢◌, ℕ, ◌+◌, ◌<◌, List, [], ◌∷◌, length}
+use Rattle.std.specs.Prelude.{◌≡◌, ◌≢◌, ℕ, ◌+◌, ◌<◌, List, [], ◌∷◌, map, length}
 use Rattle.std.specs.List.{AllByRecursion}
+use Rattle.std.specs.List.Sorted.{IsPermutation}
 use Rattle.cool_syntax.specs.declared.place.Place.{Place}
 use Rattle.cool_syntax.specs.declared.token.Token.{Token}
 use Rattle.cool_syntax.specs.declared.lexical.LexKind.{LexKind}
@@ -13,10 +14,13 @@ use Rattle.cool_syntax.specs.LexicalStructure.{Lexes, LexFault as IsLexFault, pl
 use Rattle.cool_syntax.specs.TokenFacts.{IsPlaced}
 use Rattle.cool_lexer.specs.declared.error.LexFault.{LexFault}
 use Rattle.cool_parser.specs.declared.fault.ParseFault.{ParseFault}
+use Rattle.cool_classes.specs.declared.fault.ClassFault.{ClassFault}
 use Rattle.cool_classes.specs.Chains.{Class}
+use Rattle.cool_classes.specs.ClassFaults.{classes_meant, feature_phase, HasClassPhase}
 use Rattle.cool_classes.specs.Definitions.{definitions, IsTableOf}
 use Rattle.cool_classes.specs.FaultLists.{rank as class_rank}
 use Rattle.cool_check.specs.Faults.{rank as type_rank}
+use Rattle.cool_check.specs.TypingFaults.{typing_faults}
 use Rattle.cool_rules.specs.Fits.{Fits}
 use Rattle.cool_faults.specs.declared.fault.Fault.{Fault}
 use Rattle.cool_faults.specs.declared.fault.Fault.TheVariants.{Lex, Syntax, Class as OfClasses, Typing}
@@ -95,13 +99,15 @@ IsOfTyping (Syntax f) = ⊥
 IsOfTyping (OfClasses f) = ⊥
 IsOfTyping (Typing f) = Unit {0}
 
--- The faults of a phase: those of the lexer, of the parser, of classes and features, or of typing. Which faults of the last two
--- there are is not said yet.
+-- The faults of the first phase that finds any: of the lexer or the parser the first of each file, of classes and then of features all,
+-- of typing the first of each feature.
 pub data IsPhase (files : List (List ℕ)) (faults : List Fault) : Type 0 where
   of_lexer : LexFaults 0 files faults → IsPhase files faults
   of_parser : SyntaxFaults 0 files faults → IsPhase files faults
-  of_classes : (trees : List FileTree) → AreTrees 0 files trees → AllByRecursion IsOfClasses faults → IsPhase files faults
-  of_typing : (trees : List FileTree) (p : List Class) → AreTrees 0 files trees → IsTableOf (definitions trees) p → AllByRecursion IsOfTyping faults → IsPhase files faults
+  of_classes : (trees : List FileTree) (fs : List ClassFault) → AreTrees 0 files trees → HasClassPhase (definitions trees) fs → IsPermutation (map OfClasses fs) faults → IsPhase files faults
+  of_features : (trees : List FileTree) → AreTrees 0 files trees → HasClassPhase (definitions trees) [] → IsPermutation (map OfClasses (feature_phase (definitions trees))) faults → IsPhase files faults
+  of_typing : (trees : List FileTree) → AreTrees 0 files trees → HasClassPhase (definitions trees) [] → feature_phase (definitions trees) ≡ []
+      → IsPermutation (map Typing (typing_faults (classes_meant (definitions trees)))) faults → IsPhase files faults
 
 -- Files are refused with the faults of one phase, in order; each stands in one of the files, where there are any.
 pub record IsRefused (files : List (List ℕ)) (faults : List Fault) : Type 0 where
@@ -110,11 +116,15 @@ pub record IsRefused (files : List (List ℕ)) (faults : List Fault) : Type 0 wh
   pub order : AreInOrder standing_of faults
   pub places : 0 < length files → AllByRecursion (λ f. IsPlaced (length files) (place_of f)) faults
 
--- Files are accepted as a program: it is the class table of their trees, and keeps the limits.
+-- Files are accepted as a program: it is the class table of their trees, no phase finds a fault, and it keeps the limits.
 pub record IsAccepted (files : List (List ℕ)) (p : List Class) : Type 0 where
   pub trees : List FileTree
   pub are_trees : AreTrees 0 files trees
   pub table : IsTableOf (definitions trees) p
+  pub meant : p ≡ classes_meant (definitions trees)
+  pub classes : HasClassPhase (definitions trees) []
+  pub features : feature_phase (definitions trees) ≡ []
+  pub typing : typing_faults p ≡ []
   pub fits : Fits p (length files)
 
 -- the verdict on files

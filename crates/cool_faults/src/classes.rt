@@ -1,12 +1,13 @@
 //! The class table of all trees.
 
-ghost use Rattle.std.specs.Prelude.{◌≡◌, ◌<◌, ℕ, map, IfOk, IfErr};
+ghost use Rattle.std.specs.Prelude.{◌≡◌, ◌<◌, ℕ, [], map, IfOk, IfErr, OnOk};
 ghost use Rattle.cool_syntax.specs.TreesWithinLimits.{AreClassesWithin};
+ghost use Rattle.cool_classes.specs.ClassFaults.{classes_meant, feature_phase, HasClassPhase};
 ghost use Rattle.cool_classes.specs.Definitions.{definitions, AreFew, IsTableOf};
 ghost use Rattle.cool_classes.specs.Limits.{KeepsLimits};
 ghost use Rattle.cool_classes.specs.Tables.{IsTable};
 ghost use Rattle.cool_faults.specs.declared.fault.Fault.TheVariants as phase;
-ghost use Rattle.cool_faults.specs.Phases.{ArePlaced, IsClassRefusal};
+ghost use Rattle.cool_faults.specs.Phases.{ArePlaced, AreTableFaults, IsClassRefusal};
 
 use crate::fault::{Fault, Refusal};
 use cool_classes::{ClassFault, ClassTable, TableError, table};
@@ -22,6 +23,9 @@ pub(crate) fn class_table(alloc: Global, trees: Vec<FileTree>) -> Result<ClassTa
     ensures of { IfOk result (IsTableOf (definitions trees.items)) }
     ensures limits { IfOk result KeepsLimits }
     ensures whole { IfOk result IsTable }
+    ensures classes { IfOk result (λ p. p ≡ classes_meant (definitions trees.items)) }
+    ensures faultless { OnOk result (HasClassPhase (definitions trees.items) [] × (feature_phase (definitions trees.items) ≡ [])) }
+    ensures exact { IfErr result (AreTableFaults (definitions trees.items)) }
     ensures refusal { IfErr result IsClassRefusal }
     ensures places { (n : ℕ) → 0 < n → AreClassesWithin n (definitions trees.items) → IfErr result (ArePlaced n) }
 {

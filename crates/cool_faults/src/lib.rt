@@ -8,6 +8,7 @@ mod acceptance;
 mod classes;
 mod fault;
 mod findings;
+mod laws;
 mod lexing;
 mod parsing;
 #[cfg(test)]
@@ -17,4 +18,5 @@ mod typing;
 
 pub use acceptance::accept;
 pub use fault::{Fault, Verdict};
+pub use laws::{law_never_both, law_one_program, law_one_refusal};
 pub use text::fault_text;

@@ -1,11 +1,12 @@
 //! Typing all features.
 
-ghost use Rattle.std.specs.Prelude.{◌≡◌, ℕ, map, IfOk, IfErr};
+ghost use Rattle.std.specs.Prelude.{◌≡◌, ℕ, [], map, IfOk, IfErr, OnOk};
 ghost use Rattle.cool_syntax.specs.declared.TheConstants.{MOST_FILES};
 ghost use Rattle.cool_rules.specs.Fits.{Fits};
 ghost use Rattle.cool_check.specs.Faults.{AreWithin};
+ghost use Rattle.cool_check.specs.TypingFaults.{typing_faults};
 ghost use Rattle.cool_faults.specs.declared.fault.Fault.TheVariants as phase;
-ghost use Rattle.cool_faults.specs.Phases.{ArePlaced, IsTypeRefusal};
+ghost use Rattle.cool_faults.specs.Phases.{ArePlaced, AreTypingFaults, IsTypeRefusal};
 
 use crate::fault::{Fault, Refusal};
 use cool_check::{CheckAllError, TypeFault, check};
@@ -21,6 +22,8 @@ use std::alloc::{AllocError, Global};
 pub(crate) fn typed_program(alloc: Global, classes: ClassTable) -> Result<TypedProgram, Refusal>
     requires fits { Fits classes MOST_FILES }
     ensures program { IfOk result (λ p. p ≡ classes) }
+    ensures typed { OnOk result (typing_faults classes ≡ []) }
+    ensures exact { IfErr result (AreTypingFaults classes) }
     ensures refusal { IfErr result IsTypeRefusal }
     ensures places { (n : ℕ) → AreWithin n classes → IfErr result (ArePlaced n) }
 {

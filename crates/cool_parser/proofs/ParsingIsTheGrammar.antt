@@ -181,3 +181,11 @@ whole_or_fault tokens end at classes e u = let same : Whole classes ≡ Unexpect
 -- the fault is the only one
 pub fault_only : (tokens : List Token) (end at other : Place) → parsed tokens end ≡ Unexpected at → IsUnexpected tokens end other → at ≡ other
 fault_only tokens end at other e u = let same : Unexpected at ≡ Unexpected other = sym e ∙ exact tokens end other u in cc
+
+-- tokens that are a file have no fault, and others have one
+
+pub file_or_fault : (tokens : List Token) (end at : Place) (classes : List ClassDef) → Parses tokens classes → IsUnexpected tokens end at → ⊥
+file_or_fault tokens end at classes p u = whole_or_fault tokens end at classes (complete tokens end classes p) u
+
+pub one_fault : (tokens : List Token) (end at other : Place) → IsUnexpected tokens end at → IsUnexpected tokens end other → at ≡ other
+one_fault tokens end at other u v = fault_only tokens end at other (exact tokens end at u) v

@@ -20,6 +20,12 @@ binding::type_of_branches-returns-in_err-found-clause-places t c = λ n h.
     let same : c.from_residual-in_err-found.result ≡ Err c.in_err-found.field-0.0 = search rules in
     subst (λ r. IfErr r (IsPlacedError n)) (sym same) (c.in_err-found.ensures.places n within.2)
 
+pub binding::type_of_binding-returns-in_err-bound-in-Let-clause-places : goal.binding::type_of_binding-returns-in_err-bound-in-Let-clause-places
+binding::type_of_binding-returns-in_err-bound-in-Let-clause-places t c = λ n h.
+    let parts = subst (λ m. IsTreeWithin n (made (all_trees c.args.setting.now.body.now) m)) c.in-Let.is h in
+    let same : c.from_residual-in_err-bound-in-Let.result ≡ Err c.in_err-bound-in-Let.field-0.0 = search rules in
+    subst (λ r. IfErr r (IsPlacedError n)) (sym same) (c.in_err-bound-in-Let.ensures.places n parts.0 parts.2.1)
+
 pub called::type_of_call-returns-in_err-class-in-StaticDispatch-clause-places : goal.called::type_of_call-returns-in_err-class-in-StaticDispatch-clause-places
 called::type_of_call-returns-in_err-class-in-StaticDispatch-clause-places t c = λ n h.
     let parts = subst (λ m. IsTreeWithin n (made (all_trees c.args.setting.now.body.now) m)) c.in-StaticDispatch.is h in

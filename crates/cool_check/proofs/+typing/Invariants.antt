@@ -1,8 +1,12 @@
 -- Parts have smaller numbers. Behind the parts that were checked the scope is as before, and the types are types of the table.
-use Rattle.std.proofs.Common.{◌≡◌, ◌+◌, ◌*◌, ◌<◌, length, drop}
+use Rattle.std.proofs.Common.{◌≡◌, ◌+◌, ◌*◌, ◌<◌, [], None, length, map, drop}
 use Rattle.std.specs.Prelude.{IfSome}
 use Rattle.std.specs.List.{AllByRecursion}
+use Rattle.cool_syntax.specs.Tree.{of_list, of_twigs}
+use Rattle.cool_syntax.specs.NodeLists.{all_trees, at_id, twig_at}
 use Rattle.cool_rules.specs.Conformance.{IsType}
+use Rattle.cool_check.specs.Rules.{context}
+use Rattle.cool_check.specs.FirstFaults.{all_checked, cases_checked, last_checked, object}
 use Rattle.cool_check.proofs.+typing.Given as goal
 
 abbrev pub decreases-expression::type_of : goal.decreases-expression::type_of
@@ -42,6 +46,8 @@ abbrev pub invariant-binding::type_of_branches-loop-branch : goal.invariant-bind
 invariant-binding::type_of_branches-loop-branch l = record {
   scope : l.locals ≡ l.fn.locals;
   joined : IfSome l.joined (IsType l.setting.table.now);
+  walked : cases_checked (context l.setting) l.fn.locals l.classes.items l.joined (of_twigs (map (twig_at (all_trees l.setting.body.now)) (drop l.branch-index l.branches)))
+      ≡ cases_checked (context l.setting) l.fn.locals [] None (of_twigs (map (twig_at (all_trees l.setting.body.now)) l.branches));
   below : AllByRecursion (λ branch. branch.body.0 < l.fn.end.0) (drop l.branch-index l.branches);
 }
 
@@ -49,6 +55,8 @@ abbrev pub invariant-expression::type_of_last-loop-item : goal.invariant-express
 invariant-expression::type_of_last-loop-item l = record {
   scope : l.locals ≡ l.fn.locals;
   last : IsType l.setting.table.now l.last;
+  walked : last_checked (context l.setting) l.fn.locals l.last (of_list (map (at_id (all_trees l.setting.body.now)) (drop l.item-index l.items)))
+      ≡ last_checked (context l.setting) l.fn.locals object (of_list (map (at_id (all_trees l.setting.body.now)) l.items));
   below : AllByRecursion (λ item. item.0 < l.fn.end.0) (drop l.item-index l.items);
 }
 
@@ -57,5 +65,7 @@ invariant-expression::types_of-loop-item l = record {
   scope : l.locals ≡ l.fn.locals;
   types : AllByRecursion (IsType l.setting.table.now) l.types.items;
   each : length l.types.items ≡ l.item-index;
+  walked : all_checked (context l.setting) l.fn.locals l.types.items (of_list (map (at_id (all_trees l.setting.body.now)) (drop l.item-index l.items)))
+      ≡ all_checked (context l.setting) l.fn.locals [] (of_list (map (at_id (all_trees l.setting.body.now)) l.items));
   below : AllByRecursion (λ item. item.0 < l.fn.end.0) (drop l.item-index l.items);
 }

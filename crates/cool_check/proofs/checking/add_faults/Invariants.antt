@@ -1,10 +1,15 @@
--- Where the features and the earlier faults stand in so many files, so do the faults.
-use Rattle.std.proofs.Common.{ℕ}
+-- The faults so far with those of the features that are left are all. Where the features and the earlier faults stand in so many files,
+-- so do the faults.
+use Rattle.std.proofs.Common.{◌≡◌, ℕ, ◌++◌, drop}
 use Rattle.std.specs.List.{AllByRecursion}
 use Rattle.cool_syntax.specs.TokenFacts.{IsPlaced}
 use Rattle.cool_syntax.specs.TreesWithinLimits.{IsFeatureWithin}
 use Rattle.cool_classes.specs.Chains.{features_of}
+use Rattle.cool_check.specs.TypingFaults.{features_faults}
 use Rattle.cool_check.proofs.checking.add_faults.Given as goal
 
-abbrev pub invariant-loop-feature : goal.invariant-loop-feature
-invariant-loop-feature l = (n : ℕ) → AllByRecursion (IsFeatureWithin n) (features_of l.t l.c) → AllByRecursion (λ f. IsPlaced n f.at) l.fn.faults.items → AllByRecursion (λ f. IsPlaced n f.at) l.faults.items
+abbrev pub invariant-loop-index : goal.invariant-loop-index
+invariant-loop-index l = record {
+  faults : l.faults.items ++ features_faults l.t l.c (drop l.index (features_of l.t l.c)) ≡ l.fn.faults.items ++ features_faults l.t l.c (features_of l.t l.c);
+  places : (n : ℕ) → AllByRecursion (IsFeatureWithin n) (features_of l.t l.c) → AllByRecursion (λ f. IsPlaced n f.at) l.fn.faults.items → AllByRecursion (λ f. IsPlaced n f.at) l.faults.items;
+}

@@ -6,4 +6,4 @@ use Rattle.cool_check.specs.declared.fault.TypeFault.{TypeFault}
 use Rattle.cool_check.proofs.checking.check.Goals as goal
 
 pub returns-clause-places : goal.returns-clause-places
-returns-clause-places c = λ n h. subst (AllByRecursion (λ (f : TypeFault). IsPlaced n f.at)) (sym c.new-2.ensures) (c.in_order.ensures.places n (c.in_ok-faults.ensures n h))
+returns-clause-places c = λ n h. subst (AllByRecursion (λ (f : TypeFault). IsPlaced n f.at)) (sym c.new-2.ensures) (c.in_order.ensures.places n (c.in_ok-faults.ensures.places n h))

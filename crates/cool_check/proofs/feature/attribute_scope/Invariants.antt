@@ -1,6 +1,8 @@
--- What was entered has a type of the table, and what is left to enter are attributes.
+-- What was entered has a type of the table, what is left to enter are attributes, and with them it is the scope.
+use Rattle.std.proofs.Common.{◌≡◌, map}
 use Rattle.std.specs.List.{AllByRecursion}
 use Rattle.cool_classes.specs.Features.{HasAttribute}
+use Rattle.cool_check.specs.Rules.{entered, attribute_binding, attribute_bindings}
 use Rattle.cool_check.specs.Settings.{HaveTypes}
 use Rattle.cool_check.proofs.feature.attribute_scope.Given as goal
 
@@ -8,4 +10,5 @@ abbrev pub invariant-loop-attribute : goal.invariant-loop-attribute
 invariant-loop-attribute l = record {
   types : HaveTypes l.t l.scope;
   has : AllByRecursion (HasAttribute l.t) l.attribute-iterator.rest.items;
+  attributes : entered (map (attribute_binding l.t) l.attribute-iterator.rest.items) l.scope ≡ attribute_bindings l.t l.fn.c;
 }

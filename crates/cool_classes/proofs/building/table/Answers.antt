@@ -1,15 +1,19 @@
 -- Settled definitions make the entries, whose features are good where they have no fault.
-use Rattle.std.proofs.Common.{rules, ◌≡◌, ◌+◌, ℕ, List, length, map, sym, ap, ◌∙◌, subst}
+use Rattle.std.proofs.Common.{rules, ◌≡◌, ◌+◌, ℕ, List, [], length, map, sym, ap, ◌∙◌, subst}
 use Rattle.std.proofs.lemmas.List.{length-map}
 use Rattle.cool_syntax.specs.declared.place.Place.{Place}
 use Rattle.cool_syntax.specs.declared.file_tree.ClassDef.{ClassDef}
 use Rattle.cool_syntax.specs.TreesWithinLimits.{AreClassesWithin}
 use Rattle.cool_classes.specs.declared.entry.Entry.{Entry}
+use Rattle.cool_classes.specs.ClassFaults.{classes_meant, feature_phase, features_from, places, HasClassPhase, HasClassFaults, HasTableFaults}
+use Rattle.cool_classes.specs.ClassRows.{HasRows}
 use Rattle.cool_classes.specs.Definitions.{definitions, AreFew, IsTableOf}
 use Rattle.cool_classes.specs.Entries.{classes}
 use Rattle.cool_classes.specs.FaultLists.{IsPlacedRefusal}
 use Rattle.cool_classes.specs.Resolved.{AreResolved, AreGood, ArePlaced}
 use Rattle.cool_classes.specs.Settled.{AreSettled, entries_of}
+use Rattle.cool_classes.proofs.ExactFaults.{entries_are_meant, refused_features, refused_table}
+use Rattle.cool_classes.proofs.RowsExact.{refused_rows, accepted_rows}
 use Rattle.cool_classes.proofs.Resolving.{resolved_by, table_by, placed_by, entries_long, whole_by}
 use Rattle.cool_classes.proofs.building.table.Goals as goal
 
@@ -66,3 +70,76 @@ returns-clause-table c =
     let settled = subst (λ (xs : List ClassDef). AreSettled xs os) c.deref.ensures.value c.in_ok-ancestry.ensures.settled in
     subst (IsTableOf (definitions c.args.files.items)) (sym (c.in_ok-from_entries.ensures ∙ ap classes c.in_ok-entries.ensures))
     (subst (λ (xs : List ClassDef). IsTableOf xs (classes (entries_of ds os))) c.in_ok-definitions.ensures (table_by ds os settled))
+
+pub returns-clause-classes : goal.returns-clause-classes
+returns-clause-classes c =
+    let ds = c.in_ok-definitions.definitions.items in
+    let os = c.in_ok-ancestry.ancestry.depths.items in
+    let settled = subst (λ (xs : List ClassDef). AreSettled xs os) c.deref.ensures.value c.in_ok-ancestry.ensures.settled in
+    c.in_ok-from_entries.ensures ∙ ap classes c.in_ok-entries.ensures ∙ entries_are_meant ds os settled ∙ ap classes_meant c.in_ok-definitions.ensures
+
+pub returns-clause-faultless : goal.returns-clause-faultless
+returns-clause-faultless c =
+    let ds = c.in_ok-definitions.definitions.items in
+    let os = c.in_ok-ancestry.ancestry.depths.items in
+    let settled = subst (λ (xs : List ClassDef). AreSettled xs os) c.deref.ensures.value c.in_ok-ancestry.ensures.settled in
+    let none = subst (λ (xs : List ClassDef). HasClassPhase xs []) (c.deref.ensures.value ∙ c.in_ok-definitions.ensures) c.in_ok-ancestry.ensures.faultless in
+    let meant : classes c.deref-3.result.now ≡ classes_meant ds = ap classes (c.deref-3.ensures.value ∙ c.in_ok-entries.ensures) ∙ entries_are_meant ds os settled in
+    let stand : c.deref-4.result.now ≡ places ds = c.deref-4.ensures.value ∙ c.in_ok-places.ensures ∙ ap places c.deref-2.ensures.value in
+    let is : c.in_ok-faults.faults.items ≡ feature_phase (definitions c.args.files.items) =
+    c.in_ok-faults.ensures.exact ∙ (λ i. features_from (meant i) 5 (stand i)) ∙ ap feature_phase c.in_ok-definitions.ensures in
+    (none, sym is ∙ c.in_ok-refuse_faults.ensures.none)
+
+pub returns-in_err-refuse_faults-clause-exact : goal.returns-in_err-refuse_faults-clause-exact
+returns-in_err-refuse_faults-clause-exact c =
+    let ds = c.in_ok-definitions.definitions.items in
+    let os = c.in_ok-ancestry.ancestry.depths.items in
+    let settled = subst (λ (xs : List ClassDef). AreSettled xs os) c.deref.ensures.value c.in_ok-ancestry.ensures.settled in
+    let none = subst (λ (xs : List ClassDef). HasClassPhase xs []) (c.deref.ensures.value ∙ c.in_ok-definitions.ensures) c.in_ok-ancestry.ensures.faultless in
+    let meant : classes c.deref-3.result.now ≡ classes_meant ds = ap classes (c.deref-3.ensures.value ∙ c.in_ok-entries.ensures) ∙ entries_are_meant ds os settled in
+    let stand : c.deref-4.result.now ≡ places ds = c.deref-4.ensures.value ∙ c.in_ok-places.ensures ∙ ap places c.deref-2.ensures.value in
+    let is : c.in_ok-faults.faults.items ≡ feature_phase (definitions c.args.files.items) =
+    c.in_ok-faults.ensures.exact ∙ (λ i. features_from (meant i) 5 (stand i)) ∙ ap feature_phase c.in_ok-definitions.ensures in
+    let exact : HasTableFaults (definitions c.args.files.items) c.in_err-refuse_faults.field-0.0 =
+    refused_features (definitions c.args.files.items) c.in_ok-faults.faults.items c.in_err-refuse_faults.field-0.0 none is c.in_err-refuse_faults.ensures.exact in
+    search rules
+
+pub returns-in_err-refuse_faults-clause-rows : goal.returns-in_err-refuse_faults-clause-rows
+returns-in_err-refuse_faults-clause-rows c =
+    let ds = c.in_ok-definitions.definitions.items in
+    let os = c.in_ok-ancestry.ancestry.depths.items in
+    let settled = subst (λ (xs : List ClassDef). AreSettled xs os) c.deref.ensures.value c.in_ok-ancestry.ensures.settled in
+    let none = subst (λ (xs : List ClassDef). HasClassPhase xs []) (c.deref.ensures.value ∙ c.in_ok-definitions.ensures) c.in_ok-ancestry.ensures.faultless in
+    let meant : classes c.deref-3.result.now ≡ classes_meant ds = ap classes (c.deref-3.ensures.value ∙ c.in_ok-entries.ensures) ∙ entries_are_meant ds os settled in
+    let stand : c.deref-4.result.now ≡ places ds = c.deref-4.ensures.value ∙ c.in_ok-places.ensures ∙ ap places c.deref-2.ensures.value in
+    let is : c.in_ok-faults.faults.items ≡ feature_phase (definitions c.args.files.items) =
+    c.in_ok-faults.ensures.exact ∙ (λ i. features_from (meant i) 5 (stand i)) ∙ ap feature_phase c.in_ok-definitions.ensures in
+    let exact : HasRows (definitions c.args.files.items) c.in_err-refuse_faults.field-0.0 =
+    refused_rows (definitions c.args.files.items) c.in_err-refuse_faults.field-0.0
+    (refused_features (definitions c.args.files.items) c.in_ok-faults.faults.items c.in_err-refuse_faults.field-0.0 none is c.in_err-refuse_faults.ensures.exact) in
+    search rules
+
+pub returns-clause-no_rows : goal.returns-clause-no_rows
+returns-clause-no_rows c =
+    let ds = c.in_ok-definitions.definitions.items in
+    let os = c.in_ok-ancestry.ancestry.depths.items in
+    let settled = subst (λ (xs : List ClassDef). AreSettled xs os) c.deref.ensures.value c.in_ok-ancestry.ensures.settled in
+    let none = subst (λ (xs : List ClassDef). HasClassPhase xs []) (c.deref.ensures.value ∙ c.in_ok-definitions.ensures) c.in_ok-ancestry.ensures.faultless in
+    let meant : classes c.deref-3.result.now ≡ classes_meant ds = ap classes (c.deref-3.ensures.value ∙ c.in_ok-entries.ensures) ∙ entries_are_meant ds os settled in
+    let stand : c.deref-4.result.now ≡ places ds = c.deref-4.ensures.value ∙ c.in_ok-places.ensures ∙ ap places c.deref-2.ensures.value in
+    let is : c.in_ok-faults.faults.items ≡ feature_phase (definitions c.args.files.items) =
+    c.in_ok-faults.ensures.exact ∙ (λ i. features_from (meant i) 5 (stand i)) ∙ ap feature_phase c.in_ok-definitions.ensures in
+    accepted_rows (definitions c.args.files.items) none (sym is ∙ c.in_ok-refuse_faults.ensures.none)
+
+pub returns-in_err-ancestry-clause-exact : goal.returns-in_err-ancestry-clause-exact
+returns-in_err-ancestry-clause-exact c =
+    let here = subst (λ (xs : List ClassDef). HasClassFaults xs c.in_err-ancestry.field-0.0) (c.deref.ensures.value ∙ c.in_ok-definitions.ensures) c.in_err-ancestry.ensures.exact in
+    let exact : HasTableFaults (definitions c.args.files.items) c.in_err-ancestry.field-0.0 = refused_table (definitions c.args.files.items) c.in_err-ancestry.field-0.0 here in
+    search rules
+
+pub returns-in_err-ancestry-clause-rows : goal.returns-in_err-ancestry-clause-rows
+returns-in_err-ancestry-clause-rows c =
+    let here = subst (λ (xs : List ClassDef). HasClassFaults xs c.in_err-ancestry.field-0.0) (c.deref.ensures.value ∙ c.in_ok-definitions.ensures) c.in_err-ancestry.ensures.exact in
+    let exact : HasRows (definitions c.args.files.items) c.in_err-ancestry.field-0.0 =
+    refused_rows (definitions c.args.files.items) c.in_err-ancestry.field-0.0 (refused_table (definitions c.args.files.items) c.in_err-ancestry.field-0.0 here) in
+    search rules

@@ -5,6 +5,7 @@ use Rattle.cool_classes.specs.declared.fault.ClassFault.{ClassFault}
 use Rattle.cool_classes.specs.declared.fault.ClassKind.TheVariants.{C5}
 use Rattle.cool_classes.specs.Settled.{AddsFaults}
 use Rattle.cool_classes.proofs.AllOfLists.{all_at}
+use Rattle.cool_classes.proofs.FaultsLeft.{cycles_next}
 use Rattle.cool_classes.proofs.FaultsAdded.{adds_both, adds_one, some_fault}
 use Rattle.cool_classes.proofs.class_phase.add_cyclic.Goals as goal
 
@@ -21,5 +22,6 @@ loop-class-preserved c =
     (adds_one (λ (n : ℕ). AreClassesWithin n ds) (Some C5) d.at faults (omega arith) (λ n all. (all_at (IsClassWithin n) ds k c.index-definitions-class.result all within).0)) in
     record {
       adds = adds_both (λ (n : ℕ). AreClassesWithin n ds) c.args.faults.now.items faults c.add_fault.new.faults.items c.loop-class.invariant.adds one;
+      exact = cycles_next ds c.args.cyclic.now c.loop-class.class-index c.index-definitions-class.result faults c.add_fault.new.faults.items less within c.in_ok-add_fault.ensures ∙ c.loop-class.invariant.exact;
       none = λ e. absurd (some_fault faults (record { kind = C5; at = d.at }) (sym c.in_ok-add_fault.ensures ∙ e));
     }

@@ -5,6 +5,7 @@ use Rattle.cool_syntax.specs.TreesWithinLimits.{AreClassesWithin, IsTypeWithin}
 use Rattle.cool_classes.specs.declared.class_id.ClassId.{ClassId}
 use Rattle.cool_classes.specs.Settled.{names_with_basic, parents_meant}
 use Rattle.cool_classes.proofs.AllOfLists.{class_within}
+use Rattle.cool_classes.proofs.FaultsLeft.{parents_next}
 use Rattle.cool_classes.proofs.FaultsAdded.{adds_both, adds_under}
 use Rattle.cool_classes.proofs.ParentsOfDefinitions.{parents_more, known_more}
 use Rattle.cool_classes.proofs.class_phase.find_parents.Goals as goal
@@ -26,5 +27,6 @@ loop-definition-preserved c =
           ∙ ap (λ (q : ClassId). parents_meant names (take k ds) ++ q ∷ []) (c.in_ok-parent.ensures.parent names c.requires.finds)
           ∙ parents_more names ds k d within c.definition-item.is;
       adds = adds_both (λ (n : ℕ). AreClassesWithin n ds) c.args.faults.now.items faults after c.loop-definition.invariant.adds one;
+      exact = parents_next names ds k d faults after within c.definition-item.is (c.in_ok-parent.ensures.exact names c.requires.finds) ∙ c.loop-definition.invariant.exact;
       known = λ none. known_more names ds k d within c.definition-item.is (c.in_ok-parent.ensures.known none names c.requires.finds) (c.loop-definition.invariant.known (one.kept none));
     }

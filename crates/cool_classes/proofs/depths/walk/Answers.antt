@@ -2,7 +2,7 @@
 use Rattle.std.proofs.Common.{◌≡◌, ◌+◌, List, ℕ, Option, length, sym, ap, ◌∙◌, subst}
 use Rattle.cool_classes.specs.declared.depths.Above.{Above}
 use Rattle.cool_classes.specs.Walks.{AreWalked, IsClimb, settled}
-use Rattle.cool_classes.proofs.WalksFind.{walked_known, walked_cycle, written_back, settled_length}
+use Rattle.cool_classes.proofs.WalksFind.{walked_known, walked_cycle, walked_lost, written_back, settled_length}
 use Rattle.cool_classes.proofs.depths.walk.Goals as goal
 
 pub returns-in-Known : goal.returns-in-Known
@@ -27,3 +27,12 @@ returns-in_ok-note_cycle-in-Cycle c =
     let climb = subst (λ (above : Above). IsClimb ps known c.args.passed.now c.args.start c.climb.new.passed c.climb.new.path above) c.in-Cycle.is climbed in
     subst (λ (xs : List ℕ). AreWalked ps (c.args.start + 1) known xs c.climb.new.passed) (sym c.in_ok-note_cycle-in-Cycle.ensures)
     (walked_cycle ps c.args.start known c.args.found.now.cyclic.items c.args.passed.now c.climb.new.passed c.climb.new.path c.in-Cycle.first c.requires.walked (c.climb.auto.passed ∙ c.requires.walked.same_passed) climb)
+
+pub returns-in-Lost : goal.returns-in-Lost
+returns-in-Lost c =
+    let ps = c.args.parents.now in
+    let known = c.args.found.now.known.items in
+    let climbed : IsClimb ps known c.args.passed.now c.args.start c.climb.new.passed c.climb.new.path c.in_ok-depth.field-0 =
+    subst (λ (xs : List (Option ℕ)). IsClimb ps xs c.args.passed.now c.args.start c.climb.new.passed c.climb.new.path c.in_ok-depth.field-0) c.deref.ensures.value c.in_ok-depth.ensures in
+    let climb = subst (λ (above : Above). IsClimb ps known c.args.passed.now c.args.start c.climb.new.passed c.climb.new.path above) c.in-Lost.is climbed in
+    walked_lost ps c.args.start known c.args.found.now.cyclic.items c.args.passed.now c.climb.new.passed c.climb.new.path c.requires.walked (c.climb.auto.passed ∙ c.requires.walked.same_passed) climb

@@ -8,6 +8,7 @@ use Rattle.cool_classes.specs.Chains.{class_number, parent_of, IsChain}
 use Rattle.cool_classes.specs.Entries.{classes}
 use Rattle.cool_classes.specs.FeatureFaults.{class_faults}
 use Rattle.cool_classes.proofs.FeaturesChecked.{faults_next, all_good, all_at}
+use Rattle.cool_classes.proofs.FaultsLeft.{features_next}
 use Rattle.cool_classes.proofs.feature_phase.feature_faults.Goals as goal
 
 pub loop-index-preserved : goal.loop-index-preserved
@@ -26,12 +27,13 @@ loop-index-preserved c =
     c.in_ok-note_class.ensures
     ∙ ap (λ (q : List Entry). faults ++ class_faults (classes q) c.in_ok-lineage.lineage.class above at) c.in_ok-scope.ensures.entries
     ∙ ap (λ (x : ClassId). faults ++ class_faults (classes es) x above at) class in
-    faults_next es c.args.places.now k faults c.note_class.new.faults.items above at c.requires.resolved within
-    (λ n h. all_at (IsPlaced n) c.args.places.now k none less h)
-    (subst (λ (x : ClassId). IsChain (classes es) (parent_of (classes es) x) above) class c.in_ok-lineage.ensures.lineage.chain)
-    c.loop-index.invariant is
+    let chain = subst (λ (x : ClassId). IsChain (classes es) (parent_of (classes es) x) above) class c.in_ok-lineage.ensures.lineage.chain in
+    record {
+      are = faults_next es c.args.places.now k faults c.note_class.new.faults.items above at c.requires.resolved within (λ n h. all_at (IsPlaced n) c.args.places.now k none less h) chain c.loop-index.invariant.are is;
+      exact = features_next (classes es) c.args.places.now k faults c.note_class.new.faults.items above none less chain is ∙ c.loop-index.invariant.exact;
+    }
 
 pub returns-clause-good : goal.returns-clause-good
 returns-clause-good c none =
     let past : length c.args.places.now ≤ c.loop-index.index = omega arith in
-    all_good c.args.entries.now (length c.args.places.now) c.requires.resolved c.requires.places (λ k less. c.loop-index.invariant.good none k (omega arith))
+    all_good c.args.entries.now (length c.args.places.now) c.requires.resolved c.requires.places (λ k less. c.loop-index.invariant.are.good none k (omega arith))

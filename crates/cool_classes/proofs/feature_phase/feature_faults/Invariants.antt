@@ -1,6 +1,12 @@
--- The faults of the classes before this one are there.
+-- The faults of the classes before this one are there, and with those of the classes behind it they are all.
+use Rattle.std.proofs.Common.{◌≡◌, ◌+◌, ◌++◌, drop}
+use Rattle.cool_classes.specs.ClassFaults.{features_from}
+use Rattle.cool_classes.specs.Entries.{classes}
 use Rattle.cool_classes.proofs.FeaturesChecked.{AreFaults}
 use Rattle.cool_classes.proofs.feature_phase.feature_faults.Given as goal
 
 abbrev pub invariant-loop-index : goal.invariant-loop-index
-invariant-loop-index l = AreFaults l.entries l.places l.index l.faults.items
+invariant-loop-index l = record {
+  are : AreFaults l.entries l.places l.index l.faults.items;
+  exact : l.faults.items ++ features_from (classes l.entries) (5 + l.index) (drop l.index l.places) ≡ features_from (classes l.entries) 5 l.places;
+}

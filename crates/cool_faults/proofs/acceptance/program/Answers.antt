@@ -41,7 +41,7 @@ returns-in_err-classes c =
     let files = bytes_of c.args.files.now in
     let whole = files_of_slice files c.in_ok-lexed.lexed.items c.as_slice.result.now c.in_ok-trees.trees.items c.in_ok-lexed.ensures c.as_slice.ensures.value c.in_ok-trees.ensures in
     let p = err_from_is_err_and c.from_residual-in_err-classes.result c.from_residual-in_err-classes.ensures.1 in
-    rw (p.1, p.2) (classes_refuse files c.in_ok-trees.trees.items c.in_err-classes.field-0.0 whole c.in_err-classes.ensures.refusal c.in_err-classes.ensures.places)
+    rw (p.1, p.2) (classes_refuse files c.in_ok-trees.trees.items c.in_err-classes.field-0.0 whole c.in_err-classes.ensures.exact c.in_err-classes.ensures.refusal c.in_err-classes.ensures.places)
 
 pub typed_program-requires : goal.typed_program-requires
 typed_program-requires c =
@@ -59,4 +59,4 @@ returns c =
     let few : length files ≤ MOST_FILES = omega (arith, as_many_files c.args.files.now, c.requires.few) in
     let e = c.in_ok-classes.ensures in
     let t = c.typed_program.ensures in
-    typing_decides files c.in_ok-trees.trees.items c.in_ok-classes.classes c.typed_program.result c.requires.small few whole e.of e.whole e.limits t.program t.refusal t.places
+    typing_decides files c.in_ok-trees.trees.items c.in_ok-classes.classes c.typed_program.result c.requires.small few whole e.of e.classes e.faultless e.whole e.limits t.program t.typed t.exact t.refusal t.places

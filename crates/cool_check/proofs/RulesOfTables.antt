@@ -1,0 +1,171 @@
+-- The rules of types as functions: of a whole table, what fits the definitions of conformance, joins and names is what the functions give.
+use Rattle.std.proofs.Common.{◌≡◌, ◌≢◌, ℕ, zero, suc, ◌+◌, ◌<◌, ◌≤◌, ◌⊎◌, inl, inr, List, [], ◌∷◌, length, Option, Some, None, Bool, true, false, ap, sym, ◌∙◌, refl, subst, arith}
+use Rattle.std.specs.Prelude.{Contains, IsTrue, ◌↔◌, bytes_eq, if◌then◌else◌, option_map, unwrap_or, codes}
+use Rattle.std.proofs.lemmas.Slice.Eq.{bytes_eq-Decides}
+use Rattle.cool_classes.specs.declared.class_id.ClassId.{ClassId}
+use Rattle.cool_classes.specs.declared.class_id.Ty.{Ty}
+use Rattle.cool_classes.specs.declared.class_id.Ty.TheVariants.{Class as IsClass, SelfType}
+use Rattle.cool_classes.specs.Chains.{Class, class_number, name_of, parent_of, IsChain, Below, IsJoin}
+use Rattle.cool_classes.specs.Features.{Denotes, implementation}
+use Rattle.cool_classes.specs.declared.method.MethodRef.{MethodRef}
+use Rattle.cool_classes.specs.Tables.{IsTable}
+use Rattle.cool_classes.proofs.Climbs.{chain_unique}
+use Rattle.cool_rules.specs.Conformance.{IsType, IsTypeNamed, Conforms, IsJoinOfTypes}
+use Rattle.cool_classes.specs.ClimbedChains.{chain}
+use Rattle.cool_classes.proofs.ChainsOfTables.{chain_is}
+use Rattle.cool_check.specs.Rules.{is_among, first_among, do_conform, join_in, class_from, type_of_name, type_meant, method_of}
+use Rattle.cool_check.proofs.ClassesAmong.{below_among, among_below, among_there, same_answers}
+
+-- bytes that are not those are told apart
+differs : (a b : List ℕ) → a ≢ b → bytes_eq a b ≡ false
+differs a b other = by (bytes_eq a b) refl
+  where
+    by : (r : Bool) → bytes_eq a b ≡ r → r ≡ false
+    by true e = absurd (other ((bytes_eq-Decides a b).0 e))
+    by false e = refl
+
+-- the function of conformance decides it
+pub do_conform_true : (p : List Class) (c : ClassId) (a b : Ty) → IsTable p → c.0 < length p → IsType p a → do_conform p c a b ≡ true → Conforms p c a b
+unfolding do_conform
+do_conform_true p c SelfType SelfType h within is e = tt
+do_conform_true p c SelfType (IsClass b) h within is e = below_among p c b h within e
+do_conform_true p c (IsClass a) SelfType h within is e = absurd (cc)
+do_conform_true p c (IsClass a) (IsClass b) h within is e = below_among p a b h is e
+
+pub true_do_conform : (p : List Class) (c : ClassId) (a b : Ty) → Conforms p c a b → do_conform p c a b ≡ true
+unfolding do_conform
+true_do_conform p c SelfType SelfType k = refl
+true_do_conform p c SelfType (IsClass b) k = among_below p c b k
+true_do_conform p c (IsClass a) SelfType k = absurd k
+true_do_conform p c (IsClass a) (IsClass b) k = among_below p a b k
+
+pub do_conform_is : (p : List Class) (c : ClassId) (a b : Ty) (r : Bool) → IsTable p → c.0 < length p → IsType p a → IsTrue r ↔ Conforms p c a b → r ≡ do_conform p c a b
+do_conform_is p c a b r h within is decides =
+    same_answers r (do_conform p c a b) (λ e. true_do_conform p c a b (decides.0 e)) (λ e. decides.1 (do_conform_true p c a b h within is e))
+
+-- a class on a chain has a chain no longer than the rest from there on
+rest_of : (p : List Class) (b : ClassId) (o : Option ClassId) (ds : List ClassId) → IsChain p o ds → Contains ds b → (es : List ClassId) × IsChain p (Some b) es × (length es ≤ length ds)
+rest_of p b None [] k (i, within, is) = absurd (omega arith)
+rest_of p b None (d ∷ ds) k there = absurd k
+rest_of p b (Some a) [] k there = absurd k
+rest_of p b (Some a) (d ∷ ds) k (zero, within, is) = (d ∷ ds, subst (λ (x : ClassId). IsChain p (Some x) (d ∷ ds)) (sym k.0 ∙ is) k, omega arith)
+rest_of p b (Some a) (d ∷ ds) k (suc i, within, is) =
+    let w = rest_of p b (parent_of p a) ds k.1 (i, omega arith, is) in (w.0, w.1, let l = w.2 in omega arith)
+
+-- two classes that are below one another are one
+one_by : (p : List Class) (a b : ClassId) (ds : List ClassId) → IsChain p (Some a) ds → Contains ds b → Below p b a → a ≡ b
+one_by p a b [] k there back = absurd k
+one_by p a b (d ∷ ds) k (zero, within, is) back = sym k.0 ∙ is
+one_by p a b (d ∷ ds) k (suc i, within, is) (xs, chain_b, there_a) =
+    let up = rest_of p b (parent_of p a) ds k.1 (i, omega arith, is) in
+    let down = rest_of p a (Some b) xs chain_b there_a in
+    let same : length up.0 ≡ length xs = ap length (chain_unique p (Some b) up.0 xs up.1 chain_b) in
+    let again : length down.0 ≡ length (d ∷ ds) = ap length (chain_unique p (Some a) down.0 (d ∷ ds) down.1 k) in
+    let l = up.2 in let m = down.2 in absurd (omega arith)
+
+below_both : (p : List Class) (a b : ClassId) → Below p a b → Below p b a → a ≡ b
+below_both p a b (ds, k, there) back = one_by p a b ds k there back
+
+-- the first class of a chain that is among others is the least class that is in both
+first_is : (p : List Class) (j : ClassId) (es : List ClassId) (o : Option ClassId) (ds : List ClassId) → IsChain p o ds → Contains ds j → is_among es j ≡ true
+    → ((k : ClassId) → Contains ds k → is_among es k ≡ true → Below p j k) → first_among ds es ≡ j
+unfolding first_among
+first_is p j es None [] h (i, within, is) both least = absurd (omega arith)
+first_is p j es None (d ∷ ds) h there both least = absurd h
+first_is p j es (Some a) [] h there both least = absurd h
+first_is p j es (Some a) (d ∷ ds) h there both least =
+    by (is_among es d) refl (later there) (λ in_rest. first_is p j es (parent_of p a) ds h.1 in_rest both (λ k t m. least k (up k t) m))
+  where
+    later : Contains (d ∷ ds) j → (d ≡ j) ⊎ Contains ds j
+    later (zero, within, is) = inl is
+    later (suc i, within, is) = inr (i, omega arith, is)
+
+    up : (k : ClassId) → Contains ds k → Contains (d ∷ ds) k
+    up k (i, within, is) = (suc i, omega arith, is)
+
+    by : (b : Bool) → is_among es d ≡ b → (d ≡ j) ⊎ Contains ds j → (Contains ds j → first_among ds es ≡ j) → (if b then d else first_among ds es) ≡ j
+    by true e where_is more =
+        let below_d : Below p d j = (d ∷ ds, subst (λ (x : ClassId). IsChain p (Some x) (d ∷ ds)) (sym h.0) h, there) in
+        below_both p d j below_d (least d (0, omega arith, refl) e)
+    by false e (inl is) more = absurd (let s = ap (is_among es) is in cc)
+    by false e (inr in_rest) more = more in_rest
+
+join_is_first : (p : List Class) (a b j : ClassId) → IsTable p → a.0 < length p → b.0 < length p → IsJoin p a b j → j ≡ first_among (chain p a) (chain p b)
+join_is_first p a b j h aw bw join =
+    let ka = chain_is p a h aw in
+    sym (first_is p j (chain p b) (Some a) (chain p a) ka (among_there (chain p a) j (among_below p a j join.left)) (among_below p b j join.right)
+    (λ k there among. join.least k (chain p a, ka, there) (below_among p b k h bw among)))
+
+-- the join of two types is the function's
+class_join : (p : List Class) (c a b j : ClassId) (x y : Ty) → ((o : ClassId) → Below p a o → Conforms p c x (IsClass o)) → ((o : ClassId) → Below p b o → Conforms p c y (IsClass o))
+    → Below p a j → Below p b j → IsJoinOfTypes p c x y (IsClass j) → IsJoin p a b j
+class_join p c a b j x y left right aj bj join = record { left = aj; right = bj; least = λ k ak bk. join.least (IsClass k) (left k ak) (right k bk) }
+
+pub join_in_is : (p : List Class) (c : ClassId) (a b j : Ty) → IsTable p → c.0 < length p → IsType p a → IsType p b → IsJoinOfTypes p c a b j → j ≡ join_in p c a b
+unfolding join_in
+join_in_is p c SelfType SelfType SelfType h within ia ib join = refl
+join_in_is p c SelfType SelfType (IsClass j) h within ia ib join = absurd (join.least SelfType tt tt)
+join_in_is p c SelfType (IsClass b) SelfType h within ia ib join = absurd join.right
+join_in_is p c SelfType (IsClass b) (IsClass j) h within ia ib join =
+    ap IsClass (join_is_first p c b j h within ib (class_join p c c b j SelfType (IsClass b) (λ o k. k) (λ o k. k) join.left join.right join))
+join_in_is p c (IsClass a) SelfType SelfType h within ia ib join = absurd join.left
+join_in_is p c (IsClass a) SelfType (IsClass j) h within ia ib join =
+    ap IsClass (join_is_first p a c j h ia within (class_join p c a c j (IsClass a) SelfType (λ o k. k) (λ o k. k) join.left join.right join))
+join_in_is p c (IsClass a) (IsClass b) SelfType h within ia ib join = absurd join.left
+join_in_is p c (IsClass a) (IsClass b) (IsClass j) h within ia ib join =
+    ap IsClass (join_is_first p a b j h ia ib (class_join p c a b j (IsClass a) (IsClass b) (λ o k. k) (λ o k. k) join.left join.right join))
+
+-- the class that is found by a name, from a number on
+abbrev Found : ℕ → List Class → List ℕ → Option ClassId → Type 0
+Found j p name None = (k : ℕ) → k < length p → name_of p (class_number k) ≢ name
+Found j p name (Some c) = (k : ℕ) × (c ≡ class_number (j + k)) × (k < length p) × (name_of p (class_number k) ≡ name)
+
+found_later : (j : ℕ) (x : Class) (p : List Class) (name : List ℕ) (o : Option ClassId) → x.name ≢ name → Found (suc j) p name o → Found j (x ∷ p) name o
+found_later j x p name None other h = by
+  where
+    by : (k : ℕ) → k < length (x ∷ p) → name_of (x ∷ p) (class_number k) ≢ name
+    by zero within = other
+    by (suc k) within = h k (omega arith)
+found_later j x p name (Some c) other (k, at, within, is) = (suc k, at ∙ ap class_number (omega arith), omega arith, is)
+
+class_from_finds : (j : ℕ) (p : List Class) (name : List ℕ) → Found j p name (class_from j p name)
+unfolding class_from
+class_from_finds j [] name = λ k within. absurd (omega arith)
+class_from_finds j (x ∷ p) name = by (bytes_eq x.name name) refl (class_from_finds (suc j) p name)
+  where
+    by : (b : Bool) → bytes_eq x.name name ≡ b → Found (suc j) p name (class_from (suc j) p name) → Found j (x ∷ p) name (if b then Some (class_number j) else class_from (suc j) p name)
+    by true e more = (0, ap class_number (omega arith), omega arith, (bytes_eq-Decides x.name name).0 e)
+    by false e more = found_later j x p name (class_from (suc j) p name) (λ s. let t = (bytes_eq-Decides x.name name).1 s in cc) more
+
+-- what a name means is what the function finds
+named_class : (p : List Class) (name : List ℕ) (c : ClassId) (o : Option ClassId) → IsTable p → c.0 < length p → name_of p c ≡ name → Found 0 p name o → Some c ≡ o
+named_class p name c None h within is found = absurd (found c.0 within is)
+named_class p name c (Some d) h within is (k, at, kw, ks) =
+    let same : c ≡ class_number k = h.names c (class_number k) within kw (is ∙ sym ks) in
+    ap Some (same ∙ ap class_number (omega arith) ∙ sym at)
+
+no_class : (p : List Class) (name : List ℕ) (o : Option ClassId) → ((a : Ty) → Denotes p name a → ⊥) → Found 0 p name o → None ≡ option_map IsClass o
+no_class p name None none found = refl
+no_class p name (Some d) none (k, at, kw, ks) = absurd (none (IsClass (class_number k)) (kw, ks))
+
+pub type_of_name_is : (p : List Class) (name : List ℕ) (r : Option Ty) → IsTable p → IsTypeNamed p name r → r ≡ type_of_name p name
+unfolding type_of_name
+type_of_name_is p name None h none =
+    let no : bytes_eq name (codes "SELF_TYPE") ≡ false = differs name (codes "SELF_TYPE") (λ e. none SelfType e) in
+    no_class p name (class_from 0 p name) none (class_from_finds 0 p name)
+    ∙ sym (ap (λ (b : Bool). if b then Some SelfType else option_map IsClass (class_from 0 p name)) no)
+type_of_name_is p name (Some SelfType) h is =
+    sym (ap (λ (b : Bool). if b then Some SelfType else option_map IsClass (class_from 0 p name)) ((bytes_eq-Decides name (codes "SELF_TYPE")).1 is))
+type_of_name_is p name (Some (IsClass c)) h (within, is) =
+    let no : bytes_eq name (codes "SELF_TYPE") ≡ false = differs name (codes "SELF_TYPE") (λ e. h.no_self_type c within (is ∙ e)) in
+    ap (option_map IsClass) (named_class p name c (class_from 0 p name) h within is (class_from_finds 0 p name))
+    ∙ sym (ap (λ (b : Bool). if b then Some SelfType else option_map IsClass (class_from 0 p name)) no)
+
+pub type_meant_is : (p : List Class) (name : List ℕ) (a : Ty) → IsTable p → Denotes p name a → a ≡ type_meant p name
+unfolding type_meant
+type_meant_is p name a h is = ap (λ (o : Option Ty). unwrap_or o (IsClass (class_number 0))) (type_of_name_is p name (Some a) h is)
+
+pub method_of_is : (p : List Class) (c : ClassId) (name : List ℕ) (r : Option MethodRef) → IsTable p → c.0 < length p
+    → ((ds : List ClassId) → IsChain p (Some c) ds → r ≡ implementation p ds name) → r ≡ method_of p c name
+unfolding method_of
+method_of_is p c name r h within nearest = nearest (chain p c) (chain_is p c h within)

@@ -1,0 +1,28 @@
+-- The argument that does not conform stands in one of the files, and those before it conform.
+use Rattle.std.proofs.Common.{ap, sym, subst, ◌∙◌, arith}
+use Rattle.cool_syntax.specs.Tree.{place_of}
+use Rattle.cool_syntax.specs.NodeLists.{all_trees}
+use Rattle.cool_syntax.specs.TokenFacts.{IsPlaced}
+use Rattle.cool_classes.specs.Features.{formals_of}
+use Rattle.cool_check.specs.Rules.{context}
+use Rattle.cool_check.proofs.Misfits.{misfit_later}
+use Rattle.cool_check.proofs.PlacesOfParts.{tree_within, place_within}
+use Rattle.cool_check.proofs.called.misfit.Goals as goal
+
+pub returns-then-not-conforms-clause-places : goal.returns-then-not-conforms-clause-places
+returns-then-not-conforms-clause-places c = λ n h.
+    let t = c.args.setting.now.body.now in
+    let placed = place_within n _ (tree_within n t c.args.args.now c.loop-index.index _ (omega arith) h) in
+    let same = ap place_of c.node.ensures.tree ∙ sym (c.place.ensures (all_trees t)) in
+    subst (IsPlaced n) same placed
+
+pub loop-index-preserved : goal.loop-index-preserved
+loop-index-preserved c =
+    let p = c.args.setting.now.table.now in
+    let t = c.args.setting.now.body.now in
+    let within = c.loop-index-test.true in
+    let same = c.requires.formals in
+    let each = c.requires.each in
+    misfit_later (context c.args.setting.now) (formals_of p c.args.method) c.args.given.now (all_trees t) c.args.args.now c.loop-index.index _ _ _ (omega arith) (omega arith) within
+    (sym c.conforms.ensures ∙ c.if-not-conforms.false) c.formal-formal.ensures.formal
+    ∙ c.loop-index.invariant

@@ -1,0 +1,13 @@
+-- The arguments before this one conform.
+use Rattle.std.proofs.Common.{◌≡◌, map, drop}
+use Rattle.cool_syntax.specs.Tree.{of_list}
+use Rattle.cool_syntax.specs.NodeLists.{all_trees, at_id}
+use Rattle.cool_classes.specs.Features.{formals_of}
+use Rattle.cool_check.specs.Rules.{context}
+use Rattle.cool_check.specs.FirstFaults.{misfit}
+use Rattle.cool_check.proofs.called.misfit.Given as goal
+
+abbrev pub invariant-loop-index : goal.invariant-loop-index
+invariant-loop-index l =
+    misfit (context l.setting) (drop l.index (formals_of l.setting.table.now l.method)) (drop l.index l.given) (of_list (map (at_id (all_trees l.setting.body.now)) (drop l.index l.args)))
+    ≡ misfit (context l.setting) (formals_of l.setting.table.now l.method) l.given (of_list (map (at_id (all_trees l.setting.body.now)) l.args))

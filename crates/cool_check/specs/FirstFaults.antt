@@ -1,0 +1,227 @@
+-- The type of an expression or else its first fault: the parts and the checks of each form in their order, from left to right (the Cool
+-- manual, sections 4, 7 and 12).
+use Rattle.std.specs.Prelude.{◌≡◌, ℕ, List, [], ◌∷◌, ◌++◌, length, Bool, not, ◌&&◌, ◌||◌, true, false, nat_eq, bytes_eq, if◌then◌else◌, Option, Some, None, unwrap_or, codes, refl}
+use Rattle.std.specs.Option.{option_or}
+use Rattle.std.specs.Prelude.{Result, Ok, Err}
+use Rattle.cool_syntax.specs.declared.place.Place.{Place}
+use Rattle.cool_syntax.specs.declared.type_ref.TypeRef.{TypeRef}
+use Rattle.cool_syntax.specs.declared.operator.ArithOp.TheVariants.{Add}
+use Rattle.cool_syntax.specs.declared.operator.CompareOp.{CompareOp}
+use Rattle.cool_syntax.specs.declared.operator.CompareOp.TheVariants as op
+use Rattle.cool_syntax.specs.Tree.{Tree, Trees, MaybeTree, Cases, Last, More, Without, With, NoCase, CaseOf, place_of}
+use Rattle.cool_syntax.specs.Tree as trees
+use Rattle.cool_classes.specs.declared.class_id.ClassId.{ClassId}
+use Rattle.cool_classes.specs.declared.class_id.Ty.{Ty}
+use Rattle.cool_classes.specs.declared.class_id.Ty.TheVariants.{Class as IsClass, SelfType}
+use Rattle.cool_classes.specs.declared.method.MethodRef.{MethodRef}
+use Rattle.cool_classes.specs.Chains.{Class, class_number}
+use Rattle.cool_classes.specs.Features.{formals_of, result_of}
+use Rattle.cool_rules.specs.Conformance.{class_of}
+use Rattle.cool_rules.specs.Scopes.{Binding, found}
+use Rattle.cool_check.specs.declared.fault.CheckError.{CheckError}
+use Rattle.cool_check.specs.declared.fault.CheckError.TheVariants as error
+use Rattle.cool_check.specs.declared.fault.TypeFault.{TypeFault}
+use Rattle.cool_check.specs.declared.fault.TypeKind.{TypeKind}
+use Rattle.cool_check.specs.declared.fault.TypeKind.TheVariants.{E1, E2, E3, E4, E5, E6, E7, E8, E9, E10, E11, E12, E13, E14, E15, E16, E17}
+use Rattle.cool_check.specs.Rules.{Context, do_conform, join_in, type_of_name, type_meant, method_of, is_among}
+
+-- what a check gives: a value, or the first fault
+abbrev pub Checked : Type 0 → Type 0
+Checked X = Result X TypeFault
+
+abbrev pub refuse : {X : Type 0} → TypeKind → Place → Checked X
+refuse kind at = Err (record { kind = kind; at = at })
+
+-- a check, and behind it what its value gives
+abbrev pub and_then : {X Y : Type 0} → Checked X → (X → Checked Y) → Checked Y
+and_then (Ok x) f = f x
+and_then (Err e) f = Err e
+
+-- what comes where a test holds, and else this fault
+abbrev pub expect : {X : Type 0} → Bool → TypeKind → Place → Checked X → Checked X
+expect test kind at r = if test then r else refuse kind at
+
+-- the classes that the rules name
+abbrev pub object : Ty
+object = IsClass (class_number 0)
+
+abbrev pub int : Ty
+int = IsClass (class_number 2)
+
+abbrev pub bool : Ty
+bool = IsClass (class_number 3)
+
+abbrev pub string : Ty
+string = IsClass (class_number 4)
+
+abbrev pub same_type : Ty → Ty → Bool
+same_type SelfType SelfType = true
+same_type SelfType (IsClass b) = false
+same_type (IsClass a) SelfType = false
+same_type (IsClass a) (IsClass b) = nat_eq a.0 b.0
+
+-- Int, Bool and String, whose objects are compared by value
+abbrev pub has_values : Ty → Bool
+has_values a = same_type a int || (same_type a bool || same_type a string)
+
+abbrev pub is_self : List ℕ → Bool
+is_self name = bytes_eq name (codes "self")
+
+abbrev pub bind : List ℕ → Ty → List Binding → List Binding
+bind name type o = record { name = name; type = type } ∷ o
+
+abbrev pub conform : Context → Ty → Ty → Bool
+conform s = do_conform s.table s.class
+
+-- the type of a name: of self, of the latest variable of that name, or else of the attribute
+abbrev pub or_unknown : Option Ty → Place → Checked Ty
+or_unknown None at = refuse E1 at
+or_unknown (Some a) at = Ok a
+
+abbrev pub name_checked : Context → List Binding → Place → List ℕ → Checked Ty
+name_checked s o at name = if is_self name then Ok SelfType else or_unknown (option_or (found o name) (found s.attributes name)) at
+
+-- an assignment to a name of a value of this type
+abbrev pub assigned : Context → List Binding → Place → List ℕ → Ty → Checked Ty
+assigned s o at name given =
+    if is_self name then refuse E2 at else and_then (name_checked s o at name) (λ declared. expect (conform s given declared) E3 at (Ok given))
+
+-- the type of a class that is named
+abbrev pub or_no_type : Option Ty → Place → Checked Ty
+or_no_type None at = refuse E11 at
+or_no_type (Some a) at = Ok a
+
+abbrev pub named : Context → TypeRef → Checked Ty
+named s r = or_no_type (type_of_name s.table r.name) r.at
+
+-- the class behind `@` for a receiver of this type
+abbrev pub static_among : Context → Place → Ty → Option Ty → Checked ClassId
+static_among s at receiver None = refuse E11 at
+static_among s at receiver (Some SelfType) = refuse E7 at
+static_among s at receiver (Some (IsClass c)) = expect (conform s receiver (IsClass c)) E8 at (Ok c)
+
+abbrev pub static_class : Context → TypeRef → Ty → Checked ClassId
+static_class s r receiver = static_among s r.at receiver (type_of_name s.table r.name)
+
+-- the first argument that does not conform to its formal
+abbrev pub misfit : Context → List (List ℕ) → List Ty → Trees → Option Place
+misfit s [] types args = None
+misfit s (f ∷ fs) [] args = None
+misfit s (f ∷ fs) (a ∷ as') Last = None
+misfit s (f ∷ fs) (a ∷ as') (More t ts) = if conform s a (type_meant s.table f) then misfit s fs as' ts else Some (place_of t)
+
+-- the type of a result for a receiver
+abbrev pub resulting : Ty → Ty → Ty
+resulting receiver SelfType = receiver
+resulting receiver (IsClass c) = IsClass c
+
+abbrev pub or_misfit : Option Place → Ty → Checked Ty
+or_misfit None result = Ok result
+or_misfit (Some at) result = refuse E6 at
+
+-- a call of a method with arguments of these types
+abbrev pub called_with : Context → Place → Ty → Trees → List Ty → Option MethodRef → Checked Ty
+called_with s at receiver args types None = refuse E4 at
+called_with s at receiver args types (Some m) =
+    expect (nat_eq (length (formals_of s.table m)) (length types)) E5 at
+    (or_misfit (misfit s (formals_of s.table m) types args) (resulting receiver (type_meant s.table (result_of s.table m))))
+
+abbrev pub call_checked : Context → Place → ClassId → Ty → List ℕ → Trees → List Ty → Checked Ty
+call_checked s at class receiver name args types = called_with s at receiver args types (method_of s.table class name)
+
+-- the type of the variable of a `let` with an initial value of this type, if there is one
+abbrev pub initialized : Context → Place → Ty → Option Ty → Checked Ty
+initialized s at bound None = Ok bound
+initialized s at bound (Some given) = expect (conform s given bound) E17 at (Ok bound)
+
+abbrev pub bound_type : Context → Place → List ℕ → TypeRef → Option Ty → Checked Ty
+bound_type s at name declared given =
+    if is_self name then refuse E10 at else and_then (named s declared) (λ bound. initialized s at bound given)
+
+-- the class of a branch behind branches of these classes
+abbrev pub branch_among : Place → List ClassId → Option Ty → Checked ClassId
+branch_among at earlier None = refuse E11 at
+branch_among at earlier (Some SelfType) = refuse E12 at
+branch_among at earlier (Some (IsClass c)) = if is_among earlier c then refuse E13 at else Ok c
+
+abbrev pub branch_class : Context → Place → List ℕ → TypeRef → List ClassId → Checked ClassId
+branch_class s at name declared earlier =
+    if is_self name then refuse E10 at else branch_among declared.at earlier (type_of_name s.table declared.name)
+
+-- the join with the types of the branches before
+abbrev pub joined : Context → Option Ty → Ty → Ty
+joined s None a = a
+joined s (Some b) a = join_in s.table s.class b a
+
+-- the types of a comparison's operands fit
+abbrev pub compared : CompareOp → Ty → Ty → Place → Checked Ty
+compared op.Less a b at = expect (same_type a int) E14 at (expect (same_type b int) E14 at (Ok bool))
+compared op.LessEqual a b at = expect (same_type a int) E14 at (expect (same_type b int) E14 at (Ok bool))
+compared op.Equal a b at = if not (same_type a b) && (has_values a || has_values b) then refuse E15 at else Ok bool
+
+-- The type of an expression in a context, with these variables in scope, or its first fault.
+abbrev mutual
+  pub checked : Context → List Binding → Tree → Checked Ty
+  checked s o (trees.Id at name) = name_checked s o at name
+  checked s o (trees.Assign at name t) = and_then (checked s o t) (λ a. assigned s o at name a)
+  checked s o (trees.Dispatch at t name ts) =
+      and_then (checked s o t) (λ a. and_then (all_checked s o [] ts) (λ types. call_checked s at (class_of s.class a) a name ts types))
+  checked s o (trees.StaticDispatch at t class name ts) =
+      and_then (checked s o t) (λ a. and_then (all_checked s o [] ts) (λ types. and_then (static_class s class a) (λ c. call_checked s at c a name ts types)))
+  checked s o (trees.If at t y n) =
+      and_then (checked s o t) (λ a. and_then (checked s o y) (λ b. and_then (checked s o n) (λ c.
+      expect (same_type a bool) E9 (place_of t) (Ok (join_in s.table s.class b c)))))
+  checked s o (trees.While at t b) = and_then (checked s o t) (λ a. and_then (checked s o b) (λ c. expect (same_type a bool) E9 (place_of t) (Ok object)))
+  checked s o (trees.Block at ts) = last_checked s o object ts
+  checked s o (trees.Let at name declared init t) =
+      and_then (maybe_checked s o init) (λ given. and_then (bound_type s at name declared given) (λ bound. checked s (bind name bound o) t))
+  checked s o (trees.Case at t cs) = and_then (checked s o t) (λ a. cases_checked s o [] None cs)
+  checked s o (trees.New at class) = named s class
+  checked s o (trees.IsVoid at t) = and_then (checked s o t) (λ a. Ok bool)
+  checked s o (trees.Arith at op a b) =
+      and_then (checked s o a) (λ x. and_then (checked s o b) (λ y. expect (same_type x int) E14 at (expect (same_type y int) E14 at (Ok int))))
+  checked s o (trees.Neg at t) = and_then (checked s o t) (λ a. expect (same_type a int) E14 at (Ok int))
+  checked s o (trees.Compare at op a b) = and_then (checked s o a) (λ x. and_then (checked s o b) (λ y. compared op x y at))
+  checked s o (trees.Not at t) = and_then (checked s o t) (λ a. expect (same_type a bool) E16 at (Ok bool))
+  checked s o (trees.Int at value) = Ok int
+  checked s o (trees.Str at bytes) = Ok string
+  checked s o (trees.Bool at value) = Ok bool
+
+  -- the types of arguments, with those of the arguments before
+  pub all_checked : Context → List Binding → List Ty → Trees → Checked (List Ty)
+  all_checked s o types Last = Ok types
+  all_checked s o types (More t ts) = and_then (checked s o t) (λ a. all_checked s o (types ++ a ∷ []) ts)
+
+  -- the type of the last item of a block, behind one of this type
+  pub last_checked : Context → List Binding → Ty → Trees → Checked Ty
+  last_checked s o last Last = Ok last
+  last_checked s o last (More t ts) = and_then (checked s o t) (λ a. last_checked s o a ts)
+
+  -- the type of an initial value, where there is one
+  pub maybe_checked : Context → List Binding → MaybeTree → Checked (Option Ty)
+  maybe_checked s o Without = Ok None
+  maybe_checked s o (With t) = and_then (checked s o t) (λ a. Ok (Some a))
+
+  -- the join of the branches behind branches of these classes and this join
+  pub cases_checked : Context → List Binding → List ClassId → Option Ty → Cases → Checked Ty
+  cases_checked s o earlier join NoCase = Ok (unwrap_or join object)
+  cases_checked s o earlier join (CaseOf at name declared t cs) =
+      and_then (branch_class s at name declared earlier) (λ c. and_then (checked s (bind name (IsClass c) o) t)
+      (λ a. cases_checked s o (earlier ++ c ∷ []) (Some (joined s join a)) cs))
+
+-- an error is want of memory or the first fault
+abbrev pub IsFirst : {X : Type 0} → Checked X → CheckError → Type 0
+IsFirst r error.Memory = Unit {0}
+IsFirst r (error.Fault f) = r ≡ Err f
+
+-- Worked examples: `1 + true` is refused at its operator; a condition is judged only behind both branches, so `if 1 then x else 2 fi`
+-- with no x in scope is refused at x; a `let` brings its variable into scope.
+sum_of_bool : (s : Context) (p q r : Place) → checked s [] (trees.Arith p Add (trees.Int q 1) (trees.Bool r true)) ≡ refuse E14 p
+sum_of_bool s p q r = refl
+
+branch_before_condition : (t : List Class) (c : ClassId) (p q r u : Place)
+    → checked (record { table = t; class = c; attributes = [] }) [] (trees.If p (trees.Int q 1) (trees.Id r (codes "x")) (trees.Int u 2)) ≡ refuse E1 r
+branch_before_condition t c p q r u = refl
+
+bound_variable : (s : Context) (p : Place) → checked s (bind (codes "x") string []) (trees.Id p (codes "x")) ≡ Ok string
+bound_variable s p = refl
