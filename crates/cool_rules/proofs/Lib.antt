@@ -1,1 +1,3 @@
+pub mod ChainsOfTables
+pub mod NamesOfTables
 pub mod ScopesInOrder

@@ -1,3 +1,6 @@
 pub mod Conformance
 pub mod Fits
+pub mod Lookups
 pub mod Scopes
+pub mod TypedTables
+pub mod Typing

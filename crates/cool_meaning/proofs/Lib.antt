@@ -1,0 +1,14 @@
+pub mod BasicClasses
+pub mod FittingValues
+pub mod Later
+pub mod LevelsAgree
+pub mod LongerEvaluation
+pub mod LongerRuns
+pub mod MethodsOfTables
+pub mod MoreSteps
+pub mod RelatedEvaluation
+pub mod SoundComputations
+pub mod SoundEvaluation
+pub mod SoundMethods
+pub mod SoundParts
+pub mod SoundRuns

@@ -1,0 +1,9 @@
+pub mod BasicMethods
+pub mod Evaluation
+pub mod Examples
+pub mod Laws
+pub mod Lookups
+pub mod Meters
+pub mod Numbers
+pub mod SourceRun
+pub mod Values

@@ -1,0 +1,59 @@
+-- The numbers of Cool: 32 bits with a sign, exact arithmetic with an error where a result has more, and numbers read from text (the Cool
+-- manual, section 8.3; that overflow is an error is this compiler's rule).
+use Rattle.std.specs.Prelude.{◌≡◌, refl, ℕ, ◌+◌, ◌-◌, ◌*◌, ◌%◌, ℤ, pos, negsuc, Bool, false, ◌&&◌, ◌||◌, ◌==◌, nat_le, nat_lt, if◌then◌else◌, List, [], ◌∷◌}
+
+-- from -2147483648 to 2147483647
+abbrev pub fits : ℤ → Bool
+fits (pos n) = nat_lt n 2147483648
+fits (negsuc n) = nat_lt n 2147483648
+
+abbrev pub is_zero : ℤ → Bool
+is_zero (pos n) = n == 0
+is_zero (negsuc n) = false
+
+-- the low 32 bits, read with their sign
+abbrev pub signed : ℕ → ℤ
+signed n = if nat_lt (n % 4294967296) 2147483648 then pos (n % 4294967296) else negsuc (4294967295 - n % 4294967296)
+
+-- a number at the front of a line: blanks and tabs, an optional minus sign, digits
+
+abbrev pub is_blank : ℕ → Bool
+is_blank b = b == 32 || b == 9
+
+abbrev pub skip_blanks : List ℕ → List ℕ
+skip_blanks [] = []
+skip_blanks (b ∷ rest) = if is_blank b then skip_blanks rest else b ∷ rest
+
+abbrev pub is_digit : ℕ → Bool
+is_digit b = nat_le 48 b && nat_le b 57
+
+abbrev pub digits_from : ℕ → List ℕ → ℕ
+digits_from n [] = n
+digits_from n (b ∷ rest) = if is_digit b then digits_from (10 * n + (b - 48)) rest else n
+
+-- the number below 2^32 that has the low 32 bits of minus n
+abbrev pub negated : ℕ → ℕ
+negated n = 4294967296 - n % 4294967296
+
+abbrev pub number_after_blanks : List ℕ → ℤ
+number_after_blanks [] = pos 0
+number_after_blanks (b ∷ rest) = if b == 45 then signed (negated (digits_from 0 rest)) else signed (digits_from 0 (b ∷ rest))
+
+abbrev pub number_of : List ℕ → ℤ
+number_of line = number_after_blanks (skip_blanks line)
+
+-- Worked examples: the smallest number fits, and what is one below it does not; -7 from text, and what wraps around.
+smallest : fits (negsuc 2147483647) ≡ Bool.true
+smallest = refl
+
+below_smallest : fits (negsuc 2147483648) ≡ false
+below_smallest = refl
+
+seven_below : number_of (32 ∷ 45 ∷ 55 ∷ 120 ∷ []) ≡ negsuc 6
+seven_below = refl
+
+wraps : number_of (50 ∷ 49 ∷ 52 ∷ 55 ∷ 52 ∷ 56 ∷ 51 ∷ 54 ∷ 52 ∷ 56 ∷ []) ≡ negsuc 2147483647
+wraps = refl
+
+no_number : number_of (43 ∷ 55 ∷ []) ≡ pos 0
+no_number = refl
