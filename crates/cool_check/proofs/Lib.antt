@@ -1,5 +1,8 @@
+pub mod AcceptedTables
+pub mod CheckedDecides
 pub mod ClassesAmong
 pub mod FaultsInOrder
+pub mod FeaturesDecide
 pub mod Misfits
 pub mod OrderOfKinds
 pub mod PartsLeft

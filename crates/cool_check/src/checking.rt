@@ -1,6 +1,6 @@
 //! Checking all features of a program.
 
-ghost use Rattle.std.specs.Prelude.{◌≡◌, ◌<◌, ℕ, [], ◌++◌, length, IfOk, IfErr, OnOk};
+ghost use Rattle.std.specs.Prelude.{◌≡◌, ◌<◌, ℕ, List, [], ◌++◌, length, IfOk, IfErr, OnOk};
 ghost use Rattle.std.specs.List.{AllByRecursion};
 ghost use Rattle.std.specs.List.Sorted.{IsPermutation};
 ghost use Rattle.cool_syntax.specs.declared.TheConstants.{MOST_FILES};
@@ -8,7 +8,11 @@ ghost use Rattle.cool_syntax.specs.FaultOrder.{AreInOrder};
 ghost use Rattle.cool_syntax.specs.TokenFacts.{IsPlaced};
 ghost use Rattle.cool_syntax.specs.TreesWithinLimits.{IsFeatureWithin};
 ghost use Rattle.cool_classes.specs.declared.class_id.ClassId as number;
+ghost use Rattle.cool_syntax.specs.declared.file_tree.ClassDef as tree;
 ghost use Rattle.cool_classes.specs.Chains.{features_of};
+ghost use Rattle.cool_classes.specs.ClassFaults.{classes_meant, feature_phase, HasClassPhase};
+ghost use Rattle.cool_classes.specs.Tables.{IsTable};
+ghost use Rattle.cool_rules.specs.TypedTables.{IsTypedTable};
 ghost use Rattle.cool_rules.specs.Fits.{Fits};
 ghost use Rattle.cool_check.specs.Faults.{AreWithin, IsPlacedRefusal, IsRefusal, standing_of};
 ghost use Rattle.cool_check.specs.TypingFaults.{IsExactRefusal, features_faults, typing_faults};
@@ -28,6 +32,7 @@ pub fn check(alloc: Global, t: ClassTable) -> Result<TypedProgram, CheckAllError
     requires fits { Fits t MOST_FILES }
     ensures program { IfOk result (λ p. p ≡ t) }
     ensures typed { OnOk result (typing_faults t ≡ []) }
+    ensures accepted { (ds : List tree.ClassDef) → IsTable (classes_meant ds) → HasClassPhase ds [] → feature_phase ds ≡ [] → t ≡ classes_meant ds → OnOk result (IsTypedTable t) }
     ensures exact { IfErr result (IsExactRefusal t) }
     ensures refusal { IfErr result IsRefusal }
     ensures places { (n : ℕ) → AreWithin n t → IfErr result (IsPlacedRefusal n) }

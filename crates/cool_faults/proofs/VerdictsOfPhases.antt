@@ -15,7 +15,9 @@ use Rattle.cool_classes.specs.Limits.{KeepsLimits}
 use Rattle.cool_classes.specs.Tables.{IsTable}
 use Rattle.cool_check.specs.Faults.{AreWithin}
 use Rattle.cool_check.specs.TypingFaults.{typing_faults}
+use Rattle.cool_check.proofs.AcceptedTables.{accepted_typed}
 use Rattle.cool_rules.specs.Fits.{Fits}
+use Rattle.cool_rules.specs.TypedTables.{IsTypedTable}
 use Rattle.cool_faults.specs.declared.fault.Refusal.{Refusal}
 use Rattle.cool_faults.specs.declared.fault.Refusal.TheVariants as refusal
 use Rattle.cool_faults.specs.declared.fault.Fault.TheVariants.{Typing}
@@ -140,6 +142,7 @@ table_accepted files ts p q small few whole of meant none t keeps e typed =
       classes = none.0;
       features = none.1;
       typing = typed;
+      typed = subst IsTypedTable (sym meant) (accepted_typed (definitions ts) (subst IsTable meant t) none.0 none.1 (subst (λ (r : List Class). typing_faults r ≡ []) meant typed));
       fits = table_of_trees_fits files ts p (length files) small all few whole of t keeps;
     })
 

@@ -22,6 +22,7 @@ use Rattle.cool_classes.specs.FaultLists.{rank as class_rank}
 use Rattle.cool_check.specs.Faults.{rank as type_rank}
 use Rattle.cool_check.specs.TypingFaults.{typing_faults}
 use Rattle.cool_rules.specs.Fits.{Fits}
+use Rattle.cool_rules.specs.TypedTables.{IsTypedTable}
 use Rattle.cool_faults.specs.declared.fault.Fault.{Fault}
 use Rattle.cool_faults.specs.declared.fault.Fault.TheVariants.{Lex, Syntax, Class as OfClasses, Typing}
 use Rattle.cool_faults.specs.declared.fault.Verdict.{Verdict}
@@ -116,7 +117,7 @@ pub record IsRefused (files : List (List ℕ)) (faults : List Fault) : Type 0 wh
   pub order : AreInOrder standing_of faults
   pub places : 0 < length files → AllByRecursion (λ f. IsPlaced (length files) (place_of f)) faults
 
--- Files are accepted as a program: it is the class table of their trees, no phase finds a fault, and it keeps the limits.
+-- Files are accepted as a program: it is the class table of their trees, no phase finds a fault, it is typed, and it keeps the limits.
 pub record IsAccepted (files : List (List ℕ)) (p : List Class) : Type 0 where
   pub trees : List FileTree
   pub are_trees : AreTrees 0 files trees
@@ -125,6 +126,7 @@ pub record IsAccepted (files : List (List ℕ)) (p : List Class) : Type 0 where
   pub classes : HasClassPhase (definitions trees) []
   pub features : feature_phase (definitions trees) ≡ []
   pub typing : typing_faults p ≡ []
+  pub typed : IsTypedTable p
   pub fits : Fits p (length files)
 
 -- the verdict on files

@@ -1,3 +1,8 @@
 pub mod ChainsOfTables
 pub mod NamesOfTables
+pub mod RulesDecided
 pub mod ScopesInOrder
+pub mod ScopesMoved
+pub mod TypedByFaults
+pub mod TypesOfMethods
+pub mod WholeTables

@@ -1,4 +1,5 @@
 pub mod Conformance
+pub mod Deciding
 pub mod Fits
 pub mod Lookups
 pub mod Scopes

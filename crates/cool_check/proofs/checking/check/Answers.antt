@@ -1,9 +1,30 @@
 -- Faults in order stand where they stood.
-use Rattle.std.proofs.Common.{subst, sym}
+use Rattle.std.proofs.Common.{◌≡◌, ℕ, suc, List, [], ◌∷◌, length, true, ap, ◌∙◌, refl, subst, sym, arith}
+use Rattle.std.specs.Prelude.{◌==◌}
 use Rattle.std.specs.List.{AllByRecursion}
 use Rattle.cool_syntax.specs.TokenFacts.{IsPlaced}
+use Rattle.cool_classes.specs.Chains.{Class}
+use Rattle.cool_rules.specs.TypedTables.{IsTypedTable}
 use Rattle.cool_check.specs.declared.fault.TypeFault.{TypeFault}
+use Rattle.cool_check.specs.TypingFaults.{typing_faults}
+use Rattle.cool_check.proofs.AcceptedTables.{accepted_typed}
 use Rattle.cool_check.proofs.checking.check.Goals as goal
 
 pub returns-clause-places : goal.returns-clause-places
 returns-clause-places c = λ n h. subst (AllByRecursion (λ (f : TypeFault). IsPlaced n f.at)) (sym c.new-2.ensures) (c.in_order.ensures.places n (c.in_ok-faults.ensures.places n h))
+
+-- no items are none
+none_found : (xs : List TypeFault) → true ≡ (length xs == 0) → xs ≡ []
+none_found [] e = refl
+none_found (x ∷ xs) e = absurd (some (length xs) (sym e))
+  where
+    equal : (m n : ℕ) → (m == n) ≡ true → m ≡ n
+    equal m n h = grind arith
+
+    some : (n : ℕ) → (suc n == 0) ≡ true → ⊥
+    some n h = let same = equal (suc n) 0 h in omega arith
+
+-- where no fault is found, the table is a typed one
+pub returns-then-is_empty-clause-accepted : goal.returns-then-is_empty-clause-accepted
+returns-then-is_empty-clause-accepted c = λ ds table classes free is.
+    subst IsTypedTable (sym is) (accepted_typed ds table classes free (subst (λ (p : List Class). typing_faults p ≡ []) is (sym c.in_ok-faults.ensures.faults ∙ none_found c.in_ok-faults.faults.items (c.if-is_empty.ensures ∙ ap (λ (n : ℕ). n == 0) c.in_ok-faults.faults.ok.0))))

@@ -1,0 +1,208 @@
+-- A feature is typed by the rules exactly where checking it finds no fault, where its names are different.
+use Rattle.std.proofs.Common.{◌≡◌, ◌≢◌, ℕ, zero, suc, ◌<◌, List, [], ◌∷◌, ◌++◌, map, length, Option, Some, None, Bool, true, false, cond, ap, sym, ◌∙◌, refl, subst}
+use Rattle.std.specs.Prelude.{Ok, bytes_eq, slice_get}
+use Rattle.std.specs.List.{AllByRecursion}
+use Rattle.std.specs.Option.{option_or}
+use Rattle.std.proofs.lemmas.Slice.Eq.{bytes_eq-Decides}
+use Rattle.cool_syntax.specs.declared.file_tree.Feature.{Feature}
+use Rattle.cool_syntax.specs.declared.file_tree.Feature.TheVariants.{Method, Attribute}
+use Rattle.cool_syntax.specs.declared.file_tree.Formal.{Formal}
+use Rattle.cool_syntax.specs.declared.file_tree.AttributeDef.{AttributeDef}
+use Rattle.cool_syntax.specs.declared.place.Place.{Place}
+use Rattle.cool_syntax.specs.Tree.{Tree}
+use Rattle.cool_classes.specs.declared.class_id.ClassId.{ClassId}
+use Rattle.cool_classes.specs.declared.class_id.Ty.{Ty}
+use Rattle.cool_classes.specs.declared.class_id.Ty.TheVariants.{Class as IsClass}
+use Rattle.cool_classes.specs.declared.method.AttributeRef.{AttributeRef}
+use Rattle.cool_classes.specs.Chains.{Class, features_of}
+use Rattle.cool_classes.specs.Features.{Denotes, attributes_of, attribute_name, attribute_type, HasAttribute, IsAttribute, result_in}
+use Rattle.cool_classes.specs.Limits.{AreDifferent}
+use Rattle.cool_classes.specs.Tables.{IsClassName, IsTypeName, IsTyped}
+use Rattle.cool_classes.proofs.AttributesOfChains.{attributes_have}
+use Rattle.cool_classes.proofs.Climbs.{chain_unique, all_within}
+use Rattle.cool_classes.proofs.ChainsOfTables.{chain_of}
+use Rattle.cool_rules.specs.Conformance.{IsType, Conforms}
+use Rattle.cool_rules.specs.Lookups as lookups
+use Rattle.cool_rules.specs.Scopes.{Binding, found}
+use Rattle.cool_rules.specs.Typing as typing
+use Rattle.cool_rules.specs.Typing.{HasType, formals_in_scope, attributes_in_scope, FitsDeclared, IsTypedInit, IsTypedFeature}
+use Rattle.cool_rules.specs.TypedTables.{IsWholeTable}
+use Rattle.cool_rules.proofs.NamesOfTables.{chain_is, meant_is}
+use Rattle.cool_rules.proofs.RulesDecided.{denotes_type}
+use Rattle.cool_rules.proofs.ScopesMoved.{AreSame, moved}
+use Rattle.cool_rules.proofs.TypesOfMethods.{expression_type}
+use Rattle.cool_check.specs.declared.fault.TypeKind.{TypeKind}
+use Rattle.cool_check.specs.declared.fault.TypeKind.TheVariants.{E17, E18}
+use Rattle.cool_check.specs.FirstFaults.{and_then, expect, conform, checked}
+use Rattle.cool_check.specs.Rules.{entered, attribute_binding, attribute_bindings, formal_binding, type_meant}
+use Rattle.cool_check.specs.TypingFaults.{class_context, initial_checked, feature_checked}
+use Rattle.cool_check.proofs.RulesOfTables.{type_meant_is}
+use Rattle.cool_check.proofs.CheckedDecides.{IsDecided, decided_as, bind_decided, ok_decided, conform_decided, checked_decides, found_behind}
+
+-- Bindings entered one after the other
+
+names_of : List Binding → List (List ℕ)
+names_of bs = map (λ (b : Binding). b.name) bs
+
+-- a name that is none of these is not found
+not_found : (bs : List Binding) (name : List ℕ) → AllByRecursion (λ (n : List ℕ). n ≢ name) (map (λ (b : Binding). b.name) bs) → found bs name ≡ None
+not_found [] name h = refl
+not_found (b ∷ bs) name h = by (bytes_eq b.name name) refl (not_found bs name h.1)
+  where
+    by : (x : Bool) → bytes_eq b.name name ≡ x → found bs name ≡ None → cond x (Some b.type) (found bs name) ≡ None
+    by true e rest = absurd (h.0 ((bytes_eq-Decides b.name name).0 e))
+    by false e rest = rest
+
+-- where names are different, the order does not matter
+found_entered : (bs o : List Binding) (name : List ℕ) → AreDifferent (map (λ (b : Binding). b.name) bs) → found (entered bs o) name ≡ option_or (found bs name) (found o name)
+found_entered [] o name h = refl
+found_entered (b ∷ bs) o name h =
+    found_entered bs (b ∷ o) name h.1 ∙ by (bytes_eq b.name name) refl
+  where
+    by : (x : Bool) → bytes_eq b.name name ≡ x → option_or (found bs name) (cond x (Some b.type) (found o name)) ≡ option_or (cond x (Some b.type) (found bs name)) (found o name)
+    by true e = ap (λ (y : Option Ty). option_or y (Some b.type)) (not_found bs name (subst (λ (n : List ℕ). AllByRecursion (λ (m : List ℕ). m ≢ n) (map (λ (x : Binding). x.name) bs)) ((bytes_eq-Decides b.name name).0 e) h.0))
+    by false e = refl
+
+or_none : (o : Option Ty) → option_or o None ≡ o
+or_none None = refl
+or_none (Some t) = refl
+
+entered_types : (P : Ty → Type 0) (bs o : List Binding) → AllByRecursion (λ (b : Binding). P b.type) bs → AllByRecursion (λ (b : Binding). P b.type) o → AllByRecursion (λ (b : Binding). P b.type) (entered bs o)
+entered_types P [] o h g = g
+entered_types P (b ∷ bs) o h g = entered_types P bs (b ∷ o) h.1 (h.0, g)
+
+module _ (p : List Class) (whole : IsWholeTable p) (c : ClassId) (within : c.0 < length p) where
+  abbrev AreTypes : List Binding → Type 0
+  AreTypes o = AllByRecursion (λ (b : Binding). IsType p b.type) o
+
+  -- what a name of the table means is the same for both
+  same_meant : (name : List ℕ) → IsTypeName p name → (type_meant p name ≡ typing.type_meant p name) × IsType p (type_meant p name)
+  same_meant name (t, denotes) =
+      let here : t ≡ type_meant p name = type_meant_is p name t whole.table denotes in
+      (sym here ∙ sym (meant_is p whole name t denotes), subst (IsType p) here (denotes_type p whole name t denotes))
+
+  meant_denotes : (name : List ℕ) → IsTypeName p name → Denotes p name (type_meant p name)
+  meant_denotes name (t, denotes) = subst (λ (x : Ty). Denotes p name x) (type_meant_is p name t whole.table denotes) denotes
+
+  class_is_type : (name : List ℕ) → IsClassName p name → IsTypeName p name
+  class_is_type name (d, d_within, is) = (IsClass d, (d_within, is))
+
+  formals_same : (fs : List Formal) → AllByRecursion (λ (f : Formal). IsClassName p f.declared.name) fs → map (formal_binding p) fs ≡ formals_in_scope p fs
+  formals_same [] h = refl
+  formals_same (f ∷ fs) h =
+      let first = (same_meant f.declared.name (class_is_type f.declared.name h.0)).0 in
+      let rest = formals_same fs h.1 in
+      λ i. record { name = f.name; type = first i } ∷ rest i
+
+  formals_types : (fs : List Formal) → AllByRecursion (λ (f : Formal). IsClassName p f.declared.name) fs → AreTypes (map (formal_binding p) fs)
+  formals_types [] h = tt
+  formals_types (f ∷ fs) h = ((same_meant f.declared.name (class_is_type f.declared.name h.0)).1, formals_types fs h.1)
+
+  attributes_same : (rs : List AttributeRef) → AllByRecursion (λ (r : AttributeRef). IsTypeName p (attribute_type p r)) rs → map (attribute_binding p) rs ≡ attributes_in_scope p rs
+  attributes_same [] h = refl
+  attributes_same (r ∷ rs) h =
+      let first = (same_meant (attribute_type p r) h.0).0 in
+      let rest = attributes_same rs h.1 in
+      λ i. record { name = attribute_name p r; type = first i } ∷ rest i
+
+  attributes_types : (rs : List AttributeRef) → AllByRecursion (λ (r : AttributeRef). IsTypeName p (attribute_type p r)) rs → AreTypes (map (attribute_binding p) rs)
+  attributes_types [] h = tt
+  attributes_types (r ∷ rs) h = ((same_meant (attribute_type p r) h.0).1, attributes_types rs h.1)
+
+  -- the attributes of the class
+  own : List AttributeRef
+  own = attributes_of p (lookups.chain_of p c)
+
+  attribute_typed : (r : AttributeRef) → HasAttribute p r → IsTypeName p (attribute_type p r)
+  attribute_typed r h = by (slice_get (features_of p r.owner) r.index) refl h.1
+    where
+      get : {X : Type 0} (P : X → Type 0) (xs : List X) (k : ℕ) (x : X) → AllByRecursion P xs → slice_get xs k ≡ Some x → P x
+      get P [] k x h e = absurd (cc)
+      get P (y ∷ xs) zero x h e = let same : y ≡ x = cc in subst P same h.0
+      get P (y ∷ xs) (suc k) x h e = get P xs k x h.1 e
+
+      by : (o : Option Feature) → slice_get (features_of p r.owner) r.index ≡ o → IsAttribute o → IsTypeName p (result_in o)
+      by None e a = absurd a
+      by (Some (Method m)) e a = absurd a
+      by (Some (Attribute a)) e x = get (IsTyped p) (features_of p r.owner) r.index (Attribute a) (whole.table.types r.owner h.0) e
+
+  all_attributes_typed : (rs : List AttributeRef) → AllByRecursion (HasAttribute p) rs → AllByRecursion (λ (r : AttributeRef). IsTypeName p (attribute_type p r)) rs
+  all_attributes_typed [] h = tt
+  all_attributes_typed (r ∷ rs) h = (attribute_typed r h.0, all_attributes_typed rs h.1)
+
+  own_typed : AllByRecursion (λ (r : AttributeRef). IsTypeName p (attribute_type p r)) own
+  unfolding own
+  own_typed = all_attributes_typed (attributes_of p (lookups.chain_of p c)) (attributes_have p (lookups.chain_of p c) (λ j d less. all_within p whole.depth whole.grounded c within (lookups.chain_of p c) (chain_is p whole c within) j d less))
+
+  -- the attributes of the class have different names
+  abbrev pub OwnDiffer : Type 0
+  OwnDiffer = AreDifferent (map (λ (b : Binding). b.name) (map (attribute_binding p) (attributes_of p (lookups.chain_of p c))))
+
+  entered_own : attribute_bindings p c ≡ entered (map (attribute_binding p) (attributes_of p (lookups.chain_of p c))) []
+  entered_own = ap (λ (ds : List ClassId). entered (map (attribute_binding p) (attributes_of p ds)) []) (chain_of p c (lookups.chain_of p c) (chain_is p whole c within))
+
+  own_types : AreTypes (attribute_bindings p c)
+  unfolding own own_typed
+  own_types = subst AreTypes (sym entered_own) (entered_types (IsType p) (map (attribute_binding p) (attributes_of p (lookups.chain_of p c))) [] (attributes_types (attributes_of p (lookups.chain_of p c)) own_typed) tt)
+
+  -- a scope as checking has it, and as the rules have it
+  own_same : OwnDiffer → (name : List ℕ) → found (attribute_bindings p c) name ≡ found (attributes_in_scope p (attributes_of p (lookups.chain_of p c))) name
+  unfolding own own_typed
+  own_same differ name =
+      ap (λ (bs : List Binding). found bs name) entered_own
+      ∙ (found_entered (map (attribute_binding p) (attributes_of p (lookups.chain_of p c))) [] name differ
+      ∙ (or_none (found (map (attribute_binding p) (attributes_of p (lookups.chain_of p c))) name)
+      ∙ ap (λ (bs : List Binding). found bs name) (attributes_same (attributes_of p (lookups.chain_of p c)) own_typed)))
+
+  scope_same : (bs cs : List Binding) → OwnDiffer → AreDifferent (map (λ (b : Binding). b.name) bs) → bs ≡ cs → AreSame (entered bs [] ++ attribute_bindings p c) (cs ++ attributes_in_scope p (attributes_of p (lookups.chain_of p c)))
+  scope_same bs cs differ different is = λ name.
+      sym (found_behind (entered bs []) (attribute_bindings p c) name)
+      ∙ (ap (λ (o : Option Ty). option_or o (found (attribute_bindings p c) name)) (found_entered bs [] name different ∙ (or_none (found bs name) ∙ ap (λ (xs : List Binding). found xs name) is))
+      ∙ (ap (λ (o : Option Ty). option_or (found cs name) o) (own_same differ name)
+      ∙ found_behind cs (attributes_in_scope p (attributes_of p (lookups.chain_of p c))) name))
+
+  back : (s t : List Binding) → AreSame s t → AreSame t s
+  back s t h = λ name. sym (h name)
+
+  -- an expression conforms to what a feature declares
+  declared_decided : (bs cs : List Binding) (kind : TypeKind) (at : Place) (e : Tree) (name : List ℕ) → OwnDiffer → AreDifferent (map (λ (b : Binding). b.name) bs) → bs ≡ cs → AreTypes bs → IsTypeName p name
+      → IsDecided {A = Unit {0}} (and_then (checked (class_context p c) (entered bs []) e) (λ t. expect (conform (class_context p c) t (type_meant p name)) kind at (Ok tt))) (λ u. FitsDeclared p c cs e name)
+  declared_decided bs cs kind at e name differ different is types named = decided_as
+      (λ u w. let (t, has, (conforms, unit)) = w in record {
+        chain = lookups.chain_of p c;
+        is_chain = chain_is p whole c within;
+        type = t;
+        result = type_meant p name;
+        has = moved p c e (entered bs [] ++ attribute_bindings p c) (cs ++ attributes_in_scope p (attributes_of p (lookups.chain_of p c))) t (scope_same bs cs differ different is) has;
+        denotes = meant_denotes name named;
+        conforms = conforms;
+      })
+      (λ u f.
+      let same : f.chain ≡ lookups.chain_of p c = chain_unique p (Some c) f.chain (lookups.chain_of p c) f.is_chain (chain_is p whole c within) in
+      let has : HasType p c (cs ++ attributes_in_scope p (attributes_of p (lookups.chain_of p c))) e f.type = subst (λ (ds : List ClassId). HasType p c (cs ++ attributes_in_scope p (attributes_of p ds)) e f.type) same f.has in (
+        f.type,
+        moved p c e (cs ++ attributes_in_scope p (attributes_of p (lookups.chain_of p c))) (entered bs [] ++ attribute_bindings p c) f.type
+            (back (entered bs [] ++ attribute_bindings p c) (cs ++ attributes_in_scope p (attributes_of p (lookups.chain_of p c))) (scope_same bs cs differ different is)) has,
+        (subst (λ (t : Ty). Conforms p c f.type t) (type_meant_is p name f.result whole.table f.denotes) f.conforms, refl),
+      ))
+      (bind_decided (checked_decides (class_context p c) whole within own_types e (entered bs []) (entered_types (IsType p) bs [] types tt)) (λ t has.
+      conform_decided (class_context p c) whole within own_types kind at t (type_meant p name)
+      (expression_type p whole c within e (entered bs [] ++ attribute_bindings p c) t (both (entered bs []) (entered_types (IsType p) bs [] types tt)) has) (λ k. ok_decided (tt {0}))))
+    where
+      both : (o : List Binding) → AreTypes o → AreTypes (o ++ attribute_bindings p c)
+      both [] h = own_types
+      both (b ∷ o) h = (h.0, both o h.1)
+
+  init_decided : (a : AttributeDef) (o : Option Tree) → OwnDiffer → IsTypeName p a.declared.name → IsDecided (initial_checked (class_context p c) a o) (λ u. IsTypedInit p c a.declared.name o)
+  init_decided a None differ named = decided_as (λ u e. tt) (λ u h. refl) (ok_decided (tt {0}))
+  init_decided a (Some e) differ named = declared_decided [] [] E17 a.at e a.declared.name differ tt refl tt named
+
+  -- the formals of a method have different names
+  abbrev pub NamesDiffer : Feature → Type 0
+  NamesDiffer (Method m) = AreDifferent (map (λ (b : Binding). b.name) (map (formal_binding p) m.formals))
+  NamesDiffer (Attribute a) = Unit {0}
+
+  pub feature_decided : (x : Feature) → OwnDiffer → NamesDiffer x → IsTyped p x → IsDecided (feature_checked p c x) (λ u. IsTypedFeature p c x)
+  feature_decided (Method m) differ names typed =
+      declared_decided (map (formal_binding p) m.formals) (formals_in_scope p m.formals) E18 m.at m.body m.result.name differ names (formals_same m.formals typed.1) (formals_types m.formals typed.1) typed.2
+  feature_decided (Attribute a) differ names typed = init_decided a a.init differ typed
