@@ -28,7 +28,7 @@ note_ends c status answered note due other out alone (inl told) =
     (ends_written c (code_of status) [] note (due_left c (code_of status) [] note alone due) out told.1 (λ _. alone.calm) (λ e. absurd (other e)))
 note_ends c status answered note due other out alone (inr failed) =
     subst (λ (s : Status). Ends c (code_of s)) (sym failed.0)
-    (ends_write_fault c (inr failed.1.1) (λ _. inr (code_of status, [], note, due_left c (code_of status) [] note alone due, out, failed.1)))
+    (ends_write_fault c (inr failed.1.1) (inr (code_of status, [], note, due_left c (code_of status) [] note alone due, out, failed.1)) (omega (arith, alone.calm)))
 
 -- a program of the simple form ran, or a write failed, or memory ran out
 pub simple_ends : (c : Call) (names contents strings : List (List ℕ)) (answered : Status) → IsRead c.request Run names contents → AreSimple contents strings
@@ -39,6 +39,6 @@ simple_ends c names contents strings answered read is notes alone (inl done) =
 simple_ends c names contents strings answered read is notes alone (inr (inl failed)) =
     subst (λ (s : Status). Ends c (code_of s)) (sym failed.0)
     (ends_write_fault c (inl failed.1.1)
-    (λ _. inl ([], concat strings ++ end_text, subst (λ left. Writing c.request [] (concat strings ++ end_text) left) (sym alone.left) (by_run names contents strings read is), failed.1, notes)))
+    (inl ([], concat strings ++ end_text, subst (λ left. Writing c.request [] (concat strings ++ end_text) left) (sym alone.left) (by_run names contents strings read is), failed.1, notes)) (omega (arith, alone.calm)))
 simple_ends c names contents strings answered read is notes alone (inr (inr memory)) =
-    subst (λ (s : Status). Ends c (code_of s)) (sym memory.0) (ends_without_memory c memory.1 notes alone.left alone.calm)
+    subst (λ (s : Status). Ends c (code_of s)) (sym memory.0) (ends_without_memory c (omega (arith, read.calm)) memory.1 notes alone.left alone.calm)

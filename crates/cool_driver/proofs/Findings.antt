@@ -46,25 +46,20 @@ pub data Finding (r : Request) (status : ℕ) : Type 0 where
   faulty : (command : Command) (names contents : List (List ℕ)) → IsRead r command names contents → MayRefuse command contents → status ≡ 1 → Finding r status
   simple : (names contents strings : List (List ℕ)) → IsRead r Run names contents → AreSimple contents strings → status ≡ 0 → Finding r status
   image : (name bytes : List ℕ) (found : ImageParts) → IsRead r Exec (name ∷ []) (bytes ∷ []) → IsRunnable found bytes → IsRunStatus status
-      → ((input : List ℕ) → r.input ≡ Some input → (status ≡ 7) ⊎ (status ≡ status_of (run_of found input))) → Finding r status
+      → (status ≡ 7) ⊎ (status ≡ status_of (run_of found r.input)) → Finding r status
   no_image : (name bytes : List ℕ) (fault : ImageError) → IsRead r Exec (name ∷ []) (bytes ∷ []) → first_fault bytes ≡ Some fault → status ≡ 12 → Finding r status
   bad_text : (name bytes : List ℕ) → IsRead r Exec (name ∷ []) (bytes ∷ []) → is_text_file bytes ≡ true → status ≡ 12 → Finding r status
   no_plan : plan_of r.words ≡ None → r.faults_after ≡ r.faults_before → status ≡ 2 → Finding r status
   no_file : (command : Command) (names : List (List ℕ)) → plan_of r.words ≡ Some (command, names) → IsFileFault r command names → status ≡ 10 → Finding r status
 
--- what an input tells is one
-same_input : (told : Option (List ℕ)) (a b : List ℕ) → told ≡ Some a → told ≡ Some b → a ≡ b
-same_input told a b ea eb = cc
-
 -- what is due is a finding
-pub finding_of_due : (r : Request) (status : ℕ) (output note : List ℕ) (left : Option (List ℕ)) → Due r status output note left → Finding r status
+pub finding_of_due : (r : Request) (status : ℕ) (output note left : List ℕ) → Due r status output note left → Finding r status
 finding_of_due r _ _ _ _ (checked names contents p read is) = accepted names contents read refl
 finding_of_due r _ _ _ _ (refused command names contents faults read may is) = faulty command names contents read may refl
 finding_of_due r _ _ _ _ (ran names contents strings read is) = simple names contents strings read is refl
 finding_of_due r _ _ _ _ (not_yet name names contents p read other is) = faulty Run (name ∷ names) contents read other refl
-finding_of_due r _ _ _ _ (executed name bytes found input read is told) =
-    image name bytes found read is (inl (run_of found input, refl)) (λ given e. inr (ap (λ i. status_of (run_of found i)) (same_input r.input input given told e)))
-finding_of_due r _ _ _ _ (unread_input name bytes found input at output left read is told comes fails) = image name bytes found read is (inr refl) (λ given e. inl refl)
+finding_of_due r _ _ _ _ (executed name bytes found read is) = image name bytes found read is (inl (run_of found r.input, refl)) (inr refl)
+finding_of_due r _ _ _ _ (unread_input name bytes found at output left read is comes fails) = image name bytes found read is (inr refl) (inl refl)
 finding_of_due r _ _ _ _ (unfit name bytes fault read binary is) = no_image name bytes fault read is refl
 finding_of_due r _ _ _ _ (misread name bytes fault read text) = bad_text name bytes read text refl
 finding_of_due r _ _ _ _ (usage plan calm) = no_plan plan calm refl
@@ -209,7 +204,7 @@ no_file_fault : (r : Request) (files : FileMap) (a b : Command) (names others co
 no_file_fault r files a b names others contents told read plan (inl many) =
     let same : length names ≡ length others = ap length (same_plan (plan_of r.words) a b names others read.plan plan).1 in
     omega (arith, read.few, same, many.0)
-no_file_fault r files a b names others contents told read plan (inr (inl rose)) = omega (arith, rose told.1, told.2)
+no_file_fault r files a b names others contents told read plan (inr (inl rose)) = omega (arith, rose.more told.1, told.2)
 no_file_fault r files a b names others contents told read plan (inr (inr refusal)) = no_refused_file r files a b names others contents refusal told read plan refusal.cause
 
 -- the bytes of an image have no fault
@@ -359,19 +354,19 @@ unfit_exactly r status files name bytes (no_plan none calm e) told read binary o
 unfit_exactly r status files name bytes (no_file command' names' plan' fault e) told read binary other = absurd (no_file_fault r files _ _ _ _ _ told read plan' fault)
 
 -- and the status of the run's end, or 7, where it is an image
-pub executed_exactly : (r : Request) (status : ℕ) (files : FileMap) (name bytes : List ℕ) (image' : ImageParts) (input : List ℕ) → Finding r status → Told r files → IsRead r Exec (name ∷ []) (bytes ∷ []) → IsImageOf image' bytes → r.input ≡ Some input
-    → (status ≡ 7) ⊎ (status ≡ status_of (run_of image' input))
-executed_exactly r status files name bytes image' input (accepted names' contents' read' e) told read form given = absurd (no_check_exec _ _ _ read'.plan read.plan)
-executed_exactly r status files name bytes image' input (faulty command' names' contents' read' may e) told read form given = absurd (may_refuse r files command' Exec names' (name ∷ []) contents' (bytes ∷ []) told read' read may)
-executed_exactly r status files name bytes image' input (simple names' contents' strings' read' is e) told read form given = absurd (no_run_exec _ _ _ read'.plan read.plan)
-executed_exactly r status files name bytes image' input (image name' bytes' found read' is run e) told read form given =
+pub executed_exactly : (r : Request) (status : ℕ) (files : FileMap) (name bytes : List ℕ) (image' : ImageParts) → Finding r status → Told r files → IsRead r Exec (name ∷ []) (bytes ∷ []) → IsImageOf image' bytes
+    → (status ≡ 7) ⊎ (status ≡ status_of (run_of image' r.input))
+executed_exactly r status files name bytes image' (accepted names' contents' read' e) told read form = absurd (no_check_exec _ _ _ read'.plan read.plan)
+executed_exactly r status files name bytes image' (faulty command' names' contents' read' may e) told read form = absurd (may_refuse r files command' Exec names' (name ∷ []) contents' (bytes ∷ []) told read' read may)
+executed_exactly r status files name bytes image' (simple names' contents' strings' read' is e) told read form = absurd (no_run_exec _ _ _ read'.plan read.plan)
+executed_exactly r status files name bytes image' (image name' bytes' found read' is run e) told read form =
     let same = same_runnable found image' bytes (subst (λ (b : List ℕ). IsRunnable found b) (same_file r files _ _ _ _ _ _ told read' read) is) form in
-    subst (λ i. (status ≡ 7) ⊎ (status ≡ status_of (run_of i input))) same (e input given)
-executed_exactly r status files name bytes image' input (no_image name' bytes' fault read' is e) told read form given =
+    subst (λ i. (status ≡ 7) ⊎ (status ≡ status_of (run_of i r.input))) same e
+executed_exactly r status files name bytes image' (no_image name' bytes' fault read' is e) told read form =
     absurd (image_without_fault image' bytes' fault (subst (λ (b : List ℕ). IsImageOf image' b) (same_file r files _ _ _ _ _ _ told read read') form) is)
-executed_exactly r status files name bytes image' input (bad_text name' bytes' read' text e) told read form given = absurd (no_text image' bytes' (subst (λ (b : List ℕ). IsImageOf image' b) (same_file r files _ _ _ _ _ _ told read read') form) text)
-executed_exactly r status files name bytes image' input (no_plan none calm e) told read form given = absurd (no_plan_and_plan _ _ _ none read.plan)
-executed_exactly r status files name bytes image' input (no_file command' names' plan' fault e) told read form given = absurd (no_file_fault r files _ _ _ _ _ told read plan' fault)
+executed_exactly r status files name bytes image' (bad_text name' bytes' read' text e) told read form = absurd (no_text image' bytes' (subst (λ (b : List ℕ). IsImageOf image' b) (same_file r files _ _ _ _ _ _ told read read') form) text)
+executed_exactly r status files name bytes image' (no_plan none calm e) told read form = absurd (no_plan_and_plan _ _ _ none read.plan)
+executed_exactly r status files name bytes image' (no_file command' names' plan' fault e) told read form = absurd (no_file_fault r files _ _ _ _ _ told read plan' fault)
 
 -- where the shelf failed, a file fault is found
 pub shelf_fault : (r : Request) (status : ℕ) → Finding r status → r.faults_before < r.faults_after → status ≡ 10
@@ -383,3 +378,23 @@ shelf_fault r status (no_image name' bytes' fault read' is e) more = absurd (ome
 shelf_fault r status (bad_text name' bytes' read' text e) more = absurd (omega (arith, read'.calm, more))
 shelf_fault r status (no_plan none calm e) more = absurd (omega (arith, calm, more))
 shelf_fault r status (no_file command' names' plan' fault e) more = e
+
+-- a file that is missing or too large leaves no smaller count
+cause_no_less : (files : Option FileMap) (name : List ℕ) (most before after : ℕ) → IsMissing files name before after ⊎ IsLonger files name most before after → before ≤ after
+cause_no_less None name most before after (inl rose) = rose.no_less
+cause_no_less None name most before after (inr rose) = rose.no_less
+cause_no_less (Some files) name most before after (inl gone) = omega (arith, gone.1)
+cause_no_less (Some files) name most before after (inr long) = omega (arith, long.3)
+
+-- the shelf's count of faults does not fall
+pub shelf_no_less : (r : Request) (status : ℕ) → Finding r status → r.faults_before ≤ r.faults_after
+shelf_no_less r status (accepted names' contents' read' e) = omega (arith, read'.calm)
+shelf_no_less r status (faulty command' names' contents' read' may e) = omega (arith, read'.calm)
+shelf_no_less r status (simple names' contents' strings' read' is e) = omega (arith, read'.calm)
+shelf_no_less r status (image name' bytes' found read' is run e) = omega (arith, read'.calm)
+shelf_no_less r status (no_image name' bytes' fault read' is e) = omega (arith, read'.calm)
+shelf_no_less r status (bad_text name' bytes' read' text e) = omega (arith, read'.calm)
+shelf_no_less r status (no_plan none calm e) = omega (arith, calm)
+shelf_no_less r status (no_file command' names' plan' (inl many) e) = omega (arith, many.1)
+shelf_no_less r status (no_file command' names' plan' (inr (inl rose)) e) = rose.no_less
+shelf_no_less r status (no_file command' names' plan' (inr (inr refusal)) e) = cause_no_less r.files refusal.name _ r.faults_before r.faults_after refusal.cause

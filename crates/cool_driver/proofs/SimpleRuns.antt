@@ -44,7 +44,7 @@ no_limit o s t a b = cc
 
 -- a count that stays at 0 did not rise
 no_rise : Rose 0 0 → ⊥
-no_rise rose = absurd (omega (arith, rose (omega arith)))
+no_rise rose = absurd (omega (arith, rose.more (omega arith)))
 
 -- of a run that exits with 0 and this output
 ends_simply : (text : List ℕ) (b : Segments) (n : ℕ) (s end : State) (output : List ℕ) (out : SinkUse) (halt : Halt) (m : MachineParts) (left : Option (List ℕ))
@@ -71,14 +71,13 @@ simple_run_ends image output input out halt m left prints ran counted =
     ends_simply image.text (segments_by_default image) DEFAULT_STEPS (start image (segments_by_default image) input) p.0 output out halt m left (sym (run_of-is image input) ∙ p.1) p.2 ran counted
 
 -- of the run of a machine that was loaded with it
-pub loaded_ends : (image : ImageParts) (heap stack : ℕ) (loaded m : MachineParts) (out : SinkUse) (halt : Halt) (input left : Option (List ℕ))
+pub loaded_ends : (image : ImageParts) (heap stack : ℕ) (loaded m : MachineParts) (out : SinkUse) (halt : Halt) (input : List ℕ) (left : Option (List ℕ))
     → heap ≡ DEFAULT_HEAP → stack ≡ DEFAULT_STACK
     → ((given : List ℕ) → state_of loaded given [] ≡ start image (segments_of image heap stack) given) → loaded.cpu.memory.text ≡ image.text → segments loaded.cpu.memory ≡ segments_of image heap stack
-    → input ≡ Some []
-    → ((first : Option (List ℕ)) (s : State) → IsIn first s loaded input out.held_before → Ran loaded.cpu.memory.text (segments loaded.cpu.memory) DEFAULT_STEPS s first halt m left out.held_after)
+    → ((first : Option (List ℕ)) (s : State) → IsIn first s loaded (Some input) out.held_before → Ran loaded.cpu.memory.text (segments loaded.cpu.memory) DEFAULT_STEPS s first halt m left out.held_after)
     → Counted halt 0 0 out.faults_before out.faults_after → (output : List ℕ) → Prints image output → EndsSimply halt out output
-loaded_ends image heap stack loaded m out halt input left least most state text same none ran counted output prints =
-    simple_run_ends image output [] out halt m left prints (ran_by_default image heap stack loaded m DEFAULT_STEPS [] halt input out.held_before left out.held_after least most (state []) text same none ran) counted
+loaded_ends image heap stack loaded m out halt input left least most state text same ran counted output prints =
+    simple_run_ends image output input out halt m left prints (ran_by_default image heap stack loaded m DEFAULT_STEPS input halt (Some input) out.held_before left out.held_after least most (state input) text same refl ran) counted
 
 -- an exit is no fault
 not_both : (halt : Halt) (code : ℕ) → halt ≡ halts.Exit code → halt ≡ halts.WriteFault → ⊥

@@ -18,18 +18,18 @@ use Rattle.spim_machine.specs.Ends.{FailsReading, call_with}
 use Rattle.cool_driver.specs.CommandLine.{plan_of, most_bytes}
 use Rattle.cool_driver.specs.Notes.{end_text, not_yet_note, refused_note, usage_note, missing_note, unread_note, too_many_note, too_large_note, read_fault_note, image_note, asm_note}
 use Rattle.cool_driver.specs.SimpleFiles.{AreSimple, AreNotSimple}
-use Rattle.cool_driver.specs.Execution.{IsImageOf, IsRunnable, is_text_file, segments_by_default, run_of, ComesTo, left_by, status_of, note_of, IsEnd}
+use Rattle.cool_driver.specs.Execution.{IsImageOf, IsRunnable, is_text_file, segments_by_default, run_of, ComesTo, left_by, status_of, note_of}
 use Rattle.cool_driver.specs.declared.command_line.Command.{Command}
 use Rattle.cool_driver.specs.declared.command_line.Command.TheVariants.{Check, Run, Exec}
 
--- What a call was asked: its words, the files that the shelf tells, the shelf's count of faults before and after, and what the
--- input tells that it has left at first.
+-- What a call was asked: its words, the files that the shelf tells, the shelf's count of faults before and after, and an input
+-- that the source may have had left at first.
 pub record Request : Type 0 where
   pub words : List (List ℕ)
   pub files : Option FileMap
   pub faults_before : ℕ
   pub faults_after : ℕ
-  pub input : Option (List ℕ)
+  pub input : List ℕ
 
 -- the files of these names have these bytes, as far as the shelf tells
 abbrev pub AreHeld : Option FileMap → List (List ℕ) → List (List ℕ) → Type 0
@@ -63,7 +63,7 @@ MayRefuse Run contents = AreNotSimple contents
 MayRefuse Exec contents = ⊥
 
 -- What is due: the status, the output, the note, and what is left of the input.
-pub data Due (r : Request) : ℕ → List ℕ → List ℕ → Option (List ℕ) → Type 0 where
+pub data Due (r : Request) : ℕ → List ℕ → List ℕ → List ℕ → Type 0 where
   -- `check`: nothing, where the files are accepted
   checked : (names contents : List (List ℕ)) (p : List Class) → IsRead r Check names contents → IsAccepted contents p → Due r 0 [] [] r.input
   -- `check` and `run`: a line for each fault
@@ -73,12 +73,11 @@ pub data Due (r : Request) : ℕ → List ℕ → List ℕ → Option (List ℕ)
   ran : (names contents strings : List (List ℕ)) → IsRead r Run names contents → AreSimple contents strings → Due r 0 (concat strings ++ end_text) [] r.input
   not_yet : (name : List ℕ) (names contents : List (List ℕ)) (p : List Class) → IsRead r Run (name ∷ names) contents → AreNotSimple contents → IsAccepted contents p → Due r 1 [] (not_yet_note name) r.input
   -- `exec`: as the run of the image ends
-  executed : (name bytes : List ℕ) (image : ImageParts) (input : List ℕ) → IsRead r Exec (name ∷ []) (bytes ∷ []) → IsRunnable image bytes → r.input ≡ Some input
-      → Due r (status_of (run_of image input)) (left_by (run_of image input)).output (note_of (run_of image input)) (Some (left_by (run_of image input)).input)
+  executed : (name bytes : List ℕ) (image : ImageParts) → IsRead r Exec (name ∷ []) (bytes ∷ []) → IsRunnable image bytes
+      → Due r (status_of (run_of image r.input)) (left_by (run_of image r.input)).output (note_of (run_of image r.input)) (left_by (run_of image r.input)).input
   -- `exec`: the run comes to a call that fails to read, over what is left
-  unread_input : (name bytes : List ℕ) (image : ImageParts) (input : List ℕ) (at : State) (output : List ℕ) (left : Option (List ℕ))
-      → IsRead r Exec (name ∷ []) (bytes ∷ []) → IsRunnable image bytes → r.input ≡ Some input
-      → ComesTo image input at → FailsReading (call_with (segments_by_default image) at) at (Some []) left (Some output)
+  unread_input : (name bytes : List ℕ) (image : ImageParts) (at : State) (output left : List ℕ) → IsRead r Exec (name ∷ []) (bytes ∷ []) → IsRunnable image bytes
+      → ComesTo image r.input at → FailsReading (call_with (segments_by_default image) at) at (Some []) (Some left) (Some output)
       → Due r 7 output read_fault_note left
   unfit : (name bytes : List ℕ) (fault : ImageError) → IsRead r Exec (name ∷ []) (bytes ∷ []) → is_text_file bytes ≡ false → first_fault bytes ≡ Some fault → Due r 12 [] (image_note name fault) r.input
   misread : (name bytes : List ℕ) (fault : AsmFault) → IsRead r Exec (name ∷ []) (bytes ∷ []) → is_text_file bytes ≡ true → Due r 12 [] (asm_note name fault) r.input
@@ -91,11 +90,11 @@ pub data Due (r : Request) : ℕ → List ℕ → List ℕ → Option (List ℕ)
       → Due r 10 [] too_large_note r.input
 
 -- What is written when a write of the output fails: what was written before, what is being written, and what is left of the input.
-pub data Writing (r : Request) : List ℕ → List ℕ → Option (List ℕ) → Type 0 where
+pub data Writing (r : Request) : List ℕ → List ℕ → List ℕ → Type 0 where
   by_run : (names contents strings : List (List ℕ)) → IsRead r Run names contents → AreSimple contents strings → Writing r [] (concat strings ++ end_text) r.input
   -- the run of the image comes to a call that prints these bytes
-  by_exec : (name bytes : List ℕ) (image : ImageParts) (input : List ℕ) (at : State) (printed : List ℕ) → IsRead r Exec (name ∷ []) (bytes ∷ []) → IsRunnable image bytes → r.input ≡ Some input
-      → ComesTo image input at → call (segments_by_default image) at ≡ print at printed → Writing r at.output printed (Some at.input)
+  by_exec : (name bytes : List ℕ) (image : ImageParts) (at : State) (printed : List ℕ) → IsRead r Exec (name ∷ []) (bytes ∷ []) → IsRunnable image bytes
+      → ComesTo image r.input at → call (segments_by_default image) at ≡ print at printed → Writing r at.output printed at.input
 
 -- What a sink held, and its count of faults, before a call and after it.
 pub record SinkUse : Type 0 where
@@ -112,15 +111,22 @@ Got s bytes = (s.held_after ≡ appended s.held_before bytes) × (s.faults_after
 abbrev pub GotPart : SinkUse → List ℕ → List ℕ → Type 0
 GotPart s bytes more = GotPrefix (appended s.held_before bytes) more s.held_after × Rose s.faults_before s.faults_after
 
--- A call of `cool`: what it was asked, how its output and its notes fared, what the input tells that it has left, and the input's
--- count of faults.
+-- A call of `cool`: what it was asked, how its output and its notes fared, what is left of the input, and the input's count of
+-- faults.
 pub record Call : Type 0 where
   pub request : Request
   pub out : SinkUse
   pub notes : SinkUse
-  pub left : Option (List ℕ)
+  pub left : List ℕ
   pub input_before : ℕ
   pub input_after : ℕ
+
+-- no count of faults falls
+pub record NoLess (c : Call) : Type 0 where
+  pub files : c.request.faults_before ≤ c.request.faults_after
+  pub input : c.input_before ≤ c.input_after
+  pub out : c.out.faults_before ≤ c.out.faults_after
+  pub notes : c.notes.faults_before ≤ c.notes.faults_after
 
 -- a write of the output failed: the bytes before it came, and of its own a prefix
 abbrev pub FailedOutput : Call → Type 0
@@ -130,20 +136,9 @@ FailedOutput c = (bytes : List ℕ) × (more : List ℕ) × Writing c.request by
 abbrev pub FailedNote : Call → Type 0
 FailedNote c = (due : ℕ) × (output : List ℕ) × (note : List ℕ) × Due c.request due output note c.left × Got c.out output × GotPart c.notes [] note
 
--- The input does not tell what it has left. So of the run of an image no more is said than that its status and note are those of
--- some end of a run, or of a read that failed.
-abbrev pub EndsUntold : Call → ℕ → Type 0
-EndsUntold c status =
-    (name : List ℕ) × (bytes : List ℕ) × (image : ImageParts) × IsRead c.request Exec (name ∷ []) (bytes ∷ []) × IsRunnable image bytes × (c.request.input ≡ None)
-    × (note : List ℕ) × (IsEnd status note ⊎ ((status ≡ 7) × (note ≡ read_fault_note))) × Got c.notes note
-
 -- the shelf tells these files, and no fault of it can have come
 abbrev pub Told : Request → FileMap → Type 0
 Told r files = (r.files ≡ Some files) × (r.faults_before < last_count) × (r.faults_after ≡ r.faults_before)
-
--- the input tells what it has left, where the command takes of it
-abbrev pub TellsInput : Request → Type 0
-TellsInput r = (names : List (List ℕ)) → plan_of r.words ≡ Some (Exec, names) → (input : List ℕ) × (r.input ≡ Some input)
 
 -- so it is, unless a write failed or memory ran out
 abbrev pub Unless : ℕ → Type 0 → Type 0
@@ -154,10 +149,10 @@ pub record Ends (c : Call) (status : ℕ) : Type 0 where
   -- no other status comes
   pub statuses : status ≤ 12
   -- the status is the one due, what is due was written and nothing else, and what is due is left of the input
-  pub written : Unless status (((output : List ℕ) × (note : List ℕ) × Due c.request status output note c.left × Got c.out output × Got c.notes note) ⊎ EndsUntold c status)
+  pub written : Unless status ((output : List ℕ) × (note : List ℕ) × Due c.request status output note c.left × Got c.out output × Got c.notes note)
   -- status 8: a write failed
   pub write_fault : status ≡ 8 → Rose c.out.faults_before c.out.faults_after ⊎ Rose c.notes.faults_before c.notes.faults_after
-  pub prefixes : TellsInput c.request → status ≡ 8 → FailedOutput c ⊎ FailedNote c
+  pub prefixes : status ≡ 8 → FailedOutput c ⊎ FailedNote c
   -- status 9: nothing was written or taken
   pub want_of_memory : status ≡ 9 → Got c.out [] × Got c.notes [] × (c.left ≡ c.request.input) × (c.input_after ≡ c.input_before)
   -- status 7 comes only where the input failed
@@ -179,9 +174,10 @@ pub record Ends (c : Call) (status : ℕ) : Type 0 where
   -- `exec`: status 12 comes where the file was read, is no text and no image, and the status of the run's end where it is an image
   pub unfit_exactly : (files : FileMap) (name bytes : List ℕ) → Told c.request files → IsRead c.request Exec (name ∷ []) (bytes ∷ []) → is_text_file bytes ≡ false → ((image : ImageParts) → IsImageOf image bytes → ⊥)
       → Unless status (status ≡ 12)
-  pub executed_exactly : (files : FileMap) (name bytes : List ℕ) (image : ImageParts) (input : List ℕ) → Told c.request files → IsRead c.request Exec (name ∷ []) (bytes ∷ []) → IsImageOf image bytes → c.request.input ≡ Some input
-      → Unless status ((status ≡ 7) ⊎ (status ≡ status_of (run_of image input)))
-  -- no fault is passed over
+  pub executed_exactly : (files : FileMap) (name bytes : List ℕ) (image : ImageParts) → Told c.request files → IsRead c.request Exec (name ∷ []) (bytes ∷ []) → IsImageOf image bytes
+      → Unless status ((status ≡ 7) ⊎ (status ≡ status_of (run_of image c.request.input)))
+  -- no fault is passed over, and none is taken back
+  pub no_less : NoLess c
   pub out_fault : c.out.faults_before < c.out.faults_after → status ≡ 8
   pub notes_fault : c.notes.faults_before < c.notes.faults_after → status ≡ 8
   pub input_fault : c.input_before < c.input_after → (status ≡ 7) ⊎ (status ≡ 8)

@@ -5,7 +5,7 @@ use Rattle.mips_isa.specs.Bytes.{Segments, segments_of}
 use Rattle.mips_isa.specs.Lines.{Line}
 use Rattle.mips_isa.specs.Assembly.{fault_of, image_of}
 use Rattle.mips_isa.specs.Calls.{State, Outcome, Running, Exited, Trapped}
-use Rattle.mips_isa.specs.Run.{run, start}
+use Rattle.mips_isa.specs.Run.{start, run_image}
 use Rattle.mips_image.specs.ImageBytes.{image_bytes, HasWords}
 use Rattle.spim_machine.specs.Ends.{ComesToCall}
 use Rattle.cool_driver.specs.declared.TheConstants.{DEFAULT_HEAP, DEFAULT_STACK, DEFAULT_STEPS}
@@ -39,7 +39,7 @@ segments_by_default image = segments_of image DEFAULT_HEAP DEFAULT_STACK
 
 -- the run of an image over an input, within the default limits
 unfoldable pub run_of : ImageParts → List ℕ → Outcome
-run_of image input = run image.text (segments_by_default image) DEFAULT_STEPS (start image (segments_by_default image) input)
+run_of image input = run_image image DEFAULT_HEAP DEFAULT_STACK input DEFAULT_STEPS
 
 -- this run comes to a system call in this state
 abbrev pub ComesTo : ImageParts → List ℕ → State → Type 0
@@ -61,7 +61,3 @@ abbrev pub note_of : Outcome → List ℕ
 note_of (Running s) = step_limit_note
 note_of (Exited code s) = if code == 4 then heap_limit_note else (if code == 5 then stack_limit_note else [])
 note_of (Trapped trap s) = trap_note trap
-
--- some end of a run has this status and this note
-abbrev pub IsEnd : ℕ → List ℕ → Type 0
-IsEnd status note = (end : Outcome) × (status ≡ status_of end) × (note ≡ note_of end)

@@ -2,6 +2,7 @@ pub mod Reading
 pub mod SimpleFiles
 pub mod SimpleReading
 pub mod Emitted
+pub mod Limits
 pub mod CommandLine
 pub mod Notes
 pub mod Execution

@@ -119,7 +119,7 @@ IsDue r (Execute image) = (name : List ℕ) × (bytes : List ℕ) × IsRead r co
 -- what is left to do for any words that name these files for this command, over a shelf of these files, and for any input
 abbrev pub IsFileTask : Option FileMap → ℕ → ℕ → Command → List (List ℕ) → Task → Type 0
 IsFileTask files before after command names task =
-    (words : List (List ℕ)) (input : Option (List ℕ)) → plan_of words ≡ Some (command, names)
+    (words : List (List ℕ)) (input : List ℕ) → plan_of words ≡ Some (command, names)
     → IsDue (record { words = words; files = files; faults_before = before; faults_after = after; input = input }) task
 
 -- A note was written and this status answered, or the write failed.

@@ -1,6 +1,8 @@
 //! Runs of images within the default limits.
 
-ghost use Rattle.std.specs.Prelude.{◌≡◌, List, [], ◌∷◌, ℕ};
+ghost use Rattle.std.specs.Prelude.{◌≡◌, List, [], ◌∷◌, ℕ, Bool, false};
+ghost use Rattle.cool_ports.specs.Answers.{Leaves};
+ghost use Rattle.spim_machine.specs.Input.{Took};
 ghost use Rattle.cool_driver.specs.Execution.{IsRunnable};
 ghost use Rattle.cool_driver.specs.Ends.{Request, IsRead, Ends};
 ghost use Rattle.cool_driver.specs.Tasks.{code_of, Prints, RunsSimple};
@@ -55,7 +57,8 @@ pub fn execute<I: Source, O: Sink, E: Sink>(
     out: &mut O,
     notes: &mut E,
 ) -> Status
-    ensures ends { (r : Request) (name bytes : List ℕ) → IsRead r command.Exec (name ∷ []) (bytes ∷ []) → IsRunnable image.now bytes → r.input ≡ I.left input.old → Ends (record {
+    ensures taken { (ended : Bool) × Took false ended (I.past input.old) (I.past input.new) (I.left input.old) (I.left input.new) }
+    ensures ends { (r : Request) (name bytes rest : List ℕ) → IsRead r command.Exec (name ∷ []) (bytes ∷ []) → IsRunnable image.now bytes → Leaves (I.past input.old) (I.past input.new) r.input rest → Ends (record {
       request = r;
       out = record {
         held_before = O.held out.old;
@@ -69,7 +72,7 @@ pub fn execute<I: Source, O: Sink, E: Sink>(
         faults_before = E.faults notes.old;
         faults_after = E.faults notes.new;
       };
-      left = I.left input.new;
+      left = rest;
       input_before = I.faults input.old;
       input_after = I.faults input.new;
     }) (code_of result) }

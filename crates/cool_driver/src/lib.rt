@@ -3,9 +3,11 @@
 //! Comes in: words, files, input. Goes out: output, notes and a status. It meets `specs/Ends.antt`.
 #![tactic(auto)]
 
-ghost use Rattle.std.specs.Prelude.{◌≡◌, ◌⊎◌};
+ghost use Rattle.std.specs.Prelude.{◌≡◌, ◌⊎◌, ℕ, List, Bool, false};
+ghost use Rattle.cool_ports.specs.Answers.{Leaves};
 ghost use Rattle.cool_ports.specs.Counts.{Rose};
-ghost use Rattle.cool_ports.specs.SinkBytes.{appended};
+ghost use Rattle.cool_ports.specs.SinkBytes.{appended, GotPrefix};
+ghost use Rattle.spim_machine.specs.Input.{Took};
 ghost use Rattle.cool_driver.specs.CommandLine.{words_of, TakesNoInput};
 ghost use Rattle.cool_driver.specs.Notes.{usage_note};
 ghost use Rattle.cool_driver.specs.Ends.{Ends};
@@ -49,17 +51,24 @@ pub fn cool<F: Shelf, I: Source, O: Sink, E: Sink>(
     out: &mut O,
     notes: &mut E,
 ) -> u8
+    // The shelf keeps its files.
+    ensures files { F.files files.new ≡ F.files files.old }
+
     // Only `exec` takes of the input.
     ensures input { TakesNoInput (words_of words.now) → input.new ≡ input.old }
 
-    // How it ends, by its status.
-    ensures ends { Ends (record {
+    // What it takes of the input: bytes, and then perhaps the answer that nothing is left, once.
+    ensures taken { (ended : Bool) × Took false ended (I.past input.old) (I.past input.new) (I.left input.old) (I.left input.new) }
+
+    // How it ends, by its status, for any input that begins with what it took, and is no more than that where the end was
+    // answered.
+    ensures ends { (given rest : List ℕ) → Leaves (I.past input.old) (I.past input.new) given rest → Ends (record {
       request = record {
         words = words_of words.now;
         files = F.files files.old;
         faults_before = F.faults files.old;
         faults_after = F.faults files.new;
-        input = I.left input.old;
+        input = given;
       };
       out = record {
         held_before = O.held out.old;
@@ -73,7 +82,7 @@ pub fn cool<F: Shelf, I: Source, O: Sink, E: Sink>(
         faults_before = E.faults notes.old;
         faults_after = E.faults notes.new;
       };
-      left = I.left input.new;
+      left = rest;
       input_before = I.faults input.old;
       input_after = I.faults input.new;
     }) result }
@@ -93,6 +102,7 @@ pub fn refuse_words<E: Sink>(notes: &mut E) -> Status
     ensures note { result ≡ Status.Usage → E.held notes.new ≡ appended (E.held notes.old) usage_note }
     ensures no_fault { result ≡ Status.Usage → E.faults notes.new ≡ E.faults notes.old }
     ensures write_fault { result ≡ Status.WriteFault → Rose (E.faults notes.old) (E.faults notes.new) }
+    ensures prefix { result ≡ Status.WriteFault → GotPrefix (E.held notes.old) usage_note (E.held notes.new) }
 {
     match notes.put(b"cool: bad command line\n") {
         Ok(()) => Status::Usage,

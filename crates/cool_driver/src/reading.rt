@@ -52,6 +52,8 @@ pub fn read_files<'a, F: Shelf>(
     ensures held { IfOk result (λ contents. AreHeld (F.files files.old) (words_of names.now) (texts contents.items)) }
     ensures within { IfOk result (λ contents. total (texts contents.items) ≤ most) }
     ensures calm { OnOk result (F.faults files.new ≡ F.faults files.old) }
+    ensures kept { F.files files.new ≡ F.files files.old }
+    ensures count { F.faults files.old ≤ F.faults files.new }
     ensures stop { IfErr result (IsStop (F.files files.old) (F.faults files.old) (F.faults files.new) (words_of names.now) most) }
 {
     let mut contents = Vec::new(alloc);

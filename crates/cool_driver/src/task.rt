@@ -50,7 +50,9 @@ pub fn find_task<F: Shelf>(
     words: &[String],
     files: &mut F,
 ) -> Result<Task, AllocError>
-    ensures { (input : Option (List ℕ)) → IfOk result (λ task. IsDue (record {
+    ensures kept { F.files files.new ≡ F.files files.old }
+    ensures count { F.faults files.old ≤ F.faults files.new }
+    ensures due { (input : List ℕ) → IfOk result (λ task. IsDue (record {
       words = words_of words.now;
       files = F.files files.old;
       faults_before = F.faults files.old;
@@ -81,7 +83,9 @@ fn find_file_task<F: Shelf>(
     files: &mut F,
 ) -> Result<Task, AllocError>
     requires { is_number_of_files command (length names.now) ≡ true }
-    ensures { IfOk result (IsFileTask (F.files files.old) (F.faults files.old) (F.faults files.new) command (words_of names.now)) }
+    ensures kept { F.files files.new ≡ F.files files.old }
+    ensures count { F.faults files.old ≤ F.faults files.new }
+    ensures due { IfOk result (IsFileTask (F.files files.old) (F.faults files.old) (F.faults files.new) command (words_of names.now)) }
 {
     if names.len() > MOST_FILES {
         return tell_line(alloc, Status::FileFault, b"cool: too many files\n");

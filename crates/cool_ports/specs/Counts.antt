@@ -11,5 +11,6 @@ pub record GoesOn (before after : ℕ) : Type 0 where
   pub bounded : after ≤ last_count
 
 -- The count rose. At its last value it cannot be seen to rise, and is taken as one that rose.
-abbrev pub Rose : ℕ → ℕ → Type 0
-Rose before after = before < last_count → before < after
+pub record Rose (before after : ℕ) : Type 0 where
+  pub no_less : before ≤ after
+  pub more : before < last_count → before < after

@@ -1,4 +1,5 @@
 pub mod Counts
+pub mod Answers
 pub mod SinkBytes
 pub mod SourceBytes
 pub mod ShelfFiles

@@ -1,5 +1,6 @@
 -- What a contract sees of the objects in memory.
 use Rattle.std.specs.Prelude.{ℕ, ◌+◌, min, List, ◌++◌, [], ◌∷◌, Contains}
+use Rattle.cool_ports.specs.Answers.{Past}
 use Rattle.cool_ports.specs.Counts.{last_count}
 
 -- Which calls are to fail, by their numbers from 1, how many were made, and how many of them failed.
@@ -37,7 +38,13 @@ pub record SinkState : Type 0 where
   pub room : ℕ
   pub schedule : Schedule
 
--- A source in memory: the bytes that are left.
+-- A source in memory: the bytes that are left, and what it has answered.
 pub record SourceState : Type 0 where
   pub left : List ℕ
+  pub past : Past
   pub schedule : Schedule
+
+-- The same of a source that never fails.
+pub record SureState : Type 0 where
+  pub left : List ℕ
+  pub past : Past

@@ -1,5 +1,7 @@
 -- What a source has left. `Some` are the bytes of a source that tells them, and `None` is a source that does not tell.
 use Rattle.std.specs.Prelude.{◌≡◌, ◌<◌, ◌≤◌, ◌^◌, List, ℕ, [], ◌∷◌, length, Option, Some, None, Result, Ok, Err}
+use Rattle.std.specs.Io.KnownBytes.{Consumes}
+use Rattle.std.specs.Io.KnownBytes as std_bytes
 use Rattle.cool_ports.specs.declared.Failed.{Failed}
 
 -- what was left before this byte was taken
@@ -21,6 +23,11 @@ HasRoomFor (Some left) room = room ≡ length left
 abbrev pub Takes : Option (List ℕ) → Option ℕ → Option (List ℕ) → Type 0
 Takes before (Some byte) after = before ≡ put_back byte after
 Takes before None after = IsAtEnd before × (after ≡ before)
+
+-- The same of a reader of std that may tell what it has left: this is its first byte, or nothing is left of it.
+abbrev pub Reads : Option (List ℕ) → Option ℕ → Option (List ℕ) → Type 0
+Reads before (Some byte) after = Consumes before after (byte ∷ [])
+Reads before None after = std_bytes.IsAtEnd before
 
 -- The room left: below 2^64, and less after each byte.
 abbrev pub Spends : ℕ → Result (Option ℕ) Failed → ℕ → Type 0

@@ -1,6 +1,6 @@
 //! A shelf over the files of the system.
 
-ghost use Rattle.std.specs.Prelude.{◌<◌, ◌≤◌, ◌^◌, IfOk, None, vec_len};
+ghost use Rattle.std.specs.Prelude.{◌≡◌, ◌<◌, ◌≤◌, ◌^◌, IfOk, None, vec_len};
 
 use crate::{Shelf, ShelfFault};
 use std::alloc::Global;
@@ -18,7 +18,9 @@ pub struct FileShelf<R> {
 
 impl<R: Files> FileShelf<R> {
     /// A shelf over the files that this runtime opens.
-    pub fn new(files: R) -> FileShelf<R> {
+    pub fn new(files: R) -> FileShelf<R>
+        ensures faults { ⟦<FileShelf<R> as Shelf>⟧.faults result ≡ 0 }
+    {
         FileShelf { files, faults: 0 }
     }
 }

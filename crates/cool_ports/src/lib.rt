@@ -6,6 +6,7 @@
 
 mod fault_schedule;
 mod file_shelf;
+mod history;
 mod mem_shelf;
 mod mem_sink;
 mod mem_source;

@@ -1,9 +1,9 @@
 //! A shelf in memory.
 
-ghost use Rattle.std.specs.Prelude.{◌≡◌, ℕ, ◌<◌, ◌≤◌, ◌^◌, ◌↔◌, List, IfOk, IsErrOf, OnOk, OnErr, Some, vec_len, if◌then◌else◌, bytes_eq};
+ghost use Rattle.std.specs.Prelude.{◌≡◌, ℕ, ◌<◌, ◌≤◌, ◌^◌, ◌⊎◌, ◌↔◌, List, IfOk, IsErrOf, OnOk, OnErr, Some, vec_len, if◌then◌else◌, bytes_eq};
 ghost use Rattle.cool_ports.specs.Counts.{GoesOn, Rose};
 ghost use Rattle.cool_ports.specs.ShelfFiles.{MayHold, IsMissing, IsLonger};
-ghost use Rattle.cool_ports.specs.MemoryObjects.{no_faults, IsToFail, failing_at};
+ghost use Rattle.cool_ports.specs.MemoryObjects.{no_faults, IsToFail, called, faulted, failing_at};
 
 use crate::fault_schedule::FaultSchedule;
 use crate::{Shelf, ShelfFault};
@@ -74,6 +74,8 @@ impl Shelf for MemShelf {
         ensures failed { IsErrOf result ShelfFault.Failed → Rose (schedule_of self.old).faults (schedule_of self.new).faults }
         ensures kept { Some (file_of self.new) ≡ Some (file_of self.old) }
         ensures count { GoesOn (schedule_of self.old).faults (schedule_of self.new).faults }
+        ensures counted { IsErrOf result ShelfFault.Failed ⊎ (schedule_of self.new ≡ called (schedule_of self.old)) }
+        ensures refused { IsErrOf result ShelfFault.Failed → schedule_of self.new ≡ faulted (called (schedule_of self.old)) }
         ensures when { IsErrOf result ShelfFault.Failed ↔ IsToFail (schedule_of self.old) }
     {
         if self.schedule.begin_call() {

@@ -75,6 +75,7 @@ impl Sink for MemSink {
         ensures prefix { OnErr result (GotPrefix (Some self.old.held) bytes.now (Some self.new.held)) }
         ensures count { GoesOn self.old.schedule.faults self.new.schedule.faults }
         ensures when { IsErr result ↔ (IsToFail self.old.schedule ⊎ (self.old.room < length self.old.held + length bytes.now)) }
+        ensures counted { OnOk result (self.new ≡ record { held = self.old.held ++ bytes.now; room = self.old.room; schedule = called self.old.schedule }) }
         ensures nothing_put { OnErr result (self.new ≡ record self.old { schedule = faulted (called self.old.schedule) }) }
     {
         if self.schedule.begin_call() || self.room - self.bytes.len() < bytes.len() {

@@ -3,9 +3,11 @@
 ghost use Rattle.std.specs.Prelude.{◌≡◌, ◌<◌, ◌↔◌, IfOk, IsErr, OnOk, OnErr, Some, length};
 ghost use Rattle.cool_ports.specs.Counts.{GoesOn, Rose};
 ghost use Rattle.cool_ports.specs.SourceBytes.{Takes, Spends};
+ghost use Rattle.cool_ports.specs.Answers.{nothing_yet, after_answer};
 ghost use Rattle.cool_ports.specs.MemoryObjects.{no_faults, IsToFail, called, faulted, failing_at};
 
 use crate::fault_schedule::FaultSchedule;
+use crate::history::{Answer, History};
 use crate::{Failed, Source};
 use std::alloc::{AllocError, Global};
 use std::marker::Model;
@@ -15,6 +17,7 @@ use std::marker::Model;
 pub struct MemSource {
     bytes: Vec<u8>,
     taken: usize,
+    history: History,
     schedule: FaultSchedule,
 }
 
@@ -24,17 +27,18 @@ impl Model for MemSource {
 
     ghost Value = { SourceState };
 
-    ghost view = { λ s. record { left = drop s.taken s.bytes.items; schedule = s.schedule } };
+    ghost view = { λ s. record { left = drop s.taken s.bytes.items; past = s.history.past; schedule = s.schedule } };
 }
 
 impl MemSource {
     /// A source of these bytes, of which no call is to fail.
     pub fn new(alloc: Global, bytes: Vec<u8>) -> MemSource
-        ensures { result ≡ record { left = bytes.items; schedule = no_faults } }
+        ensures { result ≡ record { left = bytes.items; past = nothing_yet; schedule = no_faults } }
     {
         MemSource {
             bytes,
             taken: 0,
+            history: History::new(),
             schedule: FaultSchedule::new(alloc),
         }
     }
@@ -54,6 +58,8 @@ impl Source for MemSource {
 
     ghost faults = { λ source. source.schedule.faults };
 
+    ghost past = { λ source. source.past };
+
     ghost left = { λ source. Some source.left };
 
     ghost room = { λ source. length source.left };
@@ -61,13 +67,16 @@ impl Source for MemSource {
     /// Takes no memory. `Failed` comes exactly where the number of this call was given to `fail_call`.
     #[tactic(auto, unfolding(crate::specs::SourceBytes::put_back))]
     fn take(&mut self) -> Result<Option<u8>, Failed>
+        ensures answered { IfOk result (λ first. self.new.past ≡ after_answer self.old.past first) }
         ensures taken { IfOk result (λ first. Takes (Some self.old.left) first (Some self.new.left)) }
         ensures no_fault { OnOk result (self.new.schedule.faults ≡ self.old.schedule.faults) }
         ensures failed { OnErr result (Rose self.old.schedule.faults self.new.schedule.faults) }
+        ensures nothing_given { OnErr result (self.new.past ≡ self.old.past) }
         ensures kept { OnErr result (Some self.new.left ≡ Some self.old.left) }
         ensures count { GoesOn self.old.schedule.faults self.new.schedule.faults }
         ensures room { Spends (length self.old.left) result (length self.new.left) }
         ensures when { IsErr result ↔ IsToFail self.old.schedule }
+        ensures counted { OnOk result (self.new.schedule ≡ called self.old.schedule) }
         ensures refused { OnErr result (self.new ≡ record self.old { schedule = faulted (called self.old.schedule) }) }
     {
         if self.schedule.begin_call() {
@@ -78,9 +87,13 @@ impl Source for MemSource {
             Some(byte) => {
                 let byte = *byte;
                 self.taken += 1;
+                self.history = self.history.with(&Answer { first: Some(byte) });
                 Ok(Some(byte))
             }
-            None => Ok(None),
+            None => {
+                self.history = self.history.with(&Answer { first: None });
+                Ok(None)
+            }
         }
     }
 

@@ -1,6 +1,7 @@
 //! What gives input.
 
 ghost use Rattle.std.specs.Prelude.{◌≡◌, ℕ, List, IfOk, OnOk, OnErr, Option};
+ghost use Rattle.cool_ports.specs.Answers.{Past, after_answer};
 ghost use Rattle.cool_ports.specs.Counts.{GoesOn, Rose};
 ghost use Rattle.cool_ports.specs.SourceBytes.{Takes, Spends, HasRoomFor};
 
@@ -11,6 +12,9 @@ pub trait Source {
     /// How often it has failed.
     ghost faults: { Self → ℕ };
 
+    /// The bytes that it has given so far, and how often it has answered that nothing is left.
+    ghost past: { Self → Past };
+
     /// The bytes that are left, where it tells them.
     ghost left: { Self → Option (List ℕ) };
 
@@ -19,11 +23,13 @@ pub trait Source {
 
     /// Takes the next byte, or answers `None` where nothing is left.
     ///
-    /// `Failed` comes only where the count of faults rose; then the bytes left are as before.
+    /// `Failed` comes only where the count of faults rose; then nothing was given, and the bytes left are as before.
     fn take(&mut self) -> Result<Option<u8>, Failed>
+        ensures answered { IfOk result (λ first. past self.new ≡ after_answer (past self.old) first) }
         ensures taken { IfOk result (λ first. Takes (left self.old) first (left self.new)) }
         ensures no_fault { OnOk result (faults self.new ≡ faults self.old) }
         ensures failed { OnErr result (Rose (faults self.old) (faults self.new)) }
+        ensures nothing_given { OnErr result (past self.new ≡ past self.old) }
         ensures kept { OnErr result (left self.new ≡ left self.old) }
         ensures count { GoesOn (faults self.old) (faults self.new) }
         ensures room { Spends (room self.old) result (room self.new) };

@@ -1,6 +1,9 @@
 //! A sink over a writer of std.
 
-ghost use Rattle.std.specs.Prelude.{None};
+ghost use Rattle.std.specs.Prelude.{◌≡◌, ◌<◌, length, OnOk, OnErr, None};
+ghost use Rattle.std.specs.Io.KnownBytes.{Appends};
+ghost use Rattle.cool_ports.specs.Counts.{GoesOn, Rose};
+ghost use Rattle.cool_ports.specs.SinkBytes.{appended, GotPrefix};
 
 use crate::{Failed, Sink};
 use std::io;
@@ -15,7 +18,10 @@ pub struct StdSink<W> {
 
 impl<W: Write> StdSink<W> {
     /// A sink that hands its bytes to this writer.
-    pub fn new(writer: W) -> StdSink<W> {
+    pub fn new(writer: W) -> StdSink<W>
+        ensures writer { result.writer ≡ writer }
+        ensures faults { ⟦<StdSink<W> as Sink>⟧.faults result ≡ 0 }
+    {
         StdSink { writer, faults: 0 }
     }
 }
@@ -25,9 +31,17 @@ impl<W: Write> Sink for StdSink<W> {
 
     ghost held = { λ _. None };
 
-    /// All bytes are handed on before it returns.
+    /// All bytes are handed on before it returns: behind those of the writer, where it tells them.
     #[tactic(auto, unfolding(crate::specs::SinkBytes::appended))]
-    fn put(&mut self, bytes: &[u8]) -> Result<(), Failed> {
+    fn put(&mut self, bytes: &[u8]) -> Result<(), Failed>
+        requires { 0 < length bytes.now }
+        ensures writes { OnOk result (Appends (W.contents self.old.writer) (W.contents self.new.writer) bytes.now) }
+        ensures put { OnOk result (None ≡ appended None bytes.now) }
+        ensures no_fault { OnOk result (self.new.faults ≡ self.old.faults) }
+        ensures failed { OnErr result (Rose self.old.faults self.new.faults) }
+        ensures prefix { OnErr result (GotPrefix None bytes.now None) }
+        ensures count { GoesOn self.old.faults self.new.faults }
+    {
         let faults = self.faults;
         if write_through(&mut self.writer, bytes).is_err() {
             self.faults = faults.saturating_add(1);
@@ -37,7 +51,9 @@ impl<W: Write> Sink for StdSink<W> {
     }
 }
 
-fn write_through<W: Write>(writer: &mut W, bytes: &[u8]) -> io::Result<()> {
+fn write_through<W: Write>(writer: &mut W, bytes: &[u8]) -> io::Result<()>
+    ensures { OnOk result (Appends (W.contents writer.old) (W.contents writer.new) bytes.now) }
+{
     writer.write_all(bytes)?;
     writer.flush()
 }

@@ -6,6 +6,7 @@ pub mod Grammar
 pub mod Groups
 pub mod Lexemes
 pub mod LexicalStructure
+pub mod Limits
 pub mod NodeLists
 pub mod SimpleForm
 pub mod TokenFacts

@@ -7,7 +7,7 @@ use Rattle.mips_isa.specs.Bytes.{Bytes, Segments, set_byte, writable}
 use Rattle.mips_isa.specs.Machine.{Core}
 use Rattle.mips_isa.specs.Calls.{asked, all_writable, set_bytes}
 use Rattle.spim_machine.specs.Input.{GaveByte, TookAll, TookSome}
-use Rattle.spim_machine.proofs.TakingBytes.{TakingOn, asks_more, taking_none, taking_more, taking_all, taking_some, taking_byte, took_newline, took_end, took_some}
+use Rattle.spim_machine.proofs.TakingBytes.{TakingOn, asks_more, taking_none, taking_more, taking_all, taking_some, taking_byte, took_newline, took_end, took_some, took_none}
 
 -- where so many bytes may be stored, each of them may be
 may_store_first : (s : Segments) (a n k : ℕ) → all_writable s a n ≡ true → k < n → writable s (a + k) 1 ≡ true
@@ -121,6 +121,16 @@ end_of_rest was ended (suc n) mid after some gave = took_end _ _ (asks_more n) m
 pub stored_end : (was ended : Bool) (most : ℕ) (before mid after : Option (List ℕ)) (old now : Core) (address end : ℕ) → StoredUpTo was most before mid old now address end → end < address + most → GaveByte was mid (Ok None) ended after → StoredAll was most before ended after old now address end
 stored_end was ended most before mid after old now address end s within gave =
     stored_so_far was ended most before mid after old now address end s (end_of_rest was ended s.rest mid after (omega (arith, s.count, s.behind, within)) gave)
+
+-- a call for no more bytes takes none
+none_left : (was ended : Bool) (rest : ℕ) (left : Option (List ℕ)) → rest ≡ 0 → ended ≡ was → TookAll (asked was rest) [] left ended left
+none_left was ended rest left zero_is is = rw zero_is (took_none left was ended is)
+
+-- where so many bytes were stored, they are all
+pub stored_full : (was ended : Bool) (most : ℕ) (before after : Option (List ℕ)) (old now : Core) (address at end : ℕ) → StoredUpTo was most before after old now address at → at ≡ end → end ≡ address + most → ended ≡ was → StoredAll was most before ended after old now address end
+stored_full was ended most before after old now address at end s here all is =
+    subst (λ end. StoredAll was most before ended after old now address end) here
+    (stored_so_far was ended most before after after old now address at s (none_left was ended s.rest after (omega (arith, s.count, s.behind, here, all)) is))
 
 -- a take failed
 pub stored_failed : (was ended : Bool) (most : ℕ) (before mid after : Option (List ℕ)) (old now : Core) (address end : ℕ) (failed : Failed) → StoredUpTo was most before mid old now address end → end < address + most → GaveByte was mid (Err failed) ended after → (was ≡ false) × TookSome (asked was most) before after

@@ -17,7 +17,7 @@ front-append a b None = refl
 front-append a b (Some rest) = ap Some (sym (append_assoc a b rest))
 
 -- a byte that was taken is one byte in front
-put_back-front : (byte : ℕ) (left : Option (List ℕ)) → put_back byte left ≡ with_front (byte ∷ []) left
+pub put_back-front : (byte : ℕ) (left : Option (List ℕ)) → put_back byte left ≡ with_front (byte ∷ []) left
 unfolding put_back
 put_back-front byte None = refl
 put_back-front byte (Some rest) = refl
@@ -32,26 +32,36 @@ pub record GaveZeros (before after : Option (List ℕ)) : Type 0 where
   pub zeros : ℕ
   pub gave : before ≡ with_front (replicate zeros 0) after
 
+-- at the start it gave none
+pub gave_none : (left : Option (List ℕ)) → GaveZeros left left
+gave_none left = record { zeros = 0; gave = sym (front-nil left) }
+
 -- a byte behind the zeros
-byte_behind : (before mid after : Option (List ℕ)) (byte : ℕ) (z : GaveZeros before mid) → mid ≡ put_back byte after → before ≡ with_front (replicate z.zeros 0 ++ byte ∷ []) after
-byte_behind before mid after byte z is =
-    z.gave ∙ ap (with_front (replicate z.zeros 0)) (is ∙ put_back-front byte after) ∙ front-append (replicate z.zeros 0) (byte ∷ []) after
+byte_behind : (before : Option (List ℕ)) (rest : List ℕ) (byte : ℕ) → (z : GaveZeros before (Some (byte ∷ rest))) → before ≡ with_front (replicate z.zeros 0 ++ byte ∷ []) (Some rest)
+byte_behind before rest byte z = z.gave ∙ front-append (replicate z.zeros 0) (byte ∷ []) (Some rest)
 
 -- one more zero
-pub zeros_more : (before mid after : Option (List ℕ)) (byte : ℕ) → GaveZeros before mid → mid ≡ put_back byte after → byte ≡ 0 → GaveZeros before after
-zeros_more before mid after byte z is zero_is =
-    let last : mid ≡ put_back 0 after = is ∙ ap (λ b. put_back b after) zero_is in
-    record {
-      zeros = z.zeros + 1;
-      gave = byte_behind before mid after 0 z last ∙ ap (λ zeros. with_front zeros after) (replicate_more z.zeros 0);
-    }
+pub zeros_before : (before : Option (List ℕ)) (rest : List ℕ) (byte : ℕ) → byte ≡ 0 → GaveZeros before (Some (byte ∷ rest)) → GaveZeros before (Some rest)
+zeros_before before rest byte zero_is z =
+    let here : before ≡ with_front (replicate z.zeros 0 ++ 0 ∷ []) (Some rest) = byte_behind before rest byte z ∙ ap (λ b. with_front (replicate z.zeros 0 ++ b ∷ []) (Some rest)) zero_is in
+    record { zeros = z.zeros + 1; gave = here ∙ ap (λ zeros. with_front zeros (Some rest)) (replicate_more z.zeros 0) }
+
+-- the end was answered before
+pub next_is_past : (left : Option (List ℕ)) (ended : Bool) → ended ≡ true → GaveByte ended left (Ok None) ended left
+next_is_past left true is = (refl, refl)
+next_is_past left false is = cc
 
 -- a byte came behind zeros
-pub next_is_some : (before mid after : Option (List ℕ)) (was ended : Bool) (byte : ℕ) → was ≡ false → ended ≡ false → GaveZeros before mid → mid ≡ put_back byte after → 0 < byte → GaveByte was before (Ok (Some byte)) ended after
-next_is_some before mid after true ended byte was_is is z gave above = cc
-next_is_some before mid after false ended byte was_is is z gave above = (is, above, (z.zeros, byte_behind before mid after byte z gave))
+pub next_is_some : (before : Option (List ℕ)) (rest : List ℕ) (was ended : Bool) (byte : ℕ) → was ≡ false → ended ≡ false → GaveZeros before (Some (byte ∷ rest)) → 0 < byte → GaveByte was before (Ok (Some byte)) ended (Some rest)
+next_is_some before rest true ended byte was_is is z above = cc
+next_is_some before rest false ended byte was_is is z above = (is, above, (z.zeros, byte_behind before rest byte z))
+
+-- the end came behind zeros
+pub next_is_end : (before : Option (List ℕ)) (rest : List ℕ) (was : Bool) → was ≡ false → GaveZeros before (Some rest) → rest ≡ [] → GaveByte was before (Ok None) true (Some rest)
+next_is_end before rest true was_is z none = cc
+next_is_end before rest false was_is z none = (refl, none, (z.zeros, z.gave))
 
 -- a take failed behind zeros
-pub next_is_failed : (before mid after : Option (List ℕ)) (was ended : Bool) (failed : Failed) → was ≡ false → ended ≡ false → GaveZeros before mid → after ≡ mid → GaveByte was before (Err failed) ended after
-next_is_failed before mid after true ended failed was_is is z kept = cc
-next_is_failed before mid after false ended failed was_is is z kept = rw kept (is, (z.zeros, z.gave))
+pub next_is_failed : (before after : Option (List ℕ)) (was ended : Bool) (failed : Failed) → was ≡ false → ended ≡ false → GaveZeros before after → GaveByte was before (Err failed) ended after
+next_is_failed before after true ended failed was_is is z = cc
+next_is_failed before after false ended failed was_is is z = (is, (z.zeros, z.gave))

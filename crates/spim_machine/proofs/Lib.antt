@@ -1,4 +1,5 @@
 pub mod GivingBytes
+pub mod InputsInParts
 pub mod TakingBytes
 pub mod ReadingNumbers
 pub mod ReadingCalls

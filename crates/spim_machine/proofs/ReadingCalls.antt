@@ -1,11 +1,12 @@
 -- What a call that reads does, from what it took of the source.
-use Rattle.std.proofs.Common.{◌≡◌, ℕ, Bool, List, ◌++◌, refl, sym, ◌∙◌, ap}
-use Rattle.std.specs.Prelude.{Option, Some, Ok}
+use Rattle.std.proofs.Common.{◌≡◌, ℕ, Bool, false, List, ◌++◌, refl, sym, ◌∙◌, ap}
+use Rattle.std.specs.Prelude.{Option, Some, Ok, Err}
 use Rattle.cool_ports.specs.SinkBytes.{appended}
 use Rattle.mips_isa.specs.Machine.{Core, set_register}
 use Rattle.mips_isa.specs.Calls.{State, Outcome, Running, Taken, after_taking}
 use Rattle.spim_cpu.specs.Cpu.{core_of}
-use Rattle.spim_machine.specs.Input.{TookAll}
+use Rattle.spim_machine.specs.declared.halt.Halt.TheVariants.{ReadFault}
+use Rattle.spim_machine.specs.Input.{TookAll, TookSome}
 use Rattle.spim_machine.specs.Machine.{MachineParts, state_of}
 use Rattle.spim_machine.specs.Ends.{Came, Does}
 use Rattle.spim_machine.proofs.GivingBytes.{front-told}
@@ -41,6 +42,13 @@ module _ (change : Core → List ℕ → Core) (ask : Bool → List ℕ → Take
   does_all ended got took ends core heap_break held input output first is_told holds =
       let cut = front-told took.front left' input (sym took.gave ∙ is_told) in
       all_came got held first input output took.front cut.0 (took.asked cut.0 cut.1 ∙ ap (λ e. record { got = got; rest = cut.0; ended = e }) (sym ends)) cut.1 cut.2 holds core heap_break
+
+-- where a take failed, of the part that it took it would have met the end
+pub does_failed : (change : Core → List ℕ → Core) (ask : Bool → List ℕ → Taken) (old new : MachineParts) (left left' : Option (List ℕ)) → (old.ended ≡ false) × TookSome (ask old.ended) left left'
+    → (held : Option (List ℕ)) → Does (reading change ask) old left held (Err ReadFault) new left' held
+does_failed change ask old new left left' (open_yet, some) held input output first is_told holds =
+    let cut = front-told some.front left' input (sym some.gave ∙ is_told) in
+    record { not_ended = open_yet; front = some.front; rest = cut.0; cut = cut.2; asks = some.asks; left_is = cut.1; held_is = holds }
 
 -- a core with this number in $v0
 put_same : (number : List ℕ → ℕ) (core : Core) (got : List ℕ) (v : ℕ) → v ≡ number got → record core { registers = set_register core.registers 2 v } ≡ put_v0 number core got

@@ -1,18 +1,23 @@
 -- A number that is read from a line, byte after byte.
-use Rattle.std.proofs.Common.{◌≡◌, ℕ, Bool, false, List, [], ◌∷◌, ◌++◌, sym, ◌∙◌, ap, append_assoc}
+use Rattle.std.proofs.Common.{◌≡◌, ℕ, Bool, false, List, [], ◌∷◌, ◌++◌, refl, sym, ◌∙◌, ap, append_assoc}
 use Rattle.std.specs.Prelude.{Option, Some, None, Ok, Err, ◌==◌}
 use Rattle.cool_ports.specs.declared.Failed.{Failed}
 use Rattle.mips_isa.specs.Calls.{asked_line, number_of}
 use Rattle.spim_machine.specs.declared.number.Number.{Number}
+use Rattle.spim_machine.specs.declared.number.Number.TheVariants.{Blanks}
 use Rattle.spim_machine.specs.Input.{GaveByte, TookAll, TookSome}
 use Rattle.spim_machine.specs.Numbers.{number_from}
-use Rattle.spim_machine.proofs.TakingBytes.{TakingOn, asks_line, taking_more, taking_all, taking_some, taking_byte, took_newline, took_end, took_some}
+use Rattle.spim_machine.proofs.TakingBytes.{TakingOn, asks_line, taking_none, taking_more, taking_all, taking_some, taking_byte, took_newline, took_end, took_some}
 
 -- A source gave the front of a line, and a number was read from it as far as it came.
 pub record ReadUpTo (was : Bool) (before after : Option (List ℕ)) (number : Number) : Type 0 where
   pub said : List ℕ
   pub taking : TakingOn (asked_line was) (asked_line was) before after said
   pub number_is : (rest : List ℕ) → number_from number rest ≡ number_of (said ++ rest)
+
+-- at the start nothing was read
+pub read_none : (was : Bool) (left : Option (List ℕ)) → ReadUpTo was left left Blanks
+read_none was left = record { said = []; taking = taking_none (asked_line was) left; number_is = λ rest. refl }
 
 -- a number with one more byte
 number_with : (number next : Number) (said : List ℕ) (byte : ℕ) → ((rest : List ℕ) → number_from number rest ≡ number_of (said ++ rest)) → ((rest : List ℕ) → number_from next rest ≡ number_from number (byte ∷ rest)) → (rest : List ℕ) → number_from next rest ≡ number_of ((said ++ byte ∷ []) ++ rest)

@@ -10,10 +10,10 @@ use Rattle.mips_isa.specs.Calls.{State, Outcome, Running, asked, all_writable, s
 use Rattle.spim_cpu.specs.Cpu.{core_of}
 use Rattle.spim_machine.specs.declared.halt.Halt.{Halt}
 use Rattle.spim_machine.specs.declared.halt.Halt.TheVariants as halts
-use Rattle.spim_machine.specs.Input.{TookAll}
+use Rattle.spim_machine.specs.Input.{TookAll, TookSome}
 use Rattle.spim_machine.specs.Machine.{MachineParts, state_of}
 use Rattle.spim_machine.specs.Ends.{Came, Does, MetEnd}
-use Rattle.spim_machine.proofs.ReadingCalls.{reading, does_all}
+use Rattle.spim_machine.proofs.ReadingCalls.{reading, does_all, does_failed}
 
 -- a size is below 1 as signed where it is negative or 0
 small_at : (size : ℕ) → size < 4294967296 → int_lt (cast_signed w32 size) (pos 1) ≡ (is_negative size || size == 0)
@@ -92,3 +92,10 @@ module _ (b : Segments) (old : MachineParts) (address size : ℕ) (at : address 
   does_fill new left left' is_small is_may (got, took, core) heap_break held =
       does_as false true is_small is_may (Ok tt) new left left' held
       (does_all (with_string address) (λ ended. asked ended (size - 1)) old new left left' new.ended got took refl core heap_break held)
+
+  -- a take failed
+  pub does_unfilled : (new : MachineParts) (left left' : Option (List ℕ)) → (is_negative size || size == 0) ≡ false → all_writable b address size ≡ true
+      → (old.ended ≡ false) × TookSome (asked old.ended (size - 1)) left left' → (held : Option (List ℕ)) → Does (read_string b) old left held (Err halts.ReadFault) new left' held
+  does_unfilled new left left' is_small is_may some held =
+      does_as false true is_small is_may (Err halts.ReadFault) new left left' held
+      (does_failed (with_string address) (λ ended. asked ended (size - 1)) old new left left' some held)

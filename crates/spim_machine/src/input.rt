@@ -3,7 +3,7 @@
 ghost use Rattle.std.specs.Prelude.{◌≡◌, ◌<◌, List, ℕ, IfOk, IfSome, OnOk, OnErr, false};
 ghost use Rattle.cool_ports.specs.Counts.{Rose};
 ghost use Rattle.mips_isa.specs.Calls.{asked, char_of};
-ghost use Rattle.spim_machine.specs.Input.{GaveByte, TookAll, TookSome};
+ghost use Rattle.spim_machine.specs.Input.{Took, OfAnyInput, GaveByte, TookAll, TookSome};
 
 use cool_ports::{Failed, Source};
 
@@ -14,7 +14,8 @@ const END_OF_INPUT: u32 = 0xffff_ffff;
 ///
 /// `ended` says whether the end was answered. `Failed` comes at the first `take` that fails.
 pub fn next_byte<S: Source>(ended: &mut bool, source: &mut S) -> Result<Option<u8>, Failed>
-    ensures gave { GaveByte ended.old (S.left source.old) result ended.new (S.left source.new) }
+    ensures took { Took ended.old ended.new (S.past source.old) (S.past source.new) (S.left source.old) (S.left source.new) }
+    ensures gave { OfAnyInput (S.past source.old) (S.past source.new) (λ before after. GaveByte ended.old before result ended.new after) }
     ensures room { IfOk result (λ byte. IfSome byte (λ _. S.room source.new < S.room source.old)) }
     ensures no_fault { OnOk result (S.faults source.new ≡ S.faults source.old) }
     ensures failed { OnErr result (Rose (S.faults source.old) (S.faults source.new)) }
@@ -36,8 +37,9 @@ pub fn next_byte<S: Source>(ended: &mut bool, source: &mut S) -> Result<Option<u
 
 /// The next byte other than 0 as a number, or -1 at the end of the input.
 pub fn read_char<S: Source>(ended: &mut bool, source: &mut S) -> Result<u32, Failed>
-    ensures all { IfOk result (λ n. (got : List ℕ) × TookAll (asked ended.old 1) got (S.left source.old) ended.new (S.left source.new) × (n ≡ char_of got)) }
-    ensures some { OnErr result ((ended.old ≡ false) × TookSome (asked ended.old 1) (S.left source.old) (S.left source.new)) }
+    ensures took { Took ended.old ended.new (S.past source.old) (S.past source.new) (S.left source.old) (S.left source.new) }
+    ensures all { IfOk result (λ n. OfAnyInput (S.past source.old) (S.past source.new) (λ before after. (got : List ℕ) × TookAll (asked ended.old 1) got before ended.new after × (n ≡ char_of got))) }
+    ensures some { OnErr result (OfAnyInput (S.past source.old) (S.past source.new) (λ before after. (ended.old ≡ false) × TookSome (asked ended.old 1) before after)) }
     ensures no_fault { OnOk result (S.faults source.new ≡ S.faults source.old) }
     ensures failed { OnErr result (Rose (S.faults source.old) (S.faults source.new)) }
 {

@@ -1,8 +1,10 @@
-//! Laws on runs.
+//! Laws on runs, and on what they take of a source.
 
-ghost use Rattle.std.specs.Prelude.{◌≡◌, ◌≢◌, ◌+◌, List, ℕ, Option};
+ghost use Rattle.std.specs.Prelude.{◌≡◌, ◌≢◌, ◌+◌, List, [], ℕ, Bool, Option, Some};
+ghost use Rattle.cool_ports.specs.Answers.{Past, Leaves};
 ghost use Rattle.mips_isa.specs.Bytes.{Segments};
 ghost use Rattle.mips_isa.specs.Calls.{State};
+ghost use Rattle.spim_machine.specs.Input.{Took};
 ghost use Rattle.spim_machine.specs.Machine.{MachineParts, IsIn};
 ghost use Rattle.spim_machine.specs.Ends.{Ran};
 ghost use Rattle.spim_machine.specs.declared.halt.Halt.{Halt};
@@ -17,4 +19,11 @@ pub fn law_two_budgets()
         → Ran text b (m + n) s first halt last left' held' }
     ensures ended { (text : List ℕ) (b : Segments) (m n : ℕ) (s : State) (first : Option (List ℕ)) (last : MachineParts) (halt : Halt) (left held : Option (List ℕ))
         → halt ≢ StepLimit → Ran text b m s first halt last left held → Ran text b (m + n) s first halt last left held }
+{}
+
+/// What was taken of a source is an input that it may have had, of which nothing is left; and so is what it tells.
+pub fn law_possible_inputs()
+    ensures some { (was is : Bool) (before after : Past) (left left' : Option (List ℕ)) → (took : Took was is before after left left') → Leaves before after took.front [] }
+    ensures told { (was is : Bool) (before after : Past) (input : List ℕ) (left' : Option (List ℕ)) → Took was is before after (Some input) left'
+        → (rest : List ℕ) × (left' ≡ Some rest) × Leaves before after input rest }
 {}

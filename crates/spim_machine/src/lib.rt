@@ -14,5 +14,5 @@ mod output;
 mod tests;
 
 pub use halt::Halt;
-pub use laws::law_two_budgets;
+pub use laws::{law_possible_inputs, law_two_budgets};
 pub use machine::Machine;

@@ -5,6 +5,7 @@ ghost use Rattle.mips_isa.specs.Bytes.{segments_of};
 ghost use Rattle.mips_isa.specs.Calls.{State};
 ghost use Rattle.mips_isa.specs.Run.{start};
 ghost use Rattle.spim_memory.specs.Memory.{segments, IsLimits};
+ghost use Rattle.spim_machine.specs.Input.{Took, OfAnyInput};
 ghost use Rattle.spim_machine.specs.Machine.{state_of, IsIn, Keeps, halted_by};
 ghost use Rattle.spim_machine.specs.Ends.{Counted, CountedIf, Cycled, Ran};
 ghost use Rattle.spim_cpu.specs.Cpu.{KeepsSegments};
@@ -67,9 +68,11 @@ impl Machine {
     /// after `budget` instructions; a further run goes on from there. `ReadFault` comes at the first `take` that fails, and
     /// `WriteFault` at the first `put`. After all but `StepLimit` a further run answers the same, and touches nothing.
     pub fn run<S: Source, K: Sink>(&mut self, budget: u64, source: &mut S, sink: &mut K) -> Halt
-        // How it ends, from any state that the machine is in, where the source tells what it has left.
-        ensures ran { (first : Option (List ℕ)) (s : State) → self.old.halted ≡ None → IsIn first s self.old (S.left source.old) (K.held sink.old)
-            → Ran self.old.cpu.memory.text (segments self.old.cpu.memory) budget s first result self.new (S.left source.new) (K.held sink.new) }
+        // What it takes of the source, and how it ends, from any state that the machine is in, for any input that begins with what
+        // was taken, and is no more than that where the end was answered.
+        ensures took { self.old.halted ≡ None → Took self.old.ended self.new.ended (S.past source.old) (S.past source.new) (S.left source.old) (S.left source.new) }
+        ensures ran { (first : Option (List ℕ)) (s : State) → self.old.halted ≡ None → OfAnyInput (S.past source.old) (S.past source.new) (λ input rest. IsIn first s self.old input (K.held sink.old)
+            → Ran self.old.cpu.memory.text (segments self.old.cpu.memory) budget s first result self.new rest (K.held sink.new)) }
         ensures counts { self.old.halted ≡ None → Counted result (S.faults source.old) (S.faults source.new) (K.faults sink.old) (K.faults sink.new) }
         ensures halted { self.old.halted ≡ None → self.new.halted ≡ halted_by result }
         ensures memory { KeepsSegments self.old.cpu.memory self.new.cpu.memory }
@@ -97,8 +100,9 @@ impl Machine {
 
     /// Executes an instruction, and the system call that it may be. `Err` comes where the run ends.
     fn cycle<S: Source, K: Sink>(&mut self, source: &mut S, sink: &mut K) -> Result<(), Halt>
-        ensures cycled { (first : Option (List ℕ)) (s : State) → IsIn first s self.old (S.left source.old) (K.held sink.old)
-            → Cycled self.old.cpu.memory.text (segments self.old.cpu.memory) s first result self.new (S.left source.new) (K.held sink.new) }
+        ensures took { Took self.old.ended self.new.ended (S.past source.old) (S.past source.new) (S.left source.old) (S.left source.new) }
+        ensures cycled { (first : Option (List ℕ)) (s : State) → OfAnyInput (S.past source.old) (S.past source.new) (λ before after. IsIn first s self.old before (K.held sink.old)
+            → Cycled self.old.cpu.memory.text (segments self.old.cpu.memory) s first result self.new after (K.held sink.new)) }
         ensures counts { CountedIf result (S.faults source.old) (S.faults source.new) (K.faults sink.old) (K.faults sink.new) }
         ensures keeps { Keeps self.old self.new }
     {

@@ -3,7 +3,7 @@
 ghost use Rattle.std.specs.Prelude.{◌≡◌, List, ℕ, OnOk, OnErr, IfOk, false, [], ◌∷◌};
 ghost use Rattle.cool_ports.specs.Counts.{Rose};
 ghost use Rattle.mips_isa.specs.Calls.{asked_line, number_of};
-ghost use Rattle.spim_machine.specs.Input.{TookAll, TookSome};
+ghost use Rattle.spim_machine.specs.Input.{Took, OfAnyInput, TookAll, TookSome};
 ghost use Rattle.spim_machine.specs.Numbers.{number_from};
 
 use crate::input::next_byte;
@@ -67,8 +67,9 @@ impl Number {
 /// Takes a line, its newline included, and answers the number at its front: after blanks and tabs an optional minus sign and
 /// digits, of which the low 32 bits count. It is 0 where there is none.
 pub fn read_number<S: Source>(ended: &mut bool, source: &mut S) -> Result<u32, Failed>
-    ensures all { IfOk result (λ n. (got : List ℕ) × TookAll (asked_line ended.old) got (S.left source.old) ended.new (S.left source.new) × (n ≡ number_of got)) }
-    ensures some { OnErr result ((ended.old ≡ false) × TookSome (asked_line ended.old) (S.left source.old) (S.left source.new)) }
+    ensures took { Took ended.old ended.new (S.past source.old) (S.past source.new) (S.left source.old) (S.left source.new) }
+    ensures all { IfOk result (λ n. OfAnyInput (S.past source.old) (S.past source.new) (λ before after. (got : List ℕ) × TookAll (asked_line ended.old) got before ended.new after × (n ≡ number_of got))) }
+    ensures some { OnErr result (OfAnyInput (S.past source.old) (S.past source.new) (λ before after. (ended.old ≡ false) × TookSome (asked_line ended.old) before after)) }
     ensures no_fault { OnOk result (S.faults source.new ≡ S.faults source.old) }
     ensures failed { OnErr result (Rose (S.faults source.old) (S.faults source.new)) }
 {

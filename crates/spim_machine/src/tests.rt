@@ -4,7 +4,7 @@
 //! and the endless loop were put together by hand.
 
 use crate::{Halt, Machine};
-use cool_ports::{MemSink, MemSource, Source};
+use cool_ports::{Failed, MemSink, MemSource, Source};
 use mips_isa::{Image, Trap, TrapKind};
 use spim_memory::Limits;
 use std::alloc::Global;
@@ -683,6 +683,32 @@ fn runs(rt: HostRuntime) -> Result<(), Fail> {
         }
         assert_eq!(rt; source.take(), Ok(None));
     }
+    Ok(())
+}
+
+#[test]
+fn end_asked_once(rt: HostRuntime) -> Result<(), Fail> {
+    // Three times read_char and print_int, over one byte: the third take would fail, and is not made.
+    let row = Row {
+        text: &[
+            0x3c020000, 0x3442000c, 0x0000000c, 0x00402021, 0x3c020000, 0x34420001, 0x0000000c,
+            0x3c020000, 0x3442000c, 0x0000000c, 0x00402021, 0x3c020000, 0x34420001, 0x0000000c,
+            0x3c020000, 0x3442000c, 0x0000000c, 0x00402021, 0x3c020000, 0x34420001, 0x0000000c,
+            0x3c020000, 0x3442000a, 0x0000000c,
+        ],
+        bytes: b"",
+        input: b"a",
+        take: 3,
+        put: 0,
+        halt: Halt::Exit(0),
+        output: b"97-1-1",
+        left: b"",
+    };
+    let mut machine = load(rt.alloc(), row.text, row.bytes)?;
+    let (mut source, mut sink) = ports(rt.alloc(), row)?;
+    assert_eq!(rt; machine.run(1_000, &mut source, &mut sink), row.halt);
+    assert_eq!(rt; sink.held(), row.output);
+    assert_eq!(rt; source.take(), Err(Failed));
     Ok(())
 }
 

@@ -1,14 +1,10 @@
 -- A string ends at its first 0, and a buffer may be stored where each of its bytes may be.
-use Rattle.std.proofs.Common.{◌≡◌, ◌∙◌, refl, sym, ap, ℕ, zero, suc, ◌+◌, ◌-◌, ◌<◌, ◌≤◌, Bool, true, false, Option, Some, None, arith}
-use Rattle.std.specs.Prelude.{is_some, ◌==◌, ◌&&◌, ◌||◌, if◌then◌else◌}
+use Rattle.std.proofs.Common.{◌≡◌, ◌∙◌, refl, sym, ap, ℕ, zero, suc, ◌+◌, ◌-◌, ◌<◌, ◌≤◌, Bool, true, false, Some, None, arith}
+use Rattle.std.specs.Prelude.{◌==◌, ◌&&◌, ◌||◌, if◌then◌else◌}
 use Rattle.mips_isa.specs.ImageBounds.{text_start}
 use Rattle.mips_isa.specs.Bytes.{Bytes, Segments, data_start, heap_start, stack_end, lies, writable, readable}
 use Rattle.mips_isa.specs.Calls.{segment_end, up_to_zero, string_at, all_writable}
-use Rattle.spim_memory.specs.Memory.{MemoryParts, IsMemory, segments}
-use Rattle.spim_memory.specs.Places.{IsPlace}
-use Rattle.spim_memory.specs.declared.memory.Place.{Place}
-use Rattle.spim_memory.specs.declared.memory.Place.TheVariants.{StaticBytes, Heap, Stack}
-use Rattle.spim_memory.specs.Strings.{bytes_from}
+use Rattle.spim_memory.specs.Strings.{bytes_from, storable_end}
 
 -- none of so many bytes from an address on is 0
 abbrev pub HasNoZero : Bytes → ℕ → ℕ → Type 0
@@ -21,9 +17,6 @@ MayStore s a n = (i : ℕ) → i < n → writable s (a + i) 1 ≡ true
 -- one more byte
 pub no_zero-turn : (m : Bytes) (a n : ℕ) → HasNoZero m a n → (m (a + n) == 0) ≡ false → HasNoZero m a (n + 1)
 no_zero-turn m a n before last i within = grind (arith, before i, last)
-
-pub may_store-turn : (s : Segments) (a n : ℕ) → MayStore s a n → writable s (a + n) 1 ≡ true → MayStore s a (n + 1)
-may_store-turn s a n before last i within = grind (arith, before i, last)
 
 -- the first byte
 plus_zero : (a : ℕ) → a + 0 ≡ a
@@ -78,6 +71,10 @@ or_true : (b : Bool) → (b || true) ≡ true
 or_true true = refl
 or_true false = refl
 
+third_or : (b c : Bool) → (b || (c || true)) ≡ true
+third_or true c = refl
+third_or false c = or_true c
+
 fourth : (b c d : Bool) → (b || (c || (d || true))) ≡ true
 fourth true c d = refl
 fourth false true d = refl
@@ -120,42 +117,35 @@ string_goes_on s m a k end is within other each =
 pub string_missing : (s : Segments) (m : Bytes) (a end : ℕ) → Some end ≡ segment_end s a → HasNoZero m a (end - a) → string_at s m a ≡ None
 string_missing s m a end is each = rw (sym is) (no_zero m a (end - a) each)
 
--- each byte may be stored, or one may not
+-- each byte may be stored
 pub all_may : (s : Segments) (a n : ℕ) → MayStore s a n → all_writable s a n ≡ true
 all_may s a zero each = refl
 all_may s a (suc n) each = rw (first_may s a n each, all_may s (a + 1) n (may_store-behind s a n each)) refl
 
-and_false : (b : Bool) → (b && false) ≡ false
-and_false true = refl
-and_false false = refl
-
-pub one_may_not : (s : Segments) (a k n : ℕ) → k < n → writable s (a + k) 1 ≡ false → all_writable s a n ≡ false
-one_may_not s a k zero within ends = grind (arith, within)
-one_may_not s a zero (suc n) within ends =
-    let now : writable s a 1 ≡ false = ap (λ q. writable s q 1) (sym (plus_zero a)) ∙ ends in
-    rw now refl
-one_may_not s a (suc k) (suc n) within ends =
+-- where the first bytes may be stored, the others decide
+pub all_behind : (s : Segments) (a k n : ℕ) → MayStore s a k → k ≤ n → all_writable s a n ≡ all_writable s (a + k) (n - k)
+all_behind s a zero n each within =
+    let here : a + 0 ≡ a = omega arith in
+    let all : n - 0 ≡ n = omega arith in
+    rw (here, all) refl
+all_behind s a (suc k) zero each within = absurd (omega arith)
+all_behind s a (suc k) (suc n) each within =
     let next : a + suc k ≡ a + 1 + k = omega arith in
-    let last : writable s (a + 1 + k) 1 ≡ false = rw next at ends in
-    rw (one_may_not s (a + 1) k n (omega (arith, within)) last) (and_false _)
+    let rest : suc n - suc k ≡ n - k = omega arith in
+    rw (next, rest, first_may s a k each) (all_behind s (a + 1) k n (may_store-behind s a k each) (omega (arith, within)))
 
--- a byte that has a place may be stored
-pub may_place : (m : MemoryParts) (a byte : ℕ) (found : Option Place) (b : Bool) → IsMemory m → byte ≡ a → IsPlace m byte found → b ≡ is_some found → b ≡ writable (segments m) a 1
-may_place m a byte None b is same at holds = grind (arith, same, at, holds)
-may_place m a byte (Some (StaticBytes i)) b is same at holds =
-    let may : writable (segments m) a 1 ≡ true = grind (arith, same, at.0, at.1) in
-    holds ∙ sym may
-may_place m a byte (Some (Heap i)) b is same at holds =
-    let may : writable (segments m) a 1 ≡ true = grind (arith, same, at.0, at.1) in
-    holds ∙ sym may
-may_place m a byte (Some (Stack i)) b is same at holds =
-    let may : writable (segments m) a 1 ≡ true = grind (arith, same, at.0, at.1, is.stack) in
-    holds ∙ sym may
+-- the bytes of a segment of data, heap or stack may be stored
+store_within_at : (s : Segments) (a k end : ℕ) (d h w : Bool) → lies data_start s.data_end a 1 ≡ d → lies heap_start s.heap_end a 1 ≡ h → lies s.stack_low stack_end a 1 ≡ w → (if d then Some s.data_end else (if h then Some s.heap_end else (if w then Some stack_end else None))) ≡ Some end → a + k < end → writable s (a + k) 1 ≡ true
+store_within_at s a k end true h w id ih iw is within =
+    let last : s.data_end ≡ end = cc in
+    rw (lies_on data_start s.data_end a k id (omega (arith, within, last))) refl
+store_within_at s a k end false true w id ih iw is within =
+    let last : s.heap_end ≡ end = cc in
+    rw (lies_on heap_start s.heap_end a k ih (omega (arith, within, last))) (second (lies data_start s.data_end (a + k) 1) (lies s.stack_low stack_end (a + k) 1))
+store_within_at s a k end false false true id ih iw is within =
+    let last : stack_end ≡ end = cc in
+    rw (lies_on s.stack_low stack_end a k iw (omega (arith, within, last))) (third_or (lies data_start s.data_end (a + k) 1) (lies heap_start s.heap_end (a + k) 1))
+store_within_at s a k end false false false id ih iw is within = cc
 
--- no byte behind the last address may be stored
-pub may_not_behind : (m : MemoryParts) (a : ℕ) → IsMemory m → 4294967296 ≤ a → false ≡ writable (segments m) a 1
-may_not_behind m a is far = grind (arith, is.static_bytes, is.heap)
-
--- a byte that may be stored lies below the stack's end
-pub may_below : (m : MemoryParts) (a : ℕ) → IsMemory m → writable (segments m) a 1 ≡ true → a < stack_end
-may_below m a is may = grind (arith, is.static_bytes, is.heap, may)
+pub store_within : (s : Segments) (a n end : ℕ) → Some end ≡ storable_end s a → a + n ≤ end → MayStore s a n
+store_within s a n end is within k below = store_within_at s a k end _ _ _ refl refl refl (sym is) (omega (arith, within, below))

@@ -1,7 +1,7 @@
 -- Strings in a memory: the bytes that stand one after another, and those that may be loaded, as SPIM's system call
 -- print_string takes them.
-use Rattle.std.specs.Prelude.{◌≡◌, refl, ℕ, zero, suc, ◌+◌, ◌%◌, ◌<◌, true, List, [], ◌∷◌}
-use Rattle.mips_isa.specs.Bytes.{Bytes, Segments, readable}
+use Rattle.std.specs.Prelude.{◌≡◌, refl, ℕ, zero, suc, ◌+◌, ◌%◌, ◌<◌, true, if◌then◌else◌, Option, Some, None, List, [], ◌∷◌}
+use Rattle.mips_isa.specs.Bytes.{Bytes, Segments, data_start, heap_start, stack_end, lies, readable}
 
 -- so many bytes from an address on
 abbrev pub bytes_from : Bytes → ℕ → ℕ → List ℕ
@@ -11,6 +11,13 @@ bytes_from m a (suc n) = m a ∷ bytes_from m (a + 1) n
 -- each of so many bytes from an address on may be loaded
 abbrev pub MayLoad : Segments → ℕ → ℕ → Type 0
 MayLoad s a n = (k : ℕ) → k < n → readable s (a + k) 1 ≡ true
+
+-- the end of the segment of data, heap or stack in which an address lies
+abbrev pub storable_end : Segments → ℕ → Option ℕ
+storable_end s a =
+    if lies data_start s.data_end a 1 then Some s.data_end
+    else (if lies heap_start s.heap_end a 1 then Some s.heap_end
+    else (if lies s.stack_low stack_end a 1 then Some stack_end else None))
 
 -- Worked examples, where each byte is the last digit of its address.
 three_bytes : bytes_from (λ a. a % 10) 1028 3 ≡ 8 ∷ 9 ∷ 0 ∷ []

@@ -8,7 +8,7 @@ ghost use Rattle.mips_isa.specs.Machine.{set_register};
 ghost use Rattle.mips_isa.specs.Calls as calls;
 ghost use Rattle.spim_memory.specs.Memory.{segments, bytes_of};
 ghost use Rattle.spim_cpu.specs.Cpu.{core_of};
-ghost use Rattle.spim_machine.specs.Input.{TookAll, TookSome};
+ghost use Rattle.spim_machine.specs.Input.{Took, OfAnyInput, TookAll, TookSome};
 ghost use Rattle.spim_machine.specs.Machine.{Keeps};
 ghost use Rattle.spim_machine.specs.Ends.{CountedIf, Does};
 
@@ -33,7 +33,8 @@ impl Machine {
         source: &mut S,
         sink: &mut K,
     ) -> Result<(), Halt>
-        ensures does { Does (calls.call (segments self.old.cpu.memory)) self.old (S.left source.old) (K.held sink.old) result self.new (S.left source.new) (K.held sink.new) }
+        ensures took { Took self.old.ended self.new.ended (S.past source.old) (S.past source.new) (S.left source.old) (S.left source.new) }
+        ensures does { OfAnyInput (S.past source.old) (S.past source.new) (λ before after. Does (calls.call (segments self.old.cpu.memory)) self.old before (K.held sink.old) result self.new after (K.held sink.new)) }
         ensures counts { CountedIf result (S.faults source.old) (S.faults source.new) (K.faults sink.old) (K.faults sink.new) }
         ensures keeps { Keeps self.old self.new }
     {
@@ -96,7 +97,8 @@ impl Machine {
 
     /// Takes a line; the number at its front goes to `$v0`.
     fn read_int<S: Source>(&mut self, source: &mut S) -> Result<(), Halt>
-        ensures does { (held : Option (List ℕ)) → Does (λ s. calls.read_int s (calls.asked_line s.ended s.input)) self.old (S.left source.old) held result self.new (S.left source.new) held }
+        ensures took { Took self.old.ended self.new.ended (S.past source.old) (S.past source.new) (S.left source.old) (S.left source.new) }
+        ensures does { (held : Option (List ℕ)) → OfAnyInput (S.past source.old) (S.past source.new) (λ before after. Does (λ s. calls.read_int s (calls.asked_line s.ended s.input)) self.old before held result self.new after held) }
         ensures counts { CountedIf result (S.faults source.old) (S.faults source.new) 0 0 }
         ensures keeps { Keeps self.old self.new }
     {
@@ -111,7 +113,8 @@ impl Machine {
 
     /// Takes a byte, which goes to `$v0`, or -1 at the end of the input.
     fn read_char<S: Source>(&mut self, source: &mut S) -> Result<(), Halt>
-        ensures does { (held : Option (List ℕ)) → Does (λ s. calls.read_char s (calls.asked s.ended 1 s.input)) self.old (S.left source.old) held result self.new (S.left source.new) held }
+        ensures took { Took self.old.ended self.new.ended (S.past source.old) (S.past source.new) (S.left source.old) (S.left source.new) }
+        ensures does { (held : Option (List ℕ)) → OfAnyInput (S.past source.old) (S.past source.new) (λ before after. Does (λ s. calls.read_char s (calls.asked s.ended 1 s.input)) self.old before held result self.new after held) }
         ensures counts { CountedIf result (S.faults source.old) (S.faults source.new) 0 0 }
         ensures keeps { Keeps self.old self.new }
     {
@@ -128,7 +131,8 @@ impl Machine {
     ///
     /// `Trap` comes where not all of its bytes may be stored.
     fn read_string<S: Source>(&mut self, source: &mut S) -> Result<(), Halt>
-        ensures does { (held : Option (List ℕ)) → Does (calls.read_string (segments self.old.cpu.memory)) self.old (S.left source.old) held result self.new (S.left source.new) held }
+        ensures took { Took self.old.ended self.new.ended (S.past source.old) (S.past source.new) (S.left source.old) (S.left source.new) }
+        ensures does { (held : Option (List ℕ)) → OfAnyInput (S.past source.old) (S.past source.new) (λ before after. Does (calls.read_string (segments self.old.cpu.memory)) self.old before held result self.new after held) }
         ensures counts { CountedIf result (S.faults source.old) (S.faults source.new) 0 0 }
         ensures keeps { Keeps self.old self.new }
     {
@@ -150,8 +154,9 @@ impl Machine {
     fn fill<S: Source>(&mut self, address: u32, most: u32, source: &mut S) -> Result<(), Failed>
         requires writable { calls.all_writable (segments self.old.cpu.memory) address (most + 1) ≡ true }
         requires below { address + most < stack_end }
-        ensures all { OnOk result ((got : List ℕ) × TookAll (calls.asked self.old.ended most) got (S.left source.old) self.new.ended (S.left source.new) × (core_of self.new.cpu ≡ record (core_of self.old.cpu) { memory = calls.set_bytes (core_of self.old.cpu).memory address (got ++ 0 ∷ []) })) }
-        ensures some { OnErr result ((self.old.ended ≡ false) × TookSome (calls.asked self.old.ended most) (S.left source.old) (S.left source.new)) }
+        ensures took { Took self.old.ended self.new.ended (S.past source.old) (S.past source.new) (S.left source.old) (S.left source.new) }
+        ensures all { OnOk result (OfAnyInput (S.past source.old) (S.past source.new) (λ before after. (got : List ℕ) × TookAll (calls.asked self.old.ended most) got before self.new.ended after × (core_of self.new.cpu ≡ record (core_of self.old.cpu) { memory = calls.set_bytes (core_of self.old.cpu).memory address (got ++ 0 ∷ []) }))) }
+        ensures some { OnErr result (OfAnyInput (S.past source.old) (S.past source.new) (λ before after. (self.old.ended ≡ false) × TookSome (calls.asked self.old.ended most) before after)) }
         ensures heap_break { self.new.heap_break ≡ self.old.heap_break }
         ensures no_fault { OnOk result (S.faults source.new ≡ S.faults source.old) }
         ensures failed { OnErr result (Rose (S.faults source.old) (S.faults source.new)) }
@@ -171,8 +176,9 @@ impl Machine {
     ) -> Result<u32, Failed>
         requires writable { calls.all_writable (segments self.old.cpu.memory) address most ≡ true }
         requires below { address + most < stack_end }
-        ensures all { IfOk result (λ end. (got : List ℕ) × TookAll (calls.asked self.old.ended most) got (S.left source.old) self.new.ended (S.left source.new) × (end ≡ address + length got) × (length got ≤ most) × (core_of self.new.cpu ≡ record (core_of self.old.cpu) { memory = calls.set_bytes (core_of self.old.cpu).memory address got })) }
-        ensures some { OnErr result ((self.old.ended ≡ false) × TookSome (calls.asked self.old.ended most) (S.left source.old) (S.left source.new)) }
+        ensures took { Took self.old.ended self.new.ended (S.past source.old) (S.past source.new) (S.left source.old) (S.left source.new) }
+        ensures all { IfOk result (λ end. OfAnyInput (S.past source.old) (S.past source.new) (λ before after. (got : List ℕ) × TookAll (calls.asked self.old.ended most) got before self.new.ended after × (end ≡ address + length got) × (length got ≤ most) × (core_of self.new.cpu ≡ record (core_of self.old.cpu) { memory = calls.set_bytes (core_of self.old.cpu).memory address got }))) }
+        ensures some { OnErr result (OfAnyInput (S.past source.old) (S.past source.new) (λ before after. (self.old.ended ≡ false) × TookSome (calls.asked self.old.ended most) before after)) }
         ensures heap_break { self.new.heap_break ≡ self.old.heap_break }
         ensures no_fault { OnOk result (S.faults source.new ≡ S.faults source.old) }
         ensures failed { OnErr result (Rose (S.faults source.old) (S.faults source.new)) }
@@ -207,6 +213,7 @@ impl Machine {
     /// Moves the break by `$a0`, and answers the old one in `$v0`; -1 where it would pass the heap's end.
     fn sbrk(&mut self)
         ensures does { (left held : Option (List ℕ)) → Does (calls.sbrk (segments self.old.cpu.memory)) self.old left held (Ok tt) self.new left held }
+        ensures ended { self.new.ended ≡ self.old.ended }
         ensures keeps { Keeps self.old self.new }
     {
         let old = self.heap_break;

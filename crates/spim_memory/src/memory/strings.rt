@@ -1,28 +1,37 @@
 //! Strings and buffers, of which SPIM's system calls `print_string` and `read_string` ask.
 
 ghost use Rattle.std.specs.Prelude.{◌≡◌, ◌+◌, ◌<◌, ◌≤◌, ◌==◌, ◌&&◌, true, Some, None, IfSome, IfNone};
-ghost use Rattle.mips_isa.specs.Bytes.{readable, writable, stack_end};
+ghost use Rattle.mips_isa.specs.Bytes.{readable, stack_end};
 ghost use Rattle.mips_isa.specs.Calls.{segment_end, string_at, all_writable};
 ghost use Rattle.spim_memory.specs.Memory.{segments, bytes_of};
-ghost use Rattle.spim_memory.specs.Strings.{bytes_from, MayLoad};
+ghost use Rattle.spim_memory.specs.Strings.{bytes_from, MayLoad, storable_end};
 
 use super::{DATA_START, HEAP_START, Memory, Place, STACK_END, TEXT_START};
 
 impl Memory {
+    /// The end of the segment of data, heap or stack that has the byte at an address. `None` comes where it may not be
+    /// stored.
+    fn storable_end(&self, a: u32) -> Option<u32>
+        ensures end { result ≡ storable_end (segments self.now) a }
+        ensures behind { IfSome result (λ end. a < end) }
+        ensures below { IfSome result (λ end. end ≤ stack_end) }
+    {
+        match self.place(a)? {
+            Place::StaticBytes(_) => Some(DATA_START + self.static_bytes.len() as u32),
+            Place::Heap(_) => Some(HEAP_START + self.heap.len() as u32),
+            Place::Stack(_) => Some(STACK_END),
+        }
+    }
+
     /// The end of the segment that has the byte at an address. `None` comes where no segment is.
     fn segment_end(&self, a: u32) -> Option<u32>
         ensures end { result ≡ segment_end (segments self.now) a }
         ensures behind { IfSome result (λ end. a < end) }
         ensures below { IfSome result (λ end. end ≤ stack_end) }
     {
-        match self.place(a) {
-            Some(Place::StaticBytes(_)) => Some(DATA_START + self.static_bytes.len() as u32),
-            Some(Place::Heap(_)) => Some(HEAP_START + self.heap.len() as u32),
-            Some(Place::Stack(_)) => Some(STACK_END),
-            None => {
-                self.text_word(a)?;
-                Some(TEXT_START + 4 * self.text.len() as u32)
-            }
+        match self.text_word(a) {
+            Some(_) => Some(TEXT_START + 4 * self.text.len() as u32),
+            None => self.storable_end(a),
         }
     }
 
@@ -51,30 +60,25 @@ impl Memory {
         None
     }
 
-    /// Whether the byte that lies so far behind an address may be stored. The sum does not wrap.
-    fn may_store_byte(&self, a: u32, offset: u32) -> bool
-        ensures writable { result ≡ writable (segments self.now) (a + offset) 1 }
-        ensures below { result ≡ true → a + offset < stack_end }
-    {
-        // A use of a field: it tells the proof that no segment reaches the last address.
-        let _ = &self.text;
-        match a.checked_add(offset) {
-            Some(byte) => self.place(byte).is_some(),
-            None => false,
-        }
-    }
-
     /// Whether each of `count` bytes from an address on may be stored: the buffer that SPIM's `read_string` fills.
     ///
-    /// An address does not wrap: no byte behind the last address may be stored.
+    /// The bytes are looked up by segments, of which one may begin where another ends. No byte behind the last address may
+    /// be stored.
     pub fn may_store(&self, a: u32, count: u32) -> bool
         ensures writable { result ≡ all_writable (segments self.now) a count }
         ensures below { result ≡ true → 0 < count → a + count ≤ stack_end }
     {
-        for k in 0..count {
-            if !self.may_store_byte(a, k) {
+        let mut start = a;
+        let mut left = count;
+        while left > 0 {
+            let Some(end) = self.storable_end(start) else {
                 return false;
+            };
+            if left <= end - start {
+                return true;
             }
+            left -= end - start;
+            start = end;
         }
         true
     }

@@ -12,6 +12,8 @@ returns-in_default g c =
       held = tt;
       within = tt;
       calm = tt;
+      kept = c.read.ensures.kept ∙ so_far.kept;
+      count = omega (arith, so_far.calm, c.read.ensures.count.no_less);
       stop = stop_at _ _ _ _ _ c.args.names.now c.loop-index.index c.index-names-index.result c.as_str-name.result.now c.loop-index.contents.items c.args.most c.loop-index.left c.in-Err.fault so_far.kept so_far.calm c.loop-index-test.true c.index-names-index.is
           c.as_str-name.ensures.value so_far.held so_far.rest
           (cause_of _ _ _ c.as_str-name.result.now c.loop-index.left c.in-Err.fault (λ e. read.missing (ap Err e)) (λ e. read.too_large (ap Err e)) (λ e. read.failed (ap Err e)) c.in_default.not-Memory);

@@ -13,8 +13,8 @@ use Rattle.cool_driver.proofs.DueTasks.{for_task, file_task, many_task, stop_tas
 use Rattle.cool_driver.proofs.task.find_file_task.Goals as goal
 
 -- there are too many files
-pub returns-then-names-gt-MOST_FILES : goal.returns-then-names-gt-MOST_FILES
-returns-then-names-gt-MOST_FILES g c =
+pub returns-then-names-gt-MOST_FILES-clause-due : goal.returns-then-names-gt-MOST_FILES-clause-due
+returns-then-names-gt-MOST_FILES-clause-due g c =
     let many : MOST_FILES < length (words_of c.args.names.now) = omega (arith, length-map c.args.names.now string_bytes, c.if-names-gt-MOST_FILES.true) in
     for_task _ _ c.tell_line.result (λ task h. many_task _ _ c.args.command (words_of c.args.names.now) task many h) c.tell_line.ensures
 
@@ -30,8 +30,8 @@ find_content_task-requires-clause-few g c =
     omega (arith, held, length-map c.args.names.now string_bytes, length-map c.in-Ok.contents.items (λ file. file.items), ap length c.deref.ensures.value, c.if-names-gt-MOST_FILES.false)
 
 -- the files were read
-pub returns-in-Ok : goal.returns-in-Ok
-returns-in-Ok g c =
+pub returns-in-Ok-clause-due : goal.returns-in-Ok-clause-due
+returns-in-Ok-clause-due g c =
     let read = c.in-Ok.ensures in
     let few : length (words_of c.args.names.now) ≤ MOST_FILES = omega (arith, length-map c.args.names.now string_bytes, c.if-names-gt-MOST_FILES.false) in
     let within : total (texts c.in-Ok.contents.items) ≤ most_bytes c.args.command = omega (arith, read.within, c.most_bytes.ensures) in
@@ -41,8 +41,8 @@ returns-in-Ok g c =
     c.find_content_task.ensures
 
 -- a file was refused
-pub returns-in_ok-note-in-Err-Refused : goal.returns-in_ok-note-in-Err-Refused
-returns-in_ok-note-in-Err-Refused g c =
+pub returns-in_ok-note-in-Err-Refused-clause-due : goal.returns-in_ok-note-in-Err-Refused-clause-due
+returns-in_ok-note-in-Err-Refused-clause-due g c =
     let few : length (words_of c.args.names.now) ≤ MOST_FILES = omega (arith, length-map c.args.names.now string_bytes, c.if-names-gt-MOST_FILES.false) in
     let refused = c.in-Err-Refused in
     let stop = rw refused.field-0-is at refused.ensures.stop in

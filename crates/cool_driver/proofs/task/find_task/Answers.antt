@@ -16,10 +16,10 @@ find_file_task-requires g c =
     sym (ap (is_number_of_files c.in-Some.plan.command) (length-map c.in-Some.plan.names.now string_bytes)) ∙ number
 
 -- what is left to do for the plan's files is due
-pub returns-in-Some : goal.returns-in-Some
-returns-in-Some g c input = for_task _ _ c.find_file_task.result (λ task h. h (words_of c.args.words.now) input (sym c.in-Some.ensures)) c.find_file_task.ensures
+pub returns-in-Some-clause-due : goal.returns-in-Some-clause-due
+returns-in-Some-clause-due g c input = for_task _ _ c.find_file_task.result (λ task h. h (words_of c.args.words.now) input (sym c.in-Some.ensures)) c.find_file_task.ensures.due
 
 -- without a plan the usage is due
-pub returns-in-None : goal.returns-in-None
-returns-in-None g c input =
+pub returns-in-None-clause-due : goal.returns-in-None-clause-due
+returns-in-None-clause-due g c input =
     for_task _ _ c.tell_line.result (λ task h. line_due _ statuses.Usage usage_note task h (omega arith) (λ e. omega (arith, e)) (usage (sym c.in-None.ensures) refl)) c.tell_line.ensures

@@ -1,4 +1,5 @@
 use Rattle.std.proofs.Common.{◌≡◌, ◌≤◌, false}
+use Rattle.spim_machine.specs.Input.{Took, OfAnyInput}
 use Rattle.spim_machine.proofs.GivingBytes.{GaveZeros}
 use Rattle.spim_machine.proofs.input.next_byte.Given as goal
 
@@ -8,7 +9,8 @@ invariant-loop-byte g l =
     let s = g.S.Source in
     record {
       ended : l.ended ≡ false;
-      gave : GaveZeros (s.left l.fn.source) (s.left l.source);
+      took : Took false false (s.past l.fn.source) (s.past l.source) (s.left l.fn.source) (s.left l.source);
+      gave : OfAnyInput (s.past l.fn.source) (s.past l.source) GaveZeros;
       room : s.room l.source ≤ s.room l.fn.source;
       no_fault : s.faults l.source ≡ s.faults l.fn.source;
     }

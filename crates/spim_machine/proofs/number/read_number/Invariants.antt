@@ -1,4 +1,5 @@
 use Rattle.std.proofs.Common.{◌≡◌}
+use Rattle.spim_machine.specs.Input.{Took, OfAnyInput}
 use Rattle.spim_machine.proofs.ReadingNumbers.{ReadUpTo}
 use Rattle.spim_machine.proofs.number.read_number.Given as goal
 
@@ -8,7 +9,8 @@ invariant-loop-byte g l =
     let s = g.S.Source in
     record {
       ended : l.ended ≡ l.fn.ended;
-      reads : ReadUpTo l.fn.ended (s.left l.fn.source) (s.left l.source) l.number;
+      took : Took l.fn.ended l.ended (s.past l.fn.source) (s.past l.source) (s.left l.fn.source) (s.left l.source);
+      reads : OfAnyInput (s.past l.fn.source) (s.past l.source) (λ before after. ReadUpTo l.fn.ended before after l.number);
       no_fault : s.faults l.source ≡ s.faults l.fn.source;
     }
 
