@@ -41,7 +41,7 @@ length_of_order Bge rs rt imm = refl
 length_of_order Blt rs rt imm = refl
 length_of_order Ble rs rt imm = refl
 
-length_of_instructions : (address : Name → ℕ) (at : ℕ) (s : Statement) → length (instructions address at s) ≡ words_needed (need s)
+pub length_of_instructions : (address : Name → ℕ) (at : ℕ) (s : Statement) → length (instructions address at s) ≡ words_needed (need s)
 length_of_instructions address at Empty = refl
 length_of_instructions address at (Plain i) = refl
 length_of_instructions address at (ToTwo op rs rt target) = refl
@@ -70,7 +70,7 @@ length_of_words : (address : Name → ℕ) (list : List WordItem) → length (fl
 length_of_words address [] = refl
 length_of_words address (item ∷ rest) = omega (arith, length_of_words address rest)
 
-length_of_item : (address : Name → ℕ) (s : Statement) → length (item_bytes address s) ≡ bytes_needed (need s)
+pub length_of_item : (address : Name → ℕ) (s : Statement) → length (item_bytes address s) ≡ bytes_needed (need s)
 length_of_item address Empty = refl
 length_of_item address (Plain i) = refl
 length_of_item address (ToTwo op rs rt target) = refl
@@ -104,7 +104,7 @@ HasUnit (assembly.Item unit size) = 1 ≤ unit
 HasUnit (assembly.Switch segment) = Unit {0}
 HasUnit (assembly.Padding unit) = 1 ≤ unit
 
-unit_of : (s : Statement) → HasUnit (need s)
+pub unit_of : (s : Statement) → HasUnit (need s)
 unit_of Empty = tt
 unit_of (Plain i) = tt
 unit_of (ToTwo op rs rt target) = tt
@@ -129,7 +129,7 @@ unit_of (Asciiz bytes) = lit≤ tt
 unit_of (Space n) = lit≤ tt
 unit_of (Align n) = omega (arith, pow_pos n)
 
-up_from : (unit n : ℕ) → 1 ≤ unit → n ≤ up unit n
+pub up_from : (unit n : ℕ) → 1 ≤ unit → n ≤ up unit n
 up_from unit n h = omega (arith, mul_comm ((n + (unit - 1)) / unit) unit)
 
 up_in_parts : (unit n size : ℕ) → 1 ≤ unit → up unit n + size ≡ n + (up unit n - n + size)

@@ -1,0 +1,83 @@
+-- A run from one state of the machine to another, with the number of its instructions, how far heap and stack may reach, and
+-- what the console holds at an early end.
+use Rattle.std.specs.Prelude.{ℕ, ◌+◌, ◌%◌, ◌<◌, ◌≤◌, ◌≡◌, ◌⊎◌, List, ◌++◌}
+use Rattle.mips_isa.specs.Bytes.{Segments}
+use Rattle.mips_isa.specs.Calls.{State, Outcome, Running, Exited, Trapped}
+use Rattle.mips_isa.specs.Run.{run}
+use Rattle.mips_isa.specs.Lines.{Name}
+
+-- Where the segments may end: data at 0x20000000, the heap has at most 256 MiB, and the stack 4 KiB to 64 MiB.
+pub record AreLaid (b : Segments) : Type 0 where
+  pub text : b.text_end ≤ 268435456
+  pub data_to : b.data_end ≤ 536870912
+  pub heap_from : 536870912 ≤ b.heap_end
+  pub heap_to : b.heap_end ≤ 805306368
+  pub stack_from : 2080374784 ≤ b.stack_low
+  pub stack_to : b.stack_low + 4096 ≤ 2147483648
+  pub heap_even : b.heap_end % 4 ≡ 0
+  pub stack_even : b.stack_low % 4 ≡ 0
+
+-- The tags of the classes of the values without an identity.
+pub record Tags : Type 0 where
+  pub int : ℕ
+  pub bool : ℕ
+  pub string : ℕ
+
+-- What a run knows: the words of the text, where labels are, the segments, how far heap and stack are to reach, and the output
+-- and the input left when it is at its end.
+pub record World : Type 0 where
+  pub text : List ℕ
+  pub place : Name → ℕ
+  pub segments : Segments
+  pub laid : AreLaid segments
+  pub tags : Tags
+  pub top : ℕ
+  pub low : ℕ
+  pub output : List ℕ
+  pub left : List ℕ
+
+-- bytes before others, and bytes behind others
+
+abbrev pub IsPrefix : List ℕ → List ℕ → Type 0
+IsPrefix front whole = (more : List ℕ) × (whole ≡ front ++ more)
+
+abbrev pub IsSuffix : List ℕ → List ℕ → Type 0
+IsSuffix back whole = (taken : List ℕ) × (whole ≡ taken ++ back)
+
+-- no more was written than is at the end, and no more taken
+pub record OnTheWay (w : World) (output input : List ℕ) : Type 0 where
+  pub written : IsPrefix output w.output
+  pub taken : IsSuffix w.left input
+
+-- an exit by a limit: heap or stack does not hold what the run is to reach
+pub record Limited (w : World) (code : ℕ) (s : State) : Type 0 where
+  pub why : ((code ≡ 4) × (w.segments.heap_end < w.top)) ⊎ ((code ≡ 5) × (w.low < w.segments.stack_low))
+  pub console : OnTheWay w s.output s.input
+
+-- what a run is to come to: a state, or an exit
+abbrev pub Goal : Type 1
+Goal = Outcome → Type 0
+
+-- a state from which the run goes on
+abbrev pub stands : (State → Type 0) → Goal
+stands Q (Running s) = Q s
+stands Q (Exited code s) = ⊥
+stands Q (Trapped trap s) = ⊥
+
+-- an exit with this code
+abbrev pub exits : ℕ → (State → Type 0) → Goal
+exits n Q (Running s) = ⊥
+exits n Q (Exited code s) = (code ≡ n) × Q s
+exits n Q (Trapped trap s) = ⊥
+
+-- where a run may be after m instructions: at the goal after at least lo, at an exit of the goal, or at an exit by a limit
+abbrev pub Ends : World → ℕ → Goal → ℕ → Outcome → Type 0
+Ends w lo goal m (Running s) = (lo ≤ m) × goal (Running s)
+Ends w lo goal m (Exited code s) = goal (Exited code s) ⊎ Limited w code s
+Ends w lo goal m (Trapped trap s) = ⊥
+
+-- from s the machine comes to the goal in lo to hi instructions, or within hi to an exit by a limit
+pub record Reaches (w : World) (s : State) (lo hi : ℕ) (goal : Goal) : Type 0 where
+  pub count : ℕ
+  pub within : count ≤ hi
+  pub ends : Ends w lo goal count (run w.text w.segments count s)

@@ -1,0 +1,84 @@
+-- That lines of assembly stand in the text of a machine.
+use Rattle.std.specs.Prelude.{ℕ, ◌+◌, ◌*◌, ◌%◌, ◌<◌, ◌≤◌, ◌≡◌, List, [], ◌∷◌, Some}
+use Rattle.mips_isa.specs.declared.instr.Instr.{Instr}
+use Rattle.mips_isa.specs.ImageBounds.{text_start}
+use Rattle.mips_isa.specs.Decoding.{decoded}
+use Rattle.mips_isa.specs.Machine.{word_of_text}
+use Rattle.mips_isa.specs.Lines.{Name, Statement, Empty, Plain, ToTwo, ToOne, ToJump, La, Li, Move, Neg, Nop, B, BranchZero, BranchOrder, Mul, ToText, ToData, Globl, Word, Byte, Ascii, Asciiz, Space, Align, Line}
+use Rattle.mips_isa.specs.Assembly.{Need, Nothing, Words, Item, Switch, Padding, need, instructions}
+use Rattle.cool_runtime.specs.Reaches.{World}
+
+-- an instruction stands at an address
+pub record InstructionAt (w : World) (pc : ℕ) (i : Instr) : Type 0 where
+  pub even : pc % 4 ≡ 0
+  pub from : text_start ≤ pc
+  pub to : pc + 4 ≤ w.segments.text_end
+  pub low : pc + 4 < 268435456
+  pub is : decoded (word_of_text w.text pc) ≡ Some i
+
+abbrev pub InstructionsAt : World → ℕ → List Instr → Type 0
+InstructionsAt w pc [] = Unit {0}
+InstructionsAt w pc (i ∷ rest) = InstructionAt w pc i × InstructionsAt w (pc + 4) rest
+
+-- a label to which jumps and branches may go
+pub record IsTarget (w : World) (label : Name) : Type 0 where
+  pub even : w.place label % 4 ≡ 0
+  pub low : w.place label < 268435456
+
+-- the names of a statement have addresses that it can hold
+abbrev pub Holds : World → Statement → Type 0
+Holds w Empty = Unit {0}
+Holds w (Plain i) = Unit {0}
+Holds w (ToTwo op rs rt target) = IsTarget w target
+Holds w (ToOne op rs target) = IsTarget w target
+Holds w (ToJump op target) = IsTarget w target
+Holds w (La rd label) = w.place label < 4294967296
+Holds w (Li rd value) = Unit {0}
+Holds w (Move rd rs) = Unit {0}
+Holds w (Neg rd rs) = Unit {0}
+Holds w Nop = Unit {0}
+Holds w (B target) = IsTarget w target
+Holds w (BranchZero op rs target) = IsTarget w target
+Holds w (BranchOrder op rs rt target) = IsTarget w target
+Holds w (Mul rd rs rt) = Unit {0}
+Holds w ToText = Unit {0}
+Holds w ToData = Unit {0}
+Holds w (Globl name) = Unit {0}
+Holds w (Word list) = Unit {0}
+Holds w (Byte list) = Unit {0}
+Holds w (Ascii bytes) = Unit {0}
+Holds w (Asciiz bytes) = Unit {0}
+Holds w (Space n) = Unit {0}
+Holds w (Align n) = Unit {0}
+
+-- the words of text that a statement takes
+abbrev pub words_of_need : Need → ℕ
+words_of_need Nothing = 0
+words_of_need (Words n) = n
+words_of_need (Item unit size) = 0
+words_of_need (Switch segment) = 0
+words_of_need (Padding unit) = 0
+
+-- the bytes of text that a line takes
+abbrev pub size : Line → ℕ
+size line = 4 * words_of_need (need line.statement)
+
+abbrev pub sizes : List Line → ℕ
+sizes [] = 0
+sizes (line ∷ rest) = size line + sizes rest
+
+-- labels are at an address
+abbrev pub PlacedAt : World → ℕ → List Name → Type 0
+PlacedAt w pc [] = Unit {0}
+PlacedAt w pc (label ∷ rest) = (w.place label ≡ pc) × PlacedAt w pc rest
+
+-- a line of text stands at an address
+pub record LineAt (w : World) (pc : ℕ) (line : Line) : Type 0 where
+  pub labels : PlacedAt w pc line.labels
+  pub words : InstructionsAt w pc (instructions w.place pc line.statement)
+  pub names : Holds w line.statement
+
+-- lines of text stand from an address on
+abbrev pub HasLines : World → ℕ → List Line → Type 0
+HasLines w pc [] = Unit {0}
+HasLines w pc (line ∷ rest) = LineAt w pc line × HasLines w (pc + size line) rest

@@ -1,0 +1,214 @@
+-- What is to be shown of a list of lines, so that a run from the first one comes to its goal: it is computed from the lines.
+use Rattle.std.specs.Prelude.{ℕ, zero, suc, ◌+◌, ◌*◌, ◌/◌, ◌%◌, ◌<◌, ◌≤◌, ◌≡◌, ◌==◌, ℤ, pos, negsuc, Bool, true, false, List, [], ◌∷◌, ◌++◌, Option, Some, None}
+use Rattle.std.specs.Fmt.{signed_decimal}
+use Rattle.mips_isa.specs.declared.instr.Instr.{Instr}
+use Rattle.mips_isa.specs.declared.instr.Instr.TheVariants.{Three, Shift, ShiftReg, Jr, Jalr, Syscall, MoveFrom, MoveTo, MulDiv, Imm, Lui, BranchTwo, BranchOne, Jump, Mem}
+use Rattle.mips_isa.specs.declared.instr.FromOp.{FromOp}
+use Rattle.mips_isa.specs.declared.instr.FromOp.TheVariants.{Mfhi, Mflo}
+use Rattle.mips_isa.specs.declared.instr.MulDivOp.{MulDivOp}
+use Rattle.mips_isa.specs.declared.instr.MulDivOp.TheVariants.{Mult, Multu, Div, Divu}
+use Rattle.mips_isa.specs.declared.instr.MemOp.{MemOp}
+use Rattle.mips_isa.specs.declared.instr.MemOp.TheVariants.{Lb, Lh, Lw, Lbu, Lhu, Sb, Sh, Sw}
+use Rattle.mips_isa.specs.declared.instr.JumpOp.{JumpOp}
+use Rattle.mips_isa.specs.declared.instr.JumpOp.TheVariants.{J, Jal}
+use Rattle.mips_isa.specs.Words.{bits_of}
+use Rattle.mips_isa.specs.Bytes.{Bytes, Segments, word, set_byte, set_word}
+use Rattle.mips_isa.specs.Machine.{Registers, set_register, wrap, long, three_result, imm_result, shift_result, shift_of, two_result, one_result, signed_quotient, signed_remainder}
+use Rattle.mips_isa.specs.Calls.{State, Taken, asked, asked_line, number_of, char_of, signed, string_at}
+use Rattle.mips_isa.specs.Lines.{Statement, Empty, Plain, ToTwo, ToOne, ToJump, La, Li, Move, Neg, Nop, B, BranchZero, BranchOrder, Mul, ToText, ToData, Globl, Word, Byte, Ascii, Asciiz, Space, Align, Line}
+use Rattle.mips_isa.specs.Assembly.{need, zero_branch}
+use Rattle.cool_runtime.specs.Reaches.{World}
+use Rattle.cool_runtime.specs.Standing.{words_of_need}
+
+-- What stands beside registers, pc and memory: HI and LO, the break, and the console.
+pub record Beside : Type 0 where
+  pub hi : ℕ
+  pub lo : ℕ
+  pub heap_break : ℕ
+  pub input : List ℕ
+  pub ended : Bool
+  pub output : List ℕ
+
+-- the state of these parts
+abbrev pub st : Registers → ℕ → Bytes → Beside → State
+st r pc m x = record {
+  core = record { registers = r; hi = x.hi; lo = x.lo; pc = pc; memory = m };
+  heap_break = x.heap_break;
+  input = x.input;
+  ended = x.ended;
+  output = x.output;
+}
+
+abbrev pub beside : State → Beside
+beside s = record { hi = s.core.hi; lo = s.core.lo; heap_break = s.heap_break; input = s.input; ended = s.ended; output = s.output }
+
+abbrev pub printed : Beside → List ℕ → Beside
+printed x bytes = record x { output = x.output ++ bytes }
+
+abbrev pub took : Beside → Taken → Beside
+took x t = record x { input = t.rest; ended = t.ended }
+
+-- What a block goes on with: registers, pc, memory, and the rest. An end is an exit with a code.
+abbrev pub Parts : Type 1
+Parts = Registers → ℕ → Bytes → Beside → Type 0
+
+abbrev pub Ending : Type 1
+Ending = ℕ → State → Type 0
+
+-- what a block goes on with, so many lines behind the next one
+abbrev pub Next : Type 1
+Next = ℕ → Parts
+
+-- a word at an address may be loaded and stored
+pub record OkWord (b : Segments) (a : ℕ) : Type 0 where
+  pub even : a % 4 ≡ 0
+  pub above_text : 268435456 ≤ a
+  pub below_top : a + 4 ≤ 2147483648
+  pub in_data : a < 536870912 → a + 4 ≤ b.data_end
+  pub in_heap : 536870912 ≤ a → a < b.stack_low → a + 4 ≤ b.heap_end
+
+-- a byte at an address may be loaded and stored
+pub record OkByte (b : Segments) (a : ℕ) : Type 0 where
+  pub above_text : 268435456 ≤ a
+  pub below_top : a < 2147483648
+  pub in_data : a < 536870912 → a < b.data_end
+  pub in_heap : 536870912 ≤ a → a < b.stack_low → a < b.heap_end
+
+-- What a system call is taken to do.
+pub data Service : Type 0 where
+  PrintInt : Service
+  PrintString : List ℕ → Service
+  ReadInt : Service
+  ReadChar : Service
+  Exit : Service
+  ExitWith : Service
+
+abbrev pub w_service : Segments → Service → Registers → ℕ → Bytes → Beside → Next → Ending → Type 0
+w_service b PrintInt r pc m x go end = (r 2 ≡ 1) × go 0 r (pc + 4) m (printed x (signed_decimal (signed (r 4))))
+w_service b (PrintString bytes) r pc m x go end = (r 2 ≡ 4) × (string_at b m (r 4) ≡ Some bytes) × go 0 r (pc + 4) m (printed x bytes)
+w_service b ReadInt r pc m x go end =
+    (r 2 ≡ 5) × go 0 (set_register r 2 (number_of (asked_line x.ended x.input).got)) (pc + 4) m (took x (asked_line x.ended x.input))
+w_service b ReadChar r pc m x go end =
+    (r 2 ≡ 12) × go 0 (set_register r 2 (char_of (asked x.ended 1 x.input).got)) (pc + 4) m (took x (asked x.ended 1 x.input))
+w_service b Exit r pc m x go end = (r 2 ≡ 10) × end 0 (st r (pc + 4) m x)
+w_service b ExitWith r pc m x go end = (r 2 ≡ 17) × end (r 4) (st r (pc + 4) m x)
+
+abbrev pub w_value : Option ℕ → (ℕ → Type 0) → Type 0
+w_value None go = ⊥
+w_value (Some v) go = go v
+
+abbrev pub w_mem : Segments → MemOp → Registers → Bytes → ℕ → ℕ → (Registers → Bytes → Type 0) → Type 0
+w_mem b Lb r m k a go = ⊥
+w_mem b Lh r m k a go = ⊥
+w_mem b Lw r m k a go = OkWord b a × go (set_register r k (word m a)) m
+w_mem b Lbu r m k a go = OkByte b a × go (set_register r k (m a)) m
+w_mem b Lhu r m k a go = ⊥
+w_mem b Sb r m k a go = OkByte b a × go r (set_byte m a (r k % 256))
+w_mem b Sh r m k a go = ⊥
+w_mem b Sw r m k a go = OkWord b a × go r (set_word m a (r k))
+
+-- a branch by number passes over one line
+abbrev pub w_branch : Bool → ℤ → ℕ → (ℕ → ℕ → Type 0) → Type 0
+w_branch t (pos (suc zero)) pc go = (t ≡ true → go 1 (pc + 8)) × (t ≡ false → go 0 (pc + 4))
+w_branch t (pos zero) pc go = ⊥
+w_branch t (pos (suc (suc n))) pc go = ⊥
+w_branch t (negsuc n) pc go = ⊥
+
+abbrev pub w_hi_lo : MulDivOp → ℕ → ℕ → Beside → (Beside → Type 0) → Type 0
+w_hi_lo Mult a b x go = go (record x { hi = long a * long b % 18446744073709551616 / 4294967296; lo = wrap (long a * long b) })
+w_hi_lo Multu a b x go = go (record x { hi = a * b / 4294967296; lo = wrap (a * b) })
+w_hi_lo Div a b x go = ((b == 0) ≡ false) × go (record x { hi = signed_remainder a b; lo = signed_quotient a b })
+w_hi_lo Divu a b x go = ((b == 0) ≡ false) × go (record x { hi = a % b; lo = a / b })
+
+abbrev pub w_from : FromOp → Beside → ℕ
+w_from Mfhi x = x.hi
+w_from Mflo x = x.lo
+
+abbrev pub w_plain : Segments → Instr → Registers → ℕ → Bytes → Beside → Next → Parts → Ending → Type 0
+w_plain b (Three op rd rs rt) r pc m x go jump end = w_value (three_result op (r rs) (r rt)) (λ v. go 0 (set_register r rd v) (pc + 4) m x)
+w_plain b (Shift op rd rt sh) r pc m x go jump end = go 0 (set_register r rd (shift_result op (r rt) sh)) (pc + 4) m x
+w_plain b (ShiftReg op rd rt rs) r pc m x go jump end = go 0 (set_register r rd (shift_result (shift_of op) (r rt) (r rs % 32))) (pc + 4) m x
+w_plain b (Jr rs) r pc m x go jump end = jump r (r rs) m x
+w_plain b (Jalr rd rs) r pc m x go jump end = jump (set_register r rd (pc + 4)) (r rs) m x
+w_plain b Syscall r pc m x go jump end = (service : Service) × w_service b service r pc m x go end
+w_plain b (MoveFrom op rd) r pc m x go jump end = go 0 (set_register r rd (w_from op x)) (pc + 4) m x
+w_plain b (MoveTo op rs) r pc m x go jump end = ⊥
+w_plain b (MulDiv op rs rt) r pc m x go jump end = w_hi_lo op (r rs) (r rt) x (λ y. go 0 r (pc + 4) m y)
+w_plain b (Imm op rt rs i) r pc m x go jump end = w_value (imm_result op (r rs) (bits_of i)) (λ v. go 0 (set_register r rt v) (pc + 4) m x)
+w_plain b (Lui rt i) r pc m x go jump end = go 0 (set_register r rt (wrap (bits_of i * 65536))) (pc + 4) m x
+w_plain b (BranchTwo op rs rt i) r pc m x go jump end = w_branch (two_result op (r rs) (r rt)) i pc (λ k pc'. go k r pc' m x)
+w_plain b (BranchOne op rs i) r pc m x go jump end = w_branch (one_result op (r rs)) i pc (λ k pc'. go k r pc' m x)
+w_plain b (Jump op i) r pc m x go jump end = ⊥
+w_plain b (Mem op rt rs i) r pc m x go jump end = w_mem b op r m rt (wrap (r rs + bits_of i)) (λ r' m'. go 0 r' (pc + 4) m' x)
+
+abbrev pub w_jump : JumpOp → ℕ → Registers → ℕ → Bytes → Beside → Parts → Type 0
+w_jump J a r pc m x jump = jump r a m x
+w_jump Jal a r pc m x jump = jump (set_register r 31 (pc + 4)) a m x
+
+-- a branch to a label
+abbrev pub w_to : Bool → ℕ → Registers → ℕ → Bytes → Beside → Next → Parts → Type 0
+w_to t a r pc m x go jump = (t ≡ true → jump r a m x) × (t ≡ false → go 0 r (pc + 4) m x)
+
+-- what a statement has to show when it is next
+abbrev pub w_statement : World → Statement → Registers → ℕ → Bytes → Beside → Next → Parts → Ending → Type 0
+w_statement w Empty r pc m x go jump end = go 0 r pc m x
+w_statement w (Plain i) r pc m x go jump end = w_plain w.segments i r pc m x go jump end
+w_statement w (ToTwo op rs rt l) r pc m x go jump end = w_to (two_result op (r rs) (r rt)) (w.place l) r pc m x go jump
+w_statement w (ToOne op rs l) r pc m x go jump end = w_to (one_result op (r rs)) (w.place l) r pc m x go jump
+w_statement w (ToJump op l) r pc m x go jump end = w_jump op (w.place l) r pc m x jump
+w_statement w (La rd l) r pc m x go jump end = (0 < rd) × go 0 (set_register r rd (w.place l)) (pc + 8) m x
+w_statement w (Li rd n) r pc m x go jump end = (0 < rd) × (bits_of n < 4294967296) × go 0 (set_register r rd (bits_of n)) (pc + 8) m x
+w_statement w (Move rd rs) r pc m x go jump end = go 0 (set_register r rd (wrap (r rs + r 0))) (pc + 4) m x
+w_statement w (Neg rd rs) r pc m x go jump end = ⊥
+w_statement w Nop r pc m x go jump end = ⊥
+w_statement w (B l) r pc m x go jump end = jump r (w.place l) m x
+w_statement w (BranchZero op rs l) r pc m x go jump end = w_to (two_result (zero_branch op) (r rs) (r 0)) (w.place l) r pc m x go jump
+w_statement w (BranchOrder op rs rt l) r pc m x go jump end = ⊥
+w_statement w (Mul rd rs rt) r pc m x go jump end = ⊥
+w_statement w ToText r pc m x go jump end = ⊥
+w_statement w ToData r pc m x go jump end = ⊥
+w_statement w (Globl name) r pc m x go jump end = ⊥
+w_statement w (Word list) r pc m x go jump end = ⊥
+w_statement w (Byte list) r pc m x go jump end = ⊥
+w_statement w (Ascii bytes) r pc m x go jump end = ⊥
+w_statement w (Asciiz bytes) r pc m x go jump end = ⊥
+w_statement w (Space n) r pc m x go jump end = ⊥
+w_statement w (Align n) r pc m x go jump end = ⊥
+
+-- a line that is passed over has one word
+abbrev pub w_over : Statement → Type 0 → Type 0
+w_over Empty go = ⊥
+w_over (Plain i) go = go
+w_over (ToTwo op rs rt l) go = go
+w_over (ToOne op rs l) go = go
+w_over (ToJump op l) go = go
+w_over (La rd l) go = ⊥
+w_over (Li rd n) go = ⊥
+w_over (Move rd rs) go = go
+w_over (Neg rd rs) go = go
+w_over Nop go = go
+w_over (B l) go = go
+w_over (BranchZero op rs l) go = go
+w_over (BranchOrder op rs rt l) go = ⊥
+w_over (Mul rd rs rt) go = ⊥
+w_over ToText go = ⊥
+w_over ToData go = ⊥
+w_over (Globl name) go = ⊥
+w_over (Word list) go = ⊥
+w_over (Byte list) go = ⊥
+w_over (Ascii bytes) go = ⊥
+w_over (Asciiz bytes) go = ⊥
+w_over (Space n) go = ⊥
+w_over (Align n) go = ⊥
+
+-- what the lines have to show, where the first k of them are passed over
+abbrev pub w_lines : World → List Line → ℕ → Registers → ℕ → Bytes → Beside → Parts → Ending → Type 0
+w_lines w [] zero r pc m x jump end = jump r pc m x
+w_lines w [] (suc k) r pc m x jump end = ⊥
+w_lines w (line ∷ rest) zero r pc m x jump end = w_statement w line.statement r pc m x (λ k r' pc' m' x'. w_lines w rest k r' pc' m' x' jump end) jump end
+w_lines w (line ∷ rest) (suc k) r pc m x jump end = w_over line.statement (w_lines w rest k r pc m x jump end)
+
+-- the instructions of lines, at most
+abbrev pub steps : List Line → ℕ
+steps [] = 0
+steps (line ∷ rest) = words_of_need (need line.statement) + steps rest

@@ -1,0 +1,22 @@
+//! The run-time routines of compiled programs, and the lines of which they and the code of expressions are made.
+//!
+//! Comes in: the name of a routine, or what an object of data holds. Goes out: the lines of assembly. They are those of
+//! `specs/Routines`, and what they do wherever they stand in a text is `specs/Meanings`.
+#![tactic(auto)]
+
+mod catalogue;
+mod data;
+pub mod draft;
+mod lines;
+pub mod piece;
+pub mod register;
+mod routine_part;
+#[cfg(test)]
+mod tests;
+
+pub use catalogue::Routine;
+pub use data::{
+    StringTags, address, bool_object, int_object, label_line, labelled_text, number, object,
+    string_object, word_line,
+};
+pub use lines::{routine, routines};

@@ -1,0 +1,214 @@
+//! The lines of the run-time routines.
+
+ghost use Rattle.std.specs.Prelude.{◌≡◌, ◌++◌, ◌<◌, IfOk, OnOk};
+ghost use Rattle.mips_isa.specs.Lines.{lines_of};
+ghost use Rattle.cool_runtime.specs.Reaches.{World};
+ghost use Rattle.cool_runtime.specs.Meanings.{Means};
+ghost use Rattle.cool_runtime.specs.Routines.{copy_lines, in_int_lines, in_string_lines, concat_lines, substr_lines, equal_lines, string_end_lines};
+ghost use Rattle.cool_runtime.specs.RoutineLines.{all_routine_lines, error_routines_lines, io_routines_lines, limit_routines_lines, object_routines_lines, routine_lines, value_routines_lines};
+
+use crate::catalogue::Routine;
+use crate::draft::{addiu, copied, jr, label, write};
+use crate::piece::{bytes, error, int_head, new_int, string_head, string_return, string_zeros};
+use crate::register::{A0, GP, RA, SP, T1};
+use crate::routine_part::{
+    abort, concat_begin, concat_turn, copy_end, copy_first, copy_words, equal_begin, equal_bytes,
+    equal_false, equal_strings, equal_true, equal_values, heap_limit, in_string_begin,
+    in_string_bytes, in_string_end, length, no_branch, out_int, out_string, read_number,
+    return_call, stack_limit, start, substr_begin, substr_size, type_name,
+};
+use mips_isa::Line;
+use std::alloc::{AllocError, Global};
+
+/// The lines of a routine, which do what it is to do wherever they stand in a text. `Err` comes only for want of memory.
+pub fn routine(alloc: Global, routine: Routine) -> Result<Vec<Line>, AllocError>
+    ensures lines { IfOk result (λ lines. lines_of lines.items ≡ routine_lines routine) }
+    ensures meaning { (w : World) → Means w routine }
+{
+    let mut lines = Vec::new(alloc);
+    add_routine(alloc, &mut lines, routine)?;
+    Ok(lines)
+}
+
+/// Adds the lines of all routines. `Err` comes only for want of memory.
+pub fn routines(alloc: Global, lines: &mut Vec<Line>) -> Result<(), AllocError>
+    ensures { OnOk result (lines_of lines.new.items ≡ lines_of lines.old.items ++ all_routine_lines) }
+{
+    object_routines(alloc, lines)?;
+    io_routines(alloc, lines)?;
+    value_routines(alloc, lines)?;
+    error_routines(alloc, lines)?;
+    limit_routines(alloc, lines)
+}
+
+/// The begin, and the routines of Object.
+fn object_routines(alloc: Global, lines: &mut Vec<Line>) -> Result<(), AllocError>
+    ensures { OnOk result (lines_of lines.new.items ≡ lines_of lines.old.items ++ object_routines_lines) }
+{
+    add_routine(alloc, lines, Routine::Start)?;
+    add_routine(alloc, lines, Routine::Copy)?;
+    add_routine(alloc, lines, Routine::Abort)?;
+    add_routine(alloc, lines, Routine::TypeName)
+}
+
+/// The routines of IO.
+fn io_routines(alloc: Global, lines: &mut Vec<Line>) -> Result<(), AllocError>
+    ensures { OnOk result (lines_of lines.new.items ≡ lines_of lines.old.items ++ io_routines_lines) }
+{
+    add_routine(alloc, lines, Routine::OutString)?;
+    add_routine(alloc, lines, Routine::OutInt)?;
+    add_routine(alloc, lines, Routine::InString)?;
+    add_routine(alloc, lines, Routine::InInt)
+}
+
+/// The routines of values.
+fn value_routines(alloc: Global, lines: &mut Vec<Line>) -> Result<(), AllocError>
+    ensures { OnOk result (lines_of lines.new.items ≡ lines_of lines.old.items ++ value_routines_lines) }
+{
+    add_routine(alloc, lines, Routine::Length)?;
+    add_routine(alloc, lines, Routine::Concat)?;
+    add_routine(alloc, lines, Routine::Substr)?;
+    add_routine(alloc, lines, Routine::Equal)
+}
+
+/// The ends by errors of dispatches, cases and divisions.
+fn error_routines(alloc: Global, lines: &mut Vec<Line>) -> Result<(), AllocError>
+    ensures { OnOk result (lines_of lines.new.items ≡ lines_of lines.old.items ++ error_routines_lines) }
+{
+    add_routine(alloc, lines, Routine::DispatchVoid)?;
+    add_routine(alloc, lines, Routine::CaseVoid)?;
+    add_routine(alloc, lines, Routine::NoBranch)?;
+    add_routine(alloc, lines, Routine::DivZero)
+}
+
+/// The ends by other errors and by limits.
+fn limit_routines(alloc: Global, lines: &mut Vec<Line>) -> Result<(), AllocError>
+    ensures { OnOk result (lines_of lines.new.items ≡ lines_of lines.old.items ++ limit_routines_lines) }
+{
+    add_routine(alloc, lines, Routine::SubstrRange)?;
+    add_routine(alloc, lines, Routine::Overflow)?;
+    add_routine(alloc, lines, Routine::HeapLimit)?;
+    add_routine(alloc, lines, Routine::StackLimit)
+}
+
+/// Adds the lines of a routine. `Err` comes only for want of memory.
+fn add_routine(alloc: Global, lines: &mut Vec<Line>, routine: Routine) -> Result<(), AllocError>
+    ensures { OnOk result (lines_of lines.new.items ≡ lines_of lines.old.items ++ routine_lines routine) }
+{
+    match routine {
+        Routine::Start => start(alloc, lines),
+        Routine::Copy => copy(alloc, lines),
+        Routine::Abort => abort(alloc, lines),
+        Routine::TypeName => type_name(alloc, lines),
+        Routine::OutString => out_string(alloc, lines),
+        Routine::OutInt => out_int(alloc, lines),
+        Routine::InString => in_string(alloc, lines),
+        Routine::InInt => in_int(alloc, lines),
+        Routine::Length => length(alloc, lines),
+        Routine::Concat => concat(alloc, lines),
+        Routine::Substr => substr(alloc, lines),
+        Routine::Equal => equal(alloc, lines),
+        Routine::DispatchVoid => error(alloc, lines, b"dispatch_abort", b"__dispatch_text"),
+        Routine::CaseVoid => error(alloc, lines, b"case_abort2", b"__case_text"),
+        Routine::NoBranch => no_branch(alloc, lines),
+        Routine::DivZero => error(alloc, lines, b"div_abort", b"__division_text"),
+        Routine::SubstrRange => error(alloc, lines, b"substr_abort", b"__substring_text"),
+        Routine::Overflow => error(alloc, lines, b"overflow_abort", b"__overflow_text"),
+        Routine::HeapLimit => heap_limit(alloc, lines),
+        Routine::StackLimit => stack_limit(alloc, lines),
+    }
+}
+
+/// Copies an object to the heap.
+fn copy(alloc: Global, lines: &mut Vec<Line>) -> Result<(), AllocError>
+    ensures { OnOk result (lines_of lines.new.items ≡ lines_of lines.old.items ++ copy_lines) }
+{
+    copy_first(alloc, lines)?;
+    copy_words(alloc, lines)?;
+    copy_end(alloc, lines)
+}
+
+/// Reads a line.
+fn in_string(alloc: Global, lines: &mut Vec<Line>) -> Result<(), AllocError>
+    ensures { OnOk result (lines_of lines.new.items ≡ lines_of lines.old.items ++ in_string_lines) }
+{
+    in_string_begin(alloc, lines)?;
+    in_string_bytes(alloc, lines)?;
+    in_string_end(alloc, lines)?;
+    int_head(alloc, lines)?;
+    string_head(alloc, lines)?;
+    string_return(alloc, lines)
+}
+
+/// Reads an Int.
+fn in_int(alloc: Global, lines: &mut Vec<Line>) -> Result<(), AllocError>
+    ensures { OnOk result (lines_of lines.new.items ≡ lines_of lines.old.items ++ in_int_lines) }
+{
+    read_number(alloc, lines)?;
+    new_int(alloc, lines)?;
+    return_call(alloc, lines)
+}
+
+/// Joins two Strings.
+#[tactic(auto, unfolding(crate::specs::Labels::concat_first, crate::specs::Labels::concat_second, crate::specs::Labels::concat_third, crate::specs::Labels::concat_end))]
+fn concat(alloc: Global, lines: &mut Vec<Line>) -> Result<(), AllocError>
+    ensures { OnOk result (lines_of lines.new.items ≡ lines_of lines.old.items ++ concat_lines) }
+{
+    concat_begin(alloc, lines)?;
+    int_head(alloc, lines)?;
+    string_head(alloc, lines)?;
+    string_zeros(alloc, lines)?;
+    bytes(alloc, lines, b"concat_first", b"concat_second")?;
+    concat_turn(alloc, lines)?;
+    bytes(alloc, lines, b"concat_third", b"concat_end")?;
+    string_end(alloc, lines, b"concat_end", 4)
+}
+
+/// A part of a String.
+#[tactic(auto, unfolding(crate::specs::Labels::substr_bytes, crate::specs::Labels::substr_end))]
+fn substr(alloc: Global, lines: &mut Vec<Line>) -> Result<(), AllocError>
+    ensures { OnOk result (lines_of lines.new.items ≡ lines_of lines.old.items ++ substr_lines) }
+{
+    substr_begin(alloc, lines)?;
+    substr_size(alloc, lines)?;
+    int_head(alloc, lines)?;
+    string_head(alloc, lines)?;
+    string_zeros(alloc, lines)?;
+    bytes(alloc, lines, b"substr_bytes", b"substr_end")?;
+    string_end(alloc, lines, b"substr_end", 8)
+}
+
+/// Returns a String, and takes so many bytes of arguments.
+fn string_end(
+    alloc: Global,
+    lines: &mut Vec<Line>,
+    name: &[u8],
+    arguments: u32,
+) -> Result<(), AllocError>
+    requires { arguments < 16 }
+    ensures { OnOk result (lines_of lines.new.items ≡ lines_of lines.old.items ++ string_end_lines name.now arguments) }
+{
+    write(
+        alloc,
+        lines,
+        &[
+            label(name),
+            addiu(A0, GP, 24),
+            copied(GP, T1),
+            addiu(SP, SP, arguments as i32),
+            jr(RA),
+        ],
+    )
+}
+
+/// Compares two objects.
+fn equal(alloc: Global, lines: &mut Vec<Line>) -> Result<(), AllocError>
+    ensures { OnOk result (lines_of lines.new.items ≡ lines_of lines.old.items ++ equal_lines) }
+{
+    equal_begin(alloc, lines)?;
+    equal_values(alloc, lines)?;
+    equal_strings(alloc, lines)?;
+    equal_bytes(alloc, lines)?;
+    equal_true(alloc, lines)?;
+    equal_false(alloc, lines)
+}
