@@ -1,4 +1,0 @@
-//! The processor.
-
-mod instructions;
-mod operations;
