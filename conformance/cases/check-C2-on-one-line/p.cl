@@ -1,0 +1,1 @@
+class SELF_TYPE { }; class Main { main() : Object { 0 }; };

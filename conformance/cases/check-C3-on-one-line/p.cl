@@ -1,0 +1,1 @@
+class A inherits Z { }; class Main { main() : Object { 0 }; };

@@ -1,0 +1,1 @@
+class A inherits Int { }; class Main { main() : Object { 0 }; };

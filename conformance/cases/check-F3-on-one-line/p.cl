@@ -1,0 +1,1 @@
+class A { self : Int; }; class Main { main() : Object { 0 }; };

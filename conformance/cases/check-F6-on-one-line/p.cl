@@ -1,0 +1,1 @@
+class A { x : Z; }; class Main { main() : Object { 0 }; };

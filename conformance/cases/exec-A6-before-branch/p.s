@@ -1,0 +1,4 @@
+.data
+.word nowhere
+.text
+main: b nowhere

@@ -1,0 +1,2 @@
+.data
+__start: .word 1

@@ -1,0 +1,3 @@
+main: j x
+.data
+x: .byte 1

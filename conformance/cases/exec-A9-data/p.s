@@ -1,0 +1,3 @@
+.data
+.space 268435456
+.byte 1

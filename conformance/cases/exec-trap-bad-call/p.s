@@ -1,0 +1,2 @@
+__start: li $v0, 266
+        syscall

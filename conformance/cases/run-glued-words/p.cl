@@ -1,0 +1,1 @@
+class Maininherits IO{main():Object{{out_string("a");}};};

@@ -1,0 +1,1 @@
+Class Main inherits IO{main():Object{{out_string("a");}};};

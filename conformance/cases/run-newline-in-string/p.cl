@@ -1,0 +1,2 @@
+class Main inherits IO{main():Object{{out_string("
+");}};};
