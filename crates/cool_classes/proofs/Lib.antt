@@ -2,7 +2,6 @@ pub mod AllOfLists
 pub mod AttributesOfChains
 pub mod BasicDepths
 pub mod BasicLimits
-pub mod BasicTable
 pub mod ChainsOfTables
 pub mod ClassesNamed
 pub mod Climbs
@@ -37,5 +36,4 @@ pub mod SameMembers
 pub mod SameTypes
 pub mod Seen
 pub mod Signatures
-pub mod ThreeClasses
 pub mod WalksFind

@@ -27,8 +27,6 @@ mod own_names;
 mod path;
 mod signature;
 mod signature_faults;
-#[cfg(test)]
-mod tests;
 
 pub use building::table;
 pub use class_id::{BOOL, ClassId, INT, IO, OBJECT, STRING, Ty};

@@ -1,0 +1,6 @@
+class Main inherits A {
+  main : Int;
+};
+class A {
+  main() : Int { 1 };
+};
