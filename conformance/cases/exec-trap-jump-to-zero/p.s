@@ -1,0 +1,1 @@
+__start: jr $zero
