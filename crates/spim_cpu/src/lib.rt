@@ -7,8 +7,6 @@
 mod arithmetic;
 mod cpu;
 mod step;
-#[cfg(test)]
-mod tests;
 
 pub use cpu::Cpu;
 pub use step::Step;

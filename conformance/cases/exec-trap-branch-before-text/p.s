@@ -1,0 +1,1 @@
+__start: bne $sp, $zero, -3
