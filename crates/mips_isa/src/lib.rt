@@ -11,8 +11,6 @@ mod instr;
 mod line;
 mod place;
 mod reg;
-#[cfg(test)]
-mod tests;
 mod trap;
 
 pub use decoding::decode;
