@@ -1,35 +1,18 @@
-//! Texts as they are read and printed.
+//! Lines as they are printed, after a text was read. What a text is, and the faults of one, is shown by the cases of `conformance/`.
 
 use crate::{print_asm, read_asm};
-use mips_isa::{AsmError, AsmFault, AsmKind};
 use std::test::Fail;
 
-/// Good texts, and how they are printed.
-static GOOD: [(&str, &str); 25] = [
+/// Texts, and how they are printed.
+static TEXTS: [(&str, &str); 16] = [
+    ("\n a : b\t: nop # x: y\r\n\n", "\na: b: nop\n\n"),
     (
         "        .data\nm:      .asciiz \"hi\\n\"\n        .text\nmain:   la $a0, m\n        li $v0, 4\n        syscall\n        jr $ra\n",
         ".data\nm: .asciiz \"hi\\n\"\n.text\nmain: la $a0, m\nli $v0, 4\nsyscall\njr $ra\n",
     ),
-    ("\n\nnop", "\n\nnop\n"),
-    ("   \t\r,,, \n", "\n"),
-    ("a : b\t: nop # x: y\r\n", "a: b: nop\n"),
-    (
-        "add: .text: add $t0, $t0, $t0\n",
-        "add: .text: add $t0, $t0, $t0\n",
-    ),
-    (".word: .word .word\n", ".word: .word .word\n"),
-    ("b: b b\n", "b: b b\n"),
     (
         "main:li$v0 10\nlw$a0,4($sp)\nlw$t0-4($sp)\n.word-1-2-3\n.ascii\"x\"\n",
         "main: li $v0, 10\nlw $a0, 4($sp)\nlw $t0, -4($sp)\n.word -1, -2, -3\n.ascii \"x\"\n",
-    ),
-    (
-        ".word 5a 0xg 12.5 00x1 0X10 -0x\n",
-        ".word 5, a, 0, xg, 12, .5, 0, x1, 0, X10, 0, x\n",
-    ),
-    (
-        ".word -0x80000000 0xFFFFffff 010 -0\n",
-        ".word -2147483648, 4294967295, 10, 0\n",
     ),
     (".ascii \"\\n\\t\\\"\\\\\"\n", ".ascii \"\\n\\t\\\"\\\\\"\n"),
     (
@@ -40,16 +23,11 @@ static GOOD: [(&str, &str); 25] = [
         ".ascii \"raw\ttab\rcr\x00nul caf\u{e9}\"\n",
         ".ascii \"raw\\ttab\rcr\x00nul caf\u{e9}\"\n",
     ),
-    (
-        "li $1,00000000000000000000000000000000000000007\n",
-        "li $at, 7\n",
-    ),
     ("jalr $5\njalr $6,$7\n", "jalr $ra, $a1\njalr $a2, $a3\n"),
     (
         "move $zero $25\nmove $k1 $fp\nmove $9 $31\nmove $10 $30\n",
         "move $zero, $t9\nmove $k1, $fp\nmove $t1, $ra\nmove $t2, $fp\n",
     ),
-    (".: .5: _: nop\n", ".: .5: _: nop\n"),
     (
         "add $1,$2,$3\naddu $1,$2,$3\nsub $1,$2,$3\nsubu $1,$2,$3\nand $1,$2,$3\nor $1,$2,$3\nxor $1,$2,$3\nnor $1,$2,$3\nslt $1,$2,$3\nsltu $1,$2,$3\n",
         "add $at, $v0, $v1\naddu $at, $v0, $v1\nsub $at, $v0, $v1\nsubu $at, $v0, $v1\nand $at, $v0, $v1\nor $at, $v0, $v1\nxor $at, $v0, $v1\nnor $at, $v0, $v1\nslt $at, $v0, $v1\nsltu $at, $v0, $v1\n",
@@ -84,77 +62,14 @@ static GOOD: [(&str, &str); 25] = [
     ),
 ];
 
-/// Texts with a fault, its kind and the number of its line.
-static FAULTY: [(&str, AsmKind, u32); 38] = [
-    ("@\n", AsmKind::A1, 1),
-    ("foo @\n", AsmKind::A1, 1),
-    (".foo \"x\n", AsmKind::A4, 1),
-    ("Nop\n", AsmKind::A1, 1),
-    (".word : 5\n", AsmKind::A1, 1),
-    ("5: nop\n", AsmKind::A1, 1),
-    ("\"a\\q\"\n", AsmKind::A1, 1),
-    (".ascii \"a\\\"\n", AsmKind::A1, 1),
-    (".ascii \"a\\q\n", AsmKind::A1, 1),
-    (".ascii \"a\\q\"\n", AsmKind::A2, 1),
-    ("nop @\n", AsmKind::A1, 1),
-    ("nop \"x\n", AsmKind::A1, 1),
-    ("nop 5\n", AsmKind::A2, 1),
-    ("nop a:\n", AsmKind::A2, 1),
-    ("add $1,$2\n", AsmKind::A2, 1),
-    ("add $t0 5 \"abc\n", AsmKind::A2, 1),
-    ("jr $08\n", AsmKind::A2, 1),
-    ("jr $32\n", AsmKind::A2, 1),
-    ("jr $_\n", AsmKind::A1, 1),
-    ("jalr $1 5\n", AsmKind::A2, 1),
-    ("lw $t0, 40000\n", AsmKind::A3, 1),
-    ("lw $1,5($2\n", AsmKind::A2, 1),
-    ("lw $1, label($2)\n", AsmKind::A2, 1),
-    ("li $t0 99999999999 @\n", AsmKind::A3, 1),
-    (
-        "li $1,9999999999999999999999999999999999999999\n",
-        AsmKind::A3,
-        1,
-    ),
-    ("li $1,- 1\n", AsmKind::A1, 1),
-    ("sll $1,$2,32\n", AsmKind::A3, 1),
-    ("addi $1,$2,32768\n", AsmKind::A3, 1),
-    ("andi $1,$2,-1\n", AsmKind::A3, 1),
-    ("j 67108864\n", AsmKind::A3, 1),
-    ("b 99999999999\n", AsmKind::A2, 1),
-    (".byte 256\n", AsmKind::A3, 1),
-    (".word\n", AsmKind::A2, 1),
-    (".word -2147483649\n", AsmKind::A3, 1),
-    (".align 13\n", AsmKind::A3, 1),
-    (".space 268435457\n", AsmKind::A3, 1),
-    (".data 0x10000000\n", AsmKind::A2, 1),
-    ("nop\n\n\nfoo\nbar @", AsmKind::A1, 4),
-];
-
 #[test]
-fn good_texts(rt: HostRuntime) -> Result<(), Fail> {
-    for (text, printed) in &GOOD {
+fn printed_texts(rt: HostRuntime) -> Result<(), Fail> {
+    for (text, printed) in &TEXTS {
         let bytes = text.as_bytes();
         assert!(rt; bytes.len() <= 532_676_628);
         let lines = read_asm(rt.alloc(), bytes)?;
         let again = print_asm(rt.alloc(), &lines)?;
         assert_eq!(rt; again.as_slice(), printed.as_bytes(), "{text}");
-    }
-    Ok(())
-}
-
-#[test]
-fn faulty_texts(rt: HostRuntime) -> Result<(), Fail> {
-    for (text, kind, line) in &FAULTY {
-        let bytes = text.as_bytes();
-        assert!(rt; bytes.len() <= 532_676_628);
-        let wanted = AsmError::Fault(AsmFault {
-            kind: *kind,
-            line: *line,
-        });
-        match read_asm(rt.alloc(), bytes) {
-            Ok(_) => panic!(rt; "no fault: {text}"),
-            Err(error) => assert_eq!(rt; error, wanted, "{text}"),
-        }
     }
     Ok(())
 }
