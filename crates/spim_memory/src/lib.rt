@@ -8,8 +8,6 @@ mod fault;
 mod limits;
 mod little_endian;
 mod memory;
-#[cfg(test)]
-mod tests;
 
 pub use fault::MemFault;
 pub use limits::Limits;
