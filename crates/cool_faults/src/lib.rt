@@ -11,8 +11,6 @@ mod findings;
 mod laws;
 mod lexing;
 mod parsing;
-#[cfg(test)]
-mod tests;
 mod text;
 mod typing;
 
