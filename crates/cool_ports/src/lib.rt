@@ -18,8 +18,6 @@ mod std_sink;
 mod std_source;
 mod sure_sink;
 mod sure_source;
-#[cfg(test)]
-mod tests;
 
 pub use file_shelf::FileShelf;
 pub use mem_shelf::MemShelf;
