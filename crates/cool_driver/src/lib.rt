@@ -20,8 +20,6 @@ mod reading;
 mod simple_form;
 mod status;
 mod task;
-#[cfg(test)]
-mod tests;
 
 use cool_ports::{Failed, Shelf, Sink, Source};
 use execution::{execute, run_simple};

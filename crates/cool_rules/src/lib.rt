@@ -7,8 +7,6 @@
 
 mod conformance;
 mod scope;
-#[cfg(test)]
-mod tests;
 mod typed_program;
 mod types;
 

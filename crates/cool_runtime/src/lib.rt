@@ -11,8 +11,6 @@ mod lines;
 pub mod piece;
 pub mod register;
 mod routine_part;
-#[cfg(test)]
-mod tests;
 
 pub use catalogue::Routine;
 pub use data::{

@@ -6,8 +6,6 @@
 
 mod image_error;
 mod reading;
-#[cfg(test)]
-mod tests;
 mod writing;
 
 pub use image_error::ImageError;

@@ -17,8 +17,6 @@ mod ranges;
 mod reading;
 mod registers;
 mod rows;
-#[cfg(test)]
-mod tests;
 mod words;
 
 pub use printing::print_asm;

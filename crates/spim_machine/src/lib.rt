@@ -10,8 +10,6 @@ mod laws;
 mod machine;
 mod number;
 mod output;
-#[cfg(test)]
-mod tests;
 
 pub use halt::Halt;
 pub use laws::{law_possible_inputs, law_two_budgets};

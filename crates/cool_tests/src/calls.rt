@@ -1,6 +1,6 @@
 //! Calls over objects in memory of which some call fails. What else a command does is shown by the cases of `conformance/`.
 
-use crate::cool;
+use cool_driver::cool;
 use cool_ports::{MemShelf, MemSink, MemSource};
 use std::alloc::Global;
 use std::test::Fail;

@@ -1,6 +1,6 @@
 //! Lines as they are printed, after a text was read. What a text is, and the faults of one, is shown by the cases of `conformance/`.
 
-use crate::{print_asm, read_asm};
+use mips_text::{print_asm, read_asm};
 use std::test::Fail;
 
 /// Texts, and how they are printed.

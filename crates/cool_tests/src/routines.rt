@@ -1,6 +1,6 @@
 //! How many words of text each routine takes.
 
-use crate::{Routine, routine};
+use cool_runtime::{Routine, routine};
 use mips_isa::{Line, Statement};
 use std::test::Fail;
 

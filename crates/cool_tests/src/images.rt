@@ -1,6 +1,6 @@
 //! Images as bytes: what is read is written again. Files that are no image are cases of `conformance/`.
 
-use crate::{read_image, write_image};
+use mips_image::{read_image, write_image};
 use std::test::Fail;
 
 /// One word, no data, the entry at the word.

@@ -1,0 +1,88 @@
+//! Trees: copied, taken out of a pool, and written as tokens. How texts become trees is shown by the cases of `conformance/`.
+
+ghost use Rattle.std.specs.Prelude.{◌≡◌, [], ◌∷◌, IfOk};
+
+use cool_lexer::lex;
+use cool_parser::parse;
+use cool_pool::{Column, Pool};
+use cool_syntax::{Expr, Node, NodeId, Place, copy_expr, same_expr, tokens_of};
+use std::alloc::{AllocError, Global};
+use std::test::Fail;
+
+fn place(byte: u32) -> Place
+    ensures { result ≡ record { file = 0; line = 1; byte = byte } }
+{
+    Place {
+        file: 0,
+        line: 1,
+        byte,
+    }
+}
+
+fn one() -> Node
+    ensures { result ≡ Node.Int (record { file = 0; line = 1; byte = 1 }) 1 }
+{
+    Node::Int {
+        at: place(1),
+        value: 1,
+    }
+}
+
+fn negation() -> Node
+    ensures { result ≡ Node.Neg (record { file = 0; line = 1; byte = 0 }) (record { 0 = 0 }) }
+{
+    Node::Neg {
+        at: place(0),
+        value: NodeId(0),
+    }
+}
+
+/// ~1, in a pool.
+fn negated(alloc: Global) -> Result<Pool, AllocError>
+    ensures { IfOk result (λ pool. pool.nodes ≡ Node.Int (record { file = 0; line = 1; byte = 1 }) 1 ∷ Node.Neg (record { file = 0; line = 1; byte = 0 }) (record { 0 = 0 }) ∷ []) }
+{
+    let mut pool = Pool::new(alloc);
+    pool.reserve(2)?;
+    let _first = pool.place(one()).unwrap();
+    let _second = pool.place(negation()).unwrap();
+    Ok(pool)
+}
+
+#[test]
+fn a_pool_gives_the_tree_at_a_number(rt: HostRuntime) -> Result<(), Fail> {
+    let pool = negated(rt.alloc())?;
+    let tree = pool.tree(rt.alloc(), NodeId(1))?;
+    match &tree {
+        Expr::Neg { value, .. } => assert!(rt; matches!(value.expr(), Expr::Int { value: 1, .. })),
+        _ => panic!(rt; "no negation"),
+    }
+    let copy = copy_expr(rt.alloc(), &tree)?;
+    assert!(rt; same_expr(&copy, &tree));
+    Ok(())
+}
+
+#[test]
+fn a_column_is_filled_again(rt: HostRuntime) -> Result<(), Fail> {
+    let mut column = Column::new(rt.alloc(), 2)?;
+    column.push(7);
+    column.push(9);
+    assert_eq!(rt; *column.get(NodeId(0)), 7);
+    assert_eq!(rt; *column.get(NodeId(1)), 9);
+    column.clear();
+    column.push(8);
+    assert_eq!(rt; *column.get(NodeId(0)), 8);
+    Ok(())
+}
+
+#[test]
+fn an_operand_is_written_in_parentheses(rt: HostRuntime) -> Result<(), Fail> {
+    let text = b"class A { x : Int <- 1 - 2 - 3; };".as_slice();
+    assert!(rt; text.len() <= 1_048_576);
+    let found = lex(rt.alloc(), 0, text)?;
+    let tokens = found.tokens.as_slice();
+    assert!(rt; tokens.len() <= 1_048_576);
+    let tree = parse(rt.alloc(), 0, tokens, found.end)?;
+    assert_eq!(rt; tokens.len(), 15);
+    assert_eq!(rt; tokens_of(rt.alloc(), &tree)?.len(), 17);
+    Ok(())
+}
