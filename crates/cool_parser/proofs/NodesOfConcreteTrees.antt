@@ -12,9 +12,9 @@ use Rattle.cool_syntax.specs.declared.file_tree.Formal.{Formal}
 use Rattle.cool_syntax.specs.Tree.{Tree, Trees, Cases, Last, More, NoCase, CaseOf, tree_size}
 use Rattle.cool_syntax.specs.NodeLists.{root, roots, branch_roots, nodes, nodes_of_all, nodes_of_cases}
 use Rattle.cool_syntax.proofs.TreesOfLists.{length-nodes}
-use Rattle.cool_syntax.specs.Grammar.{Operator, Arith, Compare, Not, IsVoid, Neg, Variable, Concrete, Name, Dispatch, Block, Case, Binary, Before, Callee, OfSelf, Of, OfClass, Args, NoArgs, Given, Parts, NoPart, Then, Branches, NoBranch, Also, Branch, On, Prefix, Let, Assign, Mark, Bindings, NoBinding, Next, Binding, Default, Init}
-use Rattle.cool_syntax.specs.Grammar.{Classes}
-use Rattle.cool_syntax.specs.Grammar.{level, plain, plain_args, plain_parts, plain_branches, plain_bindings, plain_binding, plain_formal, plain_first_formals, plain_formals, plain_features, plain_parent, plain_file}
+use Rattle.cool_syntax.specs.ConcreteTrees.{Operator, Arith, Compare, Not, IsVoid, Neg, Variable, Concrete, Name, Dispatch, Block, Case, Binary, Before, Callee, OfSelf, Of, OfClass, Args, NoArgs, Given, Parts, NoPart, Then, Branches, NoBranch, Also, Branch, On, Prefix, Let, Assign, Mark, Bindings, NoBinding, Next, Binding, Default, Init, Classes}
+use Rattle.cool_syntax.specs.PlainTrees.{plain, plain_args, plain_parts, plain_branches, plain_bindings, plain_binding, plain_formal, plain_first_formals, plain_formals, plain_features, plain_parent, plain_file}
+use Rattle.cool_syntax.specs.Shapes.{level}
 use Rattle.cool_parser.specs.declared.operator.Infix.{Infix}
 use Rattle.cool_parser.specs.declared.operator.Infix.TheVariants as between
 use Rattle.cool_parser.specs.declared.operator.Prefix.TheVariants as front

@@ -12,11 +12,9 @@ use Rattle.cool_syntax.specs.declared.operator.ArithOp.{ArithOp}
 use Rattle.cool_syntax.specs.declared.operator.ArithOp.TheVariants as arith_op
 use Rattle.cool_syntax.specs.declared.operator.CompareOp.{CompareOp}
 use Rattle.cool_syntax.specs.declared.operator.CompareOp.TheVariants as compare_op
-use Rattle.cool_syntax.specs.Grammar.{Operator, Arith, Compare, Unary, Not, IsVoid, Neg, Variable, Concrete, Name, Literal, New, Paren, Dispatch, If, While, Block, Case, Binary, Before, Callee, OfSelf, Of, OfClass, Parts, NoPart, Then, Branch, Prefix, Let, Assign, Mark, Bindings}
-use Rattle.cool_syntax.specs.Grammar.{Classes}
-use Rattle.cool_syntax.specs.Grammar.{level, left_level, unary_level, prefix_level, operator_sign, word, symbol, object, type, variable_reading}
-use Rattle.cool_syntax.specs.Grammar.{reading, callee_reading, parts_reading, branches_reading, prefix_reading, bindings_reading, first_formals_reading, formals_reading, signature_reading, features_reading, heading_reading, file_reading}
-use Rattle.cool_syntax.specs.Grammar.{EndsAtLeast, BeginsAbove, CalleeBeginsAbove, IsReceiver, IsShaped, IsShapedCallee, AreShapedParts, AreShapedBranches, IsShapedBranch, IsShapedPrefix, AreShapedBindings, AreShapedFeatures, IsShapedFile}
+use Rattle.cool_syntax.specs.ConcreteTrees.{Operator, Arith, Compare, Unary, Not, IsVoid, Neg, Variable, Concrete, Name, Literal, New, Paren, Dispatch, If, While, Block, Case, Binary, Before, Callee, OfSelf, Of, OfClass, Parts, NoPart, Then, Branch, Prefix, Let, Assign, Mark, Bindings, Classes}
+use Rattle.cool_syntax.specs.Readings.{operator_sign, word, symbol, object, type, variable_reading, reading, callee_reading, parts_reading, branches_reading, prefix_reading, bindings_reading, first_formals_reading, formals_reading, signature_reading, features_reading, heading_reading, file_reading}
+use Rattle.cool_syntax.specs.Shapes.{level, left_level, unary_level, prefix_level, EndsAtLeast, BeginsAbove, CalleeBeginsAbove, IsReceiver, IsShaped, IsShapedCallee, AreShapedParts, AreShapedBranches, IsShapedBranch, IsShapedPrefix, AreShapedBindings, AreShapedFeatures, IsShapedFile}
 use Rattle.cool_parser.proofs.ConcreteMachine.{Opened, OpenMethod, ClosedMethod, Around, InMethod, InAttribute, Target, Dot, StaticDot, OpenCase, Form, Parenthesis, Arguments, IfTest, IfYes, IfNo, WhileTest, WhileBody, Items, Value, CaseValue, BranchBody, Item, Left, Front, Open}
 use Rattle.cool_parser.proofs.ConcreteMachine.{Mode, Need, Identifier, Have, StaticClass, StaticEnd, MethodName, CallParenthesis, FirstArgument, NextItem, LetName, LetColon, LetType, LetEnd, BranchName, BranchColon, BranchType, BranchArrow, NextBranch, NewType}
 use Rattle.cool_parser.proofs.ConcreteMachine.{State, File, ClassName, ClassHead, ParentName, ClassBrace, InClass, ClassEnd, FeatureName, FirstFormal, FormalName, FormalColon, FormalType, FormalEnd, ResultColon, ResultType, MethodBrace, MethodEnd, AttributeType, AttributeEnd, Inside}

@@ -4,7 +4,9 @@ use Rattle.std.specs.Option.{option_map}
 use Rattle.cool_syntax.specs.declared.place.Place.{Place}
 use Rattle.cool_syntax.specs.declared.token.Token.{Token}
 use Rattle.cool_syntax.specs.declared.file_tree.ClassDef.{ClassDef}
-use Rattle.cool_syntax.specs.Grammar.{Classes, plain_file, Parses, BeginsFile, IsUnexpected}
+use Rattle.cool_syntax.specs.ConcreteTrees.{Classes}
+use Rattle.cool_syntax.specs.PlainTrees.{plain_file}
+use Rattle.cool_syntax.specs.Grammar.{Parses, BeginsFile, IsUnexpected}
 use Rattle.cool_parser.specs.Machine as machine
 use Rattle.cool_parser.specs.Machine.{Outcome, Whole, Unexpected, outcome, parsed}
 use Rattle.cool_parser.proofs.ConcreteMachine.{State, File, Inside}

@@ -9,15 +9,15 @@ use Rattle.cool_syntax.specs.declared.token.Key.TheVariants as key
 use Rattle.cool_syntax.specs.declared.token.Sign.{Sign}
 use Rattle.cool_syntax.specs.declared.type_ref.TypeRef.{TypeRef}
 use Rattle.cool_syntax.specs.declared.token.Sign.TheVariants as sign
-use Rattle.cool_syntax.specs.Grammar.{Operator, Variable, Concrete, Name, New, Paren, Dispatch, If, While, Block, Case, Binary, Before, OfClass, NoArgs, Given, NoBranch, On, Prefix, Let, Bindings, Default, Init}
-use Rattle.cool_syntax.specs.Grammar.{Method, Initialized, Another, Classes, Class}
-use Rattle.cool_syntax.specs.Grammar.{word, symbol, object, type}
+use Rattle.cool_syntax.specs.ConcreteTrees.{Operator, Variable, Concrete, Name, New, Paren, Dispatch, If, While, Block, Case, Binary, Before, OfClass, NoArgs, Given, NoBranch, On, Prefix, Let, Bindings, Default, Init, Method, Initialized, Another, Classes, Class}
+use Rattle.cool_syntax.specs.Readings.{word, symbol, object, type}
 use Rattle.cool_parser.proofs.ConcreteMachine.{Around, InMethod, InAttribute, OpenCase, Form, Parenthesis, Arguments, IfTest, IfYes, IfNo, WhileTest, WhileBody, Items, Value, CaseValue, BranchBody, Item, Left, Front, Open}
 use Rattle.cool_parser.proofs.ConcreteMachine.{Mode, Need, Identifier, Have, StaticClass, StaticEnd, MethodName, CallParenthesis, FirstArgument, NextItem, LetName, LetColon, LetType, LetEnd, BranchName, BranchColon, BranchType, BranchArrow, NextBranch, NewType}
 use Rattle.cool_parser.proofs.ConcreteMachine.{State, File, ClassName, ClassHead, ParentName, ClassBrace, InClass, ClassEnd, FeatureName, FirstFormal, FormalName, FormalColon, FormalType, FormalEnd, ResultColon, ResultType, MethodBrace, MethodEnd, AttributeType, AttributeEnd, Inside}
 use Rattle.cool_parser.proofs.ConcreteMachine.{reduce, close, callee_of, step, run, bind, start}
 use Rattle.cool_syntax.specs.Bare.{nowhere}
-use Rattle.cool_syntax.specs.Grammar.{plain_file, Parses, BeginsFile}
+use Rattle.cool_syntax.specs.PlainTrees.{plain_file}
+use Rattle.cool_syntax.specs.Grammar.{Parses, BeginsFile}
 use Rattle.cool_syntax.specs.declared.file_tree.ClassDef.{ClassDef}
 use Rattle.cool_parser.proofs.ReadingConcreteTrees.{reduce_left, reduce_front, IsCloser, have_closer, identifier_closer, complete}
 use Rattle.cool_parser.proofs.ParsedTreesAreShaped.{said, IsGoodState, run_goes}

@@ -14,9 +14,9 @@ use Rattle.cool_syntax.specs.declared.file_tree.Feature.TheVariants as feature
 use Rattle.cool_syntax.specs.Tree.{Tree}
 use Rattle.cool_syntax.specs.NodeLists.{nodes}
 use Rattle.cool_syntax.proofs.TreesOfLists.{tree_of-nodes}
-use Rattle.cool_syntax.specs.Grammar.{Operator, Arith, Compare, Not, IsVoid, Neg, Int, Str, Truth, Variable, Concrete, Name, Literal, New, Dispatch, If, While, Block, Case, Callee, NoArgs, Given, Parts, NoPart, Then, Also, Branch, Prefix, Let, Assign, Mark, Bindings, Default, Init}
-use Rattle.cool_syntax.specs.Grammar.{Signature}
-use Rattle.cool_syntax.specs.Grammar.{left_level, plain, plain_formals, plain_file}
+use Rattle.cool_syntax.specs.ConcreteTrees.{Operator, Arith, Compare, Not, IsVoid, Neg, Int, Str, Truth, Variable, Concrete, Name, Literal, New, Dispatch, If, While, Block, Case, Callee, NoArgs, Given, Parts, NoPart, Then, Also, Branch, Prefix, Let, Assign, Mark, Bindings, Default, Init, Signature}
+use Rattle.cool_syntax.specs.PlainTrees.{plain, plain_formals, plain_file}
+use Rattle.cool_syntax.specs.Shapes.{left_level}
 use Rattle.cool_parser.specs.declared.operator.Infix.TheVariants as between
 use Rattle.cool_parser.specs.declared.item.Item.{Item}
 use Rattle.cool_parser.specs.declared.mode.Mode.TheVariants as mode

@@ -14,12 +14,11 @@ use Rattle.cool_syntax.specs.declared.file_tree.MethodDef.{MethodDef}
 use Rattle.cool_syntax.specs.declared.file_tree.AttributeDef.{AttributeDef}
 use Rattle.cool_syntax.specs.Tree.{Tree, Trees, MaybeTree, Cases, Last, More, Without, With, NoCase, CaseOf, place_of}
 use Rattle.cool_syntax.specs.Tree as trees
-use Rattle.cool_syntax.specs.Grammar.{Arith, Compare, Not, IsVoid, Neg, Int, Str, Truth, Variable, Concrete, Name, Literal, New, Paren, Dispatch, If, While, Block, Case, Binary, Before, Of, OfClass, Args, NoArgs, Given, Parts, NoPart, Then, Branches, NoBranch, Also, Branch, On, Let, Assign, Mark, NoBinding, Binding, Default, Init}
-use Rattle.cool_syntax.specs.Grammar.{word, symbol, object, type, operator_sign}
-use Rattle.cool_syntax.specs.Grammar.{FirstFormals, NoFormal, Comma, Formals, NoFormals, Declared, ConcreteFeature, Method, Attribute, Initialized, Features, NoFeature, Another, Parent, NoParent, Inherits, Heading, Classes, NoClass, Class}
-use Rattle.cool_syntax.specs.Grammar.{variable_reading, first_formals_reading, formals_reading, feature_reading, features_reading, parent_reading, file_reading, plain_formal, plain_first_formals, plain_formals, plain_feature, plain_features, plain_parent, plain_file, IsShapedFeature, AreShapedFeatures, IsShapedFile, Parses}
-use Rattle.cool_syntax.specs.Grammar.{reading, args_reading, parts_reading, branches_reading, branch_reading, binding_reading, plain, plain_args, plain_parts, plain_branches, plain_branch, plain_binding}
-use Rattle.cool_syntax.specs.Grammar.{level, left_level, EndsAtLeast, BeginsAbove, IsReceiver, IsShaped, AreShapedArgs, AreShapedParts, AreShapedBranches, IsShapedBranch, IsShapedBinding}
+use Rattle.cool_syntax.specs.ConcreteTrees.{Arith, Compare, Not, IsVoid, Neg, Int, Str, Truth, Variable, Concrete, Name, Literal, New, Paren, Dispatch, If, While, Block, Case, Binary, Before, Of, OfClass, Args, NoArgs, Given, Parts, NoPart, Then, Branches, NoBranch, Also, Branch, On, Let, Assign, Mark, NoBinding, Binding, Default, Init, FirstFormals, NoFormal, Comma, Formals, NoFormals, Declared, ConcreteFeature, Method, Attribute, Initialized, Features, NoFeature, Another, Parent, NoParent, Inherits, Heading, Classes, NoClass, Class}
+use Rattle.cool_syntax.specs.Readings.{word, symbol, object, type, operator_sign, variable_reading, first_formals_reading, formals_reading, feature_reading, features_reading, parent_reading, file_reading, reading, args_reading, parts_reading, branches_reading, branch_reading, binding_reading}
+use Rattle.cool_syntax.specs.PlainTrees.{plain_formal, plain_first_formals, plain_formals, plain_feature, plain_features, plain_parent, plain_file, plain, plain_args, plain_parts, plain_branches, plain_branch, plain_binding}
+use Rattle.cool_syntax.specs.Shapes.{IsShapedFeature, AreShapedFeatures, IsShapedFile, level, left_level, EndsAtLeast, BeginsAbove, IsReceiver, IsShaped, AreShapedArgs, AreShapedParts, AreShapedBranches, IsShapedBranch, IsShapedBinding}
+use Rattle.cool_syntax.specs.Grammar.{Parses}
 use Rattle.cool_syntax.specs.WrittenTrees.{is_atom, enclosed, written, written_args, written_more, written_items, written_init, written_cases, IsWritable, AreWritable, IsMaybeWritable, AreCasesWritable}
 use Rattle.cool_syntax.specs.WrittenTrees.{written_formal, written_more_formals, written_formals, written_feature, written_features, written_parent, written_classes, IsValueWritable, IsFeatureWritable, AreClassesWritable}
 

@@ -1,4 +1,5 @@
 pub mod Bare
+pub mod ConcreteTrees
 pub mod Falls
 pub mod FaultOrder
 pub mod FeatureSizes
@@ -8,6 +9,9 @@ pub mod Lexemes
 pub mod LexicalStructure
 pub mod Limits
 pub mod NodeLists
+pub mod PlainTrees
+pub mod Readings
+pub mod Shapes
 pub mod SimpleForm
 pub mod TokenFacts
 pub mod Tree

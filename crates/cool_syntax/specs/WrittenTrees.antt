@@ -17,7 +17,8 @@ use Rattle.cool_syntax.specs.declared.file_tree.Formal.{Formal}
 use Rattle.cool_syntax.specs.declared.file_tree.MethodDef.{MethodDef}
 use Rattle.cool_syntax.specs.Tree.{Tree, Trees, MaybeTree, Cases, Last, More, Without, With, NoCase, CaseOf, place_of}
 use Rattle.cool_syntax.specs.Tree as trees
-use Rattle.cool_syntax.specs.Grammar.{Arith, Compare, Int, Str, Truth, word, symbol, object, type, operator_sign, constant_token}
+use Rattle.cool_syntax.specs.ConcreteTrees.{Arith, Compare, Int, Str, Truth}
+use Rattle.cool_syntax.specs.Readings.{word, symbol, object, type, operator_sign, constant_token}
 
 abbrev pub is_atom : Tree → Bool
 is_atom (trees.Assign at name t) = false

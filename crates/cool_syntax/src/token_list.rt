@@ -1,7 +1,7 @@
 //! Tokens in the order in which they are written.
 
 ghost use Rattle.std.specs.Prelude.{◌≡◌, [], ◌∷◌, ◌++◌, OnOk};
-ghost use Rattle.cool_syntax.specs.Grammar.{word, symbol, object, type};
+ghost use Rattle.cool_syntax.specs.Readings.{word, symbol, object, type};
 ghost use Rattle.cool_syntax.specs.declared.token.TokenKind.TheVariants as kind;
 
 use crate::place::Place;

@@ -5,7 +5,8 @@ ghost use Rattle.std.specs.List.{AllByRecursion};
 ghost use Rattle.std.specs.Option.{option_map};
 ghost use Rattle.cool_syntax.specs.Tree.{Tree, of_list, of_option, of_twigs, tree_size};
 ghost use Rattle.cool_syntax.specs.NodeLists.{all_trees, at_id, made, tree_at, twig_at, HasPartsBelow};
-ghost use Rattle.cool_syntax.specs.Grammar.{operator_sign, Arith as OfArith, Compare as OfCompare};
+ghost use Rattle.cool_syntax.specs.ConcreteTrees.{Arith as OfArith, Compare as OfCompare};
+ghost use Rattle.cool_syntax.specs.Readings.{operator_sign};
 ghost use Rattle.cool_syntax.specs.WrittenTrees.{IsCallNode, IsBindingNode, IsControlNode, IsUnaryNode, IsBinaryNode, IsLeafNode, is_atom, enclosed, written, written_args, written_items, written_init, written_cases};
 
 use crate::body::Body;
