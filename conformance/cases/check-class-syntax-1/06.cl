@@ -1,0 +1,4 @@
+class
+A
+inherits
+B

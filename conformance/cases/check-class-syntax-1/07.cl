@@ -1,0 +1,5 @@
+class
+A
+inherits
+B
+{

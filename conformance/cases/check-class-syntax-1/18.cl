@@ -1,0 +1,9 @@
+class
+A
+inherits
+B
+inherits
+C
+{
+}
+;

@@ -1,0 +1,11 @@
+class
+A
+{
+f
+(
+)
+:
+Int
+{
+if
+a

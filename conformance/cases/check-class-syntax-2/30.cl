@@ -1,0 +1,13 @@
+class
+A
+{
+f
+(
+)
+:
+Int
+{
+if
+a
+then
+b

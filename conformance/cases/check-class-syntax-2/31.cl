@@ -1,0 +1,15 @@
+class
+A
+{
+f
+(
+)
+:
+Int
+{
+if
+a
+then
+b
+else
+c

@@ -1,0 +1,12 @@
+class
+A
+{
+f
+(
+)
+:
+Int
+{
+while
+a
+loop

@@ -1,0 +1,14 @@
+class
+A
+{
+f
+(
+)
+:
+Int
+{
+let
+x
+:
+T
+in

@@ -1,0 +1,17 @@
+class
+A
+{
+f
+(
+)
+:
+Int
+{
+case
+a
+of
+esac
+}
+;
+}
+;

@@ -1,0 +1,17 @@
+class
+A
+{
+f
+(
+)
+:
+Int
+{
+while
+a
+loop
+pool
+}
+;
+}
+;

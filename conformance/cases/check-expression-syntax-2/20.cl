@@ -1,0 +1,17 @@
+class
+A
+{
+f
+(
+)
+:
+Int
+{
+while
+loop
+b
+pool
+}
+;
+}
+;

@@ -1,0 +1,1 @@
+CLASS cLaSs ELSE fi IF In inHERits ISVOID let LOOP pool

@@ -1,0 +1,1 @@
+THEN while CASE esac NEW of NOT

@@ -1,0 +1,1 @@
+true false tRUE fALSE

@@ -1,0 +1,1 @@
+SELF_TYPE self Self_type

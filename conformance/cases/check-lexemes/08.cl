@@ -1,0 +1,1 @@
+x1_y X_1 classy ifx i_f inheritss isvoi
