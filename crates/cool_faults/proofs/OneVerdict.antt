@@ -31,7 +31,7 @@ one_tree : (file : ℕ) (bytes : List ℕ) (t u : FileTree) → IsTree file byte
 one_tree file bytes t u a b =
     let tokens : a.tokens ≡ b.tokens = one_cutting file bytes a.tokens b.tokens a.lexes b.lexes in
     let number = a.number ∙ sym b.number in
-    let classes = one_file b.tokens (end_of file bytes) t.classes u.classes (subst (λ (ts : List Token). Parses ts t.classes) tokens a.parses) b.parses in
+    let classes = one_file b.tokens t.classes u.classes (subst (λ (ts : List Token). Parses ts t.classes) tokens a.parses) b.parses in
     λ i. record { file = number i; classes = classes i }
 
 one_trees : (file : ℕ) (files : List (List ℕ)) (ts us : List FileTree) → AreTrees file files ts → AreTrees file files us → ts ≡ us

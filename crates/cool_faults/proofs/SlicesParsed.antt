@@ -11,7 +11,6 @@ use Rattle.cool_syntax.specs.TreesWithinLimits.{AreClassesWithin}
 use Rattle.cool_syntax.specs.Weights.{classes_weight}
 use Rattle.cool_lexer.specs.declared.lexer.Lexed.{Lexed}
 use Rattle.cool_parser.specs.declared.fault.ParseFault.{ParseFault}
-use Rattle.cool_parser.specs.FaultPlaces.{IsTokenOrEnd}
 use Rattle.cool_faults.specs.declared.fault.Fault.TheVariants.{Syntax}
 use Rattle.cool_faults.specs.Phases.{IsParsed, IsSyntactic}
 
@@ -29,5 +28,5 @@ parsed_slice file l tokens t e number whole limits weight bounded =
     }
 
 -- and its fault is theirs
-pub fault_slice : (file : ℕ) (l : Lexed) (tokens : List Token) (f : ParseFault) → tokens ≡ l.tokens.items → IsUnexpected tokens l.end f.at → IsTokenOrEnd tokens l.end f.at → IsSyntactic file l (Syntax f)
-fault_slice file l tokens f e fault place = (subst (λ (ts : List Token). IsUnexpected ts l.end f.at) e fault, subst (λ (ts : List Token). IsTokenOrEnd ts l.end f.at) e place)
+pub fault_slice : (file : ℕ) (l : Lexed) (tokens : List Token) (f : ParseFault) → tokens ≡ l.tokens.items → IsUnexpected tokens l.end f.at → IsSyntactic file l (Syntax f)
+fault_slice file l tokens f e fault = subst (λ (ts : List Token). IsUnexpected ts l.end f.at) e fault

@@ -1,5 +1,5 @@
 -- The findings of the parser, from what the lexer found: the trees of the files, or their syntax faults in rising files.
-use Rattle.std.proofs.Common.{◌≡◌, inl, inr, ℕ, ◌+◌, ◌<◌, ◌≤◌, List, [], ◌∷◌, length, refl, ap, sym, ◌∙◌, subst, arith}
+use Rattle.std.proofs.Common.{◌≡◌, inl, inr, ℕ, ◌+◌, ◌<◌, ◌≤◌, List, [], ◌∷◌, ◌++◌, length, refl, ap, sym, ◌∙◌, subst, arith}
 use Rattle.std.specs.List.{AllByRecursion}
 use Rattle.cool_syntax.specs.declared.TheConstants.{MOST_SOURCE_BYTES}
 use Rattle.cool_syntax.specs.declared.place.Place.{Place}
@@ -12,7 +12,6 @@ use Rattle.cool_syntax.specs.TokenFacts as tokens
 use Rattle.cool_syntax.specs.TreesWithinLimits.{AreClassesWithin}
 use Rattle.cool_syntax.specs.Weights.{classes_weight}
 use Rattle.cool_lexer.specs.declared.lexer.Lexed.{Lexed}
-use Rattle.cool_parser.specs.FaultPlaces.{IsTokenOrEnd}
 use Rattle.cool_faults.specs.declared.fault.Fault.{Fault}
 use Rattle.cool_faults.specs.declared.fault.Fault.TheVariants.{Lex, Syntax, Class as OfClasses, Typing}
 use Rattle.cool_faults.specs.Files.{total}
@@ -91,23 +90,25 @@ syntax_faults (phase.good i l ls t ts fs g rest) (bytes ∷ files) h =
 syntax_faults (phase.bad i l ls f ts fs b rest) [] h = absurd h
 syntax_faults (phase.bad i l ls (Lex f) ts fs b rest) (bytes ∷ files) h = absurd b
 syntax_faults (phase.bad i l ls (Syntax f) ts fs b rest) (bytes ∷ files) h =
-    let unexpected : IsUnexpected l.tokens.items (end_of i bytes) f.at = subst (λ end. IsUnexpected l.tokens.items end f.at) h.0.end b.0 in
+    let unexpected : IsUnexpected l.tokens.items (end_of i bytes) f.at = subst (λ end. IsUnexpected l.tokens.items end f.at) h.0.end b in
     verdict.bad i bytes files fs l.tokens.items f h.0.lexes unexpected (syntax_faults rest files h.1)
 syntax_faults (phase.bad i l ls (OfClasses f) ts fs b rest) (bytes ∷ files) h = absurd b
 syntax_faults (phase.bad i l ls (Typing f) ts fs b rest) (bytes ∷ files) h = absurd b
 
--- a token's place, or the end, stands in the file
-token_or_end : (count file low : ℕ) (ts : List Token) (end p : Place) → (end.file ≡ file) × IsPlaced count end → tokens.AreRising file low ts → AreWithinLimits count ts → IsTokenOrEnd ts end p
-    → (p.file ≡ file) × IsPlaced count p
-token_or_end count file low [] end p e rising limits h = subst (λ (q : Place). (q.file ≡ file) × IsPlaced count q) (sym h) e
-token_or_end count file low (t ∷ ts) end p e rising limits (inl h) = subst (λ (q : Place). (q.file ≡ file) × IsPlaced count q) (sym h) (rising.0, limits.0.0)
-token_or_end count file low (t ∷ ts) end p e rising limits (inr h) = token_or_end count file (t.at.byte + 1) ts end p e rising.2 limits.1 h
+-- a token's place stands in the file
+token_placed : (count file low : ℕ) (before : List Token) (t : Token) (after : List Token) → tokens.AreRising file low (before ++ t ∷ after) → AreWithinLimits count (before ++ t ∷ after)
+    → (t.at.file ≡ file) × IsPlaced count t.at
+token_placed count file low [] t after rising limits = (rising.0, limits.0.0)
+token_placed count file low (b ∷ before) t after rising limits = token_placed count file (b.at.byte + 1) before t after rising.2 limits.1
 
--- a syntax fault stands in its file
-syntactic_placed : (count file : ℕ) (bytes : List ℕ) (l : Lexed) (p : Place) → file < count → length bytes ≤ MOST_SOURCE_BYTES → IsLexed file bytes l → IsTokenOrEnd l.tokens.items l.end p
+-- a syntax fault stands in its file: at a token, or at the end
+syntactic_placed : (count file : ℕ) (bytes : List ℕ) (l : Lexed) (p : Place) → file < count → length bytes ≤ MOST_SOURCE_BYTES → IsLexed file bytes l → IsUnexpected l.tokens.items l.end p
     → (p.file ≡ file) × IsPlaced count p
-syntactic_placed count file bytes l p less small h b =
-    token_or_end count file 0 l.tokens.items l.end p (at_place count file bytes (length bytes) l.end less small h.end) h.rising (h.limits count less) b
+syntactic_placed count file bytes l p less small h (inl (before, t, after, same, place, begins, stops)) =
+    subst (λ (q : Place). (q.file ≡ file) × IsPlaced count q) (sym place)
+    (token_placed count file 0 before t after (subst (tokens.AreRising file 0) same h.rising) (subst (AreWithinLimits count) same (h.limits count less)))
+syntactic_placed count file bytes l p less small h (inr (place, begins, stops)) =
+    subst (λ (q : Place). (q.file ≡ file) × IsPlaced count q) (sym place) (at_place count file bytes (length bytes) l.end less small h.end)
 
 -- they stand in rising files
 pub syntactic_rising : (count : ℕ) {i : ℕ} {ls : List Lexed} {ts : List FileTree} {fs : List Fault} → AreFound IsParsed IsSyntactic i ls ts fs → (files : List (List ℕ)) → AllFound IsLexed i files ls
@@ -126,6 +127,6 @@ syntactic_rising count (phase.bad i l ls (Syntax f) ts fs b rest) (bytes ∷ fil
     let light : total files ≤ MOST_SOURCE_BYTES = omega arith in
     let inside : i < count = omega arith in
     let short : length bytes ≤ MOST_SOURCE_BYTES = omega arith in
-    one_before count i (Syntax f) fs (syntactic_placed count i bytes l f.at inside short h.0 b.1) (syntactic_rising count rest files h.1 less light)
+    one_before count i (Syntax f) fs (syntactic_placed count i bytes l f.at inside short h.0 b) (syntactic_rising count rest files h.1 less light)
 syntactic_rising count (phase.bad i l ls (OfClasses f) ts fs b rest) (bytes ∷ files) h few small = absurd b
 syntactic_rising count (phase.bad i l ls (Typing f) ts fs b rest) (bytes ∷ files) h few small = absurd b

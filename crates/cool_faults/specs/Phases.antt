@@ -11,7 +11,6 @@ use Rattle.cool_syntax.specs.TokenFacts.{AreWithinLimits, AreRising, IsPlaced, w
 use Rattle.cool_syntax.specs.TreesWithinLimits.{AreClassesWithin}
 use Rattle.cool_syntax.specs.Weights.{classes_weight}
 use Rattle.cool_lexer.specs.declared.lexer.Lexed.{Lexed}
-use Rattle.cool_parser.specs.FaultPlaces.{IsTokenOrEnd}
 use Rattle.cool_syntax.specs.declared.file_tree.ClassDef.{ClassDef}
 use Rattle.cool_classes.specs.declared.fault.ClassFault.{ClassFault}
 use Rattle.cool_classes.specs.Chains.{Class}
@@ -78,7 +77,7 @@ pub record IsParsed (file : ℕ) (lexed : Lexed) (tree : FileTree) : Type 0 wher
 -- the fault of tokens that are no tree
 abbrev pub IsSyntactic : ℕ → Lexed → Fault → Type 0
 IsSyntactic file lexed (Lex f) = ⊥
-IsSyntactic file lexed (Syntax f) = IsUnexpected lexed.tokens.items lexed.end f.at × IsTokenOrEnd lexed.tokens.items lexed.end f.at
+IsSyntactic file lexed (Syntax f) = IsUnexpected lexed.tokens.items lexed.end f.at
 IsSyntactic file lexed (OfClasses f) = ⊥
 IsSyntactic file lexed (Typing f) = ⊥
 

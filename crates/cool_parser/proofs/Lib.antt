@@ -7,7 +7,6 @@ pub mod ParsingAFile
 pub mod NodesOfConcreteTrees
 pub mod ParsedTreesAreShaped
 pub mod ParsingIsTheGrammar
-pub mod PlacesOfFaults
 pub mod PlacingANode
 pub mod PrefixesOfFiles
 pub mod ReadingConcreteTrees

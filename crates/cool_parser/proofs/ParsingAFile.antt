@@ -1,4 +1,4 @@
--- What is left of a file's tokens comes to the same outcome.
+-- What is left of a file's tokens comes to the same outcome, and no tokens are the file without classes.
 use Rattle.std.proofs.Common.{◌≡◌, ◌≢◌, ℕ, ◌+◌, ◌<◌, ◌≤◌, List, [], ◌∷◌, length, drop, get_or, Option, Some, refl, sym, ◌∙◌, ap}
 use Rattle.std.proofs.lemmas.List.{drop_more, drop_all}
 use Rattle.cool_syntax.specs.declared.place.Place.{Place}
@@ -34,3 +34,13 @@ finished ts i c m end classes h f k e =
     ∙ ap (λ xs. outcome end (Some (record { context = c; mode = m })) xs end) (drop_all i ts h)
     ∙ ap (λ n. finish c n end) f
     ∙ ap Whole (sym k)
+
+-- no tokens are the file without classes
+pub empty_whole : (ts : List Token) (end : Place) (classes : List ClassDef) → parsed ts end ≡ Whole classes → ts ≡ [] → classes ≡ []
+empty_whole [] end classes e h = cc
+empty_whole (t ∷ ts) end classes e h = absurd (cc)
+
+-- and so have no fault
+pub empty_no_fault : {A : Type 0} (ts : List Token) (end at : Place) → parsed ts end ≡ Unexpected at → ts ≡ [] → A
+empty_no_fault [] end at e h = absurd (cc)
+empty_no_fault (t ∷ ts) end at e h = absurd (cc)

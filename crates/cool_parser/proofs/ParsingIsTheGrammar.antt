@@ -6,7 +6,9 @@ use Rattle.cool_syntax.specs.declared.token.Token.{Token}
 use Rattle.cool_syntax.specs.declared.file_tree.ClassDef.{ClassDef}
 use Rattle.cool_syntax.specs.ConcreteTrees.{Classes}
 use Rattle.cool_syntax.specs.PlainTrees.{plain_file}
+use Rattle.cool_syntax.specs.Bare.{nowhere}
 use Rattle.cool_syntax.specs.Grammar.{Parses, BeginsFile, IsUnexpected}
+use Rattle.cool_parser.specs.Laws.{HasTree}
 use Rattle.cool_parser.specs.Machine as machine
 use Rattle.cool_parser.specs.Machine.{Outcome, Whole, Unexpected, outcome, parsed}
 use Rattle.cool_parser.proofs.ConcreteMachine.{State, File, Inside}
@@ -126,8 +128,9 @@ complete tokens end classes p =
     ∙ ap Whole f.2
 
 -- the same tokens are no two files
-pub one_tree : (tokens : List Token) (end : Place) (classes others : List ClassDef) → Parses tokens classes → Parses tokens others → classes ≡ others
-one_tree tokens end classes others p q = let same : Whole classes ≡ Whole others = sym (complete tokens end classes p) ∙ complete tokens end others q in cc
+pub one_tree : (tokens : List Token) (classes others : List ClassDef) → Parses tokens classes → Parses tokens others → classes ≡ others
+one_tree tokens classes others p q =
+    let same : Whole classes ≡ Whole others = sym (complete tokens nowhere classes p) ∙ complete tokens nowhere others q in cc
 
 -- tokens that begin some file lead to a state
 led : (ws : List Token) → BeginsFile ws → (n : State) × (run start ws ≡ Some n)
@@ -184,10 +187,18 @@ whole_or_fault tokens end at classes e u = let same : Whole classes ≡ Unexpect
 pub fault_only : (tokens : List Token) (end at other : Place) → parsed tokens end ≡ Unexpected at → IsUnexpected tokens end other → at ≡ other
 fault_only tokens end at other e u = let same : Unexpected at ≡ Unexpected other = sym e ∙ exact tokens end other u in cc
 
--- tokens that are a file have no fault, and others have one
-
+-- tokens that are a file have no fault
 pub file_or_fault : (tokens : List Token) (end at : Place) (classes : List ClassDef) → Parses tokens classes → IsUnexpected tokens end at → ⊥
 file_or_fault tokens end at classes p u = whole_or_fault tokens end at classes (complete tokens end classes p) u
 
+-- tokens have one first fault at most
 pub one_fault : (tokens : List Token) (end at other : Place) → IsUnexpected tokens end at → IsUnexpected tokens end other → at ≡ other
 one_fault tokens end at other u v = fault_only tokens end at other (exact tokens end at u) v
+
+-- tokens that are no file have a first fault
+pub file_or_first : (tokens : List Token) (end : Place) → HasTree tokens end
+file_or_first tokens end = found (parsed tokens end) (tells tokens end)
+  where
+    found : (o : Outcome) → Tells tokens end o → HasTree tokens end
+    found (Whole classes) h = inl (classes, h)
+    found (Unexpected at) h = inr (at, h)

@@ -1,5 +1,5 @@
 pub mod Answers
-pub mod FaultPlaces
+pub mod Laws
 pub mod Levels
 pub mod Machine
 pub mod Waiting

@@ -10,6 +10,7 @@ mod endings;
 mod fault;
 mod forms;
 mod item;
+mod laws;
 mod mode;
 mod operands;
 mod operator;
@@ -21,4 +22,5 @@ mod step;
 mod tests;
 
 pub use fault::{ParseError, ParseFault};
+pub use laws::{law_always_one, law_never_both, law_one_first_fault, law_one_tree};
 pub use parsing::parse;

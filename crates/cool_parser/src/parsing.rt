@@ -11,7 +11,6 @@ ghost use Rattle.cool_syntax.specs.declared.file_tree.ClassDef.{ClassDef};
 ghost use Rattle.cool_syntax.specs.Grammar.{Parses, IsUnexpected};
 ghost use Rattle.cool_syntax.specs.WrittenTrees.{AreClassesWritable};
 ghost use Rattle.cool_parser.specs.Answers.{IsFault, IsFaultAt};
-ghost use Rattle.cool_parser.specs.FaultPlaces.{IsPlaceIn};
 ghost use Rattle.cool_syntax.specs.FeatureSizes.{IsBoundedClass};
 ghost use Rattle.cool_syntax.specs.TreesWithinLimits.{AreClassesWithin};
 ghost use Rattle.cool_syntax.specs.Weights.{classes_weight};
@@ -30,18 +29,18 @@ use std::alloc::{AllocError, Global};
 pub fn parse(alloc: Global, file: u32, tokens: &[Token], end: Place) -> Result<FileTree, ParseError>
     requires { length tokens.now ≤ MOST_SOURCE_BYTES }
     ensures file { IfOk result (λ tree. tree.file ≡ file) }
+    // a tree comes exactly where the tokens are a file
     ensures whole { IfOk result (λ tree. Parses tokens.now tree.classes) }
-    ensures fault { IfErr result (λ error. IsFault tokens.now end error) }
-    // the tree of tokens that are a file, and the first fault of others, are the only ones
     ensures only { (classes : List ClassDef) → Parses tokens.now classes → MatchResult result (λ tree. tree.classes ≡ classes) (λ error. error ≡ Memory) }
+    // a fault comes exactly where it is the first one
+    ensures fault { IfErr result (λ error. IsFault tokens.now end error) }
     ensures first { (at : Place) → IsUnexpected tokens.now end at → MatchResult result (λ tree. ⊥) (IsFaultAt at) }
-    ensures unambiguous { (classes others : List ClassDef) → Parses tokens.now classes → Parses tokens.now others → classes ≡ others }
-    ensures writable { IfOk result (λ tree. AreClassesWritable tree.classes) }
-    ensures place { IfErr result (λ error. IsPlaceIn tokens.now end error) }
-    ensures empty { tokens.now ≡ [] → MatchResult result (λ tree. tree.classes ≡ []) (λ error. error ≡ Memory) }
+    // what the tree keeps of the tokens
     ensures limits { (files : ℕ) → AreWithinLimits files tokens.now → IfOk result (λ tree. AreClassesWithin files tree.classes) }
-    ensures weight { IfOk result (λ tree. classes_weight tree.classes ≤ weights tokens.now) }
     ensures bounded { FitsRuns first_run tokens.now → IfOk result (λ tree. AllByRecursion IsBoundedClass tree.classes) }
+    ensures weight { IfOk result (λ tree. classes_weight tree.classes ≤ weights tokens.now) }
+    ensures writable { IfOk result (λ tree. AreClassesWritable tree.classes) }
+    ensures empty { tokens.now ≡ [] → MatchResult result (λ tree. tree.classes ≡ []) (λ error. error ≡ Memory) }
 {
     let mut parser = Parser::new(alloc);
     let mut mode = Mode::File;

@@ -20,7 +20,7 @@ returns-in_ok-push-in-Err-Fault c =
     let e = c.in-Err-Fault.ensures in
     inr (
       Syntax c.in-Err-Fault.fault,
-      fault_slice c.args.file c.args.lexed.now c.as_slice.result.now c.in-Err-Fault.fault c.as_slice.ensures.value (rw c.in-Err-Fault.field-0-is at e.fault) (rw c.in-Err-Fault.field-0-is at e.place),
+      fault_slice c.args.file c.args.lexed.now c.as_slice.result.now c.in-Err-Fault.fault c.as_slice.ensures.value (rw c.in-Err-Fault.field-0-is at e.fault),
       refl,
       pushed (Syntax c.in-Err-Fault.fault ∷ []) refl c.in_ok-push-in-Err-Fault.was c.push-in-Err-Fault.ensures,
     )

@@ -9,9 +9,8 @@ use Rattle.cool_parser.proofs.RoomForNodes.{weight, IsLight, step_light}
 use Rattle.cool_parser.proofs.BoundedFeatures.{classes_bounded}
 use Rattle.cool_parser.proofs.FilesWithinLimits.{classes_within}
 use Rattle.cool_parser.proofs.WeightsOfFiles.{classes_weigh}
-use Rattle.cool_parser.proofs.ParsingAFile.{any_place, more, unfinished, finished}
-use Rattle.cool_parser.proofs.ParsingIsTheGrammar.{sound, stops, whole_only, fault_only, whole_or_fault, fault_or_whole, one_tree}
-use Rattle.cool_parser.proofs.PlacesOfFaults.{fault_place, empty_whole, empty_no_fault}
+use Rattle.cool_parser.proofs.ParsingIsTheGrammar.{sound, stops, whole_only, fault_only, whole_or_fault, fault_or_whole}
+use Rattle.cool_parser.proofs.ParsingAFile.{any_place, more, unfinished, finished, empty_whole, empty_no_fault}
 use Rattle.cool_parser.proofs.parsing.parse.Goals as goal
 
 pub loop-i-init : goal.loop-i-init
@@ -45,15 +44,6 @@ returns-in-None-clause-only c = λ classes p. fault_or_whole c.args.tokens.now c
 pub returns-in-None-clause-first : goal.returns-in-None-clause-first
 returns-in-None-clause-first c = λ at u. fault_only c.args.tokens.now c.args.end c.index-tokens-i.result.at at (refused c) u
 
-pub returns-in-None-clause-unambiguous : goal.returns-in-None-clause-unambiguous
-returns-in-None-clause-unambiguous c = one_tree c.args.tokens.now c.args.end
-
-pub returns-in_err-make_room-clause-unambiguous : goal.returns-in_err-make_room-clause-unambiguous
-returns-in_err-make_room-clause-unambiguous c = one_tree c.args.tokens.now c.args.end
-
-pub returns-in_err-next-clause-unambiguous : goal.returns-in_err-next-clause-unambiguous
-returns-in_err-next-clause-unambiguous c = one_tree c.args.tokens.now c.args.end
-
 pub loop-i-preserved : goal.loop-i-preserved
 loop-i-preserved c =
     let t = c.index-tokens-i.result in
@@ -86,17 +76,12 @@ returns-in_default c =
       fault = stops c.args.tokens.now c.args.end c.args.end fault;
       only = λ classes p. fault_or_whole c.args.tokens.now c.args.end c.args.end classes fault p;
       first = λ at u. fault_only c.args.tokens.now c.args.end c.args.end at fault u;
-      unambiguous = one_tree c.args.tokens.now c.args.end;
       writable = tt;
-      place = fault_place c.args.tokens.now c.args.end c.args.end fault;
       empty = λ e. empty_no_fault c.args.tokens.now c.args.end c.args.end fault e;
       limits = λ files l. tt;
       weight = tt;
       bounded = λ l. tt;
     }
-
-pub returns-in-None-clause-place : goal.returns-in-None-clause-place
-returns-in-None-clause-place c = fault_place c.args.tokens.now c.args.end c.index-tokens-i.result.at (refused c)
 
 -- the classes that are handed out, as those of the whole file
 whole : (c : goal.After-drop-parser-inside-in-File-1) → parsed c.args.tokens.now c.args.end ≡ Whole c.parser.inside.classes
@@ -110,9 +95,6 @@ returns-in-File-clause-only c = λ classes p. whole_only c.args.tokens.now c.arg
 
 pub returns-in-File-clause-first : goal.returns-in-File-clause-first
 returns-in-File-clause-first c = λ at u. whole_or_fault c.args.tokens.now c.args.end at c.parser.inside.classes (whole c) u
-
-pub returns-in-File-clause-unambiguous : goal.returns-in-File-clause-unambiguous
-returns-in-File-clause-unambiguous c = one_tree c.args.tokens.now c.args.end
 
 pub returns-in-File-clause-writable : goal.returns-in-File-clause-writable
 returns-in-File-clause-writable c = parsed_writable c.args.tokens.now c.parser.inside.classes (sound c.args.tokens.now c.args.end c.parser.inside.classes (whole c))
