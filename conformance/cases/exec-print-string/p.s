@@ -1,4 +1,4 @@
-# Strings end at their first zero: one without bytes, a long one, one in the text, and one that the end of the data's last word ends.
+# Strings end at their first zero: one without bytes, a long one, one in the text, and one that ends where the data is padded.
         .data
 empty:  .asciiz ""
 long:   .asciiz "xxxxxxxxxxxxxxxxxxxxxxxxxxxxxxxxxxxxxxxxxxxxxxxxxxxxxxxxxxxxxxxxxxxxxx"

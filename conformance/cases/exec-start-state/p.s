@@ -1,10 +1,6 @@
 # The registers as a run begins: all but four are 0, and HI and LO.
         .text
 __start:
-        move $t0, $sp
-        li $t1, -2147483648
-        sub $t0, $t0, $t1
-        move $s0, $t0           # 0
         or $s0, $s0, $1
         or $s0, $s0, $2
         or $s0, $s0, $3
@@ -12,6 +8,8 @@ __start:
         or $s0, $s0, $5
         or $s0, $s0, $6
         or $s0, $s0, $7
+        or $s0, $s0, $8
+        or $s0, $s0, $9
         or $s0, $s0, $10
         or $s0, $s0, $11
         or $s0, $s0, $12
