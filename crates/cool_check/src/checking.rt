@@ -44,14 +44,14 @@ pub fn check(alloc: Global, t: ClassTable) -> Result<TypedProgram, CheckAllError
     Err(CheckAllError::Faults(Listed::new(in_order(faults))))
 }
 
-/// The faults in the order of files, bytes and kinds.
+/// The faults in the order of files, bytes, kinds and lines.
 fn in_order(mut faults: Vec<TypeFault>) -> Vec<TypeFault>
     ensures permutation { IsPermutation faults.items result.items }
     ensures order { AreInOrder standing_of result.items }
     ensures length { length result.items ≡ length faults.items }
     ensures places { (n : ℕ) → AllByRecursion (λ f. IsPlaced n f.at) faults.items → AllByRecursion (λ f. IsPlaced n f.at) result.items }
 {
-    faults.sort_unstable_by_key(|fault| (fault.at.file, fault.at.byte, fault.kind));
+    faults.sort_unstable_by_key(|fault| (fault.at.file, fault.at.byte, fault.kind, fault.at.line));
     faults
 }
 

@@ -27,12 +27,12 @@ pub(crate) fn add_fault(
     Ok(())
 }
 
-/// Puts faults in the order of their files, their bytes and their kinds. `Err` comes only for want of memory.
+/// Puts faults in the order of their files, their bytes, their kinds and their lines. `Err` comes only for want of memory.
 fn sort_faults(faults: &mut Vec<ClassFault>) -> Result<(), AllocError>
     ensures order { OnOk result (AreInOrder standing_of faults.new.items) }
     ensures same { IsPermutation faults.old.items faults.new.items }
 {
-    faults.sort_by_key(|fault| (fault.at.file, fault.at.byte, fault.kind))?;
+    faults.sort_by_key(|fault| (fault.at.file, fault.at.byte, fault.kind, fault.at.line))?;
     Ok(())
 }
 

@@ -1,5 +1,5 @@
 -- Faults of rising files stand in order; so do the faults of classes and of typing as faults of files.
-use Rattle.std.proofs.Common.{◌≡◌, ◌≢◌, inl, inr, ℕ, ◌+◌, ◌<◌, ◌≤◌, List, [], ◌∷◌, map, refl, sym, subst, arith}
+use Rattle.std.proofs.Common.{◌≡◌, ◌≢◌, inl, inr, ℕ, ◌+◌, ◌<◌, ◌≤◌, List, [], ◌∷◌, map, ap, refl, sym, subst, arith}
 use Rattle.std.specs.List.{AllByRecursion}
 use Rattle.std.proofs.lemmas.List.Sorted.{IsPermutation-map}
 use Rattle.cool_syntax.specs.declared.file_tree.ClassDef.{ClassDef}
@@ -49,7 +49,8 @@ some_mapped F (x ∷ xs) h = λ e. absurd (cc)
 no_later_shifted : (a b : Standing) (n : ℕ) → IsNoLater a b → IsNoLater (record { at = a.at; rank = n + a.rank }) (record { at = b.at; rank = n + b.rank })
 no_later_shifted a b n (inl h) = inl h
 no_later_shifted a b n (inr (f, inl h)) = inr (f, inl h)
-no_later_shifted a b n (inr (f, inr (e, h))) = inr (f, inr (e, omega (arith, h)))
+no_later_shifted a b n (inr (f, inr (e, inl h))) = inr (f, inr (e, inl (omega (arith, h))))
+no_later_shifted a b n (inr (f, inr (e, inr (r, h)))) = inr (f, inr (e, inr (ap (λ (m : ℕ). n + m) r, h)))
 
 -- the faults of classes and features keep their order
 pub classes_in_order : (fs : List ClassFault) → AreInOrder classes.standing_of fs → AreInOrder standing_of (map OfClasses fs)

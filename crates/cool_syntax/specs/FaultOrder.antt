@@ -1,4 +1,5 @@
--- The order of a list of faults: by file, then by byte, then by kind.
+-- The order of a list of faults: by file, then by byte, then by kind, and last by line. (Of places of one text the line never decides: it
+-- follows from the byte.) So two faults of which each is no later than the other are one.
 use Rattle.std.specs.Prelude.{◌≡◌, ◌⊎◌, ℕ, ◌<◌, ◌≤◌, List, [], ◌∷◌}
 use Rattle.cool_syntax.specs.declared.place.Place.{Place}
 
@@ -7,11 +8,13 @@ pub record Standing : Type 0 where
   pub at : Place
   pub rank : ℕ
 
+-- the first number is less, or they are equal and what follows decides
+abbrev pub IsLessOr : ℕ → ℕ → Type 0 → Type 0
+IsLessOr m n Follows = (m < n) ⊎ ((m ≡ n) × Follows)
+
 -- the first stands before the second, or where it does
 abbrev pub IsNoLater : Standing → Standing → Type 0
-IsNoLater a b =
-    (a.at.file < b.at.file)
-    ⊎ ((a.at.file ≡ b.at.file) × ((a.at.byte < b.at.byte) ⊎ ((a.at.byte ≡ b.at.byte) × (a.rank ≤ b.rank))))
+IsNoLater a b = IsLessOr a.at.file b.at.file (IsLessOr a.at.byte b.at.byte (IsLessOr a.rank b.rank (a.at.line ≤ b.at.line)))
 
 abbrev pub AreInOrder : {X : Type 0} → (X → Standing) → List X → Type 0
 AreInOrder standing [] = Unit {0}

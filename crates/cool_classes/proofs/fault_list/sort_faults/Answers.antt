@@ -1,4 +1,4 @@
--- A sort by file, byte and kind.
+-- A sort by file, byte, kind and line.
 use Rattle.std.proofs.Common.{rules}
 use Rattle.std.specs.List.Sorted.{IsSortedByKey}
 use Rattle.std.proofs.lemmas.List.Sorted.{answers_always}
