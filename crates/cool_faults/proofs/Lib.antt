@@ -2,6 +2,8 @@ pub mod AllItems
 pub mod DefinitionsOfTrees
 pub mod FindingsInARow
 pub mod LexicalFaults
+pub mod OneOrder
+pub mod OneStanding
 pub mod OneVerdict
 pub mod OrderOfFaults
 pub mod SlicesParsed

@@ -1,7 +1,7 @@
--- Files have one verdict: no files are both a program and refused, and no two programs.
-use Rattle.std.proofs.Common.{◌≡◌, ℕ, ◌+◌, List, [], ◌∷◌, map, ap, sym, ◌∙◌, refl, subst}
+-- Files have one fault list, and one verdict: no files are both a program and refused, and no two programs.
+use Rattle.std.proofs.Common.{◌≡◌, ◌≢◌, ℕ, ◌+◌, List, [], ◌∷◌, map, ap, sym, ◌∙◌, refl, subst}
 use Rattle.std.specs.List.Sorted.{IsPermutation}
-use Rattle.std.proofs.lemmas.List.Sorted.{length_permutation, IsPermutation-refl, IsPermutation-sym, IsPermutation-trans, IsPermutation-map}
+use Rattle.std.proofs.lemmas.List.Sorted.{length_permutation, IsPermutation-refl, IsPermutation-sym, IsPermutation-trans, IsPermutation-map, sum_by-IsPermutation}
 use Rattle.std.proofs.Common.{arith}
 use Rattle.cool_syntax.specs.declared.file_tree.ClassDef.{ClassDef}
 use Rattle.cool_syntax.specs.declared.file_tree.FileTree.{FileTree}
@@ -18,8 +18,10 @@ use Rattle.cool_check.specs.declared.fault.TypeFault.{TypeFault}
 use Rattle.cool_check.specs.TypingFaults.{typing_faults}
 use Rattle.cool_faults.specs.declared.fault.Fault.{Fault}
 use Rattle.cool_faults.specs.declared.fault.Fault.TheVariants.{Lex, Syntax, Class as OfClasses, Typing}
-use Rattle.cool_faults.specs.Verdicts.{IsTree, AreTrees, LexFaults, SyntaxFaults, IsPhase, of_lexer, of_parser, of_classes, of_features, of_typing, IsRefused, IsAccepted, end_of}
+use Rattle.cool_faults.specs.Verdicts.{IsTree, AreTrees, LexFaults, SyntaxFaults, IsPhase, of_lexer, of_parser, of_classes, of_features, of_typing, AreFaultless, IsFaultList, faultless, faulty, IsRefused, IsAccepted, end_of, standing_of}
 use Rattle.cool_faults.specs.Verdicts as verdict
+use Rattle.cool_faults.proofs.OneOrder.{one_order}
+use Rattle.cool_faults.proofs.OneStanding.{one_fault as one_of_standing}
 
 -- a list in another order than none is none
 none_moved : {X : Type 0} (xs : List X) → IsPermutation [] xs → xs ≡ []
@@ -61,26 +63,22 @@ no_syntactic file files (t ∷ ts) faults trees (verdict.bad f bytes rest fs tok
     let same : trees.0.tokens ≡ tokens = one_cutting file bytes trees.0.tokens tokens trees.0.lexes lexes in
     absurd (file_or_fault tokens (end_of file bytes) fault.at t.classes (subst (λ (us : List Token). Parses us t.classes) same trees.0.parses) stops)
 
--- no files are both accepted and refused
-pub never_both_verdicts : (files : List (List ℕ)) (p : List Class) (faults : List Fault) → IsAccepted files p → IsRefused files faults → ⊥
-never_both_verdicts files p faults a r = r.some (by r.phase)
-  where
-    by : IsPhase files faults → faults ≡ []
-    by (of_lexer h) = no_lexical 0 files a.trees faults a.are_trees h
-    by (of_parser h) = no_syntactic 0 files a.trees faults a.are_trees h
-    by (of_classes ts fs trees phase moved) =
-        let same = one_trees 0 files a.trees ts a.are_trees trees in
-        let none : fs ≡ [] = no_phase (definitions ts) fs (subst (λ (us : List FileTree). HasClassPhase (definitions us) []) same a.classes) phase in
-        none_moved faults (subst (λ (xs : List ClassFault). IsPermutation (map OfClasses xs) faults) none moved)
-    by (of_features ts trees phase moved) =
-        let same = one_trees 0 files a.trees ts a.are_trees trees in
-        let none : feature_phase (definitions ts) ≡ [] = subst (λ (us : List FileTree). feature_phase (definitions us) ≡ []) same a.features in
-        none_moved faults (subst (λ (xs : List ClassFault). IsPermutation (map OfClasses xs) faults) none moved)
-    by (of_typing ts trees phase features moved) =
-        let same = one_trees 0 files a.trees ts a.are_trees trees in
-        let table : p ≡ classes_meant (definitions ts) = a.meant ∙ ap (λ (us : List FileTree). classes_meant (definitions us)) same in
-        let none : typing_faults (classes_meant (definitions ts)) ≡ [] = ap typing_faults (sym table) ∙ a.typing in
-        none_moved faults (subst (λ (xs : List TypeFault). IsPermutation (map Typing xs) faults) none moved)
+-- where no phase finds a fault, no phase has any
+nothing_found : (files : List (List ℕ)) (faults : List Fault) → AreFaultless files → IsPhase files faults → faults ≡ []
+nothing_found files faults a (of_lexer h) = no_lexical 0 files a.trees faults a.are_trees h
+nothing_found files faults a (of_parser h) = no_syntactic 0 files a.trees faults a.are_trees h
+nothing_found files faults a (of_classes ts fs trees phase moved) =
+    let same = one_trees 0 files a.trees ts a.are_trees trees in
+    let none : fs ≡ [] = no_phase (definitions ts) fs (subst (λ (us : List FileTree). HasClassPhase (definitions us) []) same a.classes) phase in
+    none_moved faults (subst (λ (xs : List ClassFault). IsPermutation (map OfClasses xs) faults) none moved)
+nothing_found files faults a (of_features ts trees phase moved) =
+    let same = one_trees 0 files a.trees ts a.are_trees trees in
+    let none : feature_phase (definitions ts) ≡ [] = subst (λ (us : List FileTree). feature_phase (definitions us) ≡ []) same a.features in
+    none_moved faults (subst (λ (xs : List ClassFault). IsPermutation (map OfClasses xs) faults) none moved)
+nothing_found files faults a (of_typing ts trees phase features moved) =
+    let same = one_trees 0 files a.trees ts a.are_trees trees in
+    let none : typing_faults (classes_meant (definitions ts)) ≡ [] = subst (λ (us : List FileTree). typing_faults (classes_meant (definitions us)) ≡ []) same a.typing in
+    none_moved faults (subst (λ (xs : List TypeFault). IsPermutation (map Typing xs) faults) none moved)
 
 -- files are one program at most
 pub one_program : (files : List (List ℕ)) (p q : List Class) → IsAccepted files p → IsAccepted files q → p ≡ q
@@ -126,18 +124,18 @@ none_before file files xs ys (verdict.bad f bytes rest fs fault is more) (verdic
 same_moved : {X : Type 0} (as' bs xs ys : List X) → IsPermutation as' bs → IsPermutation as' xs → IsPermutation bs ys → IsPermutation xs ys
 same_moved as' bs xs ys ab ax by' = IsPermutation-trans xs as' ys (IsPermutation-sym as' xs ax) (IsPermutation-trans as' bs ys ab by')
 
--- files are refused with one list of faults, in one order or another
-pub one_refusal : (files : List (List ℕ)) (xs ys : List Fault) → IsRefused files xs → IsRefused files ys → IsPermutation xs ys
-one_refusal files xs ys r s = by r.phase s.phase
+-- two lists of faults of the first phase that finds any are one in another order
+one_phase : (files : List (List ℕ)) (xs ys : List Fault) → xs ≢ [] → ys ≢ [] → IsPhase files xs → IsPhase files ys → IsPermutation xs ys
+one_phase files xs ys some_first some_second = by
   where
     equal : xs ≡ ys → IsPermutation xs ys
     equal e = subst (IsPermutation xs) e (IsPermutation-refl xs)
 
     no_first : xs ≡ [] → IsPermutation xs ys
-    no_first e = absurd (r.some e)
+    no_first e = absurd (some_first e)
 
     no_second : ys ≡ [] → IsPermutation xs ys
-    no_second e = absurd (s.some e)
+    no_second e = absurd (some_second e)
 
     nothing_moved : (fs : List Fault) (zs : List Fault) → fs ≡ [] → IsPermutation fs zs → zs ≡ []
     nothing_moved fs zs e h = none_moved zs (subst (λ (gs : List Fault). IsPermutation gs zs) e h)
@@ -194,3 +192,16 @@ one_refusal files xs ys r s = by r.phase s.phase
         same_moved (map Typing (typing_faults (classes_meant (definitions ts)))) (map Typing (typing_faults (classes_meant (definitions us)))) xs ys
         (subst (λ (vs : List FileTree). IsPermutation (map Typing (typing_faults (classes_meant (definitions ts)))) (map Typing (typing_faults (classes_meant (definitions vs))))) (trees_are ts us trees also)
         (IsPermutation-refl (map Typing (typing_faults (classes_meant (definitions ts)))))) moved turned
+
+-- files have one fault list
+pub one_list : (files : List (List ℕ)) (xs ys : List Fault) → IsFaultList files xs → IsFaultList files ys → xs ≡ ys
+one_list files xs ys (faultless a) (faultless b) = refl
+one_list files xs ys (faultless a) (faulty gs some phase order) = absurd (some (nothing_found files gs a phase))
+one_list files xs ys (faulty fs some phase order) (faultless b) = absurd (some (nothing_found files fs b phase))
+one_list files xs ys (faulty fs some phase order) (faulty gs more other also) =
+    let moved : IsPermutation fs gs = one_phase files fs gs some more phase other in
+    one_order standing_of one_of_standing fs gs order also (λ (f : Fault → ℕ). sym (sum_by-IsPermutation f fs gs moved))
+
+-- no files are both accepted and refused
+pub never_both_verdicts : (files : List (List ℕ)) (p : List Class) (faults : List Fault) → IsAccepted files p → IsRefused files faults → ⊥
+never_both_verdicts files p faults a r = r.some (one_list files faults [] r.list a.list)

@@ -23,7 +23,7 @@ use Rattle.cool_faults.specs.declared.fault.Refusal.TheVariants as refusal
 use Rattle.cool_faults.specs.declared.fault.Fault.TheVariants.{Typing}
 use Rattle.cool_faults.specs.Files.{bytes_of, total}
 use Rattle.cool_faults.specs.Phases.{AreFound, AreFaultsFound, IsLexed, IsLexical, IsParsed, IsSyntactic, AreTableFaults, AreTypingFaults, IsClassRefusal, IsTypeRefusal, ArePlaced, IsRefusedWith}
-use Rattle.cool_faults.specs.Verdicts.{of_lexer, of_parser, of_classes, of_features, of_typing, IsAccepted}
+use Rattle.cool_faults.specs.Verdicts.{of_lexer, of_parser, of_classes, of_features, of_typing, faultless, faulty, IsPhase, IsAccepted}
 use Rattle.cool_faults.proofs.FindingsInARow.{AllFound, all_found}
 use Rattle.cool_faults.proofs.OrderOfFaults.{InRisingFiles, rising_in_order, rising_placed}
 use Rattle.cool_faults.proofs.LexicalFaults.{lexical_faults, lexical_rising}
@@ -43,9 +43,8 @@ lexer_refuses files (refusal.Faults faults) small (some, (ts, found)) =
     let all : 0 + length files ≤ length files = omega arith in
     let rising : InRisingFiles (length files) 0 faults = lexical_rising (length files) all small found in
     record {
+      list = faulty faults some (of_lexer (lexical_faults found)) (rising_in_order (length files) 0 faults rising);
       some = some;
-      phase = of_lexer (lexical_faults found);
-      order = rising_in_order (length files) 0 faults rising;
       places = λ h. rising_placed (length files) 0 faults rising;
     }
 
@@ -67,9 +66,8 @@ parser_refuses files ls (refusal.Faults faults) small lexed (some, (ts, found)) 
     let good : AllFound IsLexed 0 files ls = all_found IsLexed IsLexical lexed refl in
     let rising : InRisingFiles (length files) 0 faults = syntactic_rising (length files) found files good all small in
     record {
+      list = faulty faults some (of_parser (syntax_faults found files good)) (rising_in_order (length files) 0 faults rising);
       some = some;
-      phase = of_parser (syntax_faults found files good);
-      order = rising_in_order (length files) 0 faults rising;
       places = λ h. rising_placed (length files) 0 faults rising;
     }
 
@@ -92,13 +90,13 @@ pub classes_refuse : (files : List (List ℕ)) (ts : List FileTree) (e : Refusal
 classes_refuse files ts refusal.Memory whole exact h placed = tt
 classes_refuse files ts (refusal.Faults faults) whole exact h placed =
     let all : 0 + length files ≤ length files = omega arith in
+    let phase : IsPhase files faults = elim exact [
+      | inl classes ↦ of_classes ts classes.0 (are_trees 0 files ts whole) classes.1 classes.2
+      | inr features ↦ of_features ts (are_trees 0 files ts whole) features.0 features.1
+    ] in
     record {
+      list = faulty faults h.0 phase h.2;
       some = h.0;
-      phase = elim exact [
-        | inl classes ↦ of_classes ts classes.0 (are_trees 0 files ts whole) classes.1 classes.2
-        | inr features ↦ of_features ts (are_trees 0 files ts whole) features.0 features.1
-      ];
-      order = h.2;
       places = λ some. placed (length files) some (definitions_within (length files) 0 files ts all whole);
     }
 
@@ -111,44 +109,43 @@ table_of_trees_fits files ts p count small many few whole of t keeps =
     (omega (arith, definitions_light 0 files ts whole)) of
 
 -- no definition and no feature has a fault
-abbrev pub AreFaultless : List FileTree → Type 0
-AreFaultless ts = HasClassPhase (definitions ts) [] × (feature_phase (definitions ts) ≡ [])
+abbrev pub HaveNoFault : List FileTree → Type 0
+HaveNoFault ts = HasClassPhase (definitions ts) [] × (feature_phase (definitions ts) ≡ [])
 
 -- faults of typing refuse the files
-pub typing_refuses : (files : List (List ℕ)) (ts : List FileTree) (p : List Class) (e : Refusal) → AllFound IsWhole 0 files ts → IsTableOf (definitions ts) p → p ≡ classes_meant (definitions ts) → AreFaultless ts
+pub typing_refuses : (files : List (List ℕ)) (ts : List FileTree) (p : List Class) (e : Refusal) → AllFound IsWhole 0 files ts → IsTableOf (definitions ts) p → p ≡ classes_meant (definitions ts) → HaveNoFault ts
     → IsTable p → AreTypingFaults p e → IsTypeRefusal e → ((n : ℕ) → AreWithin n p → ArePlaced n e) → IsRefusedWith files e
 typing_refuses files ts p refusal.Memory whole of meant none t exact h placed = tt
 typing_refuses files ts p (refusal.Faults faults) whole of meant none t exact h placed =
     let all : 0 + length files ≤ length files = omega arith in
     let within : AreClassesWithin (length files) (definitions ts) = definitions_within (length files) 0 files ts all whole in
+    let phase : IsPhase files faults = of_typing ts (are_trees 0 files ts whole) none.0 none.1 (subst (λ (q : List Class). IsPermutation (map Typing (typing_faults q)) faults) meant exact) in
     record {
+      list = faulty faults h.0 phase h.2;
       some = h.0;
-      phase = of_typing ts (are_trees 0 files ts whole) none.0 none.1 (subst (λ (q : List Class). IsPermutation (map Typing (typing_faults q)) faults) meant exact);
-      order = h.2;
       places = λ some. placed (length files) (table_within (length files) p (definitions ts) t (definitions_bounded 0 files ts whole) within of);
     }
 
 -- a table with no fault of typing is the program of the files
 pub table_accepted : (files : List (List ℕ)) (ts : List FileTree) (p q : List Class) → total files ≤ MOST_SOURCE_BYTES → length files ≤ MOST_FILES → AllFound IsWhole 0 files ts
-    → IsTableOf (definitions ts) p → p ≡ classes_meant (definitions ts) → AreFaultless ts → IsTable p → KeepsLimits p → q ≡ p → typing_faults p ≡ [] → IsAccepted files q
+    → IsTableOf (definitions ts) p → p ≡ classes_meant (definitions ts) → HaveNoFault ts → IsTable p → KeepsLimits p → q ≡ p → typing_faults p ≡ [] → IsAccepted files q
 table_accepted files ts p q small few whole of meant none t keeps e typed =
     let all : length files ≤ length files = omega arith in
+    let clean : typing_faults (classes_meant (definitions ts)) ≡ [] = subst (λ (r : List Class). typing_faults r ≡ []) meant typed in
     subst (IsAccepted files) (sym e)
     (record {
+      list = faultless (record { trees = ts; are_trees = are_trees 0 files ts whole; classes = none.0; features = none.1; typing = clean });
       trees = ts;
       are_trees = are_trees 0 files ts whole;
       table = of;
       meant = meant;
-      classes = none.0;
-      features = none.1;
-      typing = typed;
-      typed = subst IsTypedTable (sym meant) (accepted_typed (definitions ts) (subst IsTable meant t) none.0 none.1 (subst (λ (r : List Class). typing_faults r ≡ []) meant typed));
+      typed = subst IsTypedTable (sym meant) (accepted_typed (definitions ts) (subst IsTable meant t) none.0 none.1 clean);
       fits = table_of_trees_fits files ts p (length files) small all few whole of t keeps;
     })
 
 -- what typing answers is the verdict
 pub typing_decides : (files : List (List ℕ)) (ts : List FileTree) (p : List Class) (r : Result (List Class) Refusal) → total files ≤ MOST_SOURCE_BYTES → length files ≤ MOST_FILES
-    → AllFound IsWhole 0 files ts → IsTableOf (definitions ts) p → p ≡ classes_meant (definitions ts) → AreFaultless ts → IsTable p → KeepsLimits p → IfOk r (λ q. q ≡ p) → OnOk r (typing_faults p ≡ [])
+    → AllFound IsWhole 0 files ts → IsTableOf (definitions ts) p → p ≡ classes_meant (definitions ts) → HaveNoFault ts → IsTable p → KeepsLimits p → IfOk r (λ q. q ≡ p) → OnOk r (typing_faults p ≡ [])
     → IfErr r (AreTypingFaults p) → IfErr r IsTypeRefusal → ((n : ℕ) → AreWithin n p → IfErr r (ArePlaced n))
     → MatchResult r (IsAccepted files) (IsRefusedWith files)
 typing_decides files ts p (Ok q) small few whole of meant none t keeps same typed exact refused placed = table_accepted files ts p q small few whole of meant none t keeps same typed

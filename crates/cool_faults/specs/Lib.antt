@@ -1,4 +1,5 @@
 pub mod Files
+pub mod Laws
 pub mod Phases
 pub mod Texts
 pub mod Verdicts

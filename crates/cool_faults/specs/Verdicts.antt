@@ -100,8 +100,8 @@ IsOfTyping (Syntax f) = ⊥
 IsOfTyping (OfClasses f) = ⊥
 IsOfTyping (Typing f) = Unit {0}
 
--- The faults of the first phase that finds any: of the lexer or the parser the first of each file, of classes and then of features all,
--- of typing the first of each feature.
+-- These faults are those of a phase, in one order or another, and no phase before it finds any: of the lexer or the parser the first of
+-- each file, of classes and then of features all, of typing the first of each feature.
 pub data IsPhase (files : List (List ℕ)) (faults : List Fault) : Type 0 where
   of_lexer : LexFaults 0 files faults → IsPhase files faults
   of_parser : SyntaxFaults 0 files faults → IsPhase files faults
@@ -110,22 +110,32 @@ pub data IsPhase (files : List (List ℕ)) (faults : List Fault) : Type 0 where
   of_typing : (trees : List FileTree) → AreTrees 0 files trees → HasClassPhase (definitions trees) [] → feature_phase (definitions trees) ≡ []
       → IsPermutation (map Typing (typing_faults (classes_meant (definitions trees)))) faults → IsPhase files faults
 
--- Files are refused with the faults of one phase, in order; each stands in one of the files, where there are any.
+-- No phase finds a fault in the files: all are trees, and neither their classes, nor their features, nor their typing has one.
+pub record AreFaultless (files : List (List ℕ)) : Type 0 where
+  pub trees : List FileTree
+  pub are_trees : AreTrees 0 files trees
+  pub classes : HasClassPhase (definitions trees) []
+  pub features : feature_phase (definitions trees) ≡ []
+  pub typing : typing_faults (classes_meant (definitions trees)) ≡ []
+
+-- The fault list of files: the faults of the first phase that finds any, in order; and none where no phase finds any.
+pub data IsFaultList (files : List (List ℕ)) : List Fault → Type 0 where
+  faultless : AreFaultless files → IsFaultList files []
+  faulty : (faults : List Fault) → faults ≢ [] → IsPhase files faults → AreInOrder standing_of faults → IsFaultList files faults
+
+-- Files are refused with their fault list, where it is not empty; each fault stands in one of the files, where there are any.
 pub record IsRefused (files : List (List ℕ)) (faults : List Fault) : Type 0 where
+  pub list : IsFaultList files faults
   pub some : faults ≢ []
-  pub phase : IsPhase files faults
-  pub order : AreInOrder standing_of faults
   pub places : 0 < length files → AllByRecursion (λ f. IsPlaced (length files) (place_of f)) faults
 
--- Files are accepted as a program: it is the class table of their trees, no phase finds a fault, it is typed, and it keeps the limits.
+-- Files whose fault list is empty are accepted as a program: the class table of their trees, which is typed and keeps the limits.
 pub record IsAccepted (files : List (List ℕ)) (p : List Class) : Type 0 where
+  pub list : IsFaultList files []
   pub trees : List FileTree
   pub are_trees : AreTrees 0 files trees
   pub table : IsTableOf (definitions trees) p
   pub meant : p ≡ classes_meant (definitions trees)
-  pub classes : HasClassPhase (definitions trees) []
-  pub features : feature_phase (definitions trees) ≡ []
-  pub typing : typing_faults p ≡ []
   pub typed : IsTypedTable p
   pub fits : Fits p (length files)
 
