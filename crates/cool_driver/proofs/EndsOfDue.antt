@@ -1,9 +1,15 @@
 -- What is due, written whole or in part, ends a call as it should.
-use Rattle.std.proofs.Common.{◌≡◌, ◌≢◌, ℕ, ◌<◌, ◌≤◌, ◌⊎◌, Bool, true, false, inl, inr, List, [], refl, arith}
+use Rattle.std.proofs.Common.{◌≡◌, ◌≢◌, ℕ, ◌<◌, ◌≤◌, ◌⊎◌, Bool, true, false, inl, inr, List, [], refl, subst, arith}
 use Rattle.std.specs.Prelude.{◌==◌}
 use Rattle.cool_ports.specs.Counts.{Rose}
-use Rattle.cool_driver.specs.Ends.{Request, Due, Writing, Call, NoLess, Ends, FailedOutput, FailedNote, Got}
+use Rattle.cool_faults.specs.declared.fault.Fault.{Fault}
+use Rattle.cool_faults.specs.Verdicts.{IsFaultList}
+use Rattle.cool_ports.specs.ShelfFiles.{FileMap}
+use Rattle.cool_driver.specs.declared.command_line.Command.{Command}
+use Rattle.cool_driver.specs.declared.command_line.Command.TheVariants.{Check, Run}
+use Rattle.cool_driver.specs.Ends.{Request, Due, Writing, Call, NoLess, Ends, FailedOutput, FailedNote, Got, Told, IsRead, MayRefuse}
 use Rattle.cool_driver.specs.Ends.Writing.{by_run, by_exec}
+use Rattle.cool_driver.proofs.AnsweredFaults.{answered}
 use Rattle.cool_driver.proofs.Findings as findings
 use Rattle.cool_driver.proofs.Findings.{Finding, IsRunStatus, finding_of_due, finding_below}
 
@@ -45,6 +51,8 @@ ends_found : (c : Call) (status : ℕ) → Finding c.request status → Calm c s
 ends_found c status found calm written =
     let r = c.request in
     let bounds = finding_below r status found in
+    let answer = λ (command : Command) (names contents : List (List ℕ)) (faults : List Fault) (files : FileMap) (told : Told r files) (read : IsRead r command names contents) (may : MayRefuse command contents) (list : IsFaultList contents faults).
+    answered r status written.0 written.1 c.left files command names contents faults written.2 told read may list in
     record {
       statuses = bounds.0;
       written = λ _ _. written;
@@ -57,8 +65,16 @@ ends_found c status found calm written =
       too_many_exactly = λ command names plan many _ _. findings.too_many_exactly r status command names found plan many;
       missing_exactly = λ files command names name told plan named gone _ _. findings.missing_exactly r status files command names name found told plan named gone;
       too_large_exactly = λ files command names contents told plan held large _ _. findings.too_large_exactly r status files command names contents found told plan held large;
-      checked_exactly = λ files names contents told read _ _. findings.checked_exactly r status files names contents found told read;
-      refused_exactly = λ files names contents told read other _ _. findings.refused_exactly r status files names contents found told read other;
+      checked_exactly = λ files names contents faults told read list _ _.
+          let a = answer Check names contents faults files told read tt list in
+          (a.checked refl, λ some. (a.refused some).0);
+      refused_exactly = λ files command names contents faults told read may list some _ _.
+          let a = answer command names contents faults files told read may list in
+          ((a.refused some).0, subst (Got c.notes) (a.refused some).1 written.4);
+      not_yet_exactly = λ files names contents told read other list _ _.
+          let a = answer Run names contents [] files told read other list in
+          ((a.not_yet refl refl).0, subst (Got c.notes) (a.not_yet refl refl).1 written.4);
+      not_ran_exactly = λ files names contents told read other _ _. findings.not_ran_exactly r status files names contents found told read other;
       ran_exactly = λ files names contents strings told read simple _ _. findings.ran_exactly r status files names contents strings found told read simple;
       unfit_exactly = λ files name bytes told read binary none _ _. findings.unfit_exactly r status files name bytes found told read binary none;
       executed_exactly = λ files name bytes image told read is _ _. findings.executed_exactly r status files name bytes image found told read is;
@@ -117,8 +133,10 @@ ends_write_fault c rose part input = record {
   too_many_exactly = λ command names plan many other _. absurd (other refl);
   missing_exactly = λ files command names name told plan named gone other _. absurd (other refl);
   too_large_exactly = λ files command names contents told plan held large other _. absurd (other refl);
-  checked_exactly = λ files names contents told read other _. absurd (other refl);
-  refused_exactly = λ files names contents told read form other _. absurd (other refl);
+  checked_exactly = λ files names contents faults told read list other _. absurd (other refl);
+  refused_exactly = λ files command names contents faults told read may list some other _. absurd (other refl);
+  not_yet_exactly = λ files names contents told read form list other _. absurd (other refl);
+  not_ran_exactly = λ files names contents told read form other _. absurd (other refl);
   ran_exactly = λ files names contents strings told read form other _. absurd (other refl);
   unfit_exactly = λ files name bytes told read binary none other _. absurd (other refl);
   executed_exactly = λ files name bytes image told read is other _. absurd (other refl);
@@ -143,8 +161,10 @@ ends_without_memory c files out notes left calm = record {
   too_many_exactly = λ command names plan many _ other. absurd (other refl);
   missing_exactly = λ files command names name told plan named gone _ other. absurd (other refl);
   too_large_exactly = λ files command names contents told plan held large _ other. absurd (other refl);
-  checked_exactly = λ files names contents told read _ other. absurd (other refl);
-  refused_exactly = λ files names contents told read form _ other. absurd (other refl);
+  checked_exactly = λ files names contents faults told read list _ other. absurd (other refl);
+  refused_exactly = λ files command names contents faults told read may list some _ other. absurd (other refl);
+  not_yet_exactly = λ files names contents told read form list _ other. absurd (other refl);
+  not_ran_exactly = λ files names contents told read form _ other. absurd (other refl);
   ran_exactly = λ files names contents strings told read form _ other. absurd (other refl);
   unfit_exactly = λ files name bytes told read binary none _ other. absurd (other refl);
   executed_exactly = λ files name bytes image told read is _ other. absurd (other refl);

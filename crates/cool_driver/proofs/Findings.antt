@@ -119,7 +119,7 @@ plan_or other None = other
 plan_or other (Some plan) = plan
 
 -- two plans are one
-same_plan : (plan : Option (Command × List (List ℕ))) (a b : Command) (names others : List (List ℕ)) → plan ≡ Some (a, names) → plan ≡ Some (b, others) → (a ≡ b) × (names ≡ others)
+pub same_plan : (plan : Option (Command × List (List ℕ))) (a b : Command) (names others : List (List ℕ)) → plan ≡ Some (a, names) → plan ≡ Some (b, others) → (a ≡ b) × (names ≡ others)
 unfolding plan_or
 same_plan plan a b names others p q =
     let both = ap (plan_or (a, names)) (sym p ∙ q) in
@@ -138,7 +138,7 @@ no_check_run : (plan : Option (Command × List (List ℕ))) (names others : List
 no_check_run plan names others p q = cc (same_plan plan Check Run names others p q).0
 
 -- there is a plan or none
-no_plan_and_plan : (plan : Option (Command × List (List ℕ))) (a : Command) (names : List (List ℕ)) → plan ≡ None → plan ≡ Some (a, names) → ⊥
+pub no_plan_and_plan : (plan : Option (Command × List (List ℕ))) (a : Command) (names : List (List ℕ)) → plan ≡ None → plan ≡ Some (a, names) → ⊥
 no_plan_and_plan plan a names p q = cc
 
 -- what a told shelf holds
@@ -161,7 +161,7 @@ files_read r files a b names others contents told read plan =
     subst (λ (ns : List (List ℕ)). AreHeld (Some files) ns contents) (same_plan (plan_of r.words) a b names others read.plan plan).1 (held_told r.files files names contents told.0 read.held)
 
 -- files that were read twice are the same
-same_read : (r : Request) (files : FileMap) (a b : Command) (names others contents more : List (List ℕ)) → Told r files → IsRead r a names contents → IsRead r b others more → contents ≡ more
+pub same_read : (r : Request) (files : FileMap) (a b : Command) (names others contents more : List (List ℕ)) → Told r files → IsRead r a names contents → IsRead r b others more → contents ≡ more
 same_read r files a b names others contents more told read again =
     held_same files others contents more (files_read r files a b names others contents told read again.plan) (held_told r.files files others more told.0 again.held)
 
@@ -172,7 +172,7 @@ same_file r files a b names others bytes more told read again =
     cc
 
 -- files that were read for a command that has another name
-may_refuse : (r : Request) (files : FileMap) (a b : Command) (names others contents more : List (List ℕ)) → Told r files → IsRead r a names contents → IsRead r b others more → MayRefuse a contents → MayRefuse b more
+pub may_refuse : (r : Request) (files : FileMap) (a b : Command) (names others contents more : List (List ℕ)) → Told r files → IsRead r a names contents → IsRead r b others more → MayRefuse a contents → MayRefuse b more
 may_refuse r files a b names others contents more told read again may =
     let command = (same_plan (plan_of r.words) a b names others read.plan again.plan).0 in
     subst (λ (c : Command). MayRefuse c more) command (subst (λ (cs : List (List ℕ)). MayRefuse a cs) (same_read r files a b names others contents more told read again) may)
@@ -200,7 +200,7 @@ no_refused_file r files a b names others contents refusal told read plan cause =
     refused_there r files b refusal.name there.0 (total refusal.contents) (total contents) told there.1 there.2 (omega (arith, read.within, command)) cause
 
 -- where the files were read, no file fault is found
-no_file_fault : (r : Request) (files : FileMap) (a b : Command) (names others contents : List (List ℕ)) → Told r files → IsRead r a names contents → plan_of r.words ≡ Some (b, others) → IsFileFault r b others → ⊥
+pub no_file_fault : (r : Request) (files : FileMap) (a b : Command) (names others contents : List (List ℕ)) → Told r files → IsRead r a names contents → plan_of r.words ≡ Some (b, others) → IsFileFault r b others → ⊥
 no_file_fault r files a b names others contents told read plan (inl many) =
     let same : length names ≡ length others = ap length (same_plan (plan_of r.words) a b names others read.plan plan).1 in
     omega (arith, read.few, same, many.0)
@@ -308,27 +308,16 @@ too_large_exactly r status files command names large (bad_text name' bytes' read
 too_large_exactly r status files command names large (no_plan none calm e) told plan held more = absurd (no_plan_and_plan _ _ _ none plan)
 too_large_exactly r status files command names large (no_file command' names' plan' fault e) told plan held more = e
 
--- status 0 or 1 is left where `check` read its files
-pub checked_exactly : (r : Request) (status : ℕ) (files : FileMap) (names contents : List (List ℕ)) → Finding r status → Told r files → IsRead r Check names contents → (status ≡ 0) ⊎ (status ≡ 1)
-checked_exactly r status files names contents (accepted names' contents' read' e) told read = inl e
-checked_exactly r status files names contents (faulty command' names' contents' read' may e) told read = inr e
-checked_exactly r status files names contents (simple names' contents' strings' read' is e) told read = absurd (no_check_run _ _ _ read.plan read'.plan)
-checked_exactly r status files names contents (image name' bytes' found read' is run e) told read = absurd (no_check_exec _ _ _ read.plan read'.plan)
-checked_exactly r status files names contents (no_image name' bytes' fault read' is e) told read = absurd (no_check_exec _ _ _ read.plan read'.plan)
-checked_exactly r status files names contents (bad_text name' bytes' read' text e) told read = absurd (no_check_exec _ _ _ read.plan read'.plan)
-checked_exactly r status files names contents (no_plan none calm e) told read = absurd (no_plan_and_plan _ _ _ none read.plan)
-checked_exactly r status files names contents (no_file command' names' plan' fault e) told read = absurd (no_file_fault r files _ _ _ _ _ told read plan' fault)
-
 -- status 1 is left where `run` read its files, and they are no program of the simple form
-pub refused_exactly : (r : Request) (status : ℕ) (files : FileMap) (names contents : List (List ℕ)) → Finding r status → Told r files → IsRead r Run names contents → AreNotSimple contents → status ≡ 1
-refused_exactly r status files names contents (accepted names' contents' read' e) told read other = absurd (no_check_run _ _ _ read'.plan read.plan)
-refused_exactly r status files names contents (faulty command' names' contents' read' may e) told read other = e
-refused_exactly r status files names contents (simple names' contents' strings' read' is e) told read other = absurd (other strings' (subst (λ (cs : List (List ℕ)). AreSimple cs strings') (same_read r files _ _ _ _ _ _ told read' read) is))
-refused_exactly r status files names contents (image name' bytes' found read' is run e) told read other = absurd (no_run_exec _ _ _ read.plan read'.plan)
-refused_exactly r status files names contents (no_image name' bytes' fault read' is e) told read other = absurd (no_run_exec _ _ _ read.plan read'.plan)
-refused_exactly r status files names contents (bad_text name' bytes' read' text e) told read other = absurd (no_run_exec _ _ _ read.plan read'.plan)
-refused_exactly r status files names contents (no_plan none calm e) told read other = absurd (no_plan_and_plan _ _ _ none read.plan)
-refused_exactly r status files names contents (no_file command' names' plan' fault e) told read other = absurd (no_file_fault r files _ _ _ _ _ told read plan' fault)
+pub not_ran_exactly : (r : Request) (status : ℕ) (files : FileMap) (names contents : List (List ℕ)) → Finding r status → Told r files → IsRead r Run names contents → AreNotSimple contents → status ≡ 1
+not_ran_exactly r status files names contents (accepted names' contents' read' e) told read other = absurd (no_check_run _ _ _ read'.plan read.plan)
+not_ran_exactly r status files names contents (faulty command' names' contents' read' may e) told read other = e
+not_ran_exactly r status files names contents (simple names' contents' strings' read' is e) told read other = absurd (other strings' (subst (λ (cs : List (List ℕ)). AreSimple cs strings') (same_read r files _ _ _ _ _ _ told read' read) is))
+not_ran_exactly r status files names contents (image name' bytes' found read' is run e) told read other = absurd (no_run_exec _ _ _ read.plan read'.plan)
+not_ran_exactly r status files names contents (no_image name' bytes' fault read' is e) told read other = absurd (no_run_exec _ _ _ read.plan read'.plan)
+not_ran_exactly r status files names contents (bad_text name' bytes' read' text e) told read other = absurd (no_run_exec _ _ _ read.plan read'.plan)
+not_ran_exactly r status files names contents (no_plan none calm e) told read other = absurd (no_plan_and_plan _ _ _ none read.plan)
+not_ran_exactly r status files names contents (no_file command' names' plan' fault e) told read other = absurd (no_file_fault r files _ _ _ _ _ told read plan' fault)
 
 -- and status 0 where they are one
 pub ran_exactly : (r : Request) (status : ℕ) (files : FileMap) (names contents strings : List (List ℕ)) → Finding r status → Told r files → IsRead r Run names contents → AreSimple contents strings → status ≡ 0

@@ -11,6 +11,7 @@ pub mod RunningPrints
 pub mod PlainStrings
 pub mod DueTasks
 pub mod Findings
+pub mod AnsweredFaults
 pub mod EndsOfDue
 pub mod EndsOfTasks
 pub mod RunsByDefault

@@ -1,11 +1,11 @@
 -- How a call of `cool` ends: what is due for the words over the shelf's files and the input, and what came of it.
-use Rattle.std.specs.Prelude.{◌≡◌, ◌≢◌, ℕ, ◌<◌, ◌≤◌, ◌⊎◌, ◌-◌, true, false, List, [], ◌∷◌, ◌++◌, length, Contains, Option, Some, None}
+use Rattle.std.specs.Prelude.{◌≡◌, ◌≢◌, ℕ, ◌<◌, ◌≤◌, ◌⊎◌, ◌-◌, true, false, List, [], ◌∷◌, ◌++◌, length, get_or, Contains, Option, Some, None}
 use Rattle.std.specs.List.{concat}
 use Rattle.cool_syntax.specs.declared.TheConstants.{MOST_FILES}
 use Rattle.cool_classes.specs.Chains.{Class}
 use Rattle.cool_faults.specs.declared.fault.Fault.{Fault}
 use Rattle.cool_faults.specs.Files.{total}
-use Rattle.cool_faults.specs.Verdicts.{IsAccepted, IsRefused}
+use Rattle.cool_faults.specs.Verdicts.{IsAccepted, IsFaultList, IsRefused}
 use Rattle.cool_ports.specs.Counts.{last_count, Rose}
 use Rattle.cool_ports.specs.ShelfFiles.{FileMap, MayHold, IsMissing, IsLonger}
 use Rattle.cool_ports.specs.SinkBytes.{appended, GotPrefix}
@@ -166,10 +166,17 @@ pub record Ends (c : Call) (status : ℕ) : Type 0 where
       → Unless status (status ≡ 10)
   pub too_large_exactly : (files : FileMap) (command : Command) (names contents : List (List ℕ)) → Told c.request files → plan_of c.request.words ≡ Some (command, names) → AreHeld (Some files) names contents
       → most_bytes command < total contents → Unless status (status ≡ 10)
-  -- `check`: status 0 or 1 comes where the files were read; which of them, `written` says
-  pub checked_exactly : (files : FileMap) (names contents : List (List ℕ)) → Told c.request files → IsRead c.request Check names contents → Unless status ((status ≡ 0) ⊎ (status ≡ 1))
+  -- `check`: status 0 comes where the files were read and their fault list is empty, and status 1 where it is not
+  pub checked_exactly : (files : FileMap) (names contents : List (List ℕ)) (faults : List Fault) → Told c.request files → IsRead c.request Check names contents → IsFaultList contents faults
+      → Unless status ((faults ≡ [] → status ≡ 0) × (faults ≢ [] → status ≡ 1))
+  -- `check` and `run`: status 1 comes where the files were read and their fault list is not empty, with a line for each fault of it
+  pub refused_exactly : (files : FileMap) (command : Command) (names contents : List (List ℕ)) (faults : List Fault) → Told c.request files → IsRead c.request command names contents → MayRefuse command contents
+      → IsFaultList contents faults → faults ≢ [] → Unless status ((status ≡ 1) × Got c.notes (refused_note names faults))
+  -- `run`: status 1 and the note N1 come where the files were read, their fault list is empty, and they are no program of the simple form
+  pub not_yet_exactly : (files : FileMap) (names contents : List (List ℕ)) → Told c.request files → IsRead c.request Run names contents → AreNotSimple contents → IsFaultList contents []
+      → Unless status ((status ≡ 1) × Got c.notes (not_yet_note (get_or names 0 [])))
   -- `run`: status 1 comes where the files were read and are no program of the simple form, and status 0 where they are one
-  pub refused_exactly : (files : FileMap) (names contents : List (List ℕ)) → Told c.request files → IsRead c.request Run names contents → AreNotSimple contents → Unless status (status ≡ 1)
+  pub not_ran_exactly : (files : FileMap) (names contents : List (List ℕ)) → Told c.request files → IsRead c.request Run names contents → AreNotSimple contents → Unless status (status ≡ 1)
   pub ran_exactly : (files : FileMap) (names contents strings : List (List ℕ)) → Told c.request files → IsRead c.request Run names contents → AreSimple contents strings → Unless status (status ≡ 0)
   -- `exec`: status 12 comes where the file was read, is no text and no image, and the status of the run's end where it is an image
   pub unfit_exactly : (files : FileMap) (name bytes : List ℕ) → Told c.request files → IsRead c.request Exec (name ∷ []) (bytes ∷ []) → is_text_file bytes ≡ false → ((image : ImageParts) → IsImageOf image bytes → ⊥)

@@ -11,6 +11,7 @@ ghost use Rattle.spim_machine.specs.Input.{Took};
 ghost use Rattle.cool_driver.specs.CommandLine.{words_of, TakesNoInput};
 ghost use Rattle.cool_driver.specs.Notes.{usage_note};
 ghost use Rattle.cool_driver.specs.Ends.{Ends};
+ghost use Rattle.cool_driver.specs.Limits.{AreLimits};
 
 mod command_line;
 mod execution;
@@ -49,6 +50,9 @@ pub fn cool<F: Shelf, I: Source, O: Sink, E: Sink>(
     out: &mut O,
     notes: &mut E,
 ) -> u8
+    // The limits within which it runs, by their values.
+    ensures limits { AreLimits }
+
     // The shelf keeps its files.
     ensures files { F.files files.new ≡ F.files files.old }
 

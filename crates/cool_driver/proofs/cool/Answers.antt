@@ -60,3 +60,6 @@ returns-clause-taken g c =
       | in-Ok-Run w ↦ rw w.input-is (false, took_nothing _ _ _)
       | in-Ok-Execute w ↦ rw w.input-is w.execute-status.ensures.taken
     ]
+
+pub returns-clause-limits : goal.returns-clause-limits
+returns-clause-limits g c = record { image_bytes = refl; heap = refl; stack = refl; steps = refl }
