@@ -369,7 +369,7 @@ rows_permuted R xs ys moved h = record {
 }
 
 -- the faults of classes
-phase_rows : (ds : List ClassDef) (fs : List ClassFault) → HasClassPhase ds fs → AreRows (IsClassFault ds) fs
+pub phase_rows : (ds : List ClassDef) (fs : List ClassFault) → HasClassPhase ds fs → AreRows (IsClassFault ds) fs
 phase_rows ds fs (cyclic, on, is) = subst (AreRows (IsClassFault ds)) (sym is) (record { only = phase_only ds cyclic on; all = phase_there ds cyclic on })
 
 -- what a table is refused with are rows

@@ -6,6 +6,7 @@ pub mod OneOrder
 pub mod OneStanding
 pub mod OneVerdict
 pub mod OrderOfFaults
+pub mod RowsOfFiles
 pub mod SlicesParsed
 pub mod SyntaxFaults
 pub mod TablesFit

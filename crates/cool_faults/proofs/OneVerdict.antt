@@ -36,7 +36,7 @@ one_tree file bytes t u a b =
     let classes = one_file b.tokens t.classes u.classes (subst (λ (ts : List Token). Parses ts t.classes) tokens a.parses) b.parses in
     λ i. record { file = number i; classes = classes i }
 
-one_trees : (file : ℕ) (files : List (List ℕ)) (ts us : List FileTree) → AreTrees file files ts → AreTrees file files us → ts ≡ us
+pub one_trees : (file : ℕ) (files : List (List ℕ)) (ts us : List FileTree) → AreTrees file files ts → AreTrees file files us → ts ≡ us
 one_trees file [] [] [] a b = refl
 one_trees file [] [] (u ∷ us) a b = absurd b
 one_trees file [] (t ∷ ts) us a b = absurd a
@@ -47,14 +47,14 @@ one_trees file (bytes ∷ files) (t ∷ ts) (u ∷ us) a b =
     let rest = one_trees (file + 1) files ts us a.1 b.1 in λ i. first i ∷ rest i
 
 -- where all files are trees, none has a fault of the lexer or the parser
-no_lexical : (file : ℕ) (files : List (List ℕ)) (ts : List FileTree) (faults : List Fault) → AreTrees file files ts → LexFaults file files faults → faults ≡ []
+pub no_lexical : (file : ℕ) (files : List (List ℕ)) (ts : List FileTree) (faults : List Fault) → AreTrees file files ts → LexFaults file files faults → faults ≡ []
 no_lexical file files ts faults trees (verdict.none f) = refl
 no_lexical file files [] faults trees (verdict.good f bytes rest fs tokens lexes more) = absurd trees
 no_lexical file files (t ∷ ts) faults trees (verdict.good f bytes rest fs tokens lexes more) = no_lexical (file + 1) rest ts fs trees.1 more
 no_lexical file files [] faults trees (verdict.bad f bytes rest fs fault is more) = absurd trees
 no_lexical file files (t ∷ ts) faults trees (verdict.bad f bytes rest fs fault is more) = absurd (never_both file bytes trees.0.tokens fault.kind fault.at trees.0.lexes is)
 
-no_syntactic : (file : ℕ) (files : List (List ℕ)) (ts : List FileTree) (faults : List Fault) → AreTrees file files ts → SyntaxFaults file files faults → faults ≡ []
+pub no_syntactic : (file : ℕ) (files : List (List ℕ)) (ts : List FileTree) (faults : List Fault) → AreTrees file files ts → SyntaxFaults file files faults → faults ≡ []
 no_syntactic file files ts faults trees (verdict.none f) = refl
 no_syntactic file files [] faults trees (verdict.good f bytes rest fs tree is more) = absurd trees
 no_syntactic file files (t ∷ ts) faults trees (verdict.good f bytes rest fs tree is more) = no_syntactic (file + 1) rest ts fs trees.1 more

@@ -1,8 +1,16 @@
--- Laws on the faults and the verdict of files: there is one of each.
-use Rattle.std.specs.Prelude.{◌≡◌, ℕ, List}
+-- Laws on the faults and the verdict of files: there is one of each, and faults of classes and features are those of the rows.
+use Rattle.std.specs.Prelude.{◌≡◌, ◌⊎◌, ℕ, List, Contains}
+use Rattle.cool_syntax.specs.declared.file_tree.ClassDef.{ClassDef}
+use Rattle.cool_syntax.specs.declared.file_tree.FileTree.{FileTree}
+use Rattle.cool_syntax.specs.declared.place.Place.{Place}
+use Rattle.cool_classes.specs.declared.fault.ClassFault.{ClassFault}
+use Rattle.cool_classes.specs.declared.fault.ClassKind.{ClassKind}
 use Rattle.cool_classes.specs.Chains.{Class}
+use Rattle.cool_classes.specs.ClassRows.{IsClassFault, IsTableFault}
+use Rattle.cool_classes.specs.Definitions.{definitions}
 use Rattle.cool_faults.specs.declared.fault.Fault.{Fault}
-use Rattle.cool_faults.specs.Verdicts.{IsAccepted, IsFaultList, IsRefused}
+use Rattle.cool_faults.specs.declared.fault.Fault.TheVariants.{Class as OfClasses}
+use Rattle.cool_faults.specs.Verdicts.{AreTrees, IsAccepted, IsFaultList, IsRefused}
 
 -- files have one fault list
 abbrev pub HaveOneFaultList : Type 0
@@ -15,3 +23,15 @@ AreOneProgram = (files : List (List ℕ)) (p q : List Class) → IsAccepted file
 -- no files are both a program and refused
 abbrev pub AreNeverBoth : Type 0
 AreNeverBoth = (files : List (List ℕ)) (p : List Class) (faults : List Fault) → IsAccepted files p → IsRefused files faults → ⊥
+
+-- The faults of classes and features among these are those of the rows: each is one of a row, each row of classes that holds is among
+-- them, and so is each row of features where no row of classes holds.
+pub record AreOfRows (ds : List ClassDef) (faults : List Fault) : Type 0 where
+  pub only : (f : ClassFault) → Contains faults (OfClasses f) → IsClassFault ds f.kind f.at ⊎ IsTableFault ds f.kind f.at
+  pub classes : (kind : ClassKind) (at : Place) → IsClassFault ds kind at → Contains faults (OfClasses (record { kind = kind; at = at }))
+  pub features : ((kind : ClassKind) (at : Place) → IsClassFault ds kind at → ⊥)
+      → (kind : ClassKind) (at : Place) → IsTableFault ds kind at → Contains faults (OfClasses (record { kind = kind; at = at }))
+
+-- so are those in the fault list of files that are trees
+abbrev pub HaveFaultsOfRows : Type 0
+HaveFaultsOfRows = (files : List (List ℕ)) (trees : List FileTree) (faults : List Fault) → AreTrees 0 files trees → IsFaultList files faults → AreOfRows (definitions trees) faults

@@ -1,6 +1,6 @@
-//! Laws on the faults and the verdict of files: there is one of each.
+//! Laws on the faults and the verdict of files: there is one of each, and faults of classes and features are those of the rows.
 
-ghost use Rattle.cool_faults.specs.Laws.{AreNeverBoth, AreOneProgram, HaveOneFaultList};
+ghost use Rattle.cool_faults.specs.Laws.{AreNeverBoth, AreOneProgram, HaveFaultsOfRows, HaveOneFaultList};
 
 /// Files have one fault list.
 pub fn law_one_list()
@@ -15,4 +15,9 @@ pub fn law_one_program()
 /// No files are both a program and refused.
 pub fn law_never_both()
     ensures { AreNeverBoth }
+{}
+
+/// The faults of classes and features in the fault list of files are exactly those of the rows.
+pub fn law_rows()
+    ensures { HaveFaultsOfRows }
 {}

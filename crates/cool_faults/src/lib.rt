@@ -16,5 +16,5 @@ mod typing;
 
 pub use acceptance::accept;
 pub use fault::{Fault, Verdict};
-pub use laws::{law_never_both, law_one_list, law_one_program};
+pub use laws::{law_never_both, law_one_list, law_one_program, law_rows};
 pub use text::fault_text;
