@@ -1,5 +1,5 @@
 -- The limits of a table: how many classes there are, and how many attributes and methods a class has with those that it inherits.
-use Rattle.std.specs.Prelude.{◌≢◌, ℕ, ◌+◌, ◌≤◌, ◌<◌, List, [], ◌∷◌, length, Some, None}
+use Rattle.std.specs.Prelude.{◌≡◌, ◌≢◌, ℕ, ◌+◌, ◌≤◌, ◌<◌, List, [], ◌∷◌, length, Some, None, refl}
 use Rattle.std.specs.List.{AllByRecursion}
 use Rattle.cool_classes.specs.declared.TheConstants.{MOST_CLASSES, MOST_ATTRIBUTES, MOST_METHODS}
 use Rattle.cool_classes.specs.declared.class_id.ClassId.{ClassId}
@@ -21,3 +21,13 @@ pub record KeepsLimits (p : List Class) : Type 0 where
   pub attributes : (c : ClassId) (ds : List ClassId) → c.0 < length p → IsChain p (Some c) ds → length (attributes_of p ds) ≤ MOST_ATTRIBUTES
   pub methods : (c : ClassId) (ds : List ClassId) (names : List (List ℕ)) → c.0 < length p → IsChain p (Some c) ds → AreDifferent names → AllByRecursion (IsImplemented p ds) names
       → length names ≤ MOST_METHODS
+
+-- each limit by its value
+most_classes : MOST_CLASSES ≡ 1000
+most_classes = refl
+
+most_attributes : MOST_ATTRIBUTES ≡ 2000
+most_attributes = refl
+
+most_methods : MOST_METHODS ≡ 2000
+most_methods = refl
