@@ -1,110 +1,36 @@
--- A table without faults of classes, features and types is a typed table.
-use Rattle.std.proofs.Common.{◌≡◌, ◌≢◌, ℕ, zero, suc, ◌+◌, ◌<◌, List, [], ◌∷◌, ◌++◌, map, length, get_or, Option, Some, None, Bool, true, false, not, ◌||◌, cond, ap, sym, ◌∙◌, refl, subst, arith}
-use Rattle.std.specs.Prelude.{Ok, Err, bytes_eq, nat_eq, nat_lt, slice_get, is_some}
+-- A whole table that keeps the rules of classes, and in which checking finds no fault, is a typed table.
+use Rattle.std.proofs.Common.{◌≡◌, ℕ, zero, suc, ◌+◌, ◌<◌, List, [], ◌∷◌, ◌++◌, map, length, get_or, Some, ap, refl, subst, arith}
+use Rattle.std.specs.Prelude.{Ok, Err, slice_get}
 use Rattle.std.specs.List.{AllByRecursion}
-use Rattle.std.proofs.lemmas.Slice.Eq.{bytes_eq-Decides}
-use Rattle.cool_syntax.specs.declared.file_tree.ClassDef.{ClassDef}
 use Rattle.cool_syntax.specs.declared.file_tree.Feature.{Feature}
 use Rattle.cool_syntax.specs.declared.file_tree.Feature.TheVariants.{Method, Attribute}
 use Rattle.cool_syntax.specs.declared.file_tree.Formal.{Formal}
-use Rattle.cool_syntax.specs.declared.file_tree.AttributeDef.{AttributeDef}
 use Rattle.cool_classes.specs.declared.class_id.ClassId.{ClassId}
-use Rattle.cool_classes.specs.declared.fault.ClassKind.TheVariants.{F1, F2, F3, F4, F7}
 use Rattle.cool_classes.specs.declared.method.AttributeRef.{AttributeRef}
-use Rattle.cool_classes.specs.Chains.{Class, class_number, nothing, parent_of, features_of, IsChain}
-use Rattle.cool_classes.specs.ClassFaults.{classes_meant, feature_phase, HasClassPhase}
-use Rattle.cool_classes.specs.ClimbedChains.{above}
-use Rattle.cool_classes.specs.FeatureFaults.{noted, type_faults, redefines_otherwise, have_attribute, is_doubled, formal_faults, formals_faults, one_feature_faults, attribute_faults, features_faults}
-use Rattle.cool_classes.specs.Features.{first_method, implementation, own_attributes, attributes_of, name_in}
-use Rattle.cool_classes.specs.FirstNames.{first_place, is_place, attribute_name}
+use Rattle.cool_classes.specs.Chains.{Class, class_number, nothing, features_of}
+use Rattle.cool_classes.specs.Features.{attributes_of, attribute_name}
+use Rattle.cool_classes.specs.LawfulTables.{IsLawful, HasDifferentFormals}
 use Rattle.cool_classes.specs.Limits.{AreDifferent}
-use Rattle.cool_classes.specs.Tables.{IsTyped, IsTable}
-use Rattle.cool_classes.proofs.ChainsOfTables.{above_of}
+use Rattle.cool_classes.specs.Tables.{IsTyped, IsWholeTable}
+use Rattle.cool_classes.proofs.NamesOfFeatures.{none_both}
 use Rattle.cool_rules.specs.Lookups as lookups
 use Rattle.cool_rules.specs.Scopes.{Binding}
 use Rattle.cool_rules.specs.Typing.{IsTypedFeature}
-use Rattle.cool_rules.specs.TypedTables.{IsWholeTable, IsTypedTable}
-use Rattle.cool_rules.proofs.ChainsOfTables.{parent_within}
+use Rattle.cool_rules.specs.TypedTables.{IsTypedTable}
 use Rattle.cool_rules.proofs.NamesOfTables.{chain_is}
-use Rattle.cool_rules.proofs.TypedByFaults.{none_both, not_noted, no_fault_of, one_faultless, later_number, basic_number, typed_without_faults}
-use Rattle.cool_rules.proofs.WholeTables.{whole_meant}
 use Rattle.cool_check.specs.FirstFaults.{Checked}
 use Rattle.cool_check.specs.Rules.{attribute_binding, formal_binding}
-use Rattle.cool_check.specs.TypingFaults as typing
-use Rattle.cool_check.specs.TypingFaults.{feature_checked, fault_of, classes_faults, typing_faults}
+use Rattle.cool_check.specs.TypingFaults.{feature_checked, fault_of, features_faults, classes_faults, typing_faults}
 use Rattle.cool_check.proofs.CheckedDecides.{IsDecided, Decides}
-use Rattle.cool_check.proofs.FeaturesDecide.{NamesDiffer, feature_decided}
+use Rattle.cool_check.proofs.FeaturesDecide.{OwnDiffer, NamesDiffer, feature_decided}
 
--- Rows of names
-
-same_name : (f n : List ℕ) → f ≡ n → bytes_eq f n ≡ true
-same_name f n e = (bytes_eq-Decides f n).1 e
-
-is_some_not : (o : Option ℕ) → is_some o ≡ false → o ≡ None
-is_some_not None h = refl
-is_some_not (Some k) h = absurd (cc)
-
--- a name that stands in a row stands in a longer one
-kept : (k : ℕ) (row more : List (Option (List ℕ))) (n : List ℕ) → first_place k row n ≢ None → first_place k (row ++ more) n ≢ None
-kept k [] more n h = absurd (h refl)
-kept k (None ∷ row) more n h = kept (k + 1) row more n h
-kept k (Some m ∷ row) more n h = by (bytes_eq n m) h (kept (k + 1) row more n)
-  where
-    by : (b : Bool) → cond b (Some k) (first_place (k + 1) row n) ≢ None → (first_place (k + 1) row n ≢ None → first_place (k + 1) (row ++ more) n ≢ None) → cond b (Some k) (first_place (k + 1) (row ++ more) n) ≢ None
-    by true h rest = λ e. cc
-    by false h rest = rest h
-
--- the last name of a row stands in it
-last_there : (k : ℕ) (row : List (Option (List ℕ))) (n : List ℕ) → first_place k (row ++ Some n ∷ []) n ≢ None
-last_there k [] n = λ e. absurd (some_none (sym (ap (λ (b : Bool). cond b (Some k) None) (same_name n n refl)) ∙ e))
-  where
-    some_none : Some k ≡ None → ⊥
-    some_none e = cc
-last_there k (None ∷ row) n = last_there (k + 1) row n
-last_there k (Some m ∷ row) n = by (bytes_eq n m) (last_there (k + 1) row n)
-  where
-    by : (b : Bool) → first_place (k + 1) (row ++ Some n ∷ []) n ≢ None → cond b (Some k) (first_place (k + 1) (row ++ Some n ∷ []) n) ≢ None
-    by true rest = λ e. cc
-    by false rest = rest
-
--- Two tests, and lists of names
-
-neither : (a b : Bool) → (a || b) ≡ false → (a ≡ false) × (b ≡ false)
-neither true b h = absurd (cc)
-neither false b h = (refl, h)
-
-not_false : (b : Bool) → not b ≡ false → b ≡ true
-not_false true h = refl
-not_false false h = absurd (cc)
-
-equal_number : (m n : ℕ) → nat_eq m n ≡ true → m ≡ n
-equal_number m n h = grind arith
-
-place_is : (k : ℕ) (o : Option ℕ) → is_place k o ≡ true → o ≡ Some k
-place_is k None h = absurd (cc)
-place_is k (Some j) h = ap Some (equal_number j k h)
-
-all_append : {X : Type 0} (P : X → Type 0) (xs ys : List X) → AllByRecursion P xs → AllByRecursion P ys → AllByRecursion P (xs ++ ys)
-all_append P [] ys h g = g
-all_append P (x ∷ xs) ys h g = (h.0, all_append P xs ys h.1 g)
-
+-- what holds of all holds of the one at a place
 typed_at : {X : Type 0} (P : X → Type 0) (xs : List X) (k : ℕ) (x : X) → AllByRecursion P xs → slice_get xs k ≡ Some x → P x
 typed_at P [] k x h e = absurd (cc)
 typed_at P (y ∷ xs) zero x h e = let same : y ≡ x = cc in subst P same h.0
 typed_at P (y ∷ xs) (suc k) x h e = typed_at P xs k x h.1 e
 
-different_append : (xs ys : List (List ℕ)) → AreDifferent xs → AreDifferent ys → AllByRecursion (λ (n : List ℕ). AllByRecursion (λ (o : List ℕ). o ≢ n) xs) ys → AreDifferent (xs ++ ys)
-different_append [] ys h g both = g
-different_append (x ∷ xs) ys h g both = (all_append (λ (o : List ℕ). o ≢ x) xs ys h.0 (heads ys both), different_append xs ys h.1 g (tails ys both))
-  where
-    heads : (ys : List (List ℕ)) → AllByRecursion (λ (n : List ℕ). AllByRecursion (λ (o : List ℕ). o ≢ n) (x ∷ xs)) ys → AllByRecursion (λ (o : List ℕ). o ≢ x) ys
-    heads [] b = tt
-    heads (y ∷ ys) b = ((λ same. b.0.0 (sym same)), heads ys b.1)
-
-    tails : (ys : List (List ℕ)) → AllByRecursion (λ (n : List ℕ). AllByRecursion (λ (o : List ℕ). o ≢ n) (x ∷ xs)) ys → AllByRecursion (λ (n : List ℕ). AllByRecursion (λ (o : List ℕ). o ≢ n) xs) ys
-    tails [] b = tt
-    tails (y ∷ ys) b = (b.0.1, tails ys b.1)
-
+-- what is decided and has no fault holds
 decided_typed : (r : Checked (Unit {0})) (P : Type 0) → IsDecided r (λ u. P) → fault_of r ≡ [] → P
 decided_typed r P d h = by r d.decided h
   where
@@ -112,204 +38,42 @@ decided_typed r P d h = by r d.decided h
     by (Ok u) d h = d.0
     by (Err f) d h = absurd (cc)
 
--- Formals
-
 module _ (p : List Class) where
-  abbrev formal_names : List Formal → List (List ℕ)
-  formal_names fs = map (λ (b : Binding). b.name) (map (formal_binding p) fs)
+  -- the names of bindings are those of attributes and formals
+  attribute_names : (rs : List AttributeRef) → map (attribute_name p) rs ≡ map (λ (b : Binding). b.name) (map (attribute_binding p) rs)
+  attribute_names [] = refl
+  attribute_names (r ∷ rs) = ap (λ (ns : List (List ℕ)). attribute_name p r ∷ ns) (attribute_names rs)
 
-  -- no formal has a name that stands before it
-  formal_new : (before : List (Option (List ℕ))) (f : Formal) → formal_faults p before f ≡ [] → first_place 0 before f.name ≡ None
-  formal_new before f h = is_some_not (first_place 0 before f.name) (not_noted (is_some (first_place 0 before f.name)) F4 f.at (none_both (noted (is_some (first_place 0 before f.name)) F4 f.at) _ (none_both (noted _ F3 f.at) _ h).1).0)
+  formal_names : (fs : List Formal) → map (λ (f : Formal). f.name) fs ≡ map (λ (b : Binding). b.name) (map (formal_binding p) fs)
+  formal_names [] = refl
+  formal_names (f ∷ fs) = ap (λ (ns : List (List ℕ)). f.name ∷ ns) (formal_names fs)
 
-  later_new : (before : List (Option (List ℕ))) (n : List ℕ) (fs : List Formal) → first_place 0 before n ≢ None → formals_faults p before fs ≡ [] → AllByRecursion (λ (o : List ℕ). o ≢ n) (formal_names fs)
-  later_new before n [] there h = tt
-  later_new before n (f ∷ fs) there h =
-      let both = none_both (formal_faults p before f) (formals_faults p (before ++ Some f.name ∷ []) fs) h in
-      ((λ same. there (subst (λ (o : List ℕ). first_place 0 before o ≡ None) same (formal_new before f both.0))), later_new (before ++ Some f.name ∷ []) n fs (kept 0 before (Some f.name ∷ []) n there) both.1)
+  own_differ : (whole : IsWholeTable p) → IsLawful p → (c : ClassId) (within : c.0 < length p) → OwnDiffer p whole c within
+  own_differ whole lawful c within = subst AreDifferent (attribute_names (attributes_of p (lookups.chain_of p c))) (lawful.attributes c (lookups.chain_of p c) within (chain_is p whole c within))
 
-  formals_different : (before : List (Option (List ℕ))) (fs : List Formal) → formals_faults p before fs ≡ [] → AreDifferent (formal_names fs)
-  formals_different before [] h = tt
-  formals_different before (f ∷ fs) h =
-      let rest = (none_both (formal_faults p before f) (formals_faults p (before ++ Some f.name ∷ []) fs) h).1 in
-      (later_new (before ++ Some f.name ∷ []) f.name fs (last_there 0 before f.name) rest, formals_different (before ++ Some f.name ∷ []) fs rest)
+  names_differ : (whole : IsWholeTable p) (c : ClassId) (within : c.0 < length p) (x : Feature) → HasDifferentFormals x → NamesDiffer p whole c within x
+  names_differ whole c within (Method m) h = subst AreDifferent (formal_names m.formals) h
+  names_differ whole c within (Attribute a) h = tt
 
-  -- Attributes
-
-  abbrev names : List AttributeRef → List (List ℕ)
-  names rs = map (λ (b : Binding). b.name) (map (attribute_binding p) rs)
-
-  names_append : (rs qs : List AttributeRef) → names (rs ++ qs) ≡ names rs ++ names qs
-  names_append [] qs = refl
-  names_append (r ∷ rs) qs = ap (λ (ns : List (List ℕ)). name_in (slice_get (features_of p r.owner) r.index) ∷ ns) (names_append rs qs)
-
-  -- the names of the attributes among features
-  own_names : List Feature → List (List ℕ)
-  own_names [] = []
-  own_names (Method m ∷ fs) = own_names fs
-  own_names (Attribute a ∷ fs) = a.name ∷ own_names fs
-
-  abbrev StandsAt : ClassId → ℕ → List Feature → Type 0
-  StandsAt d k fs = (i : ℕ) (x : Feature) → slice_get fs i ≡ Some x → (j : ℕ) → j ≡ k + i → slice_get (features_of p d) j ≡ Some x
-
-  own_named : (d : ClassId) (k : ℕ) (fs : List Feature) → StandsAt d k fs → names (own_attributes d k fs) ≡ own_names fs
-  unfolding own_names
-  own_named d k [] at = refl
-  own_named d k (Method m ∷ fs) at = own_named d (k + 1) fs (λ i x e j sum. at (suc i) x e j (omega arith))
-  own_named d k (Attribute a ∷ fs) at =
-      let first : name_in (slice_get (features_of p d) k) ≡ a.name = ap name_in (at 0 (Attribute a) refl k (omega arith)) in
-      let rest : names (own_attributes d (k + 1) fs) ≡ own_names fs = own_named d (k + 1) fs (λ i x e j sum. at (suc i) x e j (omega arith)) in
-      λ i. first i ∷ rest i
-
-  -- a name that is that of no attribute
-  none_own : (k : ℕ) (fs : List Feature) (n : List ℕ) → first_place k (map attribute_name fs) n ≡ None → AllByRecursion (λ (o : List ℕ). o ≢ n) (own_names fs)
-  unfolding own_names
-  none_own k [] n h = tt
-  none_own k (Method m ∷ fs) n h = none_own (k + 1) fs n h
-  none_own k (Attribute a ∷ fs) n h = by (bytes_eq n a.name) refl h (none_own (k + 1) fs n)
-    where
-      by : (b : Bool) → bytes_eq n a.name ≡ b → cond b (Some k) (first_place (k + 1) (map attribute_name fs) n) ≡ None → (first_place (k + 1) (map attribute_name fs) n ≡ None → AllByRecursion (λ (o : List ℕ). o ≢ n) (own_names fs))
-          → (a.name ≢ n) × AllByRecursion (λ (o : List ℕ). o ≢ n) (own_names fs)
-      by true e h rest = absurd (cc)
-      by false e h rest = ((λ same. true_false (sym (same_name n a.name (sym same)) ∙ e)), rest h)
-        where
-          true_false : true ≡ false → ⊥
-          true_false e = cc
-
-  -- the attributes among features, from a place on, are each the first of its name in a row
-  abbrev AreFirst : List (Option (List ℕ)) → ℕ → List Feature → Type 0
-  AreFirst row k [] = Unit {0}
-  AreFirst row k (Method m ∷ fs) = AreFirst row (k + 1) fs
-  AreFirst row k (Attribute a ∷ fs) = (first_place 0 row a.name ≡ Some k) × AreFirst row (k + 1) fs
-
-  later_own : (row : List (Option (List ℕ))) (k j : ℕ) (n : List ℕ) (fs : List Feature) → first_place 0 row n ≡ Some j → j < k → AreFirst row k fs → AllByRecursion (λ (o : List ℕ). o ≢ n) (own_names fs)
-  unfolding own_names
-  later_own row k j n [] e less h = tt
-  later_own row k j n (Method m ∷ fs) e less h = later_own row (k + 1) j n fs e (omega arith) h
-  later_own row k j n (Attribute a ∷ fs) e less h =
-      ((λ same. apart (sym (subst (λ (o : List ℕ). first_place 0 row o ≡ Some k) same h.0) ∙ e)), later_own row (k + 1) j n fs e (omega arith) h.1)
-    where
-      apart : Some k ≡ Some j → ⊥
-      apart same = let is : k ≡ j = cc in omega arith
-
-  own_different : (row : List (Option (List ℕ))) (k : ℕ) (fs : List Feature) → AreFirst row k fs → AreDifferent (own_names fs)
-  unfolding own_names
-  own_different row k [] h = tt
-  own_different row k (Method m ∷ fs) h = own_different row (k + 1) fs h
-  own_different row k (Attribute a ∷ fs) h = (later_own row (k + 1) k a.name fs h.0 (omega arith) h.1, own_different row (k + 1) fs h.1)
-
-  whole_at : (d : ClassId) → StandsAt d 0 (features_of p d)
-  whole_at d i x e j sum = let same : i ≡ j = omega arith in subst (λ (m : ℕ). slice_get (features_of p d) m ≡ Some x) same e
-
-  -- no attribute of classes has a name
-  above_names : (ds : List ClassId) (n : List ℕ) → have_attribute p ds n ≡ false → AllByRecursion (λ (o : List ℕ). o ≢ n) (names (attributes_of p ds))
-  above_names [] n h = tt
-  above_names (d ∷ ds) n h =
-      let both = neither (is_some (first_place 0 (map attribute_name (features_of p d)) n)) (have_attribute p ds n) h in
-      subst (AllByRecursion (λ (o : List ℕ). o ≢ n)) (sym (names_append (attributes_of p ds) (own_attributes d 0 (features_of p d))))
-      (all_append (λ (o : List ℕ). o ≢ n) (names (attributes_of p ds)) (names (own_attributes d 0 (features_of p d))) (above_names ds n both.1)
-      (subst (AllByRecursion (λ (o : List ℕ). o ≢ n)) (sym (own_named d 0 (features_of p d) (whole_at d))) (none_own 0 (features_of p d) n (is_some_not (first_place 0 (map attribute_name (features_of p d)) n) both.0))))
-
-  -- an attribute without fault is the first of its name, and has none above it
-  not_doubled : (d : ClassId) (up : List ClassId) (k : ℕ) (a : AttributeDef) → attribute_faults p d up k a ≡ [] → (first_place 0 (map attribute_name (features_of p d)) a.name ≡ Some k) × (have_attribute p up a.name ≡ false)
-  not_doubled d up k a h =
-      let doubled = not_noted (is_doubled p d up k a.name) F2 a.at (none_both (noted (is_doubled p d up k a.name) F2 a.at) _ (none_both (noted _ F3 a.at) _ h).1).0 in
-      let both = neither (not (is_place k (first_place 0 (map attribute_name (features_of p d)) a.name))) (have_attribute p up a.name) doubled in
-      (place_is k (first_place 0 (map attribute_name (features_of p d)) a.name) (not_false (is_place k (first_place 0 (map attribute_name (features_of p d)) a.name)) both.0), both.1)
-
-  firsts : (d : ClassId) (up : List ClassId) (k : ℕ) (fs : List Feature) → features_faults p d up k fs ≡ [] → AreFirst (map attribute_name (features_of p d)) k fs
-  firsts d up k [] h = tt
-  firsts d up k (Method m ∷ fs) h = firsts d up (k + 1) fs (none_both (one_feature_faults p d up k (Method m)) (features_faults p d up (k + 1) fs) h).1
-  firsts d up k (Attribute a ∷ fs) h =
-      let both = none_both (one_feature_faults p d up k (Attribute a)) (features_faults p d up (k + 1) fs) h in
-      ((not_doubled d up k a both.0).0, firsts d up (k + 1) fs both.1)
-
-  none_above : (d : ClassId) (up : List ClassId) (k : ℕ) (fs : List Feature) → features_faults p d up k fs ≡ [] → AllByRecursion (λ (n : List ℕ). AllByRecursion (λ (o : List ℕ). o ≢ n) (names (attributes_of p up))) (own_names fs)
-  unfolding own_names
-  none_above d up k [] h = tt
-  none_above d up k (Method m ∷ fs) h = none_above d up (k + 1) fs (none_both (one_feature_faults p d up k (Method m)) (features_faults p d up (k + 1) fs) h).1
-  none_above d up k (Attribute a ∷ fs) h =
-      let both = none_both (one_feature_faults p d up k (Attribute a)) (features_faults p d up (k + 1) fs) h in
-      (above_names up a.name (not_doubled d up k a both.0).1, none_above d up (k + 1) fs both.1)
-
-  -- a class whose features have no fault adds attributes of other names
-  with_own : (d : ClassId) (up : List ClassId) → features_faults p d up 0 (features_of p d) ≡ [] → AreDifferent (names (attributes_of p up)) → AreDifferent (names (attributes_of p (d ∷ up)))
-  with_own d up free h =
-      let own : own_names (features_of p d) ≡ names (own_attributes d 0 (features_of p d)) = sym (own_named d 0 (features_of p d) (whole_at d)) in
-      subst AreDifferent (sym (names_append (attributes_of p up) (own_attributes d 0 (features_of p d))))
-      (different_append (names (attributes_of p up)) (names (own_attributes d 0 (features_of p d))) h
-      (subst AreDifferent own (own_different (map attribute_name (features_of p d)) 0 (features_of p d) (firsts d up 0 (features_of p d) free)))
-      (subst (AllByRecursion (λ (n : List ℕ). AllByRecursion (λ (o : List ℕ). o ≢ n) (names (attributes_of p up)))) own (none_above d up 0 (features_of p d) free)))
-
-  -- the features of a class have no fault, below its chain
-  abbrev IsFaultless : ClassId → Type 0
-  IsFaultless d = (up : List ClassId) → IsChain p (parent_of p d) up → features_faults p d up 0 (features_of p d) ≡ []
-
-  all_different : IsWholeTable p → ((d : ClassId) → d.0 < length p → IsFaultless d) → (c : ClassId) → c.0 < length p → (ds : List ClassId) → IsChain p (Some c) ds → AreDifferent (names (attributes_of p ds))
-  all_different whole free c within [] h = tt
-  all_different whole free c within (d ∷ []) h =
-      with_own d [] (free d (subst (λ (x : ClassId). x.0 < length p) (sym h.0) within) [] (subst (λ (x : ClassId). IsChain p (parent_of p x) []) (sym h.0) h.1)) tt
-  all_different whole free c within (d ∷ e ∷ ds) h =
-      let up = parent_within p whole c within (parent_of p c) refl e ds h.1 in
-      with_own d (e ∷ ds) (free d (subst (λ (x : ClassId). x.0 < length p) (sym h.0) within) (e ∷ ds) (subst (λ (x : ClassId). IsChain p (parent_of p x) (e ∷ ds)) (sym h.0) h.1))
-      (all_different whole free e up.0 (e ∷ ds) (subst (λ (o : Option ClassId). IsChain p o (e ∷ ds)) up.1 h.1))
-
-  -- Typing faults
-
-  class_typed : (k : ℕ) (cs : List Class) → classes_faults p k cs ≡ [] → (i : ℕ) → i < length cs → (n : ℕ) → n ≡ k + i → typing.features_faults p (class_number n) (get_or cs i nothing).features ≡ []
+  -- no feature of a class has a fault
+  class_typed : (k : ℕ) (cs : List Class) → classes_faults p k cs ≡ [] → (i : ℕ) → i < length cs → (n : ℕ) → n ≡ k + i → features_faults p (class_number n) (get_or cs i nothing).features ≡ []
   class_typed k [] h i less n sum = absurd (omega arith)
   class_typed k (x ∷ cs) h zero less n sum =
       let same : k ≡ n = omega arith in
-      subst (λ (m : ℕ). typing.features_faults p (class_number m) x.features ≡ []) same (none_both (typing.features_faults p (class_number k) x.features) (classes_faults p (suc k) cs) h).0
-  class_typed k (x ∷ cs) h (suc i) less n sum = class_typed (suc k) cs (none_both (typing.features_faults p (class_number k) x.features) (classes_faults p (suc k) cs) h).1 i (omega arith) n (omega arith)
+      subst (λ (m : ℕ). features_faults p (class_number m) x.features ≡ []) same (none_both (features_faults p (class_number k) x.features) (classes_faults p (suc k) cs) h).0
+  class_typed k (x ∷ cs) h (suc i) less n sum = class_typed (suc k) cs (none_both (features_faults p (class_number k) x.features) (classes_faults p (suc k) cs) h).1 i (omega arith) n (omega arith)
 
-  feature_typed : (c : ClassId) (fs : List Feature) → typing.features_faults p c fs ≡ [] → (i : ℕ) (x : Feature) → slice_get fs i ≡ Some x → fault_of (feature_checked p c x) ≡ []
+  feature_typed : (c : ClassId) (fs : List Feature) → features_faults p c fs ≡ [] → (i : ℕ) (x : Feature) → slice_get fs i ≡ Some x → fault_of (feature_checked p c x) ≡ []
   feature_typed c [] h i x e = absurd (cc)
-  feature_typed c (y ∷ fs) h zero x e = let same : y ≡ x = cc in subst (λ (z : Feature). fault_of (feature_checked p c z) ≡ []) same (none_both (fault_of (feature_checked p c y)) (typing.features_faults p c fs) h).0
-  feature_typed c (y ∷ fs) h (suc i) x e = feature_typed c fs (none_both (fault_of (feature_checked p c y)) (typing.features_faults p c fs) h).1 i x e
+  feature_typed c (y ∷ fs) h zero x e = let same : y ≡ x = cc in subst (λ (z : Feature). fault_of (feature_checked p c z) ≡ []) same (none_both (fault_of (feature_checked p c y)) (features_faults p c fs) h).0
+  feature_typed c (y ∷ fs) h (suc i) x e = feature_typed c fs (none_both (fault_of (feature_checked p c y)) (features_faults p c fs) h).1 i x e
 
-  names_of_faultless : (c : ClassId) (up : List ClassId) (k : ℕ) (x : Feature) → one_feature_faults p c up k x ≡ [] → (whole : IsWholeTable p) (within : c.0 < length p) → NamesDiffer p whole c within x
-  names_of_faultless c up k (Method m) h whole within =
-      let anew = none_both (noted (not (is_place k (first_method 0 (features_of p c) m.name))) F1 m.at) _ h in
-      let redefined = none_both (noted (redefines_otherwise p m (implementation p up m.name)) F7 m.at) _ anew.1 in
-      formals_different [] m.formals (none_both (formals_faults p [] m.formals) (type_faults p m.result) redefined.1).0
-  names_of_faultless c up k (Attribute a) h whole within = tt
-
-  rest_of_chain : (c : ClassId) (ds : List ClassId) → IsChain p (Some c) ds → (up : List ClassId) × IsChain p (parent_of p c) up
-  rest_of_chain c [] h = absurd h
-  rest_of_chain c (d ∷ ds) h = (ds, h.1)
-
-  features_typed : IsWholeTable p → ((d : ClassId) → d.0 < length p → IsFaultless d) → typing_faults p ≡ [] → (c : ClassId) (k : ℕ) (x : Feature) → c.0 < length p → slice_get (features_of p c) k ≡ Some x → IsTypedFeature p c x
-  features_typed whole free none c k x within at =
-      let up = rest_of_chain c (lookups.chain_of p c) (chain_is p whole c within) in
-      let faultless = one_faultless p c up.0 0 (features_of p c) (free c within up.0 up.1) k x at k (omega arith) in
+  features_typed : IsWholeTable p → IsLawful p → typing_faults p ≡ [] → (c : ClassId) (k : ℕ) (x : Feature) → c.0 < length p → slice_get (features_of p c) k ≡ Some x → IsTypedFeature p c x
+  features_typed whole lawful none c k x within at =
       decided_typed (feature_checked p c x) (IsTypedFeature p c x)
-      (feature_decided p whole c within x (all_different whole free c within (lookups.chain_of p c) (chain_is p whole c within)) (names_of_faultless c up.0 k x faultless whole within) (typed_at (IsTyped p) (features_of p c) k x (whole.table.types c within) at))
+      (feature_decided p whole c within x (own_differ whole lawful c within) (names_differ whole c within x (typed_at HasDifferentFormals (features_of p c) k x (lawful.formals c within) at))
+      (typed_at (IsTyped p) (features_of p c) k x (whole.table.types c within) at))
       (feature_typed c (features_of p c) (class_typed 0 p none c.0 within c.0 (omega arith)) k x at)
 
--- Classes of definitions
-
-basic_free : (ds : List ClassDef) (n : ℕ) (up : List ClassId) → n < 5 → features_faults (classes_meant ds) (class_number n) up 0 (features_of (classes_meant ds) (class_number n)) ≡ []
-basic_free ds zero up less = refl
-basic_free ds (suc zero) up less = refl
-basic_free ds (suc (suc zero)) up less = refl
-basic_free ds (suc (suc (suc zero))) up less = refl
-basic_free ds (suc (suc (suc (suc zero)))) up less = refl
-basic_free ds (suc (suc (suc (suc (suc n))))) up less = absurd (omega arith)
-
-all_free : (ds : List ClassDef) → feature_phase ds ≡ [] → (n : ℕ) → n < length (classes_meant ds) → (up : List ClassId) → IsChain (classes_meant ds) (parent_of (classes_meant ds) (class_number n)) up
-    → features_faults (classes_meant ds) (class_number n) up 0 (features_of (classes_meant ds) (class_number n)) ≡ []
-all_free ds free n within up chain = by (nat_lt n 5) refl
-  where
-    by : (b : Bool) → nat_lt n 5 ≡ b → features_faults (classes_meant ds) (class_number n) up 0 (features_of (classes_meant ds) (class_number n)) ≡ []
-    by true e = basic_free ds n up (basic_number n e)
-    by false e =
-        let (at, none) = no_fault_of ds free n (later_number n e) within in
-        subst (λ (cs : List ClassId). features_faults (classes_meant ds) (class_number n) cs 0 (features_of (classes_meant ds) (class_number n)) ≡ []) (above_of (classes_meant ds) (class_number n) up chain)
-        (none_both (features_faults (classes_meant ds) (class_number n) (above (classes_meant ds) (class_number n)) 0 (features_of (classes_meant ds) (class_number n))) _ none).0
-
--- A table in which building and checking find no fault is a typed table.
-pub accepted_typed : (ds : List ClassDef) → IsTable (classes_meant ds) → HasClassPhase ds [] → feature_phase ds ≡ [] → typing_faults (classes_meant ds) ≡ [] → IsTypedTable (classes_meant ds)
-accepted_typed ds table classes free none =
-    let whole = whole_meant ds table in
-    typed_without_faults ds whole classes free (features_typed (classes_meant ds) whole (λ d within up chain. all_free ds free d.0 within up chain) none)
+pub accepted_typed : (p : List Class) → IsWholeTable p → IsLawful p → typing_faults p ≡ [] → IsTypedTable p
+accepted_typed p whole lawful none = record { whole = whole; lawful = lawful; features = features_typed p whole lawful none }

@@ -16,7 +16,7 @@ use Rattle.cool_classes.specs.declared.method.MethodRef.{MethodRef}
 use Rattle.cool_classes.specs.Chains.{name_of}
 use Rattle.cool_classes.specs.Features.{Denotes, implementation, own_method, first_of, formals_of, result_of, HasMethod}
 use Rattle.cool_classes.specs.Limits.{AreDifferent}
-use Rattle.cool_classes.specs.Tables.{IsClassName}
+use Rattle.cool_classes.specs.Tables.{IsClassName, IsWholeTable}
 use Rattle.cool_classes.proofs.Climbs.{chain_unique}
 use Rattle.cool_classes.proofs.Methods.{found_has}
 use Rattle.cool_rules.specs.Conformance.{IsType, IsTypeNamed, Conforms, IsJoinOfTypes, class_of}
@@ -24,7 +24,6 @@ use Rattle.cool_rules.specs.Deciding.{type_named, conforms, join_of_types, is_sa
 use Rattle.cool_rules.specs.Lookups.{chain_of}
 use Rattle.cool_rules.specs.Scopes.{Binding, found}
 use Rattle.cool_rules.specs.Typing.{int_type, bool_type, has_values as has_value, type_in_scope, with_name, result_on, IsNotSelf, AreArguments, IsCall, IsImplementation, AreComparable, IsJoinOfAll, IsJoinOfBranches, branch_types, HasType, HaveTypes, HaveItems, HasInit, HaveBranches}
-use Rattle.cool_rules.specs.TypedTables.{IsWholeTable}
 use Rattle.cool_rules.proofs.ChainsOfTables.{contains_later, chain_within, below_trans, below_itself}
 use Rattle.cool_rules.proofs.NamesOfTables.{chain_is}
 use Rattle.cool_rules.proofs.RulesDecided.{same_types, types_same, conforms_true, conforming, named_denotes, denoted, denotes_type, join_is, one_type, conforming_type}

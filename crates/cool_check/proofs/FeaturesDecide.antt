@@ -17,7 +17,7 @@ use Rattle.cool_classes.specs.declared.method.AttributeRef.{AttributeRef}
 use Rattle.cool_classes.specs.Chains.{Class, features_of}
 use Rattle.cool_classes.specs.Features.{Denotes, attributes_of, attribute_name, attribute_type, HasAttribute, IsAttribute, result_in}
 use Rattle.cool_classes.specs.Limits.{AreDifferent}
-use Rattle.cool_classes.specs.Tables.{IsClassName, IsTypeName, IsTyped}
+use Rattle.cool_classes.specs.Tables.{IsClassName, IsTypeName, IsTyped, IsWholeTable}
 use Rattle.cool_classes.proofs.AttributesOfChains.{attributes_have}
 use Rattle.cool_classes.proofs.Climbs.{chain_unique, all_within}
 use Rattle.cool_classes.proofs.ChainsOfTables.{chain_of}
@@ -26,7 +26,6 @@ use Rattle.cool_rules.specs.Lookups as lookups
 use Rattle.cool_rules.specs.Scopes.{Binding, found}
 use Rattle.cool_rules.specs.Typing as typing
 use Rattle.cool_rules.specs.Typing.{HasType, formals_in_scope, attributes_in_scope, FitsDeclared, IsTypedInit, IsTypedFeature}
-use Rattle.cool_rules.specs.TypedTables.{IsWholeTable}
 use Rattle.cool_rules.proofs.NamesOfTables.{chain_is, meant_is}
 use Rattle.cool_rules.proofs.RulesDecided.{denotes_type}
 use Rattle.cool_rules.proofs.ScopesMoved.{AreSame, moved}

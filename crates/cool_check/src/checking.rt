@@ -8,10 +8,9 @@ ghost use Rattle.cool_syntax.specs.FaultOrder.{AreInOrder};
 ghost use Rattle.cool_syntax.specs.TokenFacts.{IsPlaced};
 ghost use Rattle.cool_syntax.specs.TreesWithinLimits.{IsFeatureWithin};
 ghost use Rattle.cool_classes.specs.declared.class_id.ClassId as number;
-ghost use Rattle.cool_syntax.specs.declared.file_tree.ClassDef as tree;
 ghost use Rattle.cool_classes.specs.Chains.{features_of};
-ghost use Rattle.cool_classes.specs.ClassFaults.{classes_meant, feature_phase, HasClassPhase};
-ghost use Rattle.cool_classes.specs.Tables.{IsTable};
+ghost use Rattle.cool_classes.specs.LawfulTables.{IsLawful};
+ghost use Rattle.cool_classes.specs.Tables.{IsWholeTable};
 ghost use Rattle.cool_rules.specs.TypedTables.{IsTypedTable};
 ghost use Rattle.cool_rules.specs.Fits.{Fits};
 ghost use Rattle.cool_check.specs.Faults.{AreWithin, IsPlacedRefusal, IsRefusal, standing_of};
@@ -32,7 +31,7 @@ pub fn check(alloc: Global, t: ClassTable) -> Result<TypedProgram, CheckAllError
     requires fits { Fits t MOST_FILES }
     ensures program { IfOk result (λ p. p ≡ t) }
     ensures typed { OnOk result (typing_faults t ≡ []) }
-    ensures accepted { (ds : List tree.ClassDef) → IsTable (classes_meant ds) → HasClassPhase ds [] → feature_phase ds ≡ [] → t ≡ classes_meant ds → OnOk result (IsTypedTable t) }
+    ensures accepted { OnOk result (IsTypedTable t) }
     ensures exact { IfErr result (IsExactRefusal t) }
     ensures refusal { IfErr result IsRefusal }
     ensures places { (n : ℕ) → AreWithin n t → IfErr result (IsPlacedRefusal n) }
@@ -58,6 +57,8 @@ fn in_order(mut faults: Vec<TypeFault>) -> Vec<TypeFault>
 /// The first fault of each feature that has one. `Err` comes only for want of memory.
 fn all_faults(alloc: Global, t: &ClassTable) -> Result<Vec<TypeFault>, AllocError>
     ensures faults { IfOk result (λ faults. faults.items ≡ typing_faults t.now) }
+    ensures whole { OnOk result (IsWholeTable t.now) }
+    ensures lawful { OnOk result (IsLawful t.now) }
     ensures places { (n : ℕ) → AreWithin n t.now → IfOk result (λ faults. AllByRecursion (λ f. IsPlaced n f.at) faults.items) }
 {
     let mut faults = Vec::new(alloc);

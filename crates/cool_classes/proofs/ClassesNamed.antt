@@ -1,9 +1,11 @@
--- The class of a name is at the first place of the name.
-use Rattle.std.proofs.Common.{◌≡◌, ◌≢◌, ℕ, zero, suc, ◌+◌, ◌<◌, List, [], ◌∷◌, map, length, get_or, Option, Some, None, Bool, true, false, cond, sym, ◌∙◌, refl, subst, arith, true≢false}
+-- The class of a name is at the first place of the name, and has the name.
+use Rattle.std.proofs.Common.{◌≡◌, ◌≢◌, ℕ, zero, suc, ◌+◌, ◌<◌, List, [], ◌∷◌, map, length, get_or, Option, Some, None, Bool, true, false, cond, ap, sym, ◌∙◌, refl, subst, arith, true≢false}
 use Rattle.std.specs.Prelude.{bytes_eq, option_map}
 use Rattle.std.proofs.lemmas.Slice.Eq.{bytes_eq-Decides}
-use Rattle.cool_classes.specs.Chains.{Class, class_number, nothing}
+use Rattle.cool_classes.specs.declared.class_id.ClassId.{ClassId}
+use Rattle.cool_classes.specs.Chains.{Class, class_number, nothing, name_of}
 use Rattle.cool_classes.specs.FirstNames.{first_place}
+use Rattle.cool_classes.specs.Names.{first_named}
 use Rattle.cool_classes.specs.Tables.{IsNamed}
 
 -- the names of classes in a row
@@ -45,3 +47,19 @@ named_by p f (Some j) e =
       subst (λ (n : ℕ). n < length p) same w.2,
       subst (λ (n : ℕ). (get_or p n nothing).name ≡ f) same w.3,
     )
+
+-- the class that a name means has the name, where the row begins at a number
+named_from : (k : ℕ) (p : List Class) (f : List ℕ) (c : ClassId) → first_named k (map (λ (x : Class). x.name) p) f ≡ Some c → StandsAt k p f c.0
+named_from k [] f c e = absurd (cc)
+named_from k (x ∷ p) f c e = by (bytes_eq f x.name) refl e (named_from (k + 1) p f c)
+  where
+    by : (b : Bool) → bytes_eq f x.name ≡ b → cond b (Some (class_number k)) (first_named (k + 1) (map (λ (y : Class). y.name) p) f) ≡ Some c
+        → (first_named (k + 1) (map (λ (y : Class). y.name) p) f ≡ Some c → StandsAt (k + 1) p f c.0) → StandsAt k (x ∷ p) f c.0
+    by true t e more = let same : class_number k ≡ c = cc in let here : k ≡ c.0 = ap (λ (d : ClassId). d.0) same in (0, omega arith, omega arith, sym ((bytes_eq-Decides f x.name).0 t))
+    by false t e more = let w = more e in let s = w.1 in let less = w.2 in (suc w.0, omega arith, omega arith, w.3)
+
+pub named_back : (p : List Class) (f : List ℕ) (c : ClassId) → first_named 0 (map (λ (x : Class). x.name) p) f ≡ Some c → (c.0 < length p) × (name_of p c ≡ f)
+named_back p f c e =
+    let w = named_from 0 p f c e in
+    let same : w.0 ≡ c.0 = let s = w.1 in omega arith in
+    (subst (λ (n : ℕ). n < length p) same w.2, subst (λ (n : ℕ). (get_or p n nothing).name ≡ f) same w.3)

@@ -19,6 +19,7 @@ pub mod FeatureRowsExact
 pub mod FeaturesChecked
 pub mod FirstPlaces
 pub mod GroundedByDepths
+pub mod LawfulByFaults
 pub mod Lineages
 pub mod MainMethods
 pub mod Methods
@@ -26,6 +27,7 @@ pub mod MethodsNamed
 pub mod NamePlaces
 pub mod NamesInOrder
 pub mod NamesOfDefinitions
+pub mod NamesOfFeatures
 pub mod NewMethods
 pub mod OwnNamesGrow
 pub mod ParentsOfDefinitions

@@ -11,6 +11,7 @@ pub mod FeatureFaults
 pub mod FeatureRows
 pub mod Features
 pub mod FirstNames
+pub mod LawfulTables
 pub mod Limits
 pub mod Lineages
 pub mod MethodNames

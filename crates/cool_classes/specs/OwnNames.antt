@@ -7,6 +7,7 @@ use Rattle.cool_classes.specs.declared.own_names.OwnNames.{OwnNames}
 use Rattle.cool_classes.specs.declared.own_names.Scope.{Scope}
 use Rattle.cool_classes.specs.Chains.{Class, features_of, class_number}
 use Rattle.cool_classes.specs.Entries.{classes, AreWhole}
+use Rattle.cool_classes.specs.LawfulTables.{IsLawful}
 use Rattle.cool_classes.specs.FirstNames.{places_shown, FindsPlaces, method_name, attribute_name}
 use Rattle.cool_classes.specs.Resolved.{AreResolved}
 
@@ -24,9 +25,10 @@ pub record AreAllOwn (count : ℕ) (all : List OwnNames) (p : List Class) : Type
 abbrev pub AreNamed : List (Vec ℕ × ℕ) → List Entry → Type 0
 AreNamed entries es = FindsPlaces (places_shown entries) (map (λ (c : Class). Some c.name) (classes es))
 
--- the entries of a whole table, by the names of its classes and with those of their features
+-- the entries of a whole table that keeps the rules of classes, by the names of its classes and with those of their features
 pub record IsIndexed (es : List Entry) (places : List (Vec ℕ × ℕ)) (all : List OwnNames) : Type 0 where
   pub whole : AreWhole es
+  pub lawful : IsLawful (classes es)
   pub names : AreNamed places es
   pub own : AreAllOwn (length es) all (classes es)
 

@@ -49,6 +49,12 @@ pub record IsGrounded (p : List Class) (depth : ClassId → ℕ) : Type 0 where
   pub above : (c q : ClassId) → c.0 < length p → parent_of p c ≡ Some q → (q.0 < length p) × (depth c ≡ depth q + 1)
   pub top : (c : ClassId) → c.0 < length p → parent_of p c ≡ None → (c ≡ class_number 0) × (depth c ≡ 0)
 
+-- a whole table, whose chains all come to Object
+pub record IsWholeTable (p : List Class) : Type 0 where
+  pub table : IsTable p
+  pub depth : ClassId → ℕ
+  pub grounded : IsGrounded p depth
+
 -- the class of a name, or none where no class has it
 abbrev pub IsNamed : List Class → List ℕ → Option ClassId → Type 0
 IsNamed p name None = (c : ClassId) → c.0 < length p → name_of p c ≢ name

@@ -5,7 +5,8 @@ ghost use Rattle.cool_classes.specs.declared.class_id.ClassId as number;
 ghost use Rattle.cool_classes.specs.Chains.{IsChain, Below, IsJoin, name_of, parent_of, features_of};
 ghost use Rattle.std.specs.List.{AllByRecursion};
 ghost use Rattle.cool_classes.specs.Features.{implementation, attributes_of, attribute_name, attribute_type, HasAttribute, HasMethod, Denotes, formals_of, result_of};
-ghost use Rattle.cool_classes.specs.Tables.{IsTable, IsNamed};
+ghost use Rattle.cool_classes.specs.LawfulTables.{IsLawful};
+ghost use Rattle.cool_classes.specs.Tables.{IsTable, IsWholeTable, IsNamed};
 ghost use Rattle.cool_classes.specs.Entries.{classes, AreWhole};
 
 use crate::class_id::{ClassId, Ty};
@@ -19,7 +20,8 @@ use std::alloc::{AllocError, Global};
 use std::marker::Model;
 
 /// The classes of a program with the five basic ones. A contract sees them as a list, in the order of their numbers, which
-/// is that of a whole table (`IsTable` of `specs/Tables.antt`).
+/// is that of a whole table (`IsWholeTable` of `specs/Tables.antt`) and keeps the rules of classes (`IsLawful` of
+/// `specs/LawfulTables.antt`).
 #[derive(Drop)]
 pub struct ClassTable {
     entries: Vec<Entry>,
@@ -51,6 +53,7 @@ impl ClassTable {
     /// A table of these entries. `Err` comes only for want of memory.
     pub(crate) fn from_entries(alloc: Global, entries: Vec<Entry>) -> Result<ClassTable, AllocError>
         requires whole { AreWhole entries.items }
+        requires lawful { IsLawful (classes entries.items) }
         ensures { IfOk result (λ table. table ≡ classes entries.items) }
     {
         let names = class_names(alloc, &entries)?;
@@ -66,6 +69,8 @@ impl ClassTable {
     pub fn count(&self) -> u32
         ensures count { result ≡ length self.now }
         ensures table { IsTable self.now }
+        ensures whole { IsWholeTable self.now }
+        ensures lawful { IsLawful self.now }
     {
         self.entries.len() as u32
     }

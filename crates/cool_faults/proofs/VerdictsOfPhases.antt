@@ -15,7 +15,6 @@ use Rattle.cool_classes.specs.Limits.{KeepsLimits}
 use Rattle.cool_classes.specs.Tables.{IsTable}
 use Rattle.cool_check.specs.Faults.{AreWithin}
 use Rattle.cool_check.specs.TypingFaults.{typing_faults}
-use Rattle.cool_check.proofs.AcceptedTables.{accepted_typed}
 use Rattle.cool_rules.specs.Fits.{Fits}
 use Rattle.cool_rules.specs.TypedTables.{IsTypedTable}
 use Rattle.cool_faults.specs.declared.fault.Refusal.{Refusal}
@@ -128,10 +127,10 @@ typing_refuses files ts p (refusal.Faults faults) whole of meant none t exact h 
 
 -- a table with no fault of typing is the program of the files
 pub table_accepted : (files : List (List ℕ)) (ts : List FileTree) (p q : List Class) → total files ≤ MOST_SOURCE_BYTES → length files ≤ MOST_FILES → AllFound IsWhole 0 files ts
-    → IsTableOf (definitions ts) p → p ≡ classes_meant (definitions ts) → HaveNoFault ts → IsTable p → KeepsLimits p → q ≡ p → typing_faults p ≡ [] → IsAccepted files q
-table_accepted files ts p q small few whole of meant none t keeps e typed =
+    → IsTableOf (definitions ts) p → p ≡ classes_meant (definitions ts) → HaveNoFault ts → IsTable p → KeepsLimits p → q ≡ p → typing_faults p ≡ [] → IsTypedTable p → IsAccepted files q
+table_accepted files ts p q small few whole of meant none t keeps e well typed =
     let all : length files ≤ length files = omega arith in
-    let clean : typing_faults (classes_meant (definitions ts)) ≡ [] = subst (λ (r : List Class). typing_faults r ≡ []) meant typed in
+    let clean : typing_faults (classes_meant (definitions ts)) ≡ [] = subst (λ (r : List Class). typing_faults r ≡ []) meant well in
     subst (IsAccepted files) (sym e)
     (record {
       list = faultless (record { trees = ts; are_trees = are_trees 0 files ts whole; classes = none.0; features = none.1; typing = clean });
@@ -139,14 +138,14 @@ table_accepted files ts p q small few whole of meant none t keeps e typed =
       are_trees = are_trees 0 files ts whole;
       table = of;
       meant = meant;
-      typed = subst IsTypedTable (sym meant) (accepted_typed (definitions ts) (subst IsTable meant t) none.0 none.1 clean);
+      typed = typed;
       fits = table_of_trees_fits files ts p (length files) small all few whole of t keeps;
     })
 
 -- what typing answers is the verdict
 pub typing_decides : (files : List (List ℕ)) (ts : List FileTree) (p : List Class) (r : Result (List Class) Refusal) → total files ≤ MOST_SOURCE_BYTES → length files ≤ MOST_FILES
-    → AllFound IsWhole 0 files ts → IsTableOf (definitions ts) p → p ≡ classes_meant (definitions ts) → HaveNoFault ts → IsTable p → KeepsLimits p → IfOk r (λ q. q ≡ p) → OnOk r (typing_faults p ≡ [])
+    → AllFound IsWhole 0 files ts → IsTableOf (definitions ts) p → p ≡ classes_meant (definitions ts) → HaveNoFault ts → IsTable p → KeepsLimits p → IfOk r (λ q. q ≡ p) → OnOk r (typing_faults p ≡ []) → OnOk r (IsTypedTable p)
     → IfErr r (AreTypingFaults p) → IfErr r IsTypeRefusal → ((n : ℕ) → AreWithin n p → IfErr r (ArePlaced n))
     → MatchResult r (IsAccepted files) (IsRefusedWith files)
-typing_decides files ts p (Ok q) small few whole of meant none t keeps same typed exact refused placed = table_accepted files ts p q small few whole of meant none t keeps same typed
-typing_decides files ts p (Err e) small few whole of meant none t keeps same typed exact refused placed = typing_refuses files ts p e whole of meant none t exact refused placed
+typing_decides files ts p (Ok q) small few whole of meant none t keeps same well typed exact refused placed = table_accepted files ts p q small few whole of meant none t keeps same well typed
+typing_decides files ts p (Err e) small few whole of meant none t keeps same well typed exact refused placed = typing_refuses files ts p e whole of meant none t exact refused placed

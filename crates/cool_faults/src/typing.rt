@@ -3,6 +3,7 @@
 ghost use Rattle.std.specs.Prelude.{◌≡◌, ℕ, [], map, IfOk, IfErr, OnOk};
 ghost use Rattle.cool_syntax.specs.declared.TheConstants.{MOST_FILES};
 ghost use Rattle.cool_rules.specs.Fits.{Fits};
+ghost use Rattle.cool_rules.specs.TypedTables.{IsTypedTable};
 ghost use Rattle.cool_check.specs.Faults.{AreWithin};
 ghost use Rattle.cool_check.specs.TypingFaults.{typing_faults};
 ghost use Rattle.cool_faults.specs.declared.fault.Fault.TheVariants as phase;
@@ -23,6 +24,7 @@ pub(crate) fn typed_program(alloc: Global, classes: ClassTable) -> Result<TypedP
     requires fits { Fits classes MOST_FILES }
     ensures program { IfOk result (λ p. p ≡ classes) }
     ensures typed { OnOk result (typing_faults classes ≡ []) }
+    ensures accepted { OnOk result (IsTypedTable classes) }
     ensures exact { IfErr result (AreTypingFaults classes) }
     ensures refusal { IfErr result IsTypeRefusal }
     ensures places { (n : ℕ) → AreWithin n classes → IfErr result (ArePlaced n) }

@@ -5,7 +5,8 @@ use Rattle.std.proofs.lemmas.List.{get_or-take}
 use Rattle.cool_classes.specs.declared.class_id.ClassId.{ClassId}
 use Rattle.cool_classes.specs.Chains.{Class, class_number, class_at, nothing, name_of, parent_of, IsChain, Below}
 use Rattle.cool_classes.specs.Tables.{basic_classes}
-use Rattle.cool_rules.specs.TypedTables.{IsTypedTable, MayInherit}
+use Rattle.cool_classes.specs.LawfulTables.{MayInherit}
+use Rattle.cool_rules.specs.TypedTables.{IsTypedTable}
 use Rattle.cool_rules.proofs.ChainsOfTables.{contains_cases, nothing_in, below_alone}
 
 -- a class by its number

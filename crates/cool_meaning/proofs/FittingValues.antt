@@ -10,7 +10,8 @@ use Rattle.cool_classes.specs.Features.{attribute_type}
 use Rattle.cool_rules.specs.Conformance.{Conforms, class_of as class_meant}
 use Rattle.cool_rules.specs.Scopes.{Binding, found}
 use Rattle.cool_rules.specs.Typing.{type_meant}
-use Rattle.cool_rules.specs.TypedTables.{IsTypedTable, MayInherit}
+use Rattle.cool_classes.specs.LawfulTables.{MayInherit}
+use Rattle.cool_rules.specs.TypedTables.{IsTypedTable}
 use Rattle.cool_meaning.specs.Values.{Value, Void, Int, Bool as Truth, Str, Obj, Environment, class_of, location_of}
 use Rattle.cool_meaning.specs.Lookups.{attributes}
 use Rattle.cool_rules.proofs.ChainsOfTables.{below_trans, below_within, below_itself}

@@ -17,7 +17,8 @@ use Rattle.cool_classes.proofs.Methods.{found_has}
 use Rattle.cool_rules.specs.Conformance.{Conforms, class_of as class_meant}
 use Rattle.cool_rules.specs.Scopes.{Binding, found}
 use Rattle.cool_rules.specs.Typing.{type_in_scope, IsCall, IsImplementation, result_on, int_type, bool_type, object_type, with_name, HasType, HaveTypes, HaveItems, HasInit, HaveBranches, IsJoinOfBranches}
-use Rattle.cool_rules.specs.TypedTables.{IsTypedTable, MayInherit}
+use Rattle.cool_classes.specs.LawfulTables.{MayInherit}
+use Rattle.cool_rules.specs.TypedTables.{IsTypedTable}
 use Rattle.cool_meaning.specs.Values.{Value, Void, Int, Bool as Truth, Str, Environment, class_of, location_of, default_of}
 use Rattle.cool_meaning.specs.Meters.{DispatchVoid, CaseVoid, Computation, ◌>>=◌, ◌>>◌, give, given, load, store}
 use Rattle.cool_rules.specs.Lookups.{chain_of, class_named}

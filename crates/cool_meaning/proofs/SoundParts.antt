@@ -25,7 +25,8 @@ use Rattle.cool_classes.proofs.Climbs.{all_within}
 use Rattle.cool_rules.specs.Conformance.{class_of as class_meant}
 use Rattle.cool_rules.specs.Scopes.{found}
 use Rattle.cool_rules.specs.Typing.{AreArguments, AreComparable, int_type}
-use Rattle.cool_rules.specs.TypedTables.{IsTypedTable, MayInherit}
+use Rattle.cool_classes.specs.LawfulTables.{MayInherit}
+use Rattle.cool_rules.specs.TypedTables.{IsTypedTable}
 use Rattle.cool_meaning.specs.Values.{Value, Void, Int, Bool as Truth, Str, Obj, class_of, default_of}
 use Rattle.cool_meaning.specs.Meters
 use Rattle.cool_meaning.specs.Meters.{Error, Overflow, DivisionByZero, NoBranch, Computation, ◌>>=◌, ◌>>◌, give, stop, stuck, spend, rule, working, giving, holding, given, locate, load, store}

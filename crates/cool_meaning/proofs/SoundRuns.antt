@@ -18,7 +18,8 @@ use Rattle.cool_classes.proofs.Climbs.{all_within}
 use Rattle.cool_rules.specs.Conformance.{class_of as class_meant}
 use Rattle.cool_rules.specs.Scopes.{Binding}
 use Rattle.cool_rules.specs.Typing.{formals_in_scope, attributes_in_scope, FitsDeclared, IsTypedInit}
-use Rattle.cool_rules.specs.TypedTables.{IsTypedTable, MayInherit}
+use Rattle.cool_classes.specs.LawfulTables.{MayInherit}
+use Rattle.cool_rules.specs.TypedTables.{IsTypedTable}
 use Rattle.cool_meaning.specs.Values.{Value, Void, Int, Bool as Truth, Str, Obj, Environment, class_of, start}
 use Rattle.cool_meaning.specs.Meters
 use Rattle.cool_meaning.specs.Meters.{DispatchVoid, Outcome, Metered, Computation, ◌>>=◌, ◌>>◌, give, working}
@@ -146,7 +147,7 @@ module _ (p : List Class) (typed : IsTypedTable p) where
   -- the call of main on a new object of class Main
   main_sound : (n : ℕ) → Sound p n [] (Any {A = Value}) (eval p (calls_within p n) Void [] main_call)
   main_sound n =
-      let main = typed.main in
+      let main = typed.lawful.main in
       rule_sound (bind_sound (give_sound {Q = λ w vs. vs ≡ []} [] refl) (λ w1 vs g1 none. holding_sound (length vs) (
       bind_sound (subst (λ (o : Option ClassId). Sound p n w1 (λ w v. Fits p w v main.class) (make p (calls_within p n) o)) (sym (class_by_name p typed.whole main.class (codes "Main") main.within main.name))
       (make_sound p typed (calls_within p n) n (within_sound n) w1 main.class main.within)) (λ w2 v g2 fit.

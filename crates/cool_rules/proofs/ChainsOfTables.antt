@@ -7,7 +7,9 @@ use Rattle.cool_classes.specs.declared.method.AttributeRef.{AttributeRef}
 use Rattle.cool_classes.specs.Chains.{Class, parent_of, features_of, IsChain, Below}
 use Rattle.cool_classes.specs.Features.{own_method, first_of, implementation, own_attributes, attributes_of}
 use Rattle.cool_classes.proofs.Climbs.{chain_unique, all_within, below_self}
-use Rattle.cool_rules.specs.TypedTables.{IsTypedTable, IsWholeTable, MayInherit, SameSignature}
+use Rattle.cool_classes.specs.LawfulTables.{MayInherit, SameSignature}
+use Rattle.cool_classes.specs.Tables.{IsWholeTable}
+use Rattle.cool_rules.specs.TypedTables.{IsTypedTable}
 
 -- what stands in a list stands first or among the others
 pub contains_cases : {X : Type 0} (d b : X) (ds : List X) → Contains (d ∷ ds) b → (d ≡ b) ⊎ Contains ds b
@@ -87,7 +89,7 @@ module _ (p : List Class) (typed : IsTypedTable p) where
     | inr t ↦
         let up = parent_within p typed.whole c within (parent_of p c) refl e ds h.1 in
         let is : e ≡ b = alone_by b shut e up.0 (e ∷ ds) (subst (λ (o : Option ClassId). IsChain p o (e ∷ ds)) up.1 h.1) t in
-        absurd (shut (typed.parents c b within (up.1 ∙ ap Some is)))
+        absurd (shut (typed.lawful.parents c b within (up.1 ∙ ap Some is)))
   ]
 
   pub below_alone : (a b : ClassId) → (MayInherit b → ⊥) → a.0 < length p → Below p a b → a ≡ b
@@ -97,7 +99,7 @@ module _ (p : List Class) (typed : IsTypedTable p) where
   same_by : (d : ClassId) (ds : List ClassId) (f : List ℕ) (n : MethodRef) → d.0 < length p → IsChain p (parent_of p d) ds → implementation p ds f ≡ Some n
       → (o : Option MethodRef) → own_method p d f ≡ o → (m : MethodRef) × (first_of o (implementation p ds f) ≡ Some m) × SameSignature p m n
   same_by d ds f n within chain is None e = (n, is, record { formals = refl; result = refl })
-  same_by d ds f n within chain is (Some m) e = (m, refl, typed.redefined d ds f m n within chain e is)
+  same_by d ds f n within chain is (Some m) e = (m, refl, typed.lawful.redefined d ds f m n within chain e is)
 
   implementation_by : (c : ClassId) → c.0 < length p → (front es : List ClassId) → IsChain p (Some c) (front ++ es) → (f : List ℕ) (n : MethodRef) → implementation p es f ≡ Some n
       → (m : MethodRef) × (implementation p (front ++ es) f ≡ Some m) × SameSignature p m n

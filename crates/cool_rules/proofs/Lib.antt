@@ -3,6 +3,4 @@ pub mod NamesOfTables
 pub mod RulesDecided
 pub mod ScopesInOrder
 pub mod ScopesMoved
-pub mod TypedByFaults
 pub mod TypesOfMethods
-pub mod WholeTables

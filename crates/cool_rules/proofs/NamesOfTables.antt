@@ -14,7 +14,7 @@ use Rattle.cool_classes.specs.Names.{first_named}
 use Rattle.cool_classes.proofs.Climbs.{chain_there, chain_length}
 use Rattle.cool_classes.proofs.MethodsNamed.{Among, different_fit}
 use Rattle.cool_rules.specs.Typing.{type_meant, or_object}
-use Rattle.cool_rules.specs.TypedTables.{IsWholeTable}
+use Rattle.cool_classes.specs.Tables.{IsWholeTable}
 use Rattle.cool_rules.specs.Lookups.{climb, chain_of, class_named}
 use Rattle.cool_rules.proofs.ChainsOfTables.{split_chain, chain_within, parent_within}
 

@@ -12,7 +12,7 @@ use Rattle.cool_classes.proofs.Climbs.{chain_unique, below_depth}
 use Rattle.cool_rules.specs.Conformance.{IsType, Conforms, IsJoinOfTypes}
 use Rattle.cool_rules.specs.Deciding.{type_named, stands_on, is_below, conforms, first_on, join_of, join_of_types, is_same}
 use Rattle.cool_rules.specs.Lookups.{chain_of, class_named}
-use Rattle.cool_rules.specs.TypedTables.{IsWholeTable}
+use Rattle.cool_classes.specs.Tables.{IsWholeTable}
 use Rattle.cool_rules.proofs.ChainsOfTables.{contains_cases, contains_later, nothing_in, below_within, parent_within, split_by, rest_chain}
 use Rattle.cool_rules.proofs.NamesOfTables.{chain_is, class_by_name, bytes_differ, bytes_same}
 

@@ -17,11 +17,10 @@ use Rattle.cool_classes.specs.declared.method.MethodRef.TheVariants.{Basic, User
 use Rattle.cool_classes.specs.declared.method.BasicMethod.TheVariants.{Abort, TypeName, Copy, OutString, OutInt, InString, InInt, Length, Concat, Substr}
 use Rattle.cool_classes.specs.Chains.{Class, class_number, nothing, name_of, features_of}
 use Rattle.cool_classes.specs.Features.{formals_of, result_of, formals_in, result_in, HasMethod, IsMethod}
-use Rattle.cool_classes.specs.Tables.{basic_classes, IsTyped, IsClassName, IsTypeName}
+use Rattle.cool_classes.specs.Tables.{basic_classes, IsTyped, IsClassName, IsTypeName, IsWholeTable}
 use Rattle.cool_rules.specs.Conformance.{IsType}
 use Rattle.cool_rules.specs.Scopes.{Binding, found}
 use Rattle.cool_rules.specs.Typing.{HasType, HaveItems, HaveBranches, IsJoinOfBranches, type_in_scope, result_on, with_name, object_type}
-use Rattle.cool_rules.specs.TypedTables.{IsWholeTable}
 use Rattle.cool_rules.proofs.RulesDecided.{denotes_type, conforming_type}
 
 -- what holds of all holds of the one at a place

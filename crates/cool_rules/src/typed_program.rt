@@ -3,11 +3,13 @@
 ghost use Rattle.std.specs.Prelude.{◌≡◌};
 ghost use Rattle.cool_syntax.specs.declared.TheConstants.{MOST_FILES};
 ghost use Rattle.cool_rules.specs.Fits.{Fits};
+ghost use Rattle.cool_rules.specs.TypedTables.{IsTypedTable};
 
 use cool_classes::ClassTable;
 use std::marker::Model;
 
-/// A program that the checker has accepted. A contract sees its class table, which keeps the limits (`Fits` of `specs/Fits.antt`).
+/// A program that the checker has accepted. A contract sees its class table, which keeps the limits (`Fits` of `specs/Fits.antt`) and is
+/// typed (`IsTypedTable` of `specs/TypedTables.antt`).
 #[derive(Drop)]
 pub struct TypedProgram {
     table: ClassTable,
@@ -27,14 +29,16 @@ impl Model for TypedProgram {
 
     ghost use Rattle.cool_syntax.specs.declared.TheConstants.{MOST_FILES};
     ghost use Rattle.cool_rules.specs.Fits.{Fits};
+    ghost use Rattle.cool_rules.specs.TypedTables.{IsTypedTable};
 
-    ghost invariant = { λ p. Fits p.table MOST_FILES };
+    ghost invariant = { λ p. Fits p.table MOST_FILES × IsTypedTable p.table };
 }
 
 impl TypedProgram {
     /// The program of this table. It takes no memory.
     pub fn new(table: ClassTable) -> TypedProgram
         requires fits { Fits table MOST_FILES }
+        requires typed { IsTypedTable table }
         ensures { result ≡ table }
     {
         TypedProgram { table }
@@ -44,6 +48,7 @@ impl TypedProgram {
     pub fn table(&self) -> &ClassTable
         ensures table { result.now ≡ self.now }
         ensures fits { Fits result.now MOST_FILES }
+        ensures typed { IsTypedTable result.now }
     {
         &self.table
     }

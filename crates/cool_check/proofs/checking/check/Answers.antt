@@ -3,8 +3,6 @@ use Rattle.std.proofs.Common.{◌≡◌, ℕ, suc, List, [], ◌∷◌, length, 
 use Rattle.std.specs.Prelude.{◌==◌}
 use Rattle.std.specs.List.{AllByRecursion}
 use Rattle.cool_syntax.specs.TokenFacts.{IsPlaced}
-use Rattle.cool_classes.specs.Chains.{Class}
-use Rattle.cool_rules.specs.TypedTables.{IsTypedTable}
 use Rattle.cool_check.specs.declared.fault.TypeFault.{TypeFault}
 use Rattle.cool_check.specs.TypingFaults.{typing_faults}
 use Rattle.cool_check.proofs.AcceptedTables.{accepted_typed}
@@ -25,6 +23,12 @@ none_found (x ∷ xs) e = absurd (some (length xs) (sym e))
     some n h = let same = equal (suc n) 0 h in omega arith
 
 -- where no fault is found, the table is a typed one
+pub new-requires : goal.new-requires
+new-requires c = record {
+  fits = c.requires.fits;
+  typed = accepted_typed c.args.t c.in_ok-faults.ensures.whole c.in_ok-faults.ensures.lawful (sym c.in_ok-faults.ensures.faults ∙ none_found c.in_ok-faults.faults.items (c.if-is_empty.ensures ∙ ap (λ (n : ℕ). n == 0) c.in_ok-faults.faults.ok.0));
+}
+
 pub returns-then-is_empty-clause-accepted : goal.returns-then-is_empty-clause-accepted
-returns-then-is_empty-clause-accepted c = λ ds table classes free is.
-    subst IsTypedTable (sym is) (accepted_typed ds table classes free (subst (λ (p : List Class). typing_faults p ≡ []) is (sym c.in_ok-faults.ensures.faults ∙ none_found c.in_ok-faults.faults.items (c.if-is_empty.ensures ∙ ap (λ (n : ℕ). n == 0) c.in_ok-faults.faults.ok.0))))
+returns-then-is_empty-clause-accepted c =
+    accepted_typed c.args.t c.in_ok-faults.ensures.whole c.in_ok-faults.ensures.lawful (sym c.in_ok-faults.ensures.faults ∙ none_found c.in_ok-faults.faults.items (c.if-is_empty.ensures ∙ ap (λ (n : ℕ). n == 0) c.in_ok-faults.faults.ok.0))

@@ -8,11 +8,14 @@ use Rattle.cool_classes.specs.declared.entry.Entry.{Entry}
 use Rattle.cool_classes.specs.ClassFaults.{classes_meant, feature_phase, features_from, places, HasClassPhase, HasClassFaults, HasTableFaults}
 use Rattle.cool_classes.specs.ClassRows.{HasRows}
 use Rattle.cool_classes.specs.Definitions.{definitions, AreFew, IsTableOf}
-use Rattle.cool_classes.specs.Entries.{classes}
+use Rattle.cool_classes.specs.Entries.{classes, depth_at}
 use Rattle.cool_classes.specs.FaultLists.{IsPlacedRefusal}
+use Rattle.cool_classes.specs.LawfulTables.{IsLawful}
 use Rattle.cool_classes.specs.Resolved.{AreResolved, AreGood, ArePlaced}
 use Rattle.cool_classes.specs.Settled.{AreSettled, entries_of}
+use Rattle.cool_classes.specs.Tables.{IsWholeTable}
 use Rattle.cool_classes.proofs.ExactFaults.{entries_are_meant, refused_features, refused_table}
+use Rattle.cool_classes.proofs.LawfulByFaults.{lawful_meant}
 use Rattle.cool_classes.proofs.RowsExact.{refused_rows, accepted_rows}
 use Rattle.cool_classes.proofs.Resolving.{resolved_by, table_by, placed_by, entries_long, whole_by}
 use Rattle.cool_classes.proofs.building.table.Goals as goal
@@ -61,7 +64,14 @@ from_entries-requires c =
     let few = subst AreFew (sym c.in_ok-definitions.ensures) c.requires.few in
     let resolved = subst AreResolved (sym c.in_ok-entries.ensures) (resolved_by ds os few settled) in
     let good = subst (λ (es : List Entry). AreGood (classes es)) c.deref-3.ensures.value (c.in_ok-faults.ensures.good c.in_ok-refuse_faults.ensures.none) in
-    record { whole = whole_by c.in_ok-entries.entries.items resolved good }
+    let none = subst (λ (xs : List ClassDef). HasClassPhase xs []) c.deref.ensures.value c.in_ok-ancestry.ensures.faultless in
+    let meant : classes c.deref-3.result.now ≡ classes_meant ds = ap classes (c.deref-3.ensures.value ∙ c.in_ok-entries.ensures) ∙ entries_are_meant ds os settled in
+    let stand : c.deref-4.result.now ≡ places ds = c.deref-4.ensures.value ∙ c.in_ok-places.ensures ∙ ap places c.deref-2.ensures.value in
+    let free : feature_phase ds ≡ [] = sym (c.in_ok-faults.ensures.exact ∙ (λ i. features_from (meant i) 5 (stand i))) ∙ c.in_ok-refuse_faults.ensures.none in
+    let seen : classes c.in_ok-entries.entries.items ≡ classes_meant ds = ap classes c.in_ok-entries.ensures ∙ entries_are_meant ds os settled in
+    let whole = whole_by c.in_ok-entries.entries.items resolved good in
+    let table : IsWholeTable (classes c.in_ok-entries.entries.items) = record { table = whole.table; depth = depth_at c.in_ok-entries.entries.items; grounded = whole.grounded } in
+    record { whole = whole; lawful = subst IsLawful (sym seen) (lawful_meant ds (subst IsWholeTable seen table) none free) }
 
 pub returns-clause-table : goal.returns-clause-table
 returns-clause-table c =

@@ -59,4 +59,4 @@ returns c =
     let few : length files ≤ MOST_FILES = omega (arith, as_many_files c.args.files.now, c.requires.few) in
     let e = c.in_ok-classes.ensures in
     let t = c.typed_program.ensures in
-    typing_decides files c.in_ok-trees.trees.items c.in_ok-classes.classes c.typed_program.result c.requires.small few whole e.of e.classes e.faultless e.whole e.limits t.program t.typed t.exact t.refusal t.places
+    typing_decides files c.in_ok-trees.trees.items c.in_ok-classes.classes c.typed_program.result c.requires.small few whole e.of e.classes e.faultless e.whole e.limits t.program t.typed t.accepted t.exact t.refusal t.places

@@ -1,4 +1,4 @@
--- A table whose definitions have no fault, and whose features are typed, is a typed table.
+-- The table of definitions without faults keeps the rules of classes.
 use Rattle.std.proofs.Common.{◌≡◌, ◌≢◌, ◌⊎◌, inl, inr, ℕ, zero, suc, ◌+◌, ◌<◌, ◌≤◌, List, [], ◌∷◌, ◌++◌, map, length, get_or, Option, Some, None, Bool, true, false, not, ◌&&◌, ◌||◌, cond, ap, sym, ◌∙◌, refl, subst, arith, true≢false}
 use Rattle.std.specs.Prelude.{if◌then◌else◌, bytes_eq, codes, option_map, nat_eq, nat_lt, slice_get, is_none}
 use Rattle.std.proofs.lemmas.List.{length-map}
@@ -20,21 +20,13 @@ use Rattle.cool_classes.specs.ClassFaults.{of_kind, names_faults, cycle_faults, 
 use Rattle.cool_classes.specs.ClimbedChains.{above}
 use Rattle.cool_classes.specs.FeatureFaults.{noted, same_types, declared_types, declares_otherwise, redefines_otherwise, one_feature_faults, features_faults, has_formals, lacks_main_at, lacks_main, class_faults}
 use Rattle.cool_classes.specs.Features.{own_method, user_method, first_method, first_of, implementation, method_among, basic_methods, object_methods, io_methods, string_methods, formals_of, result_of, formals_in, result_in}
+use Rattle.cool_classes.specs.LawfulTables.{HasMain, MayInherit, SameSignature, IsLawful}
 use Rattle.cool_classes.specs.Names.{first_named}
 use Rattle.cool_classes.specs.Settled.{basic_names, names_in, names_with_basic, parent_meant, or_object}
+use Rattle.cool_classes.specs.Tables.{IsWholeTable}
 use Rattle.cool_classes.proofs.ChainsOfTables.{above_of}
-use Rattle.cool_rules.specs.Typing.{IsTypedFeature}
-use Rattle.cool_rules.specs.TypedTables.{IsWholeTable, IsTypedTable, HasMain, MayInherit, SameSignature}
-use Rattle.cool_rules.proofs.RulesDecided.{named_back}
-
--- two lists that are none as one are none
-pub none_both : {X : Type 0} (xs ys : List X) → xs ++ ys ≡ [] → (xs ≡ []) × (ys ≡ [])
-none_both [] ys h = (refl, h)
-none_both (x ∷ xs) ys h = absurd (cc)
-
-pub not_noted : (b : Bool) (kind : ClassKind) (at : Place) → noted b kind at ≡ [] → b ≡ false
-not_noted false kind at h = refl
-not_noted true kind at h = absurd (cc)
+use Rattle.cool_classes.proofs.ClassesNamed.{named_back}
+use Rattle.cool_classes.proofs.NamesOfFeatures.{none_both, not_noted, formals_named, attributes_named}
 
 no_kind : (o : Option ClassKind) (at : Place) → of_kind o at ≡ [] → o ≡ None
 no_kind None at h = refl
@@ -303,27 +295,48 @@ main_method p n from within named h =
       formals = none (formals_in (slice_get (features_of p (class_number n)) i)) k;
     }
 
-has_main : (ds : List ClassDef) → IsWholeTable (classes_meant ds) → main_faults (names_with_basic ds) ≡ [] → feature_phase ds ≡ [] → HasMain (classes_meant ds)
-has_main ds whole h free =
+has_main : (ds : List ClassDef) → main_faults (names_with_basic ds) ≡ [] → feature_phase ds ≡ [] → HasMain (classes_meant ds)
+has_main ds h free =
     let (c, is) = main_class ds h in
-    let (within, named) = named_back (classes_meant ds) whole (codes "Main") c (ap (λ (ns : List (List ℕ)). first_named 0 ns (codes "Main")) (names_meant ds) ∙ is) in
+    let (within, named) = named_back (classes_meant ds) (codes "Main") c (ap (λ (ns : List (List ℕ)). first_named 0 ns (codes "Main")) (names_meant ds) ∙ is) in
     let from = main_later ds c.0 named in
     let (at, none) = no_fault_of ds free c.0 from within in
     main_method (classes_meant ds) c.0 from within named
     (not_noted (lacks_main (classes_meant ds) c) F8 at (none_both (noted (lacks_main (classes_meant ds) c) F8 at) _ (none_both (features_faults (classes_meant ds) c (above (classes_meant ds) c) 0 (features_of (classes_meant ds) c)) _ none).1).0)
 
--- A whole table without faults, whose features are typed, is a typed table.
-pub typed_without_faults : (ds : List ClassDef) → IsWholeTable (classes_meant ds) → HasClassPhase ds [] → feature_phase ds ≡ []
-    → ((c : ClassId) (k : ℕ) (x : Feature) → c.0 < length (classes_meant ds) → slice_get (features_of (classes_meant ds) c) k ≡ Some x → IsTypedFeature (classes_meant ds) c x)
-    → IsTypedTable (classes_meant ds)
-typed_without_faults ds whole (cyclic, on, none) free typed =
+-- Features of all classes
+
+-- the basic classes have no features
+basic_free : (ds : List ClassDef) (n : ℕ) (up : List ClassId) → n < 5 → features_faults (classes_meant ds) (class_number n) up 0 (features_of (classes_meant ds) (class_number n)) ≡ []
+basic_free ds zero up less = refl
+basic_free ds (suc zero) up less = refl
+basic_free ds (suc (suc zero)) up less = refl
+basic_free ds (suc (suc (suc zero))) up less = refl
+basic_free ds (suc (suc (suc (suc zero)))) up less = refl
+basic_free ds (suc (suc (suc (suc (suc n))))) up less = absurd (omega arith)
+
+-- the features of no class have a fault, below its chain
+all_free : (ds : List ClassDef) → feature_phase ds ≡ [] → (n : ℕ) → n < length (classes_meant ds) → (up : List ClassId) → IsChain (classes_meant ds) (parent_of (classes_meant ds) (class_number n)) up
+    → features_faults (classes_meant ds) (class_number n) up 0 (features_of (classes_meant ds) (class_number n)) ≡ []
+all_free ds free n within up chain = by (nat_lt n 5) refl
+  where
+    by : (b : Bool) → nat_lt n 5 ≡ b → features_faults (classes_meant ds) (class_number n) up 0 (features_of (classes_meant ds) (class_number n)) ≡ []
+    by true e = basic_free ds n up (basic_number n e)
+    by false e =
+        let (at, none) = no_fault_of ds free n (later_number n e) within in
+        subst (λ (cs : List ClassId). features_faults (classes_meant ds) (class_number n) cs 0 (features_of (classes_meant ds) (class_number n)) ≡ []) (above_of (classes_meant ds) (class_number n) up chain)
+        (none_both (features_faults (classes_meant ds) (class_number n) (above (classes_meant ds) (class_number n)) 0 (features_of (classes_meant ds) (class_number n))) _ none).0
+
+-- A whole table without faults keeps the rules of classes.
+pub lawful_meant : (ds : List ClassDef) → IsWholeTable (classes_meant ds) → HasClassPhase ds [] → feature_phase ds ≡ [] → IsLawful (classes_meant ds)
+lawful_meant ds whole (cyclic, on, none) free =
     let rest = (none_both (names_faults basic_names ds) _ (sym none)).1 in
     let parents = none_both (parents_faults (names_with_basic ds) ds) _ rest in
     let mains = none_both (main_faults (names_with_basic ds)) _ (none_both (cycle_faults ds cyclic) _ parents.1).1 in
     record {
-      whole = whole;
       parents = λ c q within e. all_may ds parents.0 c.0 q e;
       redefined = λ c up f m n within chain own over. all_redefined ds free c.0 within up f m n chain own over;
-      main = has_main ds whole mains.0 free;
-      features = typed;
+      formals = λ c within. formals_named (classes_meant ds) whole (λ d w up chain. all_free ds free d.0 w up chain) c within;
+      attributes = λ c up within chain. attributes_named (classes_meant ds) whole (λ d w above chain'. all_free ds free d.0 w above chain') c within up chain;
+      main = has_main ds mains.0 free;
     }
