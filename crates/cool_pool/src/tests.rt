@@ -45,14 +45,6 @@ fn negated(alloc: Global) -> Result<(Pool, NodeId, NodeId), AllocError>
 }
 
 #[test]
-fn numbers_its_nodes(rt: HostRuntime) -> Result<(), Fail> {
-    let (_pool, first, second) = negated(rt.alloc())?;
-    assert_eq!(rt; first, NodeId(0));
-    assert_eq!(rt; second, NodeId(1));
-    Ok(())
-}
-
-#[test]
 fn closes_into_a_body(rt: HostRuntime) -> Result<(), Fail> {
     let (mut pool, _, _) = negated(rt.alloc())?;
     let body = pool.close();
@@ -64,7 +56,9 @@ fn closes_into_a_body(rt: HostRuntime) -> Result<(), Fail> {
 
 #[test]
 fn gives_the_tree_at_a_number(rt: HostRuntime) -> Result<(), Fail> {
-    let (pool, _, _) = negated(rt.alloc())?;
+    let (pool, first, second) = negated(rt.alloc())?;
+    assert_eq!(rt; first, NodeId(0));
+    assert_eq!(rt; second, NodeId(1));
     let tree = pool.tree(rt.alloc(), NodeId(1))?;
     match &tree {
         Expr::Neg { value, .. } => assert!(rt; matches!(value.expr(), Expr::Int { value: 1, .. })),

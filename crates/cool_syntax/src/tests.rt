@@ -35,22 +35,6 @@ fn a_copy_is_the_same(rt: HostRuntime) -> Result<(), Fail> {
     Ok(())
 }
 
-#[test]
-fn a_place_makes_no_difference(rt: HostRuntime) -> Result<(), Fail> {
-    let e = doubled(rt.alloc(), 3, 5)?;
-    let moved = doubled(rt.alloc(), 9, 5)?;
-    assert!(rt; same_expr(&e, &moved));
-    Ok(())
-}
-
-#[test]
-fn a_changed_part_makes_a_difference(rt: HostRuntime) -> Result<(), Fail> {
-    let e = doubled(rt.alloc(), 3, 5)?;
-    let changed = doubled(rt.alloc(), 3, 6)?;
-    assert!(rt; !same_expr(&e, &changed));
-    Ok(())
-}
-
 // not true, as the list of its nodes
 fn denied(alloc: Global) -> Result<Body, AllocError> {
     let truth = Node::Bool {
