@@ -45,6 +45,7 @@ pub record MayCopy (w : World) (gp from to n : ℕ) : Type 0 where
   pub to_heap : to + 4 * n ≤ w.segments.heap_end
 
 module _ (w : World) where
+  -- the words are copied, six instructions each
   copy_loop : (n : ℕ) (p : Pointers) (m : Bytes) (c : Console) (s : State) (end goal to last : ℕ) → HasLines w p.pc copy_words_lines → Counting w p m c end goal to s
       → end ≡ p.acc + 4 * n → last ≡ to + 4 * n → MayCopy w p.gp p.acc to n
       → Reaches w s 0 (6 * n + 2) (stands (Counting w (record p { pc = w.place copy_end; acc = end }) (copied m p.acc to n) c end goal last))
@@ -88,6 +89,7 @@ module _ (w : World) where
         (λ f. let same = same_numbers _ _ f in absurd (omega arith)),
       ))
 
+  -- the room for the copy is asked for, and its mark is stored
   copy_first : (p : Pointers) (m : Bytes) (c : Console) (s : State) (size : ℕ) → Limits w → HasLines w p.pc copy_first_lines → At w p m c s
       → Lies w p.gp p.acc (4 * size) → 3 ≤ size → word m (p.acc + 4) ≡ size → p.gp + 4 * size + 4 ≤ w.top → OnTheWay w c.output c.input
       → Reaches w s 0 14 (stands (λ t. (p.gp + 4 * size + 4 ≤ w.segments.heap_end)
@@ -115,6 +117,7 @@ module _ (w : World) where
         ),
       )
 
+  -- the copy is the result
   copy_last : (p : Pointers) (m : Bytes) (c : Console) (s : State) (end goal to : ℕ) → HasLines w p.pc copy_end_lines → Counting w p m c end goal to s
       → p.gp ≤ goal → goal ≤ w.segments.heap_end → goal % 4 ≡ 0
       → Reaches w s 0 3 (stands (At w (record p { pc = p.ra; gp = goal; acc = p.gp + 4 }) m c))

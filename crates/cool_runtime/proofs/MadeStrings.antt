@@ -42,6 +42,7 @@ zeros m a (suc (suc (suc (suc j)))) less = absurd (omega arith)
 
 -- bytes that were stored one after another, word by word
 
+-- what stands before them and behind their room is the same
 pub filled_other : (m : Bytes) (a left : ℕ) (bytes : List ℕ) (q : ℕ) → left ≤ 3 → (q < a) ⊎ (a + (left + 1) + 4 * ((length bytes + (3 - left)) / 4) ≤ q) → filled m a left bytes q ≡ m q
 filled_other m a left [] q some h = refl
 filled_other m a zero (b ∷ rest) q some h =
@@ -54,6 +55,7 @@ filled_other m a (suc left) (b ∷ rest) q some h =
     let off : q ≡ a → ⊥ = λ e. grind arith in
     filled_other (set_byte m a b) (a + 1) left rest q (omega arith) on ∙ byte_kept m a b q off
 
+-- they stand one after another
 pub filled_at : (m : Bytes) (a left : ℕ) (bytes : List ℕ) (i : ℕ) → left ≤ 3 → i < length bytes → filled m a left bytes (a + i) ≡ get_or bytes i 0
 filled_at m a left [] i some h = absurd (omega arith)
 filled_at m a zero (b ∷ rest) zero some h =

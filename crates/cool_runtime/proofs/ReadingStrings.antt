@@ -23,6 +23,7 @@ use Rattle.cool_runtime.proofs.Pieces.{done, next, has_front, has_back, has_at}
 use Rattle.cool_runtime.proofs.Copying.{differ, same_numbers}
 use Rattle.cool_runtime.proofs.LinesOfInput.{taking, Front, AtEnd, AtNewline, AtByte, front, suffix_asked, on_the_way}
 
+-- what `bgez` found
 not_negative : (v : ℕ) → not (nat_le 2147483648 v) ≡ true → v < 2147483648
 not_negative v t = grind arith
 
@@ -227,6 +228,7 @@ module _ (w : World) where
       (stays p (set_byte m t.t4 b) (got c u) t1 r (has_back w in_string_byte_lines in_string_word_lines p.pc (p.pc + 32) (omega arith) has) begins h (omega arith)) (omega arith)
       (λ q g. rec p (set_byte m t.t4 b) (got c u) t1 q (k + 1) left last end less limits has g bytes (omega arith) l is (omega arith) (omega arith) enough way'))
 
+  -- one turn, where the end of the input was not answered: by what comes next
   turn_at : (n : ℕ) → Reads n → (p : Pointers) (m : Bytes) (c : Console) (t : Temporaries) (s : State) (k left last end : ℕ) → length c.input < suc n → Limits w → HasLines w p.pc in_string_bytes_lines → Holding w p m c t s
       → c.ended ≡ false → Front c.input → Filling w p t k left
       → (line : Taken) → line_of c.input ≡ line → last ≡ t.t4 + length line.got → end ≡ p.gp + 44 + 4 * ((k + length line.got) / 4) → end ≤ w.top → OnTheWay w c.output line.rest
@@ -251,6 +253,7 @@ module _ (w : World) where
       (one_more n rec p m c t s k left last end b rest (omega arith) limits has hold (ap (λ e. asked e 1 c.input) more ∙ first) other small bytes room l refl (omega arith) (omega arith) enough
       (on_the_way w c.output l.rest rest (suffix_asked false rest) way') way')
 
+  -- one turn, by whether the end of the input was answered
   turn : (n : ℕ) → Reads n → (e : Bool) → (p : Pointers) (m : Bytes) (c : Console) (t : Temporaries) (s : State) (k left last end : ℕ) → length c.input < suc n → Limits w → HasLines w p.pc in_string_bytes_lines → Holding w p m c t s
       → AreBytes c.input → c.ended ≡ e → Filling w p t k left
       → (line : Taken) → line_asked e c.input ≡ line → last ≡ t.t4 + length line.got → end ≡ p.gp + 44 + 4 * ((k + length line.got) / 4) → end ≤ w.top → OnTheWay w c.output line.rest
@@ -262,11 +265,13 @@ module _ (w : World) where
   turn n rec false p m c t s k left last end short limits has hold bytes e room line is lasts ends enough way =
       turn_at n rec p m c t s k left last end short limits has hold e (front c.input bytes) room line is lasts ends enough way
 
+  -- the loop, for every input
   in_bytes : (n : ℕ) → Reads n
   in_bytes zero p m c t s k left last end short limits has hold bytes room line is lasts ends enough way = absurd (omega arith)
   in_bytes (suc n) p m c t s k left last end short limits has hold bytes room line is lasts ends enough way =
       turn n (in_bytes n) c.ended p m c t s k left last end short limits has hold bytes refl room line is lasts ends enough way
 
+  -- the room for no bytes is asked for, and holds zeros
   in_begin : (p : Pointers) (m : Bytes) (c : Console) (s : State) → Limits w → HasLines w p.pc in_string_begin_lines → At w p m c s → p.gp + 44 ≤ w.top → OnTheWay w c.output c.input
       → Reaches w s 0 10 (stands (λ r. (p.gp + 44 ≤ w.segments.heap_end) × Holding w (record p { pc = p.pc + 28 }) (set_word m (p.gp + 40) 0) c
       (record { t1 = p.gp + 44; t2 = s.core.registers 10; t3 = 10; t4 = p.gp + 40; t5 = s.core.registers 13; t6 = s.core.registers 14; t7 = s.core.registers 15 }) r))
@@ -293,6 +298,7 @@ module _ (w : World) where
             heap_exit w _ _ c limits refl at.numbers.zero_is (omega arith) at.input_is at.output_is way),
       )
 
+  -- the length of the line
   in_end : (p : Pointers) (m : Bytes) (c : Console) (t : Temporaries) (s : State) (n : ℕ) → HasLines w p.pc in_string_end_lines → Holding w p m c t s → t.t4 ≡ p.gp + 40 + n → t.t4 ≤ w.segments.heap_end
       → Reaches w s 0 2 (stands (Holding w (record p { pc = p.pc + 8 }) m c (record t { t5 = n })))
   in_end p m c t s n has hold there held =
@@ -310,6 +316,7 @@ module _ (w : World) where
         t7_is = hold.t7_is;
       }))
 
+  -- the new String is the result
   in_return : (p : Pointers) (m : Bytes) (c : Console) (t : Temporaries) (s : State) → HasLines w p.pc string_return_lines → Holding w p m c t s → p.gp + 24 ≤ t.t1 → t.t1 ≤ w.segments.heap_end → t.t1 % 4 ≡ 0
       → Reaches w s 0 3 (stands (At w (record p { pc = p.ra; gp = t.t1; acc = p.gp + 24 }) m c))
   in_return p m c t s has hold up below even =

@@ -13,9 +13,9 @@ use crate::piece::{bytes, error, int_head, new_int, string_head, string_return, 
 use crate::register::{A0, GP, RA, SP, T1};
 use crate::routine_part::{
     abort, concat_begin, concat_turn, copy_end, copy_first, copy_words, equal_begin, equal_bytes,
-    equal_false, equal_strings, equal_true, equal_values, heap_limit, in_string_begin,
-    in_string_bytes, in_string_end, length, no_branch, out_int, out_string, read_number,
-    return_call, stack_limit, start, substr_begin, substr_size, type_name,
+    equal_false, equal_strings, equal_true, equal_values, in_string_begin, in_string_bytes,
+    in_string_end, length, limit, no_branch, out_int, out_string, read_number, return_call, start,
+    substr_begin, substr_size, type_name,
 };
 use mips_isa::Line;
 use std::alloc::{AllocError, Global};
@@ -114,8 +114,8 @@ fn add_routine(alloc: Global, lines: &mut Vec<Line>, routine: Routine) -> Result
         Routine::DivZero => error(alloc, lines, b"div_abort", b"__division_text"),
         Routine::SubstrRange => error(alloc, lines, b"substr_abort", b"__substring_text"),
         Routine::Overflow => error(alloc, lines, b"overflow_abort", b"__overflow_text"),
-        Routine::HeapLimit => heap_limit(alloc, lines),
-        Routine::StackLimit => stack_limit(alloc, lines),
+        Routine::HeapLimit => limit(alloc, lines, b"heap_limit", 4),
+        Routine::StackLimit => limit(alloc, lines, b"stack_limit", 5),
     }
 }
 

@@ -2,7 +2,7 @@
 
 ghost use Rattle.std.specs.Prelude.{◌≡◌, ◌++◌, ◌<◌, OnOk};
 ghost use Rattle.mips_isa.specs.Lines.{lines_of};
-ghost use Rattle.cool_runtime.specs.Routines.{abort_lines, concat_begin_lines, concat_turn_lines, copy_end_lines, copy_first_lines, copy_words_lines, equal_begin_lines, equal_bytes_lines, equal_false_lines, equal_strings_lines, equal_true_lines, equal_values_lines, heap_limit_lines, in_string_begin_lines, in_string_bytes_lines, in_string_end_lines, length_lines, no_branch_lines, out_int_lines, out_string_lines, read_number_lines, return_lines, stack_limit_lines, start_lines, substr_begin_lines, substr_size_lines, type_name_lines};
+ghost use Rattle.cool_runtime.specs.Routines.{abort_lines, concat_begin_lines, concat_turn_lines, copy_end_lines, copy_first_lines, copy_words_lines, equal_begin_lines, equal_bytes_lines, equal_false_lines, equal_strings_lines, equal_true_lines, equal_values_lines, in_string_begin_lines, in_string_bytes_lines, in_string_end_lines, length_lines, limit_lines, no_branch_lines, out_int_lines, out_string_lines, read_number_lines, return_lines, start_lines, substr_begin_lines, substr_size_lines, type_name_lines};
 
 use crate::draft::{
     addiu, addu, beq, bgez, bne, copied, j, jal, jr, la, label, lbu, lw, sb, sll, sltu, srl, subu,
@@ -342,32 +342,22 @@ pub(crate) fn equal_false(alloc: Global, lines: &mut Vec<Line>) -> Result<(), Al
     )
 }
 
-/// Ends where the heap is used up.
-pub(crate) fn heap_limit(alloc: Global, lines: &mut Vec<Line>) -> Result<(), AllocError>
-    ensures { OnOk result (lines_of lines.new.items ≡ lines_of lines.old.items ++ heap_limit_lines) }
+/// Exits with a code, under a label.
+pub(crate) fn limit(
+    alloc: Global,
+    lines: &mut Vec<Line>,
+    name: &[u8],
+    code: u32,
+) -> Result<(), AllocError>
+    requires { code < 16 }
+    ensures { OnOk result (lines_of lines.new.items ≡ lines_of lines.old.items ++ limit_lines name.now code) }
 {
     write(
         alloc,
         lines,
         &[
-            label(b"heap_limit"),
-            addiu(A0, ZERO, 4),
-            addiu(V0, ZERO, 17),
-            syscall(),
-        ],
-    )
-}
-
-/// Ends where the stack is used up.
-pub(crate) fn stack_limit(alloc: Global, lines: &mut Vec<Line>) -> Result<(), AllocError>
-    ensures { OnOk result (lines_of lines.new.items ≡ lines_of lines.old.items ++ stack_limit_lines) }
-{
-    write(
-        alloc,
-        lines,
-        &[
-            label(b"stack_limit"),
-            addiu(A0, ZERO, 5),
+            label(name),
+            addiu(A0, ZERO, code as i32),
             addiu(V0, ZERO, 17),
             syscall(),
         ],

@@ -1,6 +1,6 @@
 use Rattle.std.proofs.Common.{◌≡◌, ◌++◌, OnOk, subst, sym}
 use Rattle.mips_isa.specs.Lines.{lines_of}
-use Rattle.cool_runtime.specs.Labels.{dispatch_abort, div_abort, substr_abort}
+use Rattle.cool_runtime.specs.Labels.{dispatch_abort, div_abort, heap_limit, stack_limit, substr_abort}
 use Rattle.cool_runtime.specs.RoutineLabels.{case_void, overflow_abort, dispatch_text, case_text, division_text, substring_text, overflow_text}
 use Rattle.cool_runtime.specs.RoutineLines.{routine_lines}
 use Rattle.cool_runtime.proofs.lines.add_routine.Goals as goal
@@ -78,9 +78,9 @@ unfolding routine_lines overflow_abort overflow_text
 returns-in-Overflow c = subst (λ r. OnOk c.error-in-Overflow.result (lines_of c.error-in-Overflow.new.lines.items ≡ lines_of c.args.lines.now.items ++ routine_lines r)) (sym c.in-Overflow.is) c.error-in-Overflow.ensures
 
 pub returns-in-HeapLimit : goal.returns-in-HeapLimit
-unfolding routine_lines
-returns-in-HeapLimit c = subst (λ r. OnOk c.heap_limit.result (lines_of c.heap_limit.new.lines.items ≡ lines_of c.args.lines.now.items ++ routine_lines r)) (sym c.in-HeapLimit.is) c.heap_limit.ensures
+unfolding routine_lines heap_limit
+returns-in-HeapLimit c = subst (λ r. OnOk c.limit.result (lines_of c.limit.new.lines.items ≡ lines_of c.args.lines.now.items ++ routine_lines r)) (sym c.in-HeapLimit.is) c.limit.ensures
 
 pub returns-in-StackLimit : goal.returns-in-StackLimit
-unfolding routine_lines
-returns-in-StackLimit c = subst (λ r. OnOk c.stack_limit.result (lines_of c.stack_limit.new.lines.items ≡ lines_of c.args.lines.now.items ++ routine_lines r)) (sym c.in-StackLimit.is) c.stack_limit.ensures
+unfolding routine_lines stack_limit
+returns-in-StackLimit c = subst (λ r. OnOk c.limit-in-StackLimit.result (lines_of c.limit-in-StackLimit.new.lines.items ≡ lines_of c.args.lines.now.items ++ routine_lines r)) (sym c.in-StackLimit.is) c.limit-in-StackLimit.ensures
