@@ -18,8 +18,6 @@ mod run;
 mod sign;
 mod span;
 mod string;
-#[cfg(test)]
-mod tests;
 mod word;
 
 pub use cool_syntax::LexKind;

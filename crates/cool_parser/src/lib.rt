@@ -18,8 +18,6 @@ mod parser;
 mod parsing;
 mod stack;
 mod step;
-#[cfg(test)]
-mod tests;
 
 pub use fault::{ParseError, ParseFault};
 pub use laws::{law_always_one, law_never_both, law_one_first_fault, law_one_tree};

@@ -7,8 +7,6 @@
 mod boxed;
 mod column;
 mod pool;
-#[cfg(test)]
-mod tests;
 
 pub use column::Column;
 pub use pool::Pool;

@@ -15,8 +15,6 @@ mod node;
 mod operator;
 mod parts;
 mod place;
-#[cfg(test)]
-mod tests;
 mod text;
 mod token;
 mod token_list;

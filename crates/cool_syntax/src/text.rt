@@ -68,18 +68,3 @@ impl Name {
         self.spelling.as_slice()
     }
 }
-
-#[cfg(test)]
-mod tests {
-    use super::*;
-    use std::test::Fail;
-
-    #[test]
-    fn copies(rt: HostRuntime) -> Result<(), Fail> {
-        for bytes in [b"".as_slice(), b"List", b"a\x00\xff"] {
-            assert_eq!(rt; Name::new(rt.alloc(), bytes)?.as_slice(), bytes);
-            assert_eq!(rt; Bytes::new(rt.alloc(), bytes)?.as_slice(), bytes);
-        }
-        Ok(())
-    }
-}
