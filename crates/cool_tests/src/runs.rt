@@ -1,9 +1,9 @@
 //! Runs over objects in memory of which some call fails, and runs with several budgets. What else a run does is shown by the cases of
 //! `conformance/`.
 
-use spim_machine::{Halt, Machine};
 use cool_ports::{MemSink, MemSource, Source};
 use mips_isa::Image;
+use spim_machine::{Halt, Machine};
 use spim_memory::Limits;
 use std::alloc::Global;
 use std::test::Fail;

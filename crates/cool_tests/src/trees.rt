@@ -1,11 +1,14 @@
-//! Trees: copied, taken out of a pool, and written as tokens. How texts become trees is shown by the cases of `conformance/`.
+//! Trees: copied, taken out of a pool, and written as tokens; values for their nodes, and types for their names. How texts become
+//! trees is shown by the cases of `conformance/`.
 
 ghost use Rattle.std.specs.Prelude.{◌≡◌, [], ◌∷◌, IfOk};
 
+use cool_classes::{INT, Ty};
 use cool_lexer::lex;
 use cool_parser::parse;
 use cool_pool::{Column, Pool};
-use cool_syntax::{Expr, Node, NodeId, Place, copy_expr, same_expr, tokens_of};
+use cool_rules::Scope;
+use cool_syntax::{Expr, Name, Node, NodeId, Place, copy_expr, same_expr, tokens_of};
 use std::alloc::{AllocError, Global};
 use std::test::Fail;
 
@@ -37,20 +40,22 @@ fn negation() -> Node
     }
 }
 
-/// ~1, in a pool.
-fn negated(alloc: Global) -> Result<Pool, AllocError>
-    ensures { IfOk result (λ pool. pool.nodes ≡ Node.Int (record { file = 0; line = 1; byte = 1 }) 1 ∷ Node.Neg (record { file = 0; line = 1; byte = 0 }) (record { 0 = 0 }) ∷ []) }
+/// ~1, in a pool, and the numbers of its nodes.
+fn negated(alloc: Global) -> Result<(Pool, NodeId, NodeId), AllocError>
+    ensures { IfOk result (λ made. made.0.nodes ≡ Node.Int (record { file = 0; line = 1; byte = 1 }) 1 ∷ Node.Neg (record { file = 0; line = 1; byte = 0 }) (record { 0 = 0 }) ∷ []) }
 {
     let mut pool = Pool::new(alloc);
     pool.reserve(2)?;
-    let _first = pool.place(one()).unwrap();
-    let _second = pool.place(negation()).unwrap();
-    Ok(pool)
+    let first = pool.place(one()).unwrap();
+    let second = pool.place(negation()).unwrap();
+    Ok((pool, first, second))
 }
 
 #[test]
 fn a_pool_gives_the_tree_at_a_number(rt: HostRuntime) -> Result<(), Fail> {
-    let pool = negated(rt.alloc())?;
+    let (pool, first, second) = negated(rt.alloc())?;
+    assert_eq!(rt; first, NodeId(0));
+    assert_eq!(rt; second, NodeId(1));
     let tree = pool.tree(rt.alloc(), NodeId(1))?;
     match &tree {
         Expr::Neg { value, .. } => assert!(rt; matches!(value.expr(), Expr::Int { value: 1, .. })),
@@ -58,6 +63,15 @@ fn a_pool_gives_the_tree_at_a_number(rt: HostRuntime) -> Result<(), Fail> {
     }
     let copy = copy_expr(rt.alloc(), &tree)?;
     assert!(rt; same_expr(&copy, &tree));
+    Ok(())
+}
+
+#[test]
+fn a_pool_is_closed_to_a_body(rt: HostRuntime) -> Result<(), Fail> {
+    let (mut pool, _, _) = negated(rt.alloc())?;
+    let body = pool.close();
+    assert_eq!(rt; pool.len(), 0);
+    assert_eq!(rt; body.root(), NodeId(1));
     Ok(())
 }
 
@@ -71,6 +85,17 @@ fn a_column_is_filled_again(rt: HostRuntime) -> Result<(), Fail> {
     column.clear();
     column.push(8);
     assert_eq!(rt; *column.get(NodeId(0)), 8);
+    Ok(())
+}
+
+#[test]
+fn a_name_that_was_left_has_no_type(rt: HostRuntime) -> Result<(), Fail> {
+    let x = Name::new(rt.alloc(), b"x")?;
+    let mut scope = Scope::new(rt.alloc());
+    scope.enter(&x, Ty::Class(INT))?;
+    assert_eq!(rt; scope.find(&x), Some(Ty::Class(INT)));
+    scope.leave();
+    assert_eq!(rt; scope.find(&x), None);
     Ok(())
 }
 
