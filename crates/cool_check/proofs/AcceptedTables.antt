@@ -8,18 +8,18 @@ use Rattle.cool_syntax.specs.declared.file_tree.Formal.{Formal}
 use Rattle.cool_classes.specs.declared.class_id.ClassId.{ClassId}
 use Rattle.cool_classes.specs.declared.method.AttributeRef.{AttributeRef}
 use Rattle.cool_classes.specs.Chains.{Class, class_number, nothing, features_of}
+use Rattle.cool_classes.specs.ClimbedChains as climbed
 use Rattle.cool_classes.specs.Features.{attributes_of, attribute_name}
 use Rattle.cool_classes.specs.LawfulTables.{IsLawful, HasDifferentFormals}
 use Rattle.cool_classes.specs.Limits.{AreDifferent}
 use Rattle.cool_classes.specs.Tables.{IsTyped, IsWholeTable}
+use Rattle.cool_classes.proofs.ChainsOfTables.{chain_is}
 use Rattle.cool_classes.proofs.NamesOfFeatures.{none_both}
-use Rattle.cool_rules.specs.Lookups as lookups
 use Rattle.cool_rules.specs.Scopes.{Binding}
 use Rattle.cool_rules.specs.Typing.{IsTypedFeature}
 use Rattle.cool_rules.specs.TypedTables.{IsTypedTable}
-use Rattle.cool_rules.proofs.NamesOfTables.{chain_is}
 use Rattle.cool_check.specs.FirstFaults.{Checked}
-use Rattle.cool_check.specs.Rules.{attribute_binding, formal_binding}
+use Rattle.cool_rules.specs.Rules.{attribute_binding, formal_binding}
 use Rattle.cool_check.specs.TypingFaults.{feature_checked, fault_of, features_faults, classes_faults, typing_faults}
 use Rattle.cool_check.proofs.CheckedDecides.{IsDecided, Decides}
 use Rattle.cool_check.proofs.FeaturesDecide.{OwnDiffer, NamesDiffer, feature_decided}
@@ -49,7 +49,7 @@ module _ (p : List Class) where
   formal_names (f ∷ fs) = ap (λ (ns : List (List ℕ)). f.name ∷ ns) (formal_names fs)
 
   own_differ : (whole : IsWholeTable p) → IsLawful p → (c : ClassId) (within : c.0 < length p) → OwnDiffer p whole c within
-  own_differ whole lawful c within = subst AreDifferent (attribute_names (attributes_of p (lookups.chain_of p c))) (lawful.attributes c (lookups.chain_of p c) within (chain_is p whole c within))
+  own_differ whole lawful c within = subst AreDifferent (attribute_names (attributes_of p (climbed.chain p c))) (lawful.attributes c (climbed.chain p c) within (chain_is p c whole.table within))
 
   names_differ : (whole : IsWholeTable p) (c : ClassId) (within : c.0 < length p) (x : Feature) → HasDifferentFormals x → NamesDiffer p whole c within x
   names_differ whole c within (Method m) h = subst AreDifferent (formal_names m.formals) h

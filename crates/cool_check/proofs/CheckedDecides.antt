@@ -19,20 +19,20 @@ use Rattle.cool_classes.specs.Limits.{AreDifferent}
 use Rattle.cool_classes.specs.Tables.{IsClassName, IsWholeTable}
 use Rattle.cool_classes.proofs.Climbs.{chain_unique}
 use Rattle.cool_classes.proofs.Methods.{found_has}
-use Rattle.cool_rules.specs.Conformance.{IsType, IsTypeNamed, Conforms, IsJoinOfTypes, class_of}
-use Rattle.cool_rules.specs.Deciding.{type_named, conforms, join_of_types, is_same}
-use Rattle.cool_rules.specs.Lookups.{chain_of}
+use Rattle.cool_rules.specs.Conformance.{IsType, Conforms, IsJoinOfTypes, class_of}
+use Rattle.cool_classes.specs.ClimbedChains.{chain as chain_of}
 use Rattle.cool_rules.specs.Scopes.{Binding, found}
-use Rattle.cool_rules.specs.Typing.{int_type, bool_type, has_values as has_value, type_in_scope, with_name, result_on, IsNotSelf, AreArguments, IsCall, IsImplementation, AreComparable, IsJoinOfAll, IsJoinOfBranches, branch_types, HasType, HaveTypes, HaveItems, HasInit, HaveBranches}
+use Rattle.cool_rules.specs.Typing.{int_type, bool_type, has_values, type_in_scope, with_name, result_on, IsNotSelf, AreArguments, IsCall, IsImplementation, AreComparable, IsJoinOfAll, IsJoinOfBranches, branch_types, HasType, HaveTypes, HaveItems, HasInit, HaveBranches}
 use Rattle.cool_rules.proofs.ChainsOfTables.{contains_later, chain_within, below_trans, below_itself}
-use Rattle.cool_rules.proofs.NamesOfTables.{chain_is}
-use Rattle.cool_rules.proofs.RulesDecided.{same_types, types_same, conforms_true, conforming, named_denotes, denoted, denotes_type, join_is, one_type, conforming_type}
+use Rattle.cool_classes.proofs.ChainsOfTables.{chain_is}
+use Rattle.cool_rules.proofs.RulesDecided.{same_types, types_same, named_denotes, denoted, denotes_type, join_is, one_type, conforming_type}
 use Rattle.cool_rules.proofs.TypesOfMethods.{formals_named, result_named, expression_type}
 use Rattle.cool_check.specs.declared.fault.TypeKind.{TypeKind}
 use Rattle.cool_check.specs.declared.fault.TypeKind.TheVariants.{E2, E3, E5, E8, E9, E10, E13, E14, E15, E16, E17}
-use Rattle.cool_check.specs.FirstFaults.{Checked, refuse, and_then, expect, object, int, bool, string, same_type, has_values, is_self, bind, conform, or_unknown, name_checked, or_no_type, named, static_among, static_class, misfit, resulting, or_misfit, called_with, call_checked, initialized, bound_type, branch_among, branch_class, joined, compared, checked, all_checked, last_checked, maybe_checked, cases_checked}
-use Rattle.cool_check.specs.Rules.{Context, join_in, type_of_name, type_meant, method_of, is_among}
-use Rattle.cool_check.proofs.RulesOfTables.{do_conform_is, join_in_is, type_of_name_is, type_meant_is, method_of_is}
+use Rattle.cool_check.specs.FirstFaults.{Checked, refuse, and_then, expect, object, int, bool, string, is_self, bind, conform, or_unknown, name_checked, or_no_type, named, static_among, static_class, misfit, resulting, or_misfit, called_with, call_checked, initialized, bound_type, branch_among, branch_class, joined, compared, checked, all_checked, last_checked, maybe_checked, cases_checked}
+use Rattle.cool_rules.specs.Rules.{same_type, join_in, type_of_name, type_meant, method_of, is_among}
+use Rattle.cool_check.specs.Contexts.{Context}
+use Rattle.cool_rules.proofs.RulesOfTables.{do_conform_true, true_do_conform, join_in_is, type_meant_is}
 
 -- what is given is the only one of which this holds; where there is a fault, it holds of none
 abbrev pub Decides : {A : Type 0} → Checked A → (A → Type 0) → Type 0
@@ -87,12 +87,6 @@ found_behind (b ∷ o) scope name = by (bytes_eq b.name name) (found_behind o sc
     by true e = refl
     by false e = e
 
-same_type_is : (t u : Ty) → same_type t u ≡ is_same t u
-same_type_is (IsClass a) (IsClass b) = refl
-same_type_is (IsClass a) SelfType = refl
-same_type_is SelfType (IsClass b) = refl
-same_type_is SelfType SelfType = refl
-
 module _ (s : Context) (whole : IsWholeTable s.table) (within : s.class.0 < length s.table) (typed : AllByRecursion (λ (b : Binding). IsType s.table b.type) s.attributes) where
   abbrev AreTypes : List Binding → Type 0
   AreTypes o = AllByRecursion (λ (b : Binding). IsType s.table b.type) o
@@ -104,26 +98,13 @@ module _ (s : Context) (whole : IsWholeTable s.table) (within : s.class.0 < leng
   -- Parts of rules
 
   same_decided : {B : Type 0} {r : Checked B} {Q : B → Type 0} (kind : TypeKind) (at : Place) (t u : Ty) → (t ≡ u → IsDecided r Q) → IsDecided (expect (same_type t u) kind at r) (λ b. (t ≡ u) × Q b)
-  same_decided {r = r} kind at t u k = expect_decided (same_type t u) kind at r (t ≡ u) (λ e. same_types t u (sym (same_type_is t u) ∙ e)) (λ e. same_type_is t u ∙ types_same t u e) k
-
-  conform_is : (t u : Ty) → IsType s.table t → conforms s.table s.class t u ≡ conform s t u
-  conform_is t u h = do_conform_is s.table s.class t u (conforms s.table s.class t u) whole.table within h (conforms_true s.table whole s.class t u within h, conforming s.table whole s.class t u within h)
+  same_decided {r = r} kind at t u k = expect_decided (same_type t u) kind at r (t ≡ u) (same_types t u) (types_same t u) k
 
   pub conform_decided : {B : Type 0} {r : Checked B} {Q : B → Type 0} (kind : TypeKind) (at : Place) (t u : Ty) → IsType s.table t → (Conforms s.table s.class t u → IsDecided r Q)
       → IsDecided (expect (conform s t u) kind at r) (λ b. Conforms s.table s.class t u × Q b)
-  conform_decided {r = r} kind at t u h k = expect_decided (conform s t u) kind at r (Conforms s.table s.class t u) (λ e. conforms_true s.table whole s.class t u within h (conform_is t u h ∙ e)) (λ c. sym (conform_is t u h) ∙ conforming s.table whole s.class t u within h c) k
+  conform_decided {r = r} kind at t u h k = expect_decided (conform s t u) kind at r (Conforms s.table s.class t u) (λ e. do_conform_true s.table s.class t u whole.table within h e) (λ c. true_do_conform s.table s.class t u c) k
 
-  is_named : (name : List ℕ) (o : Option Ty) → type_named s.table name ≡ o → IsTypeNamed s.table name o
-  is_named name None e = λ a h. none (sym e ∙ denoted s.table whole name a h)
-    where
-      none : {A : Type 0} {a : A} → None ≡ Some a → ⊥
-      none e = cc
-  is_named name (Some a) e = named_denotes s.table whole name a e
-
-  name_is : (name : List ℕ) → type_named s.table name ≡ type_of_name s.table name
-  name_is name = type_of_name_is s.table name (type_named s.table name) whole.table (is_named name (type_named s.table name) refl)
-
-  or_no_type_decided : (at : Place) (name : List ℕ) (o : Option Ty) → type_named s.table name ≡ o → IsDecided (or_no_type o at) (λ t. Denotes s.table name t)
+  or_no_type_decided : (at : Place) (name : List ℕ) (o : Option Ty) → type_of_name s.table name ≡ o → IsDecided (or_no_type o at) (λ t. Denotes s.table name t)
   or_no_type_decided at name None e = record { decided = λ t h. none (sym e ∙ denoted s.table whole name t h) }
     where
       none : {A : Type 0} {a : A} → None ≡ Some a → ⊥
@@ -134,7 +115,7 @@ module _ (s : Context) (whole : IsWholeTable s.table) (within : s.class.0 < leng
       some e = cc
 
   named_decided : (r : TypeRef) → IsDecided (named s r) (λ t. Denotes s.table r.name t)
-  named_decided r = or_no_type_decided r.at r.name (type_of_name s.table r.name) (name_is r.name)
+  named_decided r = or_no_type_decided r.at r.name (type_of_name s.table r.name) refl
 
   name_decided : (o : List Binding) (at : Place) (name : List ℕ) → IsDecided (name_checked s o at name) (λ t. type_in_scope (o ++ s.attributes) name ≡ Some t)
   name_decided o at name = by (is_self name)
@@ -164,14 +145,15 @@ module _ (s : Context) (whole : IsWholeTable s.table) (within : s.class.0 < leng
       by (Some n) own e more = found_has s.table d name m (h d (0, omega arith, refl)) (own ∙ e)
 
   method_there : (k : ClassId) (name : List ℕ) (m : MethodRef) → k.0 < length s.table → implementation s.table (chain_of s.table k) name ≡ Some m → HasMethod s.table m
-  method_there k name m k_within e = there_by (chain_of s.table k) (λ d t. chain_within s.table whole k k_within (chain_of s.table k) (chain_is s.table whole k k_within) d t) name m e
+  method_there k name m k_within e = there_by (chain_of s.table k) (λ d t. chain_within s.table whole k k_within (chain_of s.table k) (chain_is s.table k whole.table k_within) d t) name m e
 
   found_is : (k : ClassId) (name : List ℕ) (m : MethodRef) → k.0 < length s.table → IsImplementation s.table k name m → implementation s.table (chain_of s.table k) name ≡ Some m
-  found_is k name m k_within (ds, chain, e) = subst (λ (xs : List ClassId). implementation s.table xs name ≡ Some m) (chain_unique s.table (Some k) ds (chain_of s.table k) chain (chain_is s.table whole k k_within)) e
+  found_is k name m k_within (ds, chain, e) = subst (λ (xs : List ClassId). implementation s.table xs name ≡ Some m) (chain_unique s.table (Some k) ds (chain_of s.table k) chain (chain_is s.table k whole.table k_within)) e
 
-  method_is : (k : ClassId) (name : List ℕ) → k.0 < length s.table → implementation s.table (chain_of s.table k) name ≡ method_of s.table k name
-  method_is k name k_within = method_of_is s.table k name (implementation s.table (chain_of s.table k) name) whole.table k_within
-      (λ ds chain. ap (λ (xs : List ClassId). implementation s.table xs name) (chain_unique s.table (Some k) (chain_of s.table k) ds (chain_is s.table whole k k_within) chain))
+  -- the method of a name is the one that the chain has
+  method_is : (k : ClassId) (name : List ℕ) → implementation s.table (chain_of s.table k) name ≡ method_of s.table k name
+  unfolding method_of
+  method_is k name = refl
 
   argument_count : (given : List Ty) (formals : List (List ℕ)) → AreArguments s.table s.class given formals → length given ≡ length formals
   argument_count [] [] h = refl
@@ -189,15 +171,15 @@ module _ (s : Context) (whole : IsWholeTable s.table) (within : s.class.0 < leng
   misfit_by scope (t ∷ ts) Last fs result have types names same = absurd have
   misfit_by scope (t ∷ ts) (More e es) [] result have types names same = absurd (omega arith)
   misfit_by scope (t ∷ ts) (More e es) (f ∷ fs) result have types names same =
-      by (conform s t (type_meant s.table f)) (sym (conform_is t (type_meant s.table f) types.0)) (misfit_by scope ts es fs result have.1 types.1 names.1 (omega arith))
+      by (conform s t (type_meant s.table f)) refl (misfit_by scope ts es fs result have.1 types.1 names.1 (omega arith))
     where
-      by : (b : Bool) → b ≡ conforms s.table s.class t (type_meant s.table f) → IsDecided (or_misfit (misfit s fs ts es) result) (λ u. AreArguments s.table s.class ts fs × (u ≡ result))
+      by : (b : Bool) → b ≡ conform s t (type_meant s.table f) → IsDecided (or_misfit (misfit s fs ts es) result) (λ u. AreArguments s.table s.class ts fs × (u ≡ result))
           → IsDecided (or_misfit (if b then misfit s fs ts es else Some (place_of e)) result) (λ u. AreArguments s.table s.class (t ∷ ts) (f ∷ fs) × (u ≡ result))
       by true e more = decided_as
-          (λ u w. (((type_meant s.table f, formal_meant f names.0, conforms_true s.table whole s.class t (type_meant s.table f) within types.0 (sym e)), w.0), w.1))
+          (λ u w. (((type_meant s.table f, formal_meant f names.0, do_conform_true s.table s.class t (type_meant s.table f) whole.table within types.0 (sym e)), w.0), w.1))
           (λ u w. (w.0.1, w.1)) more
       by false e more = record {
-        decided = λ u w. absurd (true≢false (sym (conforming s.table whole s.class t (type_meant s.table f) within types.0
+        decided = λ u w. absurd (true≢false (sym (true_do_conform s.table s.class t (type_meant s.table f)
             (subst (λ (x : Ty). Conforms s.table s.class t x) (type_meant_is s.table f w.0.0.0 whole.table w.0.0.1) w.0.0.2)) ∙ sym e));
       }
 
@@ -219,7 +201,7 @@ module _ (s : Context) (whole : IsWholeTable s.table) (within : s.class.0 < leng
       (λ t w. record {
         method = m;
         result = type_meant s.table (result_of s.table m);
-        found = (chain_of s.table k, chain_is s.table whole k k_within, e);
+        found = (chain_of s.table k, chain_is s.table k whole.table k_within, e);
         arguments = w.1.0;
         declared = subst (λ (x : Ty). Denotes s.table (result_of s.table m) x) meant denotes;
         is = w.1.1 ∙ result_is receiver (type_meant s.table (result_of s.table m));
@@ -244,10 +226,10 @@ module _ (s : Context) (whole : IsWholeTable s.table) (within : s.class.0 < leng
 
   call_decided : (scope : List Binding) (at : Place) (k : ClassId) (name : List ℕ) (receiver : Ty) (given : List Ty) (es : Trees) → k.0 < length s.table → HaveTypes s.table s.class scope es given
       → AllByRecursion (IsType s.table) given → IsDecided (call_checked s at k receiver name es given) (λ t. IsCall s.table s.class k name receiver given t)
-  call_decided scope at k name receiver given es k_within have types = called_by scope at k name receiver given es k_within have types (method_of s.table k name) (method_is k name k_within)
+  call_decided scope at k name receiver given es k_within have types = called_by scope at k name receiver given es k_within have types (method_of s.table k name) (method_is k name)
 
   -- the class behind `@`
-  static_by : (at : Place) (name : List ℕ) (receiver : Ty) → IsType s.table receiver → (o : Option Ty) → type_named s.table name ≡ o
+  static_by : (at : Place) (name : List ℕ) (receiver : Ty) → IsType s.table receiver → (o : Option Ty) → type_of_name s.table name ≡ o
       → IsDecided (static_among s at receiver o) (λ k. Denotes s.table name (IsClass k) × Conforms s.table s.class receiver (IsClass k))
   static_by at name receiver h None e = record { decided = λ k w. none (sym e ∙ denoted s.table whole name (IsClass k) w.0) }
     where
@@ -266,16 +248,12 @@ module _ (s : Context) (whole : IsWholeTable s.table) (within : s.class.0 < leng
       some e = cc
 
   static_decided : (r : TypeRef) (receiver : Ty) → IsType s.table receiver → IsDecided (static_class s r receiver) (λ k. Denotes s.table r.name (IsClass k) × Conforms s.table s.class receiver (IsClass k))
-  static_decided r receiver h = static_by r.at r.name receiver h (type_of_name s.table r.name) (name_is r.name)
+  static_decided r receiver h = static_by r.at r.name receiver h (type_of_name s.table r.name) refl
 
   -- Comparison
 
   compared_less : (at : Place) (t u : Ty) → IsDecided (expect (same_type t int) E14 at (expect (same_type u int) E14 at (Ok bool))) (λ r. ((t ≡ int_type) × (u ≡ int_type)) × (r ≡ bool_type))
   compared_less at t u = decided_as (λ r w. ((w.0, w.1.0), w.1.1)) (λ r w. (w.0.0, (w.0.1, w.1))) (same_decided E14 at t int (λ x. same_decided E14 at u int (λ y. ok_decided bool)))
-
-  values_are : (t : Ty) → has_values t ≡ has_value t
-  values_are (IsClass a) = refl
-  values_are SelfType = refl
 
   compared_decided : (op : CompareOp) (at : Place) (t u : Ty) → IsDecided (compared op t u at) (λ r. AreComparable op t u × (r ≡ bool_type))
   compared_decided Less at t u = compared_less at t u
@@ -284,14 +262,14 @@ module _ (s : Context) (whole : IsWholeTable s.table) (within : s.class.0 < leng
       (λ e. yes_by (same_type t u) (has_values t) (has_values u) refl refl refl e) (λ h. no_by h) (λ x. ok_decided bool)
     where
       yes_by : (x y z : Bool) → same_type t u ≡ x → has_values t ≡ y → has_values u ≡ z → (not x && (y || z)) ≡ false → AreComparable Equal t u
-      yes_by true y z ex ey ez e = inl (same_types t u (sym (same_type_is t u) ∙ ex))
+      yes_by true y z ex ey ez e = inl (same_types t u ex)
       yes_by false true z ex ey ez e = absurd (cc)
       yes_by false false true ex ey ez e = absurd (cc)
-      yes_by false false false ex ey ez e = inr (sym (values_are t) ∙ ey, sym (values_are u) ∙ ez)
+      yes_by false false false ex ey ez e = inr (ey, ez)
 
       no_by : AreComparable Equal t u → (not (same_type t u) && (has_values t || has_values u)) ≡ false
-      no_by (inl e) = ap (λ (x : Bool). not x && (has_values t || has_values u)) (same_type_is t u ∙ types_same t u e)
-      no_by (inr (ey, ez)) = by (same_type t u) (has_values t) (has_values u) (values_are t ∙ ey) (values_are u ∙ ez)
+      no_by (inl e) = ap (λ (x : Bool). not x && (has_values t || has_values u)) (types_same t u e)
+      no_by (inr (ey, ez)) = by (same_type t u) (has_values t) (has_values u) ey ez
         where
           by : (x y z : Bool) → y ≡ false → z ≡ false → (not x && (y || z)) ≡ false
           by true y z ey ez = refl
@@ -367,7 +345,7 @@ module _ (s : Context) (whole : IsWholeTable s.table) (within : s.class.0 < leng
 
   join_decided : (t u : Ty) → IsType s.table t → IsType s.table u → IsDecided (Ok (join_in s.table s.class t u)) (λ j. IsJoinOfTypes s.table s.class t u j)
   join_decided t u h g = decided_as
-      (λ j is. subst (λ (x : Ty). IsJoinOfTypes s.table s.class t u x) (join_in_is s.table s.class t u (join_of_types s.table s.class t u) whole.table within h g (join_is s.table whole s.class t u within h g) ∙ sym is) (join_is s.table whole s.class t u within h g))
+      (λ j is. subst (λ (x : Ty). IsJoinOfTypes s.table s.class t u x) (sym is) (join_is s.table whole s.class t u within h g))
       (λ j join. join_in_is s.table s.class t u j whole.table within h g join)
       (ok_decided (join_in s.table s.class t u))
 
@@ -450,7 +428,7 @@ module _ (s : Context) (whole : IsWholeTable s.table) (within : s.class.0 < leng
   BranchesJoin : List Binding → List ClassId → Option Ty → Cases → Ty → Type 0
   BranchesJoin scope earlier join cs j = (us : List Ty) × HaveBranches s.table s.class scope cs us × AreDifferent (branch_types cs) × NewTo earlier (branch_types cs) × (j ≡ joined_from join us)
 
-  branch_by : (at : Place) (name : List ℕ) (earlier : List ClassId) (o : Option Ty) → type_named s.table name ≡ o → IsDecided (branch_among at earlier o) (λ d. Denotes s.table name (IsClass d) × (is_among earlier d ≡ false))
+  branch_by : (at : Place) (name : List ℕ) (earlier : List ClassId) (o : Option Ty) → type_of_name s.table name ≡ o → IsDecided (branch_among at earlier o) (λ d. Denotes s.table name (IsClass d) × (is_among earlier d ≡ false))
   branch_by at name earlier None e = record { decided = λ k w. none (sym e ∙ denoted s.table whole name (IsClass k) w.0) }
     where
       none : {A : Type 0} {a : A} → None ≡ Some a → ⊥
@@ -470,7 +448,7 @@ module _ (s : Context) (whole : IsWholeTable s.table) (within : s.class.0 < leng
   branch_decided : (at : Place) (name : List ℕ) (declared : TypeRef) (earlier : List ClassId)
       → IsDecided (branch_class s at name declared earlier) (λ d. IsNotSelf name × (Denotes s.table declared.name (IsClass d) × (is_among earlier d ≡ false)))
   branch_decided at name declared earlier = unless_decided (is_self name) E10 at (branch_among declared.at earlier (type_of_name s.table declared.name)) (IsNotSelf name) (λ e. e) (λ e. e)
-      (λ other. branch_by declared.at declared.name earlier (type_of_name s.table declared.name) (name_is declared.name))
+      (λ other. branch_by declared.at declared.name earlier (type_of_name s.table declared.name) refl)
 
   no_branches : (scope : List Binding) (earlier : List ClassId) (join : Option Ty) → IsDecided (Ok (unwrap_or join object)) (BranchesJoin scope earlier join NoCase)
   unfolding BranchesJoin NewTo joined_from
@@ -513,17 +491,13 @@ module _ (s : Context) (whole : IsWholeTable s.table) (within : s.class.0 < leng
   conforms_on (IsClass a) (IsClass b) SelfType h k = absurd k
   conforms_on (IsClass a) (IsClass b) (IsClass d) h k = below_trans s.table a b d h k
 
-  join_in_join : (t u : Ty) → IsType s.table t → IsType s.table u → IsJoinOfTypes s.table s.class t u (join_in s.table s.class t u)
-  join_in_join t u h g = subst (λ (x : Ty). IsJoinOfTypes s.table s.class t u x) (join_in_is s.table s.class t u (join_of_types s.table s.class t u) whole.table within h g (join_is s.table whole s.class t u within h g))
-      (join_is s.table whole s.class t u within h g)
-
   joined_is : (t : Ty) (ts : List Ty) → IsType s.table t → AllByRecursion (IsType s.table) ts → IsJoinOfAll s.table s.class (t ∷ ts) (joined_from (Some t) ts)
   unfolding joined_from
   joined_is SelfType [] h g = record { all = (tt, tt); least = λ other k. k.0 }
   joined_is (IsClass a) [] h g = record { all = (below_itself s.table whole a h, tt); least = λ other k. k.0 }
   joined_is t (u ∷ us) h g =
       let i : Ty = join_in s.table s.class t u in
-      let j = join_in_join t u h g.0 in
+      let j = join_is s.table whole s.class t u within h g.0 in
       let rest = joined_is (join_in s.table s.class t u) us (conforming_type s.table whole s.class t (join_in s.table s.class t u) within h j.left) g.1 in
       record {
         all = (conforms_on t i (joined_from (Some i) us) j.left rest.all.0, (conforms_on u i (joined_from (Some i) us) j.right rest.all.0, rest.all.1));

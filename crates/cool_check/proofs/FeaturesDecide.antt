@@ -15,33 +15,29 @@ use Rattle.cool_classes.specs.declared.class_id.Ty.{Ty}
 use Rattle.cool_classes.specs.declared.class_id.Ty.TheVariants.{Class as IsClass}
 use Rattle.cool_classes.specs.declared.method.AttributeRef.{AttributeRef}
 use Rattle.cool_classes.specs.Chains.{Class, features_of}
+use Rattle.cool_classes.specs.ClimbedChains as climbed
 use Rattle.cool_classes.specs.Features.{Denotes, attributes_of, attribute_name, attribute_type, HasAttribute, IsAttribute, result_in}
 use Rattle.cool_classes.specs.Limits.{AreDifferent}
 use Rattle.cool_classes.specs.Tables.{IsClassName, IsTypeName, IsTyped, IsWholeTable}
 use Rattle.cool_classes.proofs.AttributesOfChains.{attributes_have}
 use Rattle.cool_classes.proofs.Climbs.{chain_unique, all_within}
-use Rattle.cool_classes.proofs.ChainsOfTables.{chain_of}
+use Rattle.cool_classes.proofs.ChainsOfTables.{chain_is}
 use Rattle.cool_rules.specs.Conformance.{IsType, Conforms}
-use Rattle.cool_rules.specs.Lookups as lookups
 use Rattle.cool_rules.specs.Scopes.{Binding, found}
-use Rattle.cool_rules.specs.Typing as typing
-use Rattle.cool_rules.specs.Typing.{HasType, formals_in_scope, attributes_in_scope, FitsDeclared, IsTypedInit, IsTypedFeature}
-use Rattle.cool_rules.proofs.NamesOfTables.{chain_is, meant_is}
+use Rattle.cool_rules.specs.Typing.{HasType, attributes_in_scope, FitsDeclared, IsTypedInit, IsTypedFeature}
 use Rattle.cool_rules.proofs.RulesDecided.{denotes_type}
 use Rattle.cool_rules.proofs.ScopesMoved.{AreSame, moved}
 use Rattle.cool_rules.proofs.TypesOfMethods.{expression_type}
 use Rattle.cool_check.specs.declared.fault.TypeKind.{TypeKind}
 use Rattle.cool_check.specs.declared.fault.TypeKind.TheVariants.{E17, E18}
 use Rattle.cool_check.specs.FirstFaults.{and_then, expect, conform, checked}
-use Rattle.cool_check.specs.Rules.{entered, attribute_binding, attribute_bindings, formal_binding, type_meant}
+use Rattle.cool_rules.specs.Rules.{attribute_binding, formal_binding, type_meant}
+use Rattle.cool_check.specs.Contexts.{entered, attribute_bindings}
 use Rattle.cool_check.specs.TypingFaults.{class_context, initial_checked, feature_checked}
-use Rattle.cool_check.proofs.RulesOfTables.{type_meant_is}
+use Rattle.cool_rules.proofs.RulesOfTables.{type_meant_is}
 use Rattle.cool_check.proofs.CheckedDecides.{IsDecided, decided_as, bind_decided, ok_decided, conform_decided, checked_decides, found_behind}
 
 -- Bindings entered one after the other
-
-names_of : List Binding → List (List ℕ)
-names_of bs = map (λ (b : Binding). b.name) bs
 
 -- a name that is none of these is not found
 not_found : (bs : List Binding) (name : List ℕ) → AllByRecursion (λ (n : List ℕ). n ≢ name) (map (λ (b : Binding). b.name) bs) → found bs name ≡ None
@@ -74,11 +70,9 @@ module _ (p : List Class) (whole : IsWholeTable p) (c : ClassId) (within : c.0 <
   abbrev AreTypes : List Binding → Type 0
   AreTypes o = AllByRecursion (λ (b : Binding). IsType p b.type) o
 
-  -- what a name of the table means is the same for both
-  same_meant : (name : List ℕ) → IsTypeName p name → (type_meant p name ≡ typing.type_meant p name) × IsType p (type_meant p name)
-  same_meant name (t, denotes) =
-      let here : t ≡ type_meant p name = type_meant_is p name t whole.table denotes in
-      (sym here ∙ sym (meant_is p whole name t denotes), subst (IsType p) here (denotes_type p whole name t denotes))
+  -- what a name of the table means is a type
+  meant_type : (name : List ℕ) → IsTypeName p name → IsType p (type_meant p name)
+  meant_type name (t, denotes) = subst (IsType p) (type_meant_is p name t whole.table denotes) (denotes_type p whole name t denotes)
 
   meant_denotes : (name : List ℕ) → IsTypeName p name → Denotes p name (type_meant p name)
   meant_denotes name (t, denotes) = subst (λ (x : Ty). Denotes p name x) (type_meant_is p name t whole.table denotes) denotes
@@ -86,31 +80,17 @@ module _ (p : List Class) (whole : IsWholeTable p) (c : ClassId) (within : c.0 <
   class_is_type : (name : List ℕ) → IsClassName p name → IsTypeName p name
   class_is_type name (d, d_within, is) = (IsClass d, (d_within, is))
 
-  formals_same : (fs : List Formal) → AllByRecursion (λ (f : Formal). IsClassName p f.declared.name) fs → map (formal_binding p) fs ≡ formals_in_scope p fs
-  formals_same [] h = refl
-  formals_same (f ∷ fs) h =
-      let first = (same_meant f.declared.name (class_is_type f.declared.name h.0)).0 in
-      let rest = formals_same fs h.1 in
-      λ i. record { name = f.name; type = first i } ∷ rest i
-
   formals_types : (fs : List Formal) → AllByRecursion (λ (f : Formal). IsClassName p f.declared.name) fs → AreTypes (map (formal_binding p) fs)
   formals_types [] h = tt
-  formals_types (f ∷ fs) h = ((same_meant f.declared.name (class_is_type f.declared.name h.0)).1, formals_types fs h.1)
-
-  attributes_same : (rs : List AttributeRef) → AllByRecursion (λ (r : AttributeRef). IsTypeName p (attribute_type p r)) rs → map (attribute_binding p) rs ≡ attributes_in_scope p rs
-  attributes_same [] h = refl
-  attributes_same (r ∷ rs) h =
-      let first = (same_meant (attribute_type p r) h.0).0 in
-      let rest = attributes_same rs h.1 in
-      λ i. record { name = attribute_name p r; type = first i } ∷ rest i
+  formals_types (f ∷ fs) h = (meant_type f.declared.name (class_is_type f.declared.name h.0), formals_types fs h.1)
 
   attributes_types : (rs : List AttributeRef) → AllByRecursion (λ (r : AttributeRef). IsTypeName p (attribute_type p r)) rs → AreTypes (map (attribute_binding p) rs)
   attributes_types [] h = tt
-  attributes_types (r ∷ rs) h = ((same_meant (attribute_type p r) h.0).1, attributes_types rs h.1)
+  attributes_types (r ∷ rs) h = (meant_type (attribute_type p r) h.0, attributes_types rs h.1)
 
   -- the attributes of the class
   own : List AttributeRef
-  own = attributes_of p (lookups.chain_of p c)
+  own = attributes_of p (climbed.chain p c)
 
   attribute_typed : (r : AttributeRef) → HasAttribute p r → IsTypeName p (attribute_type p r)
   attribute_typed r h = by (slice_get (features_of p r.owner) r.index) refl h.1
@@ -131,57 +111,51 @@ module _ (p : List Class) (whole : IsWholeTable p) (c : ClassId) (within : c.0 <
 
   own_typed : AllByRecursion (λ (r : AttributeRef). IsTypeName p (attribute_type p r)) own
   unfolding own
-  own_typed = all_attributes_typed (attributes_of p (lookups.chain_of p c)) (attributes_have p (lookups.chain_of p c) (λ j d less. all_within p whole.depth whole.grounded c within (lookups.chain_of p c) (chain_is p whole c within) j d less))
+  own_typed = all_attributes_typed (attributes_of p (climbed.chain p c)) (attributes_have p (climbed.chain p c) (λ j d less. all_within p whole.depth whole.grounded c within (climbed.chain p c) (chain_is p c whole.table within) j d less))
 
   -- the attributes of the class have different names
   abbrev pub OwnDiffer : Type 0
-  OwnDiffer = AreDifferent (map (λ (b : Binding). b.name) (map (attribute_binding p) (attributes_of p (lookups.chain_of p c))))
-
-  entered_own : attribute_bindings p c ≡ entered (map (attribute_binding p) (attributes_of p (lookups.chain_of p c))) []
-  entered_own = ap (λ (ds : List ClassId). entered (map (attribute_binding p) (attributes_of p ds)) []) (chain_of p c (lookups.chain_of p c) (chain_is p whole c within))
+  OwnDiffer = AreDifferent (map (λ (b : Binding). b.name) (map (attribute_binding p) (attributes_of p (climbed.chain p c))))
 
   own_types : AreTypes (attribute_bindings p c)
   unfolding own own_typed
-  own_types = subst AreTypes (sym entered_own) (entered_types (IsType p) (map (attribute_binding p) (attributes_of p (lookups.chain_of p c))) [] (attributes_types (attributes_of p (lookups.chain_of p c)) own_typed) tt)
+  own_types = entered_types (IsType p) (map (attribute_binding p) (attributes_of p (climbed.chain p c))) [] (attributes_types (attributes_of p (climbed.chain p c)) own_typed) tt
 
   -- a scope as checking has it, and as the rules have it
-  own_same : OwnDiffer → (name : List ℕ) → found (attribute_bindings p c) name ≡ found (attributes_in_scope p (attributes_of p (lookups.chain_of p c))) name
-  unfolding own own_typed
+  own_same : OwnDiffer → (name : List ℕ) → found (attribute_bindings p c) name ≡ found (attributes_in_scope p (attributes_of p (climbed.chain p c))) name
   own_same differ name =
-      ap (λ (bs : List Binding). found bs name) entered_own
-      ∙ (found_entered (map (attribute_binding p) (attributes_of p (lookups.chain_of p c))) [] name differ
-      ∙ (or_none (found (map (attribute_binding p) (attributes_of p (lookups.chain_of p c))) name)
-      ∙ ap (λ (bs : List Binding). found bs name) (attributes_same (attributes_of p (lookups.chain_of p c)) own_typed)))
+      found_entered (map (attribute_binding p) (attributes_of p (climbed.chain p c))) [] name differ
+      ∙ or_none (found (map (attribute_binding p) (attributes_of p (climbed.chain p c))) name)
 
-  scope_same : (bs cs : List Binding) → OwnDiffer → AreDifferent (map (λ (b : Binding). b.name) bs) → bs ≡ cs → AreSame (entered bs [] ++ attribute_bindings p c) (cs ++ attributes_in_scope p (attributes_of p (lookups.chain_of p c)))
-  scope_same bs cs differ different is = λ name.
+  scope_same : (bs : List Binding) → OwnDiffer → AreDifferent (map (λ (b : Binding). b.name) bs) → AreSame (entered bs [] ++ attribute_bindings p c) (bs ++ attributes_in_scope p (attributes_of p (climbed.chain p c)))
+  scope_same bs differ different = λ name.
       sym (found_behind (entered bs []) (attribute_bindings p c) name)
-      ∙ (ap (λ (o : Option Ty). option_or o (found (attribute_bindings p c) name)) (found_entered bs [] name different ∙ (or_none (found bs name) ∙ ap (λ (xs : List Binding). found xs name) is))
-      ∙ (ap (λ (o : Option Ty). option_or (found cs name) o) (own_same differ name)
-      ∙ found_behind cs (attributes_in_scope p (attributes_of p (lookups.chain_of p c))) name))
+      ∙ (ap (λ (o : Option Ty). option_or o (found (attribute_bindings p c) name)) (found_entered bs [] name different ∙ or_none (found bs name))
+      ∙ (ap (λ (o : Option Ty). option_or (found bs name) o) (own_same differ name)
+      ∙ found_behind bs (attributes_in_scope p (attributes_of p (climbed.chain p c))) name))
 
   back : (s t : List Binding) → AreSame s t → AreSame t s
   back s t h = λ name. sym (h name)
 
   -- an expression conforms to what a feature declares
-  declared_decided : (bs cs : List Binding) (kind : TypeKind) (at : Place) (e : Tree) (name : List ℕ) → OwnDiffer → AreDifferent (map (λ (b : Binding). b.name) bs) → bs ≡ cs → AreTypes bs → IsTypeName p name
-      → IsDecided {A = Unit {0}} (and_then (checked (class_context p c) (entered bs []) e) (λ t. expect (conform (class_context p c) t (type_meant p name)) kind at (Ok tt))) (λ u. FitsDeclared p c cs e name)
-  declared_decided bs cs kind at e name differ different is types named = decided_as
+  declared_decided : (bs : List Binding) (kind : TypeKind) (at : Place) (e : Tree) (name : List ℕ) → OwnDiffer → AreDifferent (map (λ (b : Binding). b.name) bs) → AreTypes bs → IsTypeName p name
+      → IsDecided {A = Unit {0}} (and_then (checked (class_context p c) (entered bs []) e) (λ t. expect (conform (class_context p c) t (type_meant p name)) kind at (Ok tt))) (λ u. FitsDeclared p c bs e name)
+  declared_decided bs kind at e name differ different types named = decided_as
       (λ u w. let (t, has, (conforms, unit)) = w in record {
-        chain = lookups.chain_of p c;
-        is_chain = chain_is p whole c within;
+        chain = climbed.chain p c;
+        is_chain = chain_is p c whole.table within;
         type = t;
         result = type_meant p name;
-        has = moved p c e (entered bs [] ++ attribute_bindings p c) (cs ++ attributes_in_scope p (attributes_of p (lookups.chain_of p c))) t (scope_same bs cs differ different is) has;
+        has = moved p c e (entered bs [] ++ attribute_bindings p c) (bs ++ attributes_in_scope p (attributes_of p (climbed.chain p c))) t (scope_same bs differ different) has;
         denotes = meant_denotes name named;
         conforms = conforms;
       })
       (λ u f.
-      let same : f.chain ≡ lookups.chain_of p c = chain_unique p (Some c) f.chain (lookups.chain_of p c) f.is_chain (chain_is p whole c within) in
-      let has : HasType p c (cs ++ attributes_in_scope p (attributes_of p (lookups.chain_of p c))) e f.type = subst (λ (ds : List ClassId). HasType p c (cs ++ attributes_in_scope p (attributes_of p ds)) e f.type) same f.has in (
+      let same : f.chain ≡ climbed.chain p c = chain_unique p (Some c) f.chain (climbed.chain p c) f.is_chain (chain_is p c whole.table within) in
+      let has : HasType p c (bs ++ attributes_in_scope p (attributes_of p (climbed.chain p c))) e f.type = subst (λ (ds : List ClassId). HasType p c (bs ++ attributes_in_scope p (attributes_of p ds)) e f.type) same f.has in (
         f.type,
-        moved p c e (cs ++ attributes_in_scope p (attributes_of p (lookups.chain_of p c))) (entered bs [] ++ attribute_bindings p c) f.type
-            (back (entered bs [] ++ attribute_bindings p c) (cs ++ attributes_in_scope p (attributes_of p (lookups.chain_of p c))) (scope_same bs cs differ different is)) has,
+        moved p c e (bs ++ attributes_in_scope p (attributes_of p (climbed.chain p c))) (entered bs [] ++ attribute_bindings p c) f.type
+            (back (entered bs [] ++ attribute_bindings p c) (bs ++ attributes_in_scope p (attributes_of p (climbed.chain p c))) (scope_same bs differ different)) has,
         (subst (λ (t : Ty). Conforms p c f.type t) (type_meant_is p name f.result whole.table f.denotes) f.conforms, refl),
       ))
       (bind_decided (checked_decides (class_context p c) whole within own_types e (entered bs []) (entered_types (IsType p) bs [] types tt)) (λ t has.
@@ -194,7 +168,7 @@ module _ (p : List Class) (whole : IsWholeTable p) (c : ClassId) (within : c.0 <
 
   init_decided : (a : AttributeDef) (o : Option Tree) → OwnDiffer → IsTypeName p a.declared.name → IsDecided (initial_checked (class_context p c) a o) (λ u. IsTypedInit p c a.declared.name o)
   init_decided a None differ named = decided_as (λ u e. tt) (λ u h. refl) (ok_decided (tt {0}))
-  init_decided a (Some e) differ named = declared_decided [] [] E17 a.at e a.declared.name differ tt refl tt named
+  init_decided a (Some e) differ named = declared_decided [] E17 a.at e a.declared.name differ tt tt named
 
   -- the formals of a method have different names
   abbrev pub NamesDiffer : Feature → Type 0
@@ -203,5 +177,5 @@ module _ (p : List Class) (whole : IsWholeTable p) (c : ClassId) (within : c.0 <
 
   pub feature_decided : (x : Feature) → OwnDiffer → NamesDiffer x → IsTyped p x → IsDecided (feature_checked p c x) (λ u. IsTypedFeature p c x)
   feature_decided (Method m) differ names typed =
-      declared_decided (map (formal_binding p) m.formals) (formals_in_scope p m.formals) E18 m.at m.body m.result.name differ names (formals_same m.formals typed.1) (formals_types m.formals typed.1) typed.2
+      declared_decided (map (formal_binding p) m.formals) E18 m.at m.body m.result.name differ names (formals_types m.formals typed.1) typed.2
   feature_decided (Attribute a) differ names typed = init_decided a a.init differ typed

@@ -1,6 +1,5 @@
 pub mod AcceptedTables
 pub mod CheckedDecides
-pub mod ClassesAmong
 pub mod FaultsInOrder
 pub mod FeaturesDecide
 pub mod Misfits
@@ -8,5 +7,4 @@ pub mod OrderOfKinds
 pub mod PartsLeft
 pub mod PlacedFaults
 pub mod PlacesOfParts
-pub mod RulesOfTables
 pub mod TypesInScope

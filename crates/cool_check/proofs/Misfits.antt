@@ -6,7 +6,8 @@ use Rattle.cool_syntax.specs.declared.node.NodeId.{NodeId}
 use Rattle.cool_syntax.specs.Tree.{Tree, of_list, place_of}
 use Rattle.cool_syntax.specs.NodeLists.{at_id}
 use Rattle.cool_classes.specs.declared.class_id.Ty.{Ty}
-use Rattle.cool_check.specs.Rules.{Context, type_meant}
+use Rattle.cool_rules.specs.Rules.{type_meant}
+use Rattle.cool_check.specs.Contexts.{Context}
 use Rattle.cool_check.specs.FirstFaults.{conform, misfit}
 
 -- what is sought from one position on is sought from the next, where the argument there conforms

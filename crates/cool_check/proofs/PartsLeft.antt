@@ -11,7 +11,8 @@ use Rattle.cool_classes.specs.Chains.{Class, class_number, features_of}
 use Rattle.cool_classes.specs.Features.{formals_in}
 use Rattle.cool_rules.specs.Scopes.{Binding}
 use Rattle.cool_check.specs.declared.fault.TypeFault.{TypeFault}
-use Rattle.cool_check.specs.Rules.{entered, formal_binding}
+use Rattle.cool_rules.specs.Rules.{formal_binding}
+use Rattle.cool_check.specs.Contexts.{entered}
 use Rattle.cool_check.specs.FirstFaults.{Checked}
 use Rattle.cool_check.specs.TypingFaults.{feature_checked, fault_of, features_faults, classes_faults}
 

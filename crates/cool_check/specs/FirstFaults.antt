@@ -18,12 +18,14 @@ use Rattle.cool_classes.specs.Chains.{Class, class_number}
 use Rattle.cool_classes.specs.Features.{formals_of, result_of}
 use Rattle.cool_rules.specs.Conformance.{class_of}
 use Rattle.cool_rules.specs.Scopes.{Binding, found}
+use Rattle.cool_rules.specs.Typing.{has_values}
 use Rattle.cool_check.specs.declared.fault.CheckError.{CheckError}
 use Rattle.cool_check.specs.declared.fault.CheckError.TheVariants as error
 use Rattle.cool_check.specs.declared.fault.TypeFault.{TypeFault}
 use Rattle.cool_check.specs.declared.fault.TypeKind.{TypeKind}
 use Rattle.cool_check.specs.declared.fault.TypeKind.TheVariants.{E1, E2, E3, E4, E5, E6, E7, E8, E9, E10, E11, E12, E13, E14, E15, E16, E17}
-use Rattle.cool_check.specs.Rules.{Context, do_conform, join_in, type_of_name, type_meant, method_of, is_among}
+use Rattle.cool_rules.specs.Rules.{do_conform, join_in, type_of_name, type_meant, method_of, is_among, same_type}
+use Rattle.cool_check.specs.Contexts.{Context}
 
 -- what a check gives: a value, or the first fault
 abbrev pub Checked : Type 0 → Type 0
@@ -53,16 +55,6 @@ bool = IsClass (class_number 3)
 
 abbrev pub string : Ty
 string = IsClass (class_number 4)
-
-abbrev pub same_type : Ty → Ty → Bool
-same_type SelfType SelfType = true
-same_type SelfType (IsClass b) = false
-same_type (IsClass a) SelfType = false
-same_type (IsClass a) (IsClass b) = nat_eq a.0 b.0
-
--- Int, Bool and String, whose objects are compared by value
-abbrev pub has_values : Ty → Bool
-has_values a = same_type a int || (same_type a bool || same_type a string)
 
 abbrev pub is_self : List ℕ → Bool
 is_self name = bytes_eq name (codes "self")

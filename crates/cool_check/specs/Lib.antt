@@ -1,5 +1,5 @@
+pub mod Contexts
 pub mod Faults
 pub mod FirstFaults
-pub mod Rules
 pub mod Settings
 pub mod TypingFaults

@@ -14,7 +14,8 @@ use Rattle.cool_check.specs.declared.fault.CheckAllError.TheVariants as all
 use Rattle.cool_check.specs.declared.fault.TypeFault.{TypeFault}
 use Rattle.cool_check.specs.declared.fault.TypeKind.TheVariants.{E17, E18}
 use Rattle.cool_check.specs.Faults.{standing_of}
-use Rattle.cool_check.specs.Rules.{Context, attribute_bindings, formal_bindings, type_meant}
+use Rattle.cool_rules.specs.Rules.{type_meant}
+use Rattle.cool_check.specs.Contexts.{Context, attribute_bindings, formal_bindings}
 use Rattle.cool_check.specs.FirstFaults.{Checked, and_then, expect, conform, checked}
 
 -- in a class with its attributes

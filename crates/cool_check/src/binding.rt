@@ -11,7 +11,8 @@ ghost use Rattle.cool_pool.specs.Groups.{IsBinding};
 ghost use Rattle.cool_rules.specs.Conformance.{IsType};
 ghost use Rattle.cool_check.specs.Faults.{IsPlacedError};
 ghost use Rattle.cool_check.specs.FirstFaults.{checked, maybe_checked, cases_checked, bound_type, branch_class, joined, bind, IsFirst};
-ghost use Rattle.cool_check.specs.Rules.{context, is_among};
+ghost use Rattle.cool_rules.specs.Rules.{is_among};
+ghost use Rattle.cool_check.specs.Contexts.{context};
 ghost use Rattle.cool_check.specs.Settings.{HaveTypes, IsSound};
 
 use crate::expression::{is_self, type_of};

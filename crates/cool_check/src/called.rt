@@ -11,7 +11,7 @@ ghost use Rattle.cool_classes.specs.Features.{HasMethod, formals_of};
 ghost use Rattle.cool_rules.specs.Conformance.{IsType};
 ghost use Rattle.cool_check.specs.Faults.{IsPlacedError};
 ghost use Rattle.cool_check.specs.FirstFaults.{checked, static_class, call_checked, misfit, resulting, IsFirst};
-ghost use Rattle.cool_check.specs.Rules.{context};
+ghost use Rattle.cool_check.specs.Contexts.{context};
 ghost use Rattle.cool_check.specs.Settings.{HaveTypes, IsSound};
 
 use crate::expression::{type_of, types_of};

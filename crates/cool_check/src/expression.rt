@@ -8,8 +8,9 @@ ghost use Rattle.cool_syntax.specs.TreesWithinLimits.{AreTreesWithin, IsTreeWith
 ghost use Rattle.cool_pool.specs.Groups.{IsControl, IsLeaf};
 ghost use Rattle.cool_rules.specs.Conformance.{IsType};
 ghost use Rattle.cool_check.specs.Faults.{IsPlacedError, StandsAt};
-ghost use Rattle.cool_check.specs.FirstFaults.{checked, all_checked, last_checked, name_checked, same_type, is_self, bool, object, IsFirst};
-ghost use Rattle.cool_check.specs.Rules.{context};
+ghost use Rattle.cool_rules.specs.Rules.{same_type};
+ghost use Rattle.cool_check.specs.FirstFaults.{checked, all_checked, last_checked, name_checked, is_self, bool, object, IsFirst};
+ghost use Rattle.cool_check.specs.Contexts.{context};
 ghost use Rattle.cool_check.specs.Settings.{HaveTypes, IsSound};
 ghost use Rattle.cool_check.specs.declared.fault.CheckError.TheVariants as error;
 ghost use Rattle.cool_check.specs.declared.fault.TypeKind.TheVariants as kind;

@@ -9,7 +9,7 @@ ghost use Rattle.cool_classes.specs.Chains.{features_of};
 ghost use Rattle.cool_classes.specs.Tables.{IsTable};
 ghost use Rattle.cool_check.specs.Faults.{IsPlacedError};
 ghost use Rattle.cool_check.specs.FirstFaults.{IsFirst};
-ghost use Rattle.cool_check.specs.Rules.{attribute_bindings, formal_bindings};
+ghost use Rattle.cool_check.specs.Contexts.{attribute_bindings, formal_bindings};
 ghost use Rattle.cool_check.specs.Settings.{HaveTypes, IsSound, IsSoundClass};
 ghost use Rattle.cool_check.specs.TypingFaults.{feature_checked};
 

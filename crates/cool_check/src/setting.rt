@@ -3,7 +3,7 @@
 ghost use Rattle.std.specs.Prelude.{◌≡◌, ◌<◌, [], length, get_or, IfSome};
 ghost use Rattle.cool_classes.specs.Features.{HasAttribute, HasMethod, attribute_type, formals_of, result_of};
 ghost use Rattle.cool_rules.specs.Conformance.{IsType};
-ghost use Rattle.cool_check.specs.Rules.{do_conform, join_in, type_of_name, type_meant, method_of};
+ghost use Rattle.cool_rules.specs.Rules.{do_conform, join_in, type_of_name, type_meant, method_of};
 ghost use Rattle.cool_check.specs.Settings.{IsSound};
 
 use cool_classes::{AttributeRef, ClassId, ClassTable, MethodRef, Ty};

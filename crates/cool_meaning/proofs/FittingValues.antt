@@ -9,7 +9,7 @@ use Rattle.cool_classes.specs.Chains.{Class, class_number, Below}
 use Rattle.cool_classes.specs.Features.{attribute_type}
 use Rattle.cool_rules.specs.Conformance.{Conforms, class_of as class_meant}
 use Rattle.cool_rules.specs.Scopes.{Binding, found}
-use Rattle.cool_rules.specs.Typing.{type_meant}
+use Rattle.cool_rules.specs.Rules.{type_meant}
 use Rattle.cool_classes.specs.LawfulTables.{MayInherit}
 use Rattle.cool_rules.specs.TypedTables.{IsTypedTable}
 use Rattle.cool_meaning.specs.Values.{Value, Void, Int, Bool as Truth, Str, Obj, Environment, class_of, location_of}

@@ -22,7 +22,8 @@ use Rattle.cool_classes.specs.declared.method.MethodRef.{MethodRef}
 use Rattle.cool_classes.specs.declared.method.MethodRef.TheVariants.{Basic, User}
 use Rattle.cool_classes.specs.declared.method.AttributeRef.{AttributeRef}
 use Rattle.cool_classes.specs.Features.{implementation}
-use Rattle.cool_rules.specs.Lookups.{chain_of, class_named}
+use Rattle.cool_classes.specs.ClimbedChains.{chain as chain_of}
+use Rattle.cool_rules.specs.Rules.{class_named}
 use Rattle.cool_meaning.specs.Lookups.{class_made, method_at, attributes, default_values, init_of, located, formal_names, locations_of, environment_of}
 use Rattle.cool_meaning.specs.Evaluation.{Call, Body, Initials, Calls, class_or, value_named, assign, exact, arithmetic, compare, same, bytes_compared, is_void, loop, new_object, make, invoke, dispatch, Branch, or_else, nearest, take_branch, eval, eval_all, eval_items, eval_init, branch_of, run_method, run_initial, run_initials, run_call}
 use Rattle.cool_syntax.specs.Tree as trees

@@ -21,11 +21,14 @@ use Rattle.cool_classes.specs.LawfulTables.{MayInherit}
 use Rattle.cool_rules.specs.TypedTables.{IsTypedTable}
 use Rattle.cool_meaning.specs.Values.{Value, Void, Int, Bool as Truth, Str, Environment, class_of, location_of, default_of}
 use Rattle.cool_meaning.specs.Meters.{DispatchVoid, CaseVoid, Computation, ◌>>=◌, ◌>>◌, give, given, load, store}
-use Rattle.cool_rules.specs.Lookups.{chain_of, class_named}
+use Rattle.cool_classes.specs.ClimbedChains.{chain as chain_of}
+use Rattle.cool_rules.specs.Rules.{class_named}
 use Rattle.cool_meaning.specs.Lookups.{class_made}
 use Rattle.cool_meaning.specs.Evaluation.{Calls, value_named, assign, is_void, make, dispatch, Branch, eval, eval_all, eval_items, eval_init, branch_of}
 use Rattle.cool_rules.proofs.ChainsOfTables.{below_trans, below_within, below_itself, chain_within, implementation_below}
-use Rattle.cool_rules.proofs.NamesOfTables.{chain_is, class_by_name, meant_is, bytes_differ, bytes_same, same_class}
+use Rattle.cool_classes.proofs.ChainsOfTables.{chain_is}
+use Rattle.cool_rules.proofs.NamesOfTables.{class_by_name, bytes_differ, bytes_same}
+use Rattle.cool_rules.proofs.RulesOfTables.{meant_is}
 use Rattle.cool_meaning.proofs.BasicClasses.{basic_within}
 use Rattle.cool_meaning.proofs.FittingValues.{World, Grown, not_grown, grown_on, Fits, AllFit, still_fits, still_all_fit, meant, Holds, still_holds, found_at, fits_above, fits_conforming, below_conforming, class_fits}
 use Rattle.cool_meaning.proofs.SoundComputations.{Sound, bind_sound, then_sound, give_sound, working_sound, holding_sound, rule_sound, if_sound, fewer_sound, locate_sound, load_sound, store_sound}
@@ -109,7 +112,7 @@ module _ (p : List Class) (typed : IsTypedTable p) (calls : Calls) (b : ℕ) (ca
   result_sound : (m : ℕ) (w : World) (j : ClassId) (receiver result type : Ty) (name : List ℕ) (d : Computation Value) → Below p j (class_meant k receiver) → Denotes p name result → type ≡ result_on receiver result
       → Sound p m w (λ w' r. Fits p w' r (meant p j name)) d → Sound p m w (IsOf type) d
   result_sound m w j receiver result type name d below denotes is h =
-      to_type (result_on receiver result) type is (by result (subst (λ (x : Ty). Sound p m w (λ w' r. Fits p w' r (class_meant j x)) d) (meant_is p typed.whole name result denotes) h))
+      to_type (result_on receiver result) type is (by result (subst (λ (x : Ty). Sound p m w (λ w' r. Fits p w' r (class_meant j x)) d) (meant_is p typed.whole.table name result denotes) h))
     where
       by : (u : Ty) → Sound p m w (λ w' r. Fits p w' r (class_meant j u)) d → Sound p m w (IsOf (result_on receiver u)) d
       by (IsClass x) h = h
@@ -118,11 +121,11 @@ module _ (p : List Class) (typed : IsTypedTable p) (calls : Calls) (b : ℕ) (ca
   method_there : (x : ClassId) → x.0 < length p → (name : List ℕ) (n : MethodRef) → implementation p (chain_of p x) name ≡ Some n → HasMethod p n
   method_there x within name n found =
       let (d, there, own) = implementation_own p (chain_of p x) name n found in
-      found_has p d name n (chain_within p typed.whole x within (chain_of p x) (chain_is p typed.whole x within) d there) own
+      found_has p d name n (chain_within p typed.whole x within (chain_of p x) (chain_is p x typed.whole.table within) d there) own
 
   -- the method that static typing found, in the class itself
   found_in : (x : ClassId) → x.0 < length p → (name : List ℕ) (n : MethodRef) → IsImplementation p x name n → implementation p (chain_of p x) name ≡ Some n
-  found_in x within name n (ds, chain, is) = subst (λ (xs : List ClassId). implementation p xs name ≡ Some n) (chain_unique p (Some x) ds (chain_of p x) chain (chain_is p typed.whole x within)) is
+  found_in x within name n (ds, chain, is) = subst (λ (xs : List ClassId). implementation p xs name ≡ Some n) (chain_unique p (Some x) ds (chain_of p x) chain (chain_is p x typed.whole.table within)) is
 
   static_sound : (w : World) (scope : List Binding) (env : Environment) (at : Place) (x j : ClassId) (name : List ℕ) (v : Value) (vs : List Value) (receiver : Ty) (given' : List Ty) (type : Ty)
       → Scene p w c k self scope env → IsCall p c x name receiver given' type → x.0 < length p → class_of v ≡ Some j → j.0 < length p → Fits p w v j → Below p j (class_meant k receiver) → Below p j x
@@ -141,7 +144,7 @@ module _ (p : List Class) (typed : IsTypedTable p) (calls : Calls) (b : ℕ) (ca
   dynamic_sound w scope env at x j name v vs receiver given' type scene call x_within is j_within fit below below_x args =
       let n = call.method in
       let found_there = found_in x x_within name n call.found in
-      let (m, here, same) = implementation_below p typed j x (chain_of p j) (chain_of p x) name n j_within below_x (chain_is p typed.whole j j_within) (chain_is p typed.whole x x_within) found_there in
+      let (m, here, same) = implementation_below p typed j x (chain_of p j) (chain_of p x) name n j_within below_x (chain_is p j typed.whole.table j_within) (chain_is p x typed.whole.table x_within) found_there in
       let names = formals_are_classes p typed n (method_there x x_within name n found_there) in
       result_sound b w j receiver call.result type (result_of p n) (dispatch p calls at j name v vs) below call.declared call.is
       (subst (λ (y : List ℕ). Sound p b w (λ w' r. Fits p w' r (meant p j y)) (dispatch p calls at j name v vs)) same.result
@@ -165,7 +168,7 @@ module _ (p : List Class) (typed : IsTypedTable p) (calls : Calls) (b : ℕ) (ca
   new_sound w scope env name (IsClass d) scene (within, is) =
       let other : name ≢ codes "SELF_TYPE" = λ same. typed.whole.table.no_self_type d within (is ∙ same) in
       subst (λ (o : Option ClassId). Sound p b w (IsOf (IsClass d)) (make p calls o))
-      (sym (ap (λ (x : Bool). if x then class_of self else class_named p name) (bytes_differ name (codes "SELF_TYPE") other) ∙ class_by_name p typed.whole d name within is))
+      (sym (ap (λ (x : Bool). if x then class_of self else class_named p name) (bytes_differ name (codes "SELF_TYPE") other) ∙ class_by_name p typed.whole.table d name within is))
       (make_sound p typed calls b calls_sound w d within)
 
   object_plain : MayInherit (class_number 0)
@@ -201,7 +204,7 @@ module _ (p : List Class) (typed : IsTypedTable p) (calls : Calls) (b : ℕ) (ca
         let (below, j_within, fine) = class_fits p typed w3 v (class_meant k receiver) j fit3 is in
         let scene3 = scene_later p w1 w3 c k self scope env g scene1 in
         let below_x : Below p j x = below_trans p j (class_meant k receiver) x below (below_conforming p typed c k scene.k_within scene.below receiver (IsClass x) conforms) in
-        subst (λ (o : Option ClassId). Sound p b w3 (IsOf type) (given o >>= λ d. dispatch p calls at d name v vs)) (sym (class_by_name p typed.whole x class.name denotes.0 denotes.1))
+        subst (λ (o : Option ClassId). Sound p b w3 (IsOf type) (given o >>= λ d. dispatch p calls at d name v vs)) (sym (class_by_name p typed.whole.table x class.name denotes.0 denotes.1))
         (bind_sound (give_sound {Q = λ w' d. Grown w3 w' × (d ≡ x)} x (not_grown w3, refl)) (λ w4 d g4 same.
         let g5 : Grown w1 w4 = grown_on w1 w3 w4 g g4 in
         subst (λ (d : ClassId). Sound p b w4 (IsOf type) (dispatch p calls at d name v vs)) (sym same.1)
@@ -227,7 +230,7 @@ module _ (p : List Class) (typed : IsTypedTable p) (calls : Calls) (b : ℕ) (ca
         let (below, j_within, fine) = class_fits p typed w2 v (class_meant k t) j (still_fits p w1 w2 g2 v (class_meant k t) fit) is in
         let scene2 = scene_later p w w2 c k self scope env (grown_on w w1 w2 g1 g2) scene in
         nearest_sound p typed calls b calls_sound w2 at j (class_meant k type) v (branch_of p calls self env cs) (chain_of p j) (λ d there.
-        let on_chain : Below p j d = (chain_of p j, chain_is p typed.whole j j_within, there) in
+        let on_chain : Below p j d = (chain_of p j, chain_is p j typed.whole.table j_within, there) in
         (fits_above p typed w2 v j d fine on_chain, branch_sound cs w2 scope env ts type scene2 have (join_conforms p c ts type join) d (below_within p typed.whole j d j_within on_chain)))))))
     eval_sound (trees.New at class) w scope env type scene h = new_sound w scope env class.name type scene h
     eval_sound (trees.IsVoid at e) w scope env type scene (t, has, is) = rule_sound (bind_sound (eval_sound e w scope env t scene has) (λ w1 v g1 fit. to_type bool_type type is (give_sound (Truth (is_void v)) (bool_fits p typed))))
@@ -270,7 +273,7 @@ module _ (p : List Class) (typed : IsTypedTable p) (calls : Calls) (b : ℕ) (ca
     branch_sound (CaseOf at name declared e cs) w scope env [] join scene h conform d within = absurd h
     branch_sound (CaseOf at name declared e cs) w scope env (t ∷ ts) join scene ((x, other, denotes, has), have) conform d within =
         branch_by (bytes_eq declared.name (name_of p d)) refl w d (class_meant k join) _ _ (λ same v fit.
-        let is : d ≡ x = same_class p typed.whole d x within denotes.0 (sym (denotes.1 ∙ same)) in
+        let is : d ≡ x = typed.whole.table.names d x within denotes.0 (sym (denotes.1 ∙ same)) in
         bind_sound (locate_sound v x (subst (λ (y : ClassId). Fits p w v y) is fit)) (λ w1 l g1 made.
         let scene1 = scene_later p w w1 c k self scope env g1 scene in
         conforming scope env scene1 t join conform.0 (eval_sound e w1 (with_name name (IsClass x) scope) (record { name = name; location = l } ∷ env) t (scene_with p w1 c k self scope env name (IsClass x) l made scene1) has)))

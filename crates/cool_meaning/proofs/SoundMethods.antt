@@ -17,7 +17,8 @@ use Rattle.cool_meaning.specs.Numbers.{signed, number_of}
 use Rattle.cool_meaning.specs.Lookups.{attributes}
 use Rattle.cool_meaning.specs.BasicMethods.{as_number, as_truth, as_string, one, two, new_number, new_truth, new_string, draw, copy, print, take_line, part, substring, basic}
 use Rattle.cool_rules.proofs.ChainsOfTables.{below_itself}
-use Rattle.cool_rules.proofs.NamesOfTables.{meant_is}
+use Rattle.cool_rules.specs.Rules.{type_meant, type_of_name}
+use Rattle.cool_rules.proofs.RulesOfTables.{meant_is}
 use Rattle.cool_meaning.proofs.BasicClasses.{basic_within, basic_name, only_int, only_bool, only_string}
 use Rattle.cool_meaning.proofs.FittingValues.{World, not_grown, still_all_made, Fits, AllFit, still_fits, still_all_fit, meant, attribute_classes}
 use Rattle.cool_meaning.proofs.SoundComputations.{Sound, bind_sound, then_sound, give_sound, stop_sound, changing_sound, reading_sound, working_sound, giving_sound, locate_all_sound, load_all_sound}
@@ -51,13 +52,13 @@ take_line_sound {w = w} = record { sound = λ s n less fits. record { world = w;
 module _ (p : List Class) (typed : IsTypedTable p) where
   -- the classes that the names of the basic classes mean
   pub object_meant : (k : ClassId) → meant p k (codes "Object") ≡ class_number 0
-  object_meant k = ap (class_meant k) (meant_is p typed.whole (codes "Object") (IsClass (class_number 0)) (basic_within p typed 0 (omega arith), basic_name p typed 0 (omega arith)))
+  object_meant k = ap (class_meant k) (meant_is p typed.whole.table (codes "Object") (IsClass (class_number 0)) (basic_within p typed 0 (omega arith), basic_name p typed 0 (omega arith)))
 
   pub int_meant : (k : ClassId) → meant p k (codes "Int") ≡ class_number 2
-  int_meant k = ap (class_meant k) (meant_is p typed.whole (codes "Int") (IsClass (class_number 2)) (basic_within p typed 2 (omega arith), basic_name p typed 2 (omega arith)))
+  int_meant k = ap (class_meant k) (meant_is p typed.whole.table (codes "Int") (IsClass (class_number 2)) (basic_within p typed 2 (omega arith), basic_name p typed 2 (omega arith)))
 
   pub string_meant : (k : ClassId) → meant p k (codes "String") ≡ class_number 4
-  string_meant k = ap (class_meant k) (meant_is p typed.whole (codes "String") (IsClass (class_number 4)) (basic_within p typed 4 (omega arith), basic_name p typed 4 (omega arith)))
+  string_meant k = ap (class_meant k) (meant_is p typed.whole.table (codes "String") (IsClass (class_number 4)) (basic_within p typed 4 (omega arith), basic_name p typed 4 (omega arith)))
 
   -- Int, Bool and String fit themselves
   pub int_fits : Below p (class_number 2) (class_number 2)
@@ -139,6 +140,7 @@ module _ (p : List Class) (typed : IsTypedTable p) where
   -- a method on a value of class k; one of String is called on a string
   pub basic_sound : {b : ℕ} {w : World} (m : BasicMethod) (at : Place) (v : Value) (k : ClassId) (vs : List Value) → class_of v ≡ Some k → Fits p w v k → (IsOfString m → k ≡ class_number 4)
       → AllFit p w vs (map (meant p k) (basic_formals m)) → Sound p b w (λ w' r. Fits p w' r (meant p k (basic_result m))) (basic p m at v vs)
+  unfolding type_meant type_of_name
   basic_sound {b = b} {w = w} Abort at v k vs e h on args =
       subst (λ (o : Option ClassId). Sound p b w (λ w' r. Fits p w' r (meant p k (codes "Object"))) (given o >>= λ c. stop (Aborted c))) (sym e) (bind_sound (give_sound {Q = Any} k tt) (λ w' c g q. stop_sound (Aborted c)))
   basic_sound {b = b} {w = w} TypeName at v k vs e h on args = of_class (class_number 4) (meant p k (codes "String")) (sym (string_meant k))

@@ -31,12 +31,14 @@ use Rattle.cool_meaning.specs.Values.{Value, Void, Int, Bool as Truth, Str, Obj,
 use Rattle.cool_meaning.specs.Meters
 use Rattle.cool_meaning.specs.Meters.{Error, Overflow, DivisionByZero, NoBranch, Computation, ◌>>=◌, ◌>>◌, give, stop, stuck, spend, rule, working, giving, holding, given, locate, load, store}
 use Rattle.cool_meaning.specs.Numbers.{fits, is_zero}
-use Rattle.cool_rules.specs.Lookups.{chain_of}
+use Rattle.cool_classes.specs.ClimbedChains.{chain as chain_of}
 use Rattle.cool_meaning.specs.Lookups.{attributes, default_values}
 use Rattle.cool_meaning.specs.BasicMethods.{as_number, new_number, new_truth, new_string}
 use Rattle.cool_meaning.specs.Evaluation.{Body, Initials, Calls, class_or, exact, arithmetic, compare, same, bytes_compared, turns, loop, new_object, make, invoke, dispatch, Branch, or_else, nearest, take_branch}
 use Rattle.cool_rules.proofs.ChainsOfTables.{below_trans, below_itself, contains_later, chain_within}
-use Rattle.cool_rules.proofs.NamesOfTables.{chain_is, meant_is, bytes_same, same_class}
+use Rattle.cool_classes.proofs.ChainsOfTables.{chain_is}
+use Rattle.cool_rules.proofs.NamesOfTables.{bytes_same}
+use Rattle.cool_rules.proofs.RulesOfTables.{meant_is}
 use Rattle.cool_meaning.proofs.BasicClasses.{by_number, basic_within, basic_name, high_inherits, only_string}
 use Rattle.cool_meaning.proofs.FittingValues.{World, Grown, not_grown, grown_on, still_all_made, Fits, AllFit, still_fits, meant, attribute_classes, fits_conforming}
 use Rattle.cool_meaning.proofs.SoundComputations.{NotStuck, Sound, bind_sound, then_sound, give_sound, stop_sound, working_sound, giving_sound, holding_sound, rule_sound, if_sound, spend_sound, locate_all_sound}
@@ -87,7 +89,7 @@ module _ (p : List Class) (typed : IsTypedTable p) where
   default_fits w k name (IsClass d) within may (d_within, is) = by (bytes_eq name (codes "Int")) (bytes_eq name (codes "Bool")) (bytes_eq name (codes "String")) refl refl refl
     where
       named : (n : ℕ) → n < 5 → name ≡ name_of p (class_number n) → class_number n ≡ d
-      named n less e = sym (same_class p typed.whole d (class_number n) d_within (basic_within p typed n less) (is ∙ e))
+      named n less e = sym (typed.whole.table.names d (class_number n) d_within (basic_within p typed n less) (is ∙ e))
 
       other : (n : ℕ) (word : List ℕ) → n < 5 → name_of p (class_number n) ≡ word → bytes_eq name word ≡ false → d.0 ≢ n
       other n word less e f same = true≢false (sym (bytes_same name word (sym is ∙ (ap (name_of p) (by_number d n same) ∙ e))) ∙ f)
@@ -109,7 +111,7 @@ module _ (p : List Class) (typed : IsTypedTable p) where
   -- an argument's type is that of its formal for the receiver too
   formal_meant : (k j : ClassId) (formal : List ℕ) (u : Ty) → IsClassName p formal → Denotes p formal u → class_meant k u ≡ meant p j formal
   formal_meant k j formal SelfType (d, within, is) e = absurd (typed.whole.table.no_self_type d within (is ∙ e))
-  formal_meant k j formal (IsClass c) h e = sym (ap (class_meant j) (meant_is p typed.whole formal (IsClass c) e))
+  formal_meant k j formal (IsClass c) h e = sym (ap (class_meant j) (meant_is p typed.whole.table formal (IsClass c) e))
 
   pub arguments_fit : (c k j : ClassId) → k.0 < length p → Below p k c → (w : World) (given : List Ty) (formals : List (List ℕ)) (vs : List Value) → AllFit p w vs (map (class_meant k) given)
       → AreArguments p c given formals → AllByRecursion (IsClassName p) formals → AllFit p w vs (map (meant p j) formals)
@@ -185,12 +187,12 @@ module _ (p : List Class) (typed : IsTypedTable p) where
     attribute_defaults w k within may [] h = tt
     attribute_defaults w k within may (r ∷ rs) h =
         let (t, denotes) = attribute_denotes r h.0 in (
-          subst (λ (x : Ty). Fits p w (default_of (attribute_type p r)) (class_meant k x)) (sym (meant_is p typed.whole (attribute_type p r) t denotes)) (default_fits w k (attribute_type p r) t within may denotes),
+          subst (λ (x : Ty). Fits p w (default_of (attribute_type p r)) (class_meant k x)) (sym (meant_is p typed.whole.table (attribute_type p r) t denotes)) (default_fits w k (attribute_type p r) t within may denotes),
           attribute_defaults w k within may rs h.1,
         )
 
     attributes_there : (k : ClassId) → k.0 < length p → AllByRecursion (HasAttribute p) (attributes p k)
-    attributes_there k within = attributes_have p (chain_of p k) (λ j d less. all_within p typed.whole.depth typed.whole.grounded k within (chain_of p k) (chain_is p typed.whole k within) j d less)
+    attributes_there k within = attributes_have p (chain_of p k) (λ j d less. all_within p typed.whole.depth typed.whole.grounded k within (chain_of p k) (chain_is p k typed.whole.table within) j d less)
 
     object_sound : (m : ℕ) → m < b → (w : World) (k : ClassId) → k.0 < length p → MayInherit k → Sound p m w (λ w' v. Fits p w' v k) (new_object p calls k)
     object_sound m less w k within may =
@@ -226,13 +228,13 @@ module _ (p : List Class) (typed : IsTypedTable p) where
       where
         on : (d : ClassId) → d ≡ class_number 4 → Contains (chain_of p c) d → k ≡ class_number 4
         on d four there =
-            let on_chain : Below p c d = (chain_of p c, chain_is p typed.whole c c_within, there) in
+            let on_chain : Below p c d = (chain_of p c, chain_is p c typed.whole.table c_within, there) in
             only_string p typed k within (subst (λ (y : ClassId). Below p k y) four (below_trans p k c d below on_chain))
     invoke_sound m less w at c k name v vs (User owner i) is within fit below c_within found args =
         let (d, there, own) = implementation_own p (chain_of p c) name (User owner i) found in
-        let d_within : d.0 < length p = chain_within p typed.whole c c_within (chain_of p c) (chain_is p typed.whole c c_within) d there in
+        let d_within : d.0 < length p = chain_within p typed.whole c c_within (chain_of p c) (chain_is p c typed.whole.table c_within) d there in
         let (same, high) = user_own p d owner i name own in
-        let below_owner : Below p k owner = subst (λ (y : ClassId). Below p k y) (sym same) (below_trans p k c d below (chain_of p c, chain_is p typed.whole c c_within, there)) in
+        let below_owner : Below p k owner = subst (λ (y : ClassId). Below p k y) (sym same) (below_trans p k c d below (chain_of p c, chain_is p c typed.whole.table c_within, there)) in
         let has : HasMethod p (User owner i) = found_has p d name (User owner i) d_within own in
         (calls_sound m less).body w owner i v k vs has is within (high_inherits p typed k owner below_owner (subst (λ (y : ClassId). 5 ≤ y.0) (sym same) high)) below_owner fit args
 

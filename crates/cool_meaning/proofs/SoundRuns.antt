@@ -23,12 +23,14 @@ use Rattle.cool_rules.specs.TypedTables.{IsTypedTable}
 use Rattle.cool_meaning.specs.Values.{Value, Void, Int, Bool as Truth, Str, Obj, Environment, class_of, start}
 use Rattle.cool_meaning.specs.Meters
 use Rattle.cool_meaning.specs.Meters.{DispatchVoid, Outcome, Metered, Computation, ◌>>=◌, ◌>>◌, give, working}
-use Rattle.cool_rules.specs.Lookups.{chain_of}
+use Rattle.cool_classes.specs.ClimbedChains.{chain as chain_of}
 use Rattle.cool_meaning.specs.Lookups.{method_in, attributes, init_in, init_of, located, attribute_names, formal_names, locations_of, environment_of, attributes_at}
 use Rattle.cool_meaning.specs.Evaluation.{Body, Initials, Calls, eval, run_method, run_initial, run_initials, run_call, calls_within, make}
 use Rattle.cool_meaning.specs.SourceRun.{IsStuck, main_call, run_of, run}
 use Rattle.cool_rules.proofs.ChainsOfTables.{below_trans, attributes_above, below_itself, implementation_below}
-use Rattle.cool_rules.proofs.NamesOfTables.{chain_is, meant_is, class_by_name}
+use Rattle.cool_classes.proofs.ChainsOfTables.{chain_is}
+use Rattle.cool_rules.proofs.NamesOfTables.{class_by_name}
+use Rattle.cool_rules.proofs.RulesOfTables.{meant_is}
 use Rattle.cool_meaning.proofs.FittingValues.{World, AreMade, still_all_made, still_made, Fits, AllFit, still_fits, meant, attribute_classes, Holds, fits_conforming, class_fits}
 use Rattle.cool_meaning.proofs.SoundComputations.{NotStuck, Sound, bind_sound, then_sound, give_sound, working_sound, store_sound, locate_all_sound, rule_sound, holding_sound}
 use Rattle.cool_meaning.proofs.SoundMethods.{Any}
@@ -72,7 +74,7 @@ module _ (p : List Class) (typed : IsTypedTable p) where
   attributes_hold : (w : World) (c k : ClassId) (self : Value) (chain : List ClassId) → IsChain p (Some c) chain → class_of self ≡ Some k → k.0 < length p → MayInherit k → Below p k c → Fits p w self k
       → Holds w k (attributes_in_scope p (attributes_of p chain)) (environment_of p self)
   attributes_hold w c k self chain is_chain is within may below h =
-      let (more, split) = attributes_above p k c (chain_of p k) chain below (chain_is p typed.whole k within) is_chain in
+      let (more, split) = attributes_above p k c (chain_of p k) chain below (chain_is p k typed.whole.table within) is_chain in
       let made = own_locations w self k is may h in
       subst (λ (o : Option ClassId). Holds w k (attributes_in_scope p (attributes_of p chain)) (attributes_at p o (locations_of self))) (sym is)
       (subst (λ (rs : List AttributeRef). Holds w k (attributes_in_scope p (attributes_of p chain)) (located (attribute_names p rs) (locations_of self))) (sym split)
@@ -84,7 +86,7 @@ module _ (p : List Class) (typed : IsTypedTable p) where
         → class_of self ≡ Some k → Fits p w self k → (f : FitsDeclared p c inner e declared) → Holds w k (inner ++ attributes_in_scope p (attributes_of p f.chain)) env
         → Sound p b w (λ w' v. Fits p w' v (meant p k declared)) (eval p calls self env e)
     declared_sound w c k self inner env e declared c_within within may below is fit f holds =
-        wider_sound (λ w' v h. subst (λ (t : _). Fits p w' v (class_meant k t)) (sym (meant_is p typed.whole declared f.result f.denotes)) (fits_conforming p typed c k within below w' v f.type f.result h f.conforms))
+        wider_sound (λ w' v h. subst (λ (t : _). Fits p w' v (class_meant k t)) (sym (meant_is p typed.whole.table declared f.result f.denotes)) (fits_conforming p typed c k within below w' v f.type f.result h f.conforms))
         (eval_sound p typed calls b calls_sound c k self e w (inner ++ attributes_in_scope p (attributes_of p f.chain)) env f.type
         (record { c_within = c_within; k_within = within; below = below; plain = may; class = is; fits = fit; holds = holds }) f.has)
 
@@ -125,16 +127,16 @@ module _ (p : List Class) (typed : IsTypedTable p) where
     initials_sound : (w : World) (c : ClassId) (self : Value) (k : ClassId) → c.0 < length p → class_of self ≡ Some k → k.0 < length p → MayInherit k → Below p k c → Fits p w self k
         → Sound p b w (Any {A = Value}) (run_call p calls (Initials c self))
     initials_sound w c self k c_within is within may below fit =
-        let (more, split) = attributes_above p k c (chain_of p k) (chain_of p c) below (chain_is p typed.whole k within) (chain_is p typed.whole c c_within) in
+        let (more, split) = attributes_above p k c (chain_of p k) (chain_of p c) below (chain_is p k typed.whole.table within) (chain_is p c typed.whole.table c_within) in
         all_init_sound w (attributes p c) more (locations_of self) self k
-        (attributes_have p (chain_of p c) (λ j d less. all_within p typed.whole.depth typed.whole.grounded c c_within (chain_of p c) (chain_is p typed.whole c c_within) j d less))
+        (attributes_have p (chain_of p c) (λ j d less. all_within p typed.whole.depth typed.whole.grounded c c_within (chain_of p c) (chain_is p c typed.whole.table c_within) j d less))
         (owners (attributes p c) (attributes_owned p (chain_of p c)))
         is within may fit
         (subst (λ (rs : List AttributeRef). AreMade w (locations_of self) (attribute_classes p k rs)) split (own_locations w self k is may fit))
       where
         owners : (rs : List AttributeRef) → AllByRecursion (λ (r : AttributeRef). Contains (chain_of p c) r.owner) rs → AllByRecursion (λ (r : AttributeRef). Below p k r.owner) rs
         owners [] h = tt
-        owners (r ∷ rs) h = (below_trans p k c r.owner below (chain_of p c, chain_is p typed.whole c c_within, h.0), owners rs h.1)
+        owners (r ∷ rs) h = (below_trans p k c r.owner below (chain_of p c, chain_is p c typed.whole.table c_within, h.0), owners rs h.1)
 
   -- with so many steps at most, calls are never stuck
   pub within_sound : (n m : ℕ) → m < n → CallsSound p (calls_within p n) m
@@ -149,12 +151,12 @@ module _ (p : List Class) (typed : IsTypedTable p) where
   main_sound n =
       let main = typed.lawful.main in
       rule_sound (bind_sound (give_sound {Q = λ w vs. vs ≡ []} [] refl) (λ w1 vs g1 none. holding_sound (length vs) (
-      bind_sound (subst (λ (o : Option ClassId). Sound p n w1 (λ w v. Fits p w v main.class) (make p (calls_within p n) o)) (sym (class_by_name p typed.whole main.class (codes "Main") main.within main.name))
+      bind_sound (subst (λ (o : Option ClassId). Sound p n w1 (λ w v. Fits p w v main.class) (make p (calls_within p n) o)) (sym (class_by_name p typed.whole.table main.class (codes "Main") main.within main.name))
       (make_sound p typed (calls_within p n) n (within_sound n) w1 main.class main.within)) (λ w2 v g2 fit.
       bind_sound (class_or_sound (DispatchVoid nowhere) v) (λ w3 j g3 is.
       let (below, j_within, fine) = class_fits p typed w3 v main.class j (still_fits p w2 w3 g3 v main.class fit) is in
-      let (m, here, same) = implementation_below p typed j main.class (chain_of p j) (chain_of p main.class) (codes "main") main.method j_within below (chain_is p typed.whole j j_within) (chain_is p typed.whole main.class main.within)
-      (first_own main.class (chain_of p main.class) (chain_is p typed.whole main.class main.within) main.method main.own) in
+      let (m, here, same) = implementation_below p typed j main.class (chain_of p j) (chain_of p main.class) (codes "main") main.method j_within below (chain_is p j typed.whole.table j_within) (chain_is p main.class typed.whole.table main.within)
+      (first_own main.class (chain_of p main.class) (chain_is p main.class typed.whole.table main.within) main.method main.own) in
       wider_sound (λ w' r h. tt) (dispatch_sound p typed (calls_within p n) n (within_sound n) w3 nowhere j j (codes "main") v vs m is j_within fine (below_itself p typed.whole j j_within) j_within here
       (subst (λ (xs : List Value). AllFit p w3 xs (map (meant p j) (formals_of p m))) (sym none) (subst (λ (ys : List (List ℕ)). AllFit p w3 [] (map (meant p j) ys)) (sym (same.formals ∙ main.formals)) tt))))))))
     where

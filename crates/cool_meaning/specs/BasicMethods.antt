@@ -8,7 +8,7 @@ use Rattle.cool_classes.specs.Chains.{Class, name_of}
 use Rattle.cool_meaning.specs.Values.{Value, Void, Int, Bool, Str, Obj, class_of}
 use Rattle.cool_meaning.specs.Meters.{Computation, Substring, Aborted, ◌>>=◌, ◌>>◌, give, stop, stuck, working, giving, reading, changing, given, locate, load}
 use Rattle.cool_meaning.specs.Numbers.{signed, number_of}
-use Rattle.cool_rules.specs.Lookups.{chain_of}
+use Rattle.cool_classes.specs.ClimbedChains.{chain}
 
 -- the number, truth or string that a value is
 
@@ -81,7 +81,7 @@ copy p Void = stuck
 copy p (Int n) = new_number n
 copy p (Bool b) = new_truth b
 copy p (Str bytes) = new_string bytes
-copy p (Obj c i ls) = working (length ls + length (chain_of p c)) (giving (4 + length ls) (do
+copy p (Obj c i ls) = working (length ls + length (chain p c)) (giving (4 + length ls) (do
   vs ← load_all ls
   ls' ← locate_all vs
   i' ← draw

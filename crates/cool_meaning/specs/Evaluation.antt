@@ -19,7 +19,8 @@ use Rattle.cool_classes.specs.Features.{implementation}
 use Rattle.cool_meaning.specs.Values.{Value, Void, Int, Bool, Str, Obj, Environment, location_of, class_of, default_of}
 use Rattle.cool_meaning.specs.Meters.{Error, DispatchVoid, CaseVoid, NoBranch, DivisionByZero, Overflow, Computation, ◌>>=◌, ◌>>◌, give, stop, stuck, spend, rule, working, giving, holding, given, locate, load, store}
 use Rattle.cool_meaning.specs.Numbers.{fits, is_zero}
-use Rattle.cool_rules.specs.Lookups.{chain_of, class_named}
+use Rattle.cool_classes.specs.ClimbedChains.{chain}
+use Rattle.cool_rules.specs.Rules.{class_named}
 use Rattle.cool_meaning.specs.Lookups.{class_made, method_at, attributes, default_values, init_of, located, formal_names, locations_of, environment_of}
 use Rattle.cool_meaning.specs.BasicMethods.{basic, as_number, as_truth, new_number, new_truth, new_string, draw, locate_all}
 
@@ -118,7 +119,7 @@ loop test body s n = turns (suc n) test body s n
 
 -- an object's locations with the defaults of its attributes, its identity, and then the initial values
 abbrev pub new_object : List Class → Calls → ClassId → Computation Value
-new_object p calls c = working (length (attributes p c) + length (chain_of p c)) (giving (4 + length (attributes p c)) (do
+new_object p calls c = working (length (attributes p c) + length (chain p c)) (giving (4 + length (attributes p c)) (do
   ls ← locate_all (default_values p (attributes p c))
   i ← draw
   calls (Initials c (Obj c i ls))
@@ -131,7 +132,7 @@ make p calls (Some c) =
     if c.0 == 2 then rule (spend (new_number (pos 0)))
     else (if c.0 == 3 then rule (spend (new_truth false))
     else (if c.0 == 4 then rule (spend (new_string []))
-    else working 1 (holding (length (chain_of p c)) (spend (new_object p calls c)))))
+    else working 1 (holding (length (chain p c)) (spend (new_object p calls c)))))
 
 -- Dispatch
 
@@ -142,7 +143,7 @@ invoke p calls at v vs (Some (User owner k)) = calls (Body owner k v vs)
 
 -- the method of a name that a class has, on a receiver of a class below it
 abbrev pub dispatch : List Class → Calls → Place → ClassId → List ℕ → Value → List Value → Computation Value
-dispatch p calls at c name v vs = spend (working (length vs) (invoke p calls at v vs (implementation p (chain_of p c) name)))
+dispatch p calls at c name v vs = spend (working (length vs) (invoke p calls at v vs (implementation p (chain p c) name)))
 
 -- Cases
 
@@ -204,7 +205,7 @@ abbrev mutual
   eval p calls self env (trees.Case at t cs) = rule (do
     v ← eval p calls self env t
     c ← class_or (CaseVoid at) v
-    working (branch_count cs * length (chain_of p c)) (take_branch at c v (nearest p (branch_of p calls self env cs) (chain_of p c))))
+    working (branch_count cs * length (chain p c)) (take_branch at c v (nearest p (branch_of p calls self env cs) (chain p c))))
   eval p calls self env (trees.New at class) = make p calls (class_made p self class.name)
   eval p calls self env (trees.IsVoid at t) = rule (do
     v ← eval p calls self env t

@@ -9,7 +9,8 @@ use Rattle.cool_classes.specs.declared.class_id.ClassId.{ClassId}
 use Rattle.cool_classes.specs.declared.method.AttributeRef.{AttributeRef}
 use Rattle.cool_classes.specs.Chains.{Class, features_of}
 use Rattle.cool_classes.specs.Features.{attributes_of, attribute_name, attribute_type}
-use Rattle.cool_rules.specs.Lookups.{chain_of, class_named}
+use Rattle.cool_classes.specs.ClimbedChains.{chain}
+use Rattle.cool_rules.specs.Rules.{class_named}
 use Rattle.cool_meaning.specs.Values.{Value, Void, Int, Bool, Str, Obj, class_of, default_of, Environment}
 
 -- the class that `new` makes in a method of an object: for SELF_TYPE the object's own
@@ -27,7 +28,7 @@ method_at p owner k = method_in (slice_get (features_of p owner) k)
 
 -- the attributes of the objects of a class
 abbrev pub attributes : List Class → ClassId → List AttributeRef
-attributes p c = attributes_of p (chain_of p c)
+attributes p c = attributes_of p (chain p c)
 
 -- what an attribute begins with, before its initial value
 abbrev pub default_values : List Class → List AttributeRef → List Value

@@ -1,7 +1,6 @@
 pub mod Conformance
-pub mod Deciding
 pub mod Fits
-pub mod Lookups
+pub mod Rules
 pub mod Scopes
 pub mod TypedTables
 pub mod Typing

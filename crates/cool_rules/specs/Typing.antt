@@ -1,5 +1,5 @@
 -- Typing (the Cool manual, section 12): which type an expression has in a class, with these names in scope, and which features are typed.
-use Rattle.std.specs.Prelude.{◌≡◌, ◌⊎◌, ℕ, List, [], ◌∷◌, ◌++◌, map, Option, Some, None, Bool, false, ◌||◌, ◌==◌, codes, bytes_eq, if◌then◌else◌}
+use Rattle.std.specs.Prelude.{◌≡◌, ◌⊎◌, ℕ, List, [], ◌∷◌, ◌++◌, map, Option, Some, None, Bool, false, ◌||◌, codes, bytes_eq, if◌then◌else◌}
 use Rattle.std.specs.List.{AllByRecursion}
 use Rattle.cool_syntax.specs.declared.operator.CompareOp.{CompareOp}
 use Rattle.cool_syntax.specs.declared.operator.CompareOp.TheVariants.{Less, LessEqual, Equal}
@@ -14,10 +14,10 @@ use Rattle.cool_classes.specs.declared.class_id.Ty.TheVariants.{Class as IsClass
 use Rattle.cool_classes.specs.declared.method.MethodRef.{MethodRef}
 use Rattle.cool_classes.specs.declared.method.AttributeRef.{AttributeRef}
 use Rattle.cool_classes.specs.Chains.{Class, class_number, IsChain}
-use Rattle.cool_classes.specs.Features.{Denotes, implementation, attributes_of, attribute_name, attribute_type, formals_of, result_of}
+use Rattle.cool_classes.specs.Features.{Denotes, implementation, attributes_of, formals_of, result_of}
 use Rattle.cool_classes.specs.Limits.{AreDifferent}
-use Rattle.cool_classes.specs.Names.{first_named}
 use Rattle.cool_rules.specs.Conformance.{Conforms, IsJoinOfTypes, class_of}
+use Rattle.cool_rules.specs.Rules.{same_type, attribute_binding, formal_binding}
 use Rattle.cool_rules.specs.Scopes.{Binding, found}
 
 -- Types that rules name
@@ -36,8 +36,7 @@ string_type = IsClass (class_number 4)
 
 -- Int, Bool and String, whose objects are compared by value
 abbrev pub has_values : Ty → Bool
-has_values (IsClass c) = c.0 == 2 || (c.0 == 3 || c.0 == 4)
-has_values SelfType = false
+has_values t = same_type t int_type || (same_type t bool_type || same_type t string_type)
 
 -- The parts of rules
 
@@ -153,20 +152,11 @@ abbrev mutual
 
 -- Features
 
--- the class of a name, or Object where there is none
-abbrev pub or_object : Option ClassId → ClassId
-or_object None = class_number 0
-or_object (Some c) = c
-
--- the type that a name means
-abbrev pub type_meant : List Class → List ℕ → Ty
-type_meant p name = if bytes_eq name (codes "SELF_TYPE") then SelfType else IsClass (or_object (first_named 0 (map (λ (c : Class). c.name) p) name))
-
 abbrev pub formals_in_scope : List Class → List Formal → List Binding
-formals_in_scope p fs = map (λ (f : Formal). record { name = f.name; type = type_meant p f.declared.name }) fs
+formals_in_scope p fs = map (formal_binding p) fs
 
 abbrev pub attributes_in_scope : List Class → List AttributeRef → List Binding
-attributes_in_scope p rs = map (λ (r : AttributeRef). record { name = attribute_name p r; type = type_meant p (attribute_type p r) }) rs
+attributes_in_scope p rs = map (attribute_binding p) rs
 
 -- an expression conforms to the type that a feature declares, in the scope of its class's attributes behind these names
 pub record FitsDeclared (p : List Class) (c : ClassId) (inner : List Binding) (e : Tree) (declared : List ℕ) : Type 0 where

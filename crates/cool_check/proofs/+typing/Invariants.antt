@@ -5,7 +5,7 @@ use Rattle.std.specs.List.{AllByRecursion}
 use Rattle.cool_syntax.specs.Tree.{of_list, of_twigs}
 use Rattle.cool_syntax.specs.NodeLists.{all_trees, at_id, twig_at}
 use Rattle.cool_rules.specs.Conformance.{IsType}
-use Rattle.cool_check.specs.Rules.{context}
+use Rattle.cool_check.specs.Contexts.{context}
 use Rattle.cool_check.specs.FirstFaults.{all_checked, cases_checked, last_checked, object}
 use Rattle.cool_check.proofs.+typing.Given as goal
 

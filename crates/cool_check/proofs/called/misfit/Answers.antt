@@ -4,7 +4,7 @@ use Rattle.cool_syntax.specs.Tree.{place_of}
 use Rattle.cool_syntax.specs.NodeLists.{all_trees}
 use Rattle.cool_syntax.specs.TokenFacts.{IsPlaced}
 use Rattle.cool_classes.specs.Features.{formals_of}
-use Rattle.cool_check.specs.Rules.{context}
+use Rattle.cool_check.specs.Contexts.{context}
 use Rattle.cool_check.proofs.Misfits.{misfit_later}
 use Rattle.cool_check.proofs.PlacesOfParts.{tree_within, place_within}
 use Rattle.cool_check.proofs.called.misfit.Goals as goal

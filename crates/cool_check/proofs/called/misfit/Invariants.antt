@@ -3,7 +3,7 @@ use Rattle.std.proofs.Common.{◌≡◌, map, drop}
 use Rattle.cool_syntax.specs.Tree.{of_list}
 use Rattle.cool_syntax.specs.NodeLists.{all_trees, at_id}
 use Rattle.cool_classes.specs.Features.{formals_of}
-use Rattle.cool_check.specs.Rules.{context}
+use Rattle.cool_check.specs.Contexts.{context}
 use Rattle.cool_check.specs.FirstFaults.{misfit}
 use Rattle.cool_check.proofs.called.misfit.Given as goal
 

@@ -4,9 +4,10 @@ use Rattle.std.specs.List.{AllByRecursion}
 use Rattle.cool_classes.specs.declared.method.AttributeRef.{AttributeRef}
 use Rattle.cool_classes.specs.Features.{HasAttribute, attribute_type}
 use Rattle.cool_classes.specs.ClimbedChains.{chain}
-use Rattle.cool_check.specs.Rules.{attribute_binding, entered, type_meant}
+use Rattle.cool_rules.specs.Rules.{attribute_binding, type_meant}
+use Rattle.cool_check.specs.Contexts.{entered}
 use Rattle.cool_classes.proofs.ChainsOfTables.{chain_is}
-use Rattle.cool_check.proofs.RulesOfTables.{type_meant_is}
+use Rattle.cool_rules.proofs.RulesOfTables.{type_meant_is}
 use Rattle.cool_check.proofs.feature.attribute_scope.Goals as goal
 
 pub loop-attribute-init : goal.loop-attribute-init

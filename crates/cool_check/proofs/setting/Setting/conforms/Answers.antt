@@ -1,5 +1,5 @@
 -- What decides conformance is the function's answer.
-use Rattle.cool_check.proofs.RulesOfTables.{do_conform_is}
+use Rattle.cool_rules.proofs.RulesOfTables.{do_conform_is}
 use Rattle.cool_check.proofs.setting.Setting.conforms.Goals as goal
 
 pub returns : goal.returns

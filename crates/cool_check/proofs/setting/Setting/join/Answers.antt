@@ -1,5 +1,5 @@
 -- A join is the function's.
-use Rattle.cool_check.proofs.RulesOfTables.{join_in_is}
+use Rattle.cool_rules.proofs.RulesOfTables.{join_in_is}
 use Rattle.cool_check.proofs.setting.Setting.join.Goals as goal
 
 pub returns-clause-join : goal.returns-clause-join

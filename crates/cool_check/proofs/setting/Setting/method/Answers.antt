@@ -1,5 +1,5 @@
 -- The nearest method on the chain is that of the chain by the table.
-use Rattle.cool_check.proofs.RulesOfTables.{method_of_is}
+use Rattle.cool_rules.proofs.RulesOfTables.{method_of_is}
 use Rattle.cool_check.proofs.setting.Setting.method.Goals as goal
 
 pub returns-clause-method : goal.returns-clause-method

@@ -1,5 +1,5 @@
 -- The type that a result's name denotes is the one that it means.
-use Rattle.cool_check.proofs.RulesOfTables.{type_meant_is}
+use Rattle.cool_rules.proofs.RulesOfTables.{type_meant_is}
 use Rattle.cool_check.proofs.setting.Setting.result.Goals as goal
 
 pub returns-clause-result : goal.returns-clause-result

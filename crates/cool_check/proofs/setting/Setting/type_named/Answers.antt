@@ -1,5 +1,5 @@
 -- The type that has a name is the one that the function finds.
-use Rattle.cool_check.proofs.RulesOfTables.{type_of_name_is}
+use Rattle.cool_rules.proofs.RulesOfTables.{type_of_name_is}
 use Rattle.cool_check.proofs.setting.Setting.type_named.Goals as goal
 
 pub returns-clause-named : goal.returns-clause-named

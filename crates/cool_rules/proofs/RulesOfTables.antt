@@ -13,16 +13,10 @@ use Rattle.cool_classes.proofs.Climbs.{chain_unique}
 use Rattle.cool_rules.specs.Conformance.{IsType, IsTypeNamed, Conforms, IsJoinOfTypes}
 use Rattle.cool_classes.specs.ClimbedChains.{chain}
 use Rattle.cool_classes.proofs.ChainsOfTables.{chain_is}
-use Rattle.cool_check.specs.Rules.{is_among, first_among, do_conform, join_in, class_from, type_of_name, type_meant, method_of}
-use Rattle.cool_check.proofs.ClassesAmong.{below_among, among_below, among_there, same_answers}
-
--- bytes that are not those are told apart
-differs : (a b : List ℕ) → a ≢ b → bytes_eq a b ≡ false
-differs a b other = by (bytes_eq a b) refl
-  where
-    by : (r : Bool) → bytes_eq a b ≡ r → r ≡ false
-    by true e = absurd (other ((bytes_eq-Decides a b).0 e))
-    by false e = refl
+use Rattle.cool_rules.specs.Rules.{is_among, first_among, do_conform, join_in, class_named, type_of_name, type_meant, method_of}
+use Rattle.cool_classes.proofs.ClassesNamed.{named_back}
+use Rattle.cool_rules.proofs.NamesOfTables.{class_by_name, bytes_differ, bytes_same}
+use Rattle.cool_rules.proofs.ClassesAmong.{below_among, among_below, among_there, same_answers}
 
 -- the function of conformance decides it
 pub do_conform_true : (p : List Class) (c : ClassId) (a b : Ty) → IsTable p → c.0 < length p → IsType p a → do_conform p c a b ≡ true → Conforms p c a b
@@ -115,55 +109,29 @@ join_in_is p c (IsClass a) (IsClass b) SelfType h within ia ib join = absurd joi
 join_in_is p c (IsClass a) (IsClass b) (IsClass j) h within ia ib join =
     ap IsClass (join_is_first p a b j h ia ib (class_join p c a b j (IsClass a) (IsClass b) (λ o k. k) (λ o k. k) join.left join.right join))
 
--- the class that is found by a name, from a number on
-abbrev Found : ℕ → List Class → List ℕ → Option ClassId → Type 0
-Found j p name None = (k : ℕ) → k < length p → name_of p (class_number k) ≢ name
-Found j p name (Some c) = (k : ℕ) × (c ≡ class_number (j + k)) × (k < length p) × (name_of p (class_number k) ≡ name)
-
-found_later : (j : ℕ) (x : Class) (p : List Class) (name : List ℕ) (o : Option ClassId) → x.name ≢ name → Found (suc j) p name o → Found j (x ∷ p) name o
-found_later j x p name None other h = by
-  where
-    by : (k : ℕ) → k < length (x ∷ p) → name_of (x ∷ p) (class_number k) ≢ name
-    by zero within = other
-    by (suc k) within = h k (omega arith)
-found_later j x p name (Some c) other (k, at, within, is) = (suc k, at ∙ ap class_number (omega arith), omega arith, is)
-
-class_from_finds : (j : ℕ) (p : List Class) (name : List ℕ) → Found j p name (class_from j p name)
-unfolding class_from
-class_from_finds j [] name = λ k within. absurd (omega arith)
-class_from_finds j (x ∷ p) name = by (bytes_eq x.name name) refl (class_from_finds (suc j) p name)
-  where
-    by : (b : Bool) → bytes_eq x.name name ≡ b → Found (suc j) p name (class_from (suc j) p name) → Found j (x ∷ p) name (if b then Some (class_number j) else class_from (suc j) p name)
-    by true e more = (0, ap class_number (omega arith), omega arith, (bytes_eq-Decides x.name name).0 e)
-    by false e more = found_later j x p name (class_from (suc j) p name) (λ s. let t = (bytes_eq-Decides x.name name).1 s in cc) more
-
 -- what a name means is what the function finds
-named_class : (p : List Class) (name : List ℕ) (c : ClassId) (o : Option ClassId) → IsTable p → c.0 < length p → name_of p c ≡ name → Found 0 p name o → Some c ≡ o
-named_class p name c None h within is found = absurd (found c.0 within is)
-named_class p name c (Some d) h within is (k, at, kw, ks) =
-    let same : c ≡ class_number k = h.names c (class_number k) within kw (is ∙ sym ks) in
-    ap Some (same ∙ ap class_number (omega arith) ∙ sym at)
-
-no_class : (p : List Class) (name : List ℕ) (o : Option ClassId) → ((a : Ty) → Denotes p name a → ⊥) → Found 0 p name o → None ≡ option_map IsClass o
-no_class p name None none found = refl
-no_class p name (Some d) none (k, at, kw, ks) = absurd (none (IsClass (class_number k)) (kw, ks))
-
 pub type_of_name_is : (p : List Class) (name : List ℕ) (r : Option Ty) → IsTable p → IsTypeNamed p name r → r ≡ type_of_name p name
 unfolding type_of_name
 type_of_name_is p name None h none =
-    let no : bytes_eq name (codes "SELF_TYPE") ≡ false = differs name (codes "SELF_TYPE") (λ e. none SelfType e) in
-    no_class p name (class_from 0 p name) none (class_from_finds 0 p name)
-    ∙ sym (ap (λ (b : Bool). if b then Some SelfType else option_map IsClass (class_from 0 p name)) no)
+    by (class_named p name) refl
+    ∙ sym (ap (λ (b : Bool). if b then Some SelfType else option_map IsClass (class_named p name)) (bytes_differ name (codes "SELF_TYPE") (λ e. none SelfType e)))
+  where
+    by : (o : Option ClassId) → class_named p name ≡ o → None ≡ option_map IsClass (class_named p name)
+    by None e = sym (ap (option_map IsClass) e)
+    by (Some c) e = absurd (none (IsClass c) (named_back p name c e))
 type_of_name_is p name (Some SelfType) h is =
-    sym (ap (λ (b : Bool). if b then Some SelfType else option_map IsClass (class_from 0 p name)) ((bytes_eq-Decides name (codes "SELF_TYPE")).1 is))
+    sym (ap (λ (b : Bool). if b then Some SelfType else option_map IsClass (class_named p name)) (bytes_same name (codes "SELF_TYPE") is))
 type_of_name_is p name (Some (IsClass c)) h (within, is) =
-    let no : bytes_eq name (codes "SELF_TYPE") ≡ false = differs name (codes "SELF_TYPE") (λ e. h.no_self_type c within (is ∙ e)) in
-    ap (option_map IsClass) (named_class p name c (class_from 0 p name) h within is (class_from_finds 0 p name))
-    ∙ sym (ap (λ (b : Bool). if b then Some SelfType else option_map IsClass (class_from 0 p name)) no)
+    sym (ap (λ (b : Bool). if b then Some SelfType else option_map IsClass (class_named p name)) (bytes_differ name (codes "SELF_TYPE") (λ e. h.no_self_type c within (is ∙ e)))
+    ∙ ap (option_map IsClass) (class_by_name p h c name within is))
 
 pub type_meant_is : (p : List Class) (name : List ℕ) (a : Ty) → IsTable p → Denotes p name a → a ≡ type_meant p name
 unfolding type_meant
 type_meant_is p name a h is = ap (λ (o : Option Ty). unwrap_or o (IsClass (class_number 0))) (type_of_name_is p name (Some a) h is)
+
+-- and the type that it means is the one that it denotes
+pub meant_is : (p : List Class) → IsTable p → (name : List ℕ) (t : Ty) → Denotes p name t → type_meant p name ≡ t
+meant_is p h name t denotes = sym (type_meant_is p name t h denotes)
 
 pub method_of_is : (p : List Class) (c : ClassId) (name : List ℕ) (r : Option MethodRef) → IsTable p → c.0 < length p
     → ((ds : List ClassId) → IsChain p (Some c) ds → r ≡ implementation p ds name) → r ≡ method_of p c name

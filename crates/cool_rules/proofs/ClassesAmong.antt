@@ -8,7 +8,7 @@ use Rattle.cool_classes.specs.Chains.{Class, class_number, Below}
 use Rattle.cool_classes.specs.ClimbedChains.{chain}
 use Rattle.cool_classes.specs.Tables.{IsTable}
 use Rattle.cool_classes.proofs.ChainsOfTables.{chain_of, chain_is}
-use Rattle.cool_check.specs.Rules.{is_among}
+use Rattle.cool_rules.specs.Rules.{is_among}
 
 -- answers that hold together are one
 pub same_answers : (a b : Bool) → (a ≡ true → b ≡ true) → (b ≡ true → a ≡ true) → a ≡ b
