@@ -5,6 +5,8 @@
 #[cfg(test)]
 mod calls;
 #[cfg(test)]
+mod constants;
+#[cfg(test)]
 mod images;
 #[cfg(test)]
 mod printed_texts;

@@ -1,0 +1,2 @@
+pub mod MoreLines
+pub mod StringKeys

@@ -1,0 +1,16 @@
+pub mod ShortChains
+pub mod Counting
+pub mod Families
+pub mod TagRanges
+pub mod Children
+pub mod Walking
+pub mod LastTags
+pub mod TagsNoted
+pub mod AttributePlaces
+pub mod KeptOffsets
+pub mod SlotNames
+pub mod TablesGrow
+pub mod FindingSlots
+pub mod TablesStart
+pub mod TablesInOrder
+pub mod KeptSlots

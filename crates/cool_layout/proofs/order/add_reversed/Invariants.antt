@@ -1,0 +1,7 @@
+-- The classes from this one on are there, the last one first.
+use Rattle.std.proofs.Common.{◌≡◌, ◌++◌, drop}
+use Rattle.std.specs.Prelude.{reverse}
+use Rattle.cool_layout.proofs.order.add_reversed.Given as goal
+
+abbrev pub invariant-loop-index : goal.invariant-loop-index
+invariant-loop-index l = l.waiting.items ≡ l.fn.waiting.items ++ reverse (drop l.index l.classes)

@@ -1,0 +1,7 @@
+-- The children among the numbers so far.
+use Rattle.cool_layout.specs.Walks.{AreChildren}
+use Rattle.cool_layout.proofs.Children.{AreRooted}
+use Rattle.cool_layout.proofs.order.children_of.Given as goal
+
+abbrev pub invariant-loop-number : goal.invariant-loop-number
+invariant-loop-number l = AreChildren l.t l.number l.all.items × AreRooted l.t l.number

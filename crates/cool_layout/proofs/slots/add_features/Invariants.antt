@@ -1,0 +1,7 @@
+-- The methods among the features so far.
+use Rattle.std.proofs.Common.{◌≡◌, take}
+use Rattle.cool_layout.specs.SlotTables.{Has, user_own}
+use Rattle.cool_layout.proofs.slots.add_features.Given as goal
+
+abbrev pub invariant-loop-index : goal.invariant-loop-index
+invariant-loop-index l = (l.table.above ≡ l.fn.table.above) × Has l.t (user_own l.class 0 (take l.index l.features)) l.table

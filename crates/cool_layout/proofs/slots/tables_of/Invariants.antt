@@ -1,0 +1,6 @@
+-- The tables so far.
+use Rattle.cool_layout.specs.SlotTables.{AreTables}
+use Rattle.cool_layout.proofs.slots.tables_of.Given as goal
+
+abbrev pub invariant-loop-tag : goal.invariant-loop-tag
+invariant-loop-tag l = AreTables l.t l.tag l.tables.items

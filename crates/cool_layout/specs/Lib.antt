@@ -1,0 +1,11 @@
+pub mod Examples
+pub mod Labels
+pub mod Layouts
+pub mod LinesOfLayout
+pub mod Members
+pub mod Offsets
+pub mod Preorder
+pub mod Roots
+pub mod SlotTables
+pub mod Tags
+pub mod Walks

@@ -1,0 +1,11 @@
+//! Laws of layouts.
+
+ghost use Rattle.std.specs.Prelude.{List};
+ghost use Rattle.cool_classes.specs.Chains.{Class};
+ghost use Rattle.cool_layout.specs.Roots.{IsRooted};
+ghost use Rattle.cool_layout.specs.Tags.{AreTags};
+
+/// Each class has a tag of its own below the number of classes, and the tags of a class and of those below it are a range.
+pub fn law_tags()
+    ensures { (p : List Class) → IsRooted p → AreTags p }
+{}

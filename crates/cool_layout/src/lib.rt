@@ -1,0 +1,19 @@
+//! Where the classes of a program stand at run time: their tags, the attributes in their objects, the methods in their dispatch
+//! tables, and the lines of all that in the data.
+//!
+//! Comes in: a class table. Goes out: the layout of its classes, and its lines (`specs/Preorder.antt`, `specs/Members.antt`,
+//! `specs/LinesOfLayout.antt`).
+#![tactic(auto)]
+
+mod basic;
+mod labels;
+mod laws;
+mod layout;
+mod offsets;
+mod order;
+mod slots;
+mod tags;
+
+pub use labels::{initializer_label, method_label, name_label, prototype_label, table_label};
+pub use laws::law_tags;
+pub use layout::Layout;
