@@ -1,0 +1,21 @@
+-- The number is that of the table after more constants, too.
+use Rattle.std.proofs.Common.{◌≡◌, ℕ, ◌++◌, true, ap, sym, ◌∙◌, refl}
+use Rattle.std.specs.Prelude.{bytes_eq, string_bytes}
+use Rattle.std.specs.List.{position_or_len}
+use Rattle.std.proofs.lemmas.Result.{IfOk-weaker}
+use Rattle.cool_consts.specs.Constants.{Constants, string_number}
+use Rattle.cool_consts.specs.Labels.{string_constant}
+use Rattle.cool_codegen.specs.Asked.{Extends}
+use Rattle.cool_codegen.specs.Code.{string_label}
+use Rattle.cool_codegen.proofs.NumbersStay.{stays}
+use Rattle.cool_codegen.proofs.NatsAreEqual.{bytes_eq-same}
+use Rattle.cool_codegen.proofs.label.string_label.Goals as goal
+
+pub returns-clause-label : goal.returns-clause-label
+returns-clause-label c =
+    let v = c.args.bytes.now in
+    let old = c.args.consts.now.strings in
+    let same : (g : Constants) → Extends c.string.new.self g → string_number g.strings v ≡ c.in_ok-number.number =
+    λ g more. ap (position_or_len (bytes_eq v)) (more.strings.1 ∙ ap (λ xs. xs ++ more.strings.0) c.in_ok-number.ensures.strings)
+    ∙ stays (bytes_eq v) old more.strings.0 v (bytes_eq-same v) ∙ sym c.in_ok-number.ensures.number in
+    IfOk-weaker c.string_name.result _ _ (λ label e g more. e ∙ sym (ap string_constant (same g more))) c.string_name.ensures

@@ -1,0 +1,9 @@
+pub mod Pieces
+pub mod Labels
+pub mod Variables
+pub mod Types
+pub mod Arms
+pub mod Code
+pub mod Asked
+pub mod Features
+pub mod Settings

@@ -1,0 +1,14 @@
+-- In what the code of an expression is made: a class of a whole table, and the layout of that table.
+use Rattle.std.specs.Prelude.{◌<◌, length, map, string_bytes}
+use Rattle.cool_classes.specs.Tables.{IsTable}
+use Rattle.cool_layout.specs.Layouts.{IsLayoutOf}
+use Rattle.cool_codegen.specs.declared.setting.Setting.{Setting}
+use Rattle.cool_codegen.specs.Code.{Context}
+
+abbrev pub context : Setting → Context
+context s = record { table = s.table.now; class = s.class; feature = s.feature; files = map string_bytes s.names.now }
+
+pub record IsSound (s : Setting) : Type 0 where
+  pub table : IsTable s.table.now
+  pub class : s.class.0 < length s.table.now
+  pub layout : IsLayoutOf s.layout.now s.table.now
