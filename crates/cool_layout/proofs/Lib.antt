@@ -14,3 +14,6 @@ pub mod FindingSlots
 pub mod TablesStart
 pub mod TablesInOrder
 pub mod KeptSlots
+pub mod ClassesByTag
+pub mod BasicNames
+pub mod MethodsThere

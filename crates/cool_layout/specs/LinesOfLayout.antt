@@ -39,11 +39,15 @@ default_value name =
     else if bytes_eq name (codes "String") then Address default_string
     else Number (pos 0)
 
+-- what stands behind the head of the String of no bytes: its length, and a zero
+abbrev pub empty_string_fields : List WordItem
+empty_string_fields = Address default_int ∷ Number (pos 0) ∷ []
+
 -- the words behind the head of a new object: Int and Bool have a value, and String a length and the zero of no bytes
 abbrev pub new_fields : List Class → ClassId → List WordItem
 new_fields p c =
     if nat_eq c.0 2 || nat_eq c.0 3 then Number (pos 0) ∷ []
-    else if nat_eq c.0 4 then Address default_int ∷ Number (pos 0) ∷ []
+    else if nat_eq c.0 4 then empty_string_fields
     else map (λ a. default_value (attribute_type p a)) (attributes p c)
 
 abbrev pub prototype_lines : List Class → ClassId → List Line
@@ -53,7 +57,7 @@ prototype_lines p c = object_lines (prototype p c) (tag p c) (3 + length (new_fi
 abbrev pub default_lines : List Class → List Line
 default_lines p =
     int_lines default_int (int_tag p) 0
-    ++ object_lines default_string (string_tag p) 5 string_table (Address default_int ∷ Number (pos 0) ∷ [])
+    ++ object_lines default_string (string_tag p) 5 string_table empty_string_fields
 
 abbrev pub name_lines : List Class → ClassId → List Line
 name_lines p c = string_lines (class_name c) (class_name_length c) (int_tag p) (string_tag p) (name_of p c)

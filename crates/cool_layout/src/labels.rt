@@ -49,6 +49,14 @@ pub fn name_label(alloc: Global, c: ClassId) -> Result<Vec<u8>, AllocError>
     Ok(format!(in alloc; "__name{number}")?.into_bytes())
 }
 
+/// The label of the Int with the length of the name of a class.
+pub(crate) fn name_length_label(alloc: Global, c: ClassId) -> Result<Vec<u8>, AllocError>
+    ensures { IfOk result (λ name. name.items ≡ label.class_name_length c) }
+{
+    let number = c.0;
+    Ok(format!(in alloc; "__name_length{number}")?.into_bytes())
+}
+
 /// The label of a method of a basic class.
 fn basic_label(method: BasicMethod) -> &'static [u8]
     ensures { result.now ≡ label.basic_label method }

@@ -9,13 +9,19 @@ ghost use Rattle.cool_classes.specs.Limits.{KeepsLimits};
 ghost use Rattle.cool_layout.specs.Preorder.{tag, last_tag};
 ghost use Rattle.cool_layout.specs.Members.{attributes, offset, slot};
 ghost use Rattle.cool_layout.specs.Layouts.{IsLayoutOf};
+ghost use Rattle.cool_layout.specs.LinesOfLayout.{layout_lines};
 
 use crate::offsets::offsets_of;
 use crate::order::preorder;
+use crate::prototypes::{add_defaults, add_prototypes};
 use crate::slots::{Table, find_slot, tables_of};
+use crate::tables::{add_class_names, add_class_objects, add_dispatch_tables};
 use crate::tags::{lasts_of, tags_of};
-use cool_classes::{AttributeRef, ClassId, ClassTable};
+use crate::texts::{add_names, add_texts};
+use cool_classes::{AttributeRef, ClassId, ClassTable, INT, STRING};
+use cool_runtime::StringTags;
 use cool_syntax::Name;
+use mips_isa::Line;
 use std::alloc::{AllocError, Global};
 
 /// Where the classes of a table stand at run time.
@@ -91,5 +97,26 @@ impl Layout {
             Some(slot) => Some(slot as u32),
             None => None,
         }
+    }
+
+    /// The lines of the layout in the data, of the table for which it was made. `Err` comes only for want of memory.
+    pub fn lines(&self, alloc: Global, t: &ClassTable) -> Result<Vec<Line>, AllocError>
+        requires layout { IsLayoutOf self.now t.now }
+        ensures { IfOk result (λ lines. lines_of lines.items ≡ layout_lines t.now) }
+    {
+        let order = self.order.as_slice();
+        let tags = StringTags {
+            int: self.tag(INT),
+            string: self.tag(STRING),
+        };
+        let mut lines = Vec::new(alloc);
+        add_class_names(alloc, &mut lines, order)?;
+        add_class_objects(alloc, &mut lines, t, order)?;
+        add_dispatch_tables(alloc, &mut lines, t, order, self.tables.as_slice())?;
+        add_prototypes(alloc, &mut lines, t, order)?;
+        add_defaults(alloc, &mut lines, t, tags)?;
+        add_names(alloc, &mut lines, t, tags, order)?;
+        add_texts(alloc, &mut lines)?;
+        Ok(lines)
     }
 }

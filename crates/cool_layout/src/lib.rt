@@ -11,8 +11,11 @@ mod laws;
 mod layout;
 mod offsets;
 mod order;
+mod prototypes;
 mod slots;
+mod tables;
 mod tags;
+mod texts;
 
 pub use labels::{initializer_label, method_label, name_label, prototype_label, table_label};
 pub use laws::law_tags;

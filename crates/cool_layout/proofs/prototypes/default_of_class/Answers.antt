@@ -1,0 +1,7 @@
+-- A class that is none of Int, Bool and String has another name than each of those.
+use Rattle.std.proofs.Common.{ap, ◌∙◌, arith}
+use Rattle.cool_layout.proofs.BasicNames.{void_first}
+use Rattle.cool_layout.proofs.prototypes.default_of_class.Goals as goal
+
+pub returns-else-eq-3 : goal.returns-else-eq-3
+returns-else-eq-3 c = c.number.ensures ∙ void_first c.args.t.now c.requires.rooted.table c.args.class c.requires.within c.if-eq.ensures c.if-eq-2.ensures c.if-eq-3.ensures

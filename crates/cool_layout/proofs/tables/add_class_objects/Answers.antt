@@ -1,0 +1,19 @@
+-- The label, and the lines of the classes behind it.
+use Rattle.std.proofs.Common.{◌≡◌, ◌≤◌, List, [], ◌∷◌, ◌++◌, length, map, take, take_all, ap, ◌∙◌, arith, append_assoc}
+use Rattle.mips_isa.specs.Lines.{Line, lines_of, Address}
+use Rattle.cool_runtime.specs.Instructions.{label}
+use Rattle.cool_runtime.specs.LinesOfData.{words}
+use Rattle.cool_classes.specs.declared.class_id.ClassId.{ClassId}
+use Rattle.cool_layout.specs.Labels.{prototype, initializer, class_objects}
+use Rattle.cool_layout.proofs.tables.add_class_objects.Goals as goal
+
+pub returns : goal.returns
+unfolding class_objects
+returns c =
+    let p = c.args.t.now in
+    let order : List ClassId = c.args.order.now in
+    let old : List Line = lines_of c.args.lines.now.items in
+    let one : ClassId → Line = λ d. words (Address (prototype p d) ∷ Address (initializer p d) ∷ []) in
+    let end : length order ≤ c.loop-class.class-index = (let e = c.loop-class-test.false in omega arith) in
+    c.loop-class.invariant ∙ ap (λ (ds : List ClassId). lines_of c.label_line.new.lines.items ++ map one ds) (take_all c.loop-class.class-index order end)
+    ∙ ap (λ (l : List Line). l ++ map one order) c.in_ok-label_line.ensures ∙ append_assoc old (label class_objects ∷ []) (map one order)
