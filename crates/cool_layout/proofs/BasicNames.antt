@@ -1,7 +1,7 @@
 -- The names of the basic classes are those of the manual, and no other class has one of them.
 use Rattle.std.proofs.Common.{◌≡◌, ℕ, ◌<◌, ◌≤◌, List, [], ◌∷◌, length, take, get_or, get_or-take, Bool, true, false, refl, sym, ap, ◌∙◌, arith, true≢false}
 use Rattle.std.specs.Prelude.{pos, codes, bytes_eq, nat_eq, if◌then◌else◌}
-use Rattle.mips_isa.specs.Lines.{WordItem, Number, Address}
+use Rattle.mips_isa.specs.Lines.{Number, Address}
 use Rattle.cool_runtime.specs.Labels.{false_constant}
 use Rattle.cool_classes.specs.declared.class_id.ClassId.{ClassId}
 use Rattle.cool_classes.specs.Chains.{Class, class_number, name_of, nothing}

@@ -17,3 +17,4 @@ pub mod KeptSlots
 pub mod ClassesByTag
 pub mod BasicNames
 pub mod MethodsThere
+pub mod AttributesThere

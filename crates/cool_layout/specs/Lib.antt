@@ -1,3 +1,4 @@
+pub mod AttributeLists
 pub mod Examples
 pub mod Labels
 pub mod Layouts

@@ -105,6 +105,7 @@ impl Layout {
         ensures { IfOk result (λ lines. lines_of lines.items ≡ layout_lines t.now) }
     {
         let order = self.order.as_slice();
+        let tables = self.tables.as_slice();
         let tags = StringTags {
             int: self.tag(INT),
             string: self.tag(STRING),
@@ -112,8 +113,8 @@ impl Layout {
         let mut lines = Vec::new(alloc);
         add_class_names(alloc, &mut lines, order)?;
         add_class_objects(alloc, &mut lines, t, order)?;
-        add_dispatch_tables(alloc, &mut lines, t, order, self.tables.as_slice())?;
-        add_prototypes(alloc, &mut lines, t, order)?;
+        add_dispatch_tables(alloc, &mut lines, t, order, tables)?;
+        add_prototypes(alloc, &mut lines, t, order, tables)?;
         add_defaults(alloc, &mut lines, t, tags)?;
         add_names(alloc, &mut lines, t, tags, order)?;
         add_texts(alloc, &mut lines)?;

@@ -5,6 +5,7 @@
 //! `specs/LinesOfLayout.antt`).
 #![tactic(auto)]
 
+mod attributes;
 mod basic;
 mod labels;
 mod laws;

@@ -2,15 +2,19 @@
 //! section 5.1).
 
 ghost use Rattle.std.specs.Prelude.{◌≡◌, ◌<◌, ◌++◌, map, flat_map, length, IfOk, OnOk};
+ghost use Rattle.std.specs.List.{AllByRecursion};
 ghost use Rattle.mips_isa.specs.Lines.{lines_of, item_of};
 ghost use Rattle.cool_classes.specs.Features.{HasAttribute, attribute_type};
-ghost use Rattle.cool_classes.specs.Chains.{name_of, class_number};
+ghost use Rattle.cool_classes.specs.Chains.{name_of};
 ghost use Rattle.cool_layout.specs.LinesOfLayout as written;
-ghost use Rattle.cool_layout.specs.Members.{attributes};
+ghost use Rattle.cool_layout.specs.Members as member;
 ghost use Rattle.cool_layout.specs.Preorder as place;
 ghost use Rattle.cool_layout.specs.Roots.{IsRooted};
+ghost use Rattle.cool_layout.specs.SlotTables.{AreTables};
 
+use crate::attributes::next_attributes;
 use crate::labels::{prototype_label, table_label};
+use crate::slots::Table;
 use cool_classes::{AttributeRef, BOOL, ClassId, ClassTable, INT, STRING, Ty};
 use cool_runtime::{StringTags, address, int_object, number, object};
 use mips_isa::{Line, WordItem};
@@ -57,28 +61,33 @@ fn default_value(
     }
 }
 
-/// What the attributes of a class hold at first.
+/// What attributes hold at first.
 fn default_values(
     alloc: Global,
     t: &ClassTable,
-    class: ClassId,
+    attributes: &[AttributeRef],
 ) -> Result<Vec<WordItem>, AllocError>
     requires rooted { IsRooted t.now }
-    requires within { class.0 < length t.now }
-    ensures { IfOk result (λ fields. map item_of fields.items ≡ map (λ a. written.default_value (attribute_type t.now a)) (attributes t.now class)) }
+    requires have { AllByRecursion (HasAttribute t.now) attributes.now }
+    ensures { IfOk result (λ fields. map item_of fields.items ≡ map (λ a. written.default_value (attribute_type t.now a)) attributes.now) }
 {
-    let all = t.attributes(alloc, class)?;
     let mut fields = Vec::new(alloc);
-    for index in 0..all.len() {
-        fields.push(default_value(alloc, t, all[index])?)?;
+    for attribute in attributes {
+        fields.push(default_value(alloc, t, *attribute)?)?;
     }
     Ok(fields)
 }
 
-/// What stands behind the head of a new object of a class.
-fn new_fields(alloc: Global, t: &ClassTable, class: ClassId) -> Result<Vec<WordItem>, AllocError>
+/// What stands behind the head of a new object of a class with these attributes.
+fn new_fields(
+    alloc: Global,
+    t: &ClassTable,
+    class: ClassId,
+    attributes: &[AttributeRef],
+) -> Result<Vec<WordItem>, AllocError>
     requires rooted { IsRooted t.now }
     requires within { class.0 < length t.now }
+    requires attributes { attributes.now ≡ member.attributes t.now class }
     ensures { IfOk result (λ fields. map item_of fields.items ≡ written.new_fields t.now class) }
 {
     if class == INT || class == BOOL {
@@ -86,7 +95,7 @@ fn new_fields(alloc: Global, t: &ClassTable, class: ClassId) -> Result<Vec<WordI
     } else if class == STRING {
         empty_string_fields(alloc)
     } else {
-        default_values(alloc, t, class)
+        default_values(alloc, t, attributes)
     }
 }
 
@@ -101,22 +110,24 @@ fn empty_string_fields(alloc: Global) -> Result<Vec<WordItem>, AllocError>
     Ok(fields)
 }
 
-/// Adds the prototype of a class with a tag.
+/// Adds the prototype of a class with a tag and these attributes.
 fn add_prototype(
     alloc: Global,
     lines: &mut Vec<Line>,
     t: &ClassTable,
     tag: u32,
     class: ClassId,
+    attributes: &[AttributeRef],
 ) -> Result<(), AllocError>
     requires rooted { IsRooted t.now }
     requires within { class.0 < length t.now }
     requires tag { tag ≡ place.tag t.now class }
+    requires attributes { attributes.now ≡ member.attributes t.now class }
     ensures { OnOk result (lines_of lines.new.items ≡ lines_of lines.old.items ++ written.prototype_lines t.now class) }
 {
     let name = prototype_label(alloc, t, class)?;
     let table = table_label(alloc, t, class)?;
-    let fields = new_fields(alloc, t, class)?;
+    let fields = new_fields(alloc, t, class, attributes)?;
     let size = HEAD_WORDS + fields.len();
     object(
         alloc,
@@ -135,13 +146,20 @@ pub(crate) fn add_prototypes(
     lines: &mut Vec<Line>,
     t: &ClassTable,
     order: &[ClassId],
+    tables: &[Table],
 ) -> Result<(), AllocError>
     requires rooted { IsRooted t.now }
     requires order { order.now ≡ place.preorder t.now }
+    requires tables { AreTables t.now (length t.now) tables.now }
     ensures { OnOk result (lines_of lines.new.items ≡ lines_of lines.old.items ++ flat_map (written.prototype_lines t.now) order.now) }
 {
+    let mut known = Vec::new(alloc);
     for tag in 0..order.len() {
-        add_prototype(alloc, lines, t, tag as u32, order[tag])?;
+        let class = order[tag];
+        let above = tables[tag].above;
+        let attributes = next_attributes(alloc, t, known.as_slice(), above, class)?;
+        add_prototype(alloc, lines, t, tag as u32, class, attributes.as_slice())?;
+        known.push(attributes)?;
     }
     Ok(())
 }

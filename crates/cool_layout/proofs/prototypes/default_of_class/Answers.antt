@@ -1,5 +1,5 @@
 -- A class that is none of Int, Bool and String has another name than each of those.
-use Rattle.std.proofs.Common.{ap, ◌∙◌, arith}
+use Rattle.std.proofs.Common.{◌∙◌}
 use Rattle.cool_layout.proofs.BasicNames.{void_first}
 use Rattle.cool_layout.proofs.prototypes.default_of_class.Goals as goal
 

@@ -5,5 +5,5 @@ use Rattle.cool_classes.specs.Features.{attribute_type}
 use Rattle.cool_layout.specs.LinesOfLayout.{default_value}
 use Rattle.cool_layout.proofs.prototypes.default_values.Given as goal
 
-abbrev pub invariant-loop-index : goal.invariant-loop-index
-invariant-loop-index l = map item_of l.fields.items ≡ map (λ a. default_value (attribute_type l.t a)) (take l.index l.all.items)
+abbrev pub invariant-loop-attribute : goal.invariant-loop-attribute
+invariant-loop-attribute l = map item_of l.fields.items ≡ map (λ a. default_value (attribute_type l.t a)) (take l.attribute-index l.attributes)

@@ -1,5 +1,5 @@
 -- The label, and the lines of the classes behind it.
-use Rattle.std.proofs.Common.{◌≡◌, ◌≤◌, List, [], ◌∷◌, ◌++◌, length, map, take, take_all, ap, ◌∙◌, arith, append_assoc}
+use Rattle.std.proofs.Common.{◌≤◌, List, [], ◌∷◌, ◌++◌, length, map, take_all, ap, ◌∙◌, arith, append_assoc}
 use Rattle.mips_isa.specs.Lines.{Line, lines_of, Address}
 use Rattle.cool_runtime.specs.Instructions.{label}
 use Rattle.cool_runtime.specs.LinesOfData.{words}

@@ -1,5 +1,5 @@
 -- The table at each tag is that of the class there.
-use Rattle.std.proofs.Common.{◌<◌, length, ap, ◌∙◌, arith}
+use Rattle.std.proofs.Common.{◌<◌, length, ◌∙◌, arith}
 use Rattle.cool_layout.proofs.ClassesByTag.{tag_within, class_within, methods_by_tag}
 use Rattle.cool_layout.proofs.tables.add_dispatch_tables.Goals as goal
 
