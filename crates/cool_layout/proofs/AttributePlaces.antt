@@ -11,7 +11,8 @@ use Rattle.cool_classes.specs.declared.class_id.ClassId.{ClassId}
 use Rattle.cool_classes.specs.declared.method.AttributeRef.{AttributeRef}
 use Rattle.cool_classes.specs.Chains.{Class, parent_of, features_of, IsChain}
 use Rattle.cool_classes.specs.Features.{own_attributes, attributes_of}
-use Rattle.cool_layout.specs.Members.{attributes, is_attribute, offset, chain}
+use Rattle.cool_classes.specs.ClimbedChains.{chain}
+use Rattle.cool_layout.specs.Members.{attributes, is_attribute, offset}
 use Rattle.cool_layout.specs.Roots.{IsRooted}
 use Rattle.cool_layout.specs.Offsets.{attributes_above, above_count, attribute_count, offsets_among}
 use Rattle.cool_layout.proofs.ShortChains.{same_number, chain_is, chain_step, chain_end, chain_in, Within, new_above}

@@ -3,10 +3,10 @@ use Rattle.std.proofs.Common.{◌≡◌, ◌≢◌, ℕ, zero, suc, ◌+◌, ◌
 use Rattle.std.specs.Prelude.{nat_eq}
 use Rattle.cool_classes.specs.declared.class_id.ClassId.{ClassId}
 use Rattle.cool_classes.specs.Chains.{Class, class_number, parent_of}
+use Rattle.cool_classes.specs.ClimbedChains.{climbed, chain}
 use Rattle.cool_layout.specs.Preorder.{numbers_from, is_class, is_parent, children, subtree, family}
-use Rattle.cool_layout.specs.Members.{climb, chain}
 use Rattle.cool_layout.specs.Roots.{IsRooted}
-use Rattle.cool_layout.proofs.ShortChains.{same_number}
+use Rattle.cool_layout.proofs.ShortChains.{same_number, climb_all}
 
 abbrev pub one : Bool → ℕ
 one true = 1
@@ -82,42 +82,45 @@ among_numbers d P k (suc n) l u = by (nat_eq d.0 k) refl (λ m. among_numbers d 
         both true t = omega arith
         both false t = refl
 
-climb_none : (p : List Class) (n : ℕ) → climb p n None ≡ []
+climb_none : (p : List Class) (n : ℕ) → climbed n p None ≡ []
+unfolding climbed
 climb_none p zero = refl
 climb_none p (suc n) = refl
 
 -- the children of a class on a climb are followed by the class
-on_climb : (p : List Class) → IsRooted p → (n : ℕ) (d c : ClassId) → d.0 < length p → total (λ k. times k (climb p n (Some d))) (children p c) ≡ times c (climb p n (parent_of p d))
+on_climb : (p : List Class) → IsRooted p → (n : ℕ) (d c : ClassId) → d.0 < length p → total (λ k. times k (climbed n p (Some d))) (children p c) ≡ times c (climbed n p (parent_of p d))
+unfolding climbed
 on_climb p r zero d c within = total_zero (children p c) ∙ by (parent_of p d)
   where
-    by : (o : Option ClassId) → 0 ≡ times c (climb p 0 o)
+    by : (o : Option ClassId) → 0 ≡ times c (climbed 0 p o)
     by None = refl
     by (Some q) = refl
-on_climb p r (suc n) d c within = total_sum (λ k. one (is_class k d)) (λ k. times k (climb p n (parent_of p d))) (children p c) ∙ by (parent_of p d) refl (λ q w. on_climb p r n q c w)
+on_climb p r (suc n) d c within = total_sum (λ k. one (is_class k d)) (λ k. times k (climbed n p (parent_of p d))) (children p c) ∙ by (parent_of p d) refl (λ q w. on_climb p r n q c w)
   where
     first : total (λ k. one (is_class k d)) (children p c) ≡ one (is_parent c (parent_of p d))
     first = among_numbers d (λ k. is_parent c (parent_of p k)) 0 (length p) (omega arith) (omega arith)
 
-    by : (o : Option ClassId) → parent_of p d ≡ o → ((q : ClassId) → q.0 < length p → total (λ k. times k (climb p n (Some q))) (children p c) ≡ times c (climb p n (parent_of p q)))
-        → total (λ k. one (is_class k d)) (children p c) + total (λ k. times k (climb p n o)) (children p c) ≡ times c (climb p (suc n) o)
+    by : (o : Option ClassId) → parent_of p d ≡ o → ((q : ClassId) → q.0 < length p → total (λ k. times k (climbed n p (Some q))) (children p c) ≡ times c (climbed n p (parent_of p q)))
+        → total (λ k. one (is_class k d)) (children p c) + total (λ k. times k (climbed n p o)) (children p c) ≡ times c (climbed (suc n) p o)
     by None e more =
         let a : total (λ k. one (is_class k d)) (children p c) ≡ 0 = first ∙ ap (λ o. one (is_parent c o)) e in
-        let b : total (λ k. times k (climb p n None)) (children p c) ≡ 0 = ap (λ (xs : List ClassId). total (λ k. times k xs) (children p c)) (climb_none p n) ∙ total_zero (children p c) in
+        let b : total (λ k. times k (climbed n p None)) (children p c) ≡ 0 = ap (λ (xs : List ClassId). total (λ k. times k xs) (children p c)) (climb_none p n) ∙ total_zero (children p c) in
         omega arith
     by (Some q) e more =
         let a : total (λ k. one (is_class k d)) (children p c) ≡ one (is_class c q) = first ∙ ap (λ o. one (is_parent c o)) e in
-        let b : total (λ k. times k (climb p n (Some q))) (children p c) ≡ times c (climb p n (parent_of p q)) = more q (r.above d q within e) in
+        let b : total (λ k. times k (climbed n p (Some q))) (children p c) ≡ times c (climbed n p (parent_of p q)) = more q (r.above d q within e) in
         omega arith
 
 -- a class stands in a family as often as its head on the chain of the class
-pub times_in_subtree : (p : List Class) → IsRooted p → (n : ℕ) (d c : ClassId) → d.0 < length p → times d (subtree p n c) ≡ times c (climb p n (Some d))
+pub times_in_subtree : (p : List Class) → IsRooted p → (n : ℕ) (d c : ClassId) → d.0 < length p → times d (subtree p n c) ≡ times c (climbed n p (Some d))
+unfolding climbed
 times_in_subtree p r zero d c within = refl
 times_in_subtree p r (suc n) d c within =
-    let a : times d (flat_map (subtree p n) (children p c)) ≡ total (λ k. times k (climb p n (Some d))) (children p c) =
-    times-flat_map d (subtree p n) (children p c) ∙ total_same (λ k. times d (subtree p n k)) (λ k. times k (climb p n (Some d))) (children p c) (λ k. times_in_subtree p r n d k within) in
-    let b : total (λ k. times k (climb p n (Some d))) (children p c) ≡ times c (climb p n (parent_of p d)) = on_climb p r n d c within in
+    let a : times d (flat_map (subtree p n) (children p c)) ≡ total (λ k. times k (climbed n p (Some d))) (children p c) =
+    times-flat_map d (subtree p n) (children p c) ∙ total_same (λ k. times d (subtree p n k)) (λ k. times k (climbed n p (Some d))) (children p c) (λ k. times_in_subtree p r n d k within) in
+    let b : total (λ k. times k (climbed n p (Some d))) (children p c) ≡ times c (climbed n p (parent_of p d)) = on_climb p r n d c within in
     let e : one (is_class d c) ≡ one (is_class c d) = ap one (eq_comm c.0 d.0) in
     omega arith
 
 pub times_in_family : (p : List Class) → IsRooted p → (d c : ClassId) → d.0 < length p → times d (family p c) ≡ times c (chain p d)
-times_in_family p r d c within = times_in_subtree p r (length p) d c within
+times_in_family p r d c within = times_in_subtree p r (length p) d c within ∙ ap (times c) (climb_all p r d within)

@@ -7,8 +7,8 @@ use Rattle.std.proofs.lemmas.List.Concat.{flat_map-append}
 use Rattle.cool_classes.specs.declared.class_id.ClassId.{ClassId}
 use Rattle.cool_classes.specs.Chains.{Class, class_number, parent_of, IsChain}
 use Rattle.cool_classes.specs.Tables.{basic_classes}
+use Rattle.cool_classes.specs.ClimbedChains.{chain}
 use Rattle.cool_layout.specs.Preorder.{numbers_from, is_class, is_parent, children, subtree, family, preorder}
-use Rattle.cool_layout.specs.Members.{chain}
 use Rattle.cool_layout.specs.Roots.{IsRooted}
 use Rattle.cool_layout.proofs.ShortChains.{same_number, short, chain_is}
 use Rattle.cool_layout.proofs.Counting.{one, times, total, among_numbers}

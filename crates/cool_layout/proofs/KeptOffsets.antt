@@ -6,9 +6,10 @@ use Rattle.cool_syntax.specs.declared.file_tree.Feature.TheVariants.{Method, Att
 use Rattle.cool_classes.specs.declared.class_id.ClassId.{ClassId}
 use Rattle.cool_classes.specs.declared.method.AttributeRef.{AttributeRef}
 use Rattle.cool_classes.specs.Chains.{Class, features_of, Below}
+use Rattle.cool_classes.specs.ClimbedChains.{chain}
 use Rattle.cool_layout.specs.declared.layout.Layout.{Layout}
 use Rattle.cool_layout.specs.Layouts.{IsLayoutOf}
-use Rattle.cool_layout.specs.Members.{attributes, offset, chain}
+use Rattle.cool_layout.specs.Members.{attributes, offset}
 use Rattle.cool_layout.specs.Offsets.{offsets_among, above_count}
 use Rattle.cool_layout.proofs.ShortChains.{chain_is}
 use Rattle.cool_layout.proofs.AttributePlaces.{of_owner, owner_in, owner_offset, same_place, any_contains, own_among}

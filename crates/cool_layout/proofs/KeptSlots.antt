@@ -8,10 +8,11 @@ use Rattle.cool_classes.specs.declared.class_id.ClassId.{ClassId}
 use Rattle.cool_classes.specs.Chains.{Class, IsChain, Below}
 use Rattle.cool_classes.specs.Features.{implementation}
 use Rattle.cool_classes.specs.Limits.{AreDifferent, IsImplemented}
+use Rattle.cool_classes.specs.ClimbedChains.{chain}
 use Rattle.cool_layout.specs.declared.layout.Layout.{Layout}
 use Rattle.cool_layout.specs.Layouts.{IsLayoutOf}
 use Rattle.cool_layout.specs.Preorder.{tag}
-use Rattle.cool_layout.specs.Members.{own_names, with_new, slots_of, slots, slot, chain}
+use Rattle.cool_layout.specs.Members.{own_names, with_new, slots_of, slots, slot}
 use Rattle.cool_layout.specs.SlotTables.{class_of}
 use Rattle.cool_layout.proofs.ShortChains.{chain_is, chain_only}
 use Rattle.cool_layout.proofs.TagRanges.{at_tag}

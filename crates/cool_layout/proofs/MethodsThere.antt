@@ -8,9 +8,10 @@ use Rattle.cool_classes.specs.declared.method.MethodRef.{MethodRef}
 use Rattle.cool_classes.specs.declared.method.MethodRef.TheVariants.{Basic}
 use Rattle.cool_classes.specs.Chains.{Class}
 use Rattle.cool_classes.specs.Features.{own_method, first_of, implementation, HasMethod}
+use Rattle.cool_classes.specs.ClimbedChains.{chain}
 use Rattle.cool_classes.proofs.AllOfLists.{all_map}
 use Rattle.cool_classes.proofs.Methods.{own_has}
-use Rattle.cool_layout.specs.Members.{chain, slots, method, methods}
+use Rattle.cool_layout.specs.Members.{slots, method, methods}
 use Rattle.cool_layout.specs.Roots.{IsRooted}
 use Rattle.cool_layout.proofs.ShortChains.{chain_in, chain_is}
 

@@ -6,9 +6,10 @@ use Rattle.std.proofs.lemmas.List.{length-map}
 use Rattle.std.proofs.lemmas.Map.Steps.{length-le_from_distinct_below}
 use Rattle.cool_classes.specs.declared.class_id.ClassId.{ClassId}
 use Rattle.cool_classes.specs.Chains.{Class, parent_of, IsChain}
+use Rattle.cool_classes.specs.ClimbedChains.{climbed, chain}
 use Rattle.cool_classes.proofs.Climbs.{chain_unique}
+use Rattle.cool_classes.proofs.ChainsOfTables.{chain_of, chain_is as chain_of_class}
 use Rattle.cool_layout.specs.Roots.{IsRooted}
-use Rattle.cool_layout.specs.Members.{climb, chain}
 
 -- a class, by its number
 pub same_number : (c d : ClassId) → c.0 ≡ d.0 → c ≡ d
@@ -109,7 +110,8 @@ short p r o w ds h =
     omega arith
 
 -- a climb that is long enough is the chain
-pub climb_is : (p : List Class) (n : ℕ) (o : Option ClassId) (ds : List ClassId) → IsChain p o ds → length ds ≤ n → climb p n o ≡ ds
+pub climb_is : (p : List Class) (n : ℕ) (o : Option ClassId) (ds : List ClassId) → IsChain p o ds → length ds ≤ n → climbed n p o ≡ ds
+unfolding climbed
 climb_is p zero None [] h l = refl
 climb_is p zero None (d ∷ ds) h l = absurd h
 climb_is p zero (Some c) [] h l = absurd h
@@ -118,13 +120,15 @@ climb_is p (suc n) None [] h l = refl
 climb_is p (suc n) None (d ∷ ds) h l = absurd h
 climb_is p (suc n) (Some c) [] h l = absurd h
 climb_is p (suc n) (Some c) (d ∷ ds) h l =
-    ap (λ (x : ClassId). x ∷ climb p n (parent_of p c)) (sym h.0) ∙ ap (λ (xs : List ClassId). d ∷ xs) (climb_is p n (parent_of p c) ds h.1 (omega arith))
+    ap (λ (x : ClassId). x ∷ climbed n p (parent_of p c)) (sym h.0) ∙ ap (λ (xs : List ClassId). d ∷ xs) (climb_is p n (parent_of p c) ds h.1 (omega arith))
+
+-- such a climb from a class gives its chain
+pub climb_all : (p : List Class) → IsRooted p → (c : ClassId) → c.0 < length p → climbed (length p) p (Some c) ≡ chain p c
+climb_all p r c within = let h = r.table.chains c within in climb_is p (length p) (Some c) h.0 h.1 (short p r (Some c) within h.0 h.1) ∙ sym (chain_of p c h.0 h.1)
 
 -- the chain of a class is one
 pub chain_is : (p : List Class) → IsRooted p → (c : ClassId) → c.0 < length p → IsChain p (Some c) (chain p c)
-chain_is p r c within =
-    let h = r.table.chains c within in
-    subst (λ (ds : List ClassId). IsChain p (Some c) ds) (sym (climb_is p (length p) (Some c) h.0 h.1 (short p r (Some c) within h.0 h.1))) h.1
+chain_is p r c within = chain_of_class p c r.table within
 
 -- and the only one
 pub chain_only : (p : List Class) → IsRooted p → (c : ClassId) → c.0 < length p → (ds : List ClassId) → IsChain p (Some c) ds → ds ≡ chain p c

@@ -5,9 +5,9 @@ use Rattle.std.proofs.lemmas.List.{length_push, get_or_push, get_or_append_left}
 use Rattle.std.proofs.lemmas.Bool.{cases_eq}
 use Rattle.cool_classes.specs.declared.class_id.ClassId.{ClassId}
 use Rattle.cool_classes.specs.Chains.{Class, parent_of, IsChain, Below}
+use Rattle.cool_classes.specs.ClimbedChains.{chain}
 use Rattle.cool_layout.specs.declared.slots.Table.{Table}
 use Rattle.cool_layout.specs.Preorder.{tag}
-use Rattle.cool_layout.specs.Members.{chain}
 use Rattle.cool_layout.specs.Roots.{IsRooted}
 use Rattle.cool_layout.specs.SlotTables.{IsTableAt, AreTables, class_of, IsAbove}
 use Rattle.cool_layout.proofs.ShortChains.{chain_is, new_above}

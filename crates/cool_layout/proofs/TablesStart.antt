@@ -10,8 +10,9 @@ use Rattle.cool_classes.specs.declared.method.MethodRef.{MethodRef}
 use Rattle.cool_classes.specs.declared.method.MethodRef.TheVariants.{Basic, User}
 use Rattle.cool_classes.specs.Chains.{Class, features_of}
 use Rattle.cool_classes.specs.Features.{NamedMethod, basic_methods, method_among, first_method, user_method, own_method, first_of, implementation}
+use Rattle.cool_classes.specs.ClimbedChains.{chain}
 use Rattle.cool_layout.specs.declared.slots.Table.{Table}
-use Rattle.cool_layout.specs.Members.{own_names, with_new, slots_of, methods, method, chain}
+use Rattle.cool_layout.specs.Members.{own_names, with_new, slots_of, methods, method}
 use Rattle.cool_layout.specs.Roots.{IsRooted}
 use Rattle.cool_layout.specs.SlotTables.{names_of, own_among, basic_own, user_own, own_methods, slots_shown, AreOnce, IsTableAt, class_of, slots_in, methods_in, IsAbove, Has}
 use Rattle.cool_layout.proofs.ShortChains.{chain_step, chain_end}

@@ -7,8 +7,8 @@ use Rattle.std.proofs.lemmas.List.Elements.{Contains-append_right}
 use Rattle.std.proofs.lemmas.List.Sums.{passes_at_first}
 use Rattle.cool_classes.specs.declared.class_id.ClassId.{ClassId}
 use Rattle.cool_classes.specs.Chains.{Class, class_number, parent_of, IsChain, Below}
+use Rattle.cool_classes.specs.ClimbedChains.{chain}
 use Rattle.cool_layout.specs.Preorder.{numbers_from, is_class, children, family, preorder, tag, last_tag}
-use Rattle.cool_layout.specs.Members.{chain}
 use Rattle.cool_layout.specs.Roots.{IsRooted}
 use Rattle.cool_layout.specs.Tags.{AreTags}
 use Rattle.cool_layout.proofs.ShortChains.{same_number, chain_is, chain_only}

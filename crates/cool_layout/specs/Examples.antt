@@ -5,6 +5,7 @@ use Rattle.cool_syntax.specs.declared.file_tree.Feature.{Feature}
 use Rattle.cool_syntax.specs.declared.file_tree.Feature.TheVariants.{Attribute}
 use Rattle.cool_classes.specs.declared.method.AttributeRef.{AttributeRef}
 use Rattle.cool_classes.specs.Chains.{Class, class_number}
+use Rattle.cool_classes.specs.ClimbedChains.{climbed, above, chain}
 use Rattle.cool_classes.specs.Tables.{basic_classes}
 use Rattle.cool_layout.specs.Preorder.{preorder, tag, last_tag}
 use Rattle.cool_layout.specs.Members.{offset, slot}
@@ -40,9 +41,11 @@ last_of_b = refl
 
 -- the slot of out_int in Main, behind the three methods of Object and out_string
 out_int_in_main : slot one_chain (class_number 8) (codes "out_int") ≡ Some 4
+unfolding climbed above chain
 out_int_in_main = refl
 
 no_out_int_in_a : slot one_chain (class_number 5) (codes "out_int") ≡ None
+unfolding climbed above chain
 no_out_int_in_a = refl
 
 -- A below IO with an attribute a, and Main below A with x and y
@@ -62,13 +65,17 @@ abbrev attribute_at : ℕ → ℕ → AttributeRef
 attribute_at owner index = record { owner = class_number owner; index = index }
 
 a_in_main : offset three_attributes (class_number 6) (attribute_at 5 0) ≡ 12
+unfolding climbed above chain
 a_in_main = refl
 
 x_in_main : offset three_attributes (class_number 6) (attribute_at 6 0) ≡ 16
+unfolding climbed above chain
 x_in_main = refl
 
 y_in_main : offset three_attributes (class_number 6) (attribute_at 6 1) ≡ 20
+unfolding climbed above chain
 y_in_main = refl
 
 a_in_a : offset three_attributes (class_number 5) (attribute_at 5 0) ≡ 12
+unfolding climbed above chain
 a_in_a = refl

@@ -1,6 +1,6 @@
 -- Where the attributes of a class stand in its objects, and its methods in its dispatch table: those of the parent first, then its own
 -- in textual order.
-use Rattle.std.specs.Prelude.{◌≡◌, ℕ, zero, suc, ◌+◌, ◌*◌, List, [], ◌∷◌, ◌++◌, length, map, flat_map, position, unwrap_or, Option, Some, None, Bool, ◌&&◌, nat_eq, nat_lt, if◌then◌else◌, codes, bytes_eq, refl}
+use Rattle.std.specs.Prelude.{◌≡◌, ℕ, ◌+◌, ◌*◌, List, [], ◌∷◌, ◌++◌, map, flat_map, position, unwrap_or, Option, Some, None, Bool, ◌&&◌, nat_eq, nat_lt, if◌then◌else◌, codes, bytes_eq, refl}
 use Rattle.std.specs.List.{position_or_len, list_any}
 use Rattle.cool_syntax.specs.declared.file_tree.Feature.{Feature}
 use Rattle.cool_syntax.specs.declared.file_tree.Feature.TheVariants.{Method, Attribute}
@@ -9,18 +9,9 @@ use Rattle.cool_classes.specs.declared.method.BasicMethod.TheVariants.{Abort}
 use Rattle.cool_classes.specs.declared.method.MethodRef.{MethodRef}
 use Rattle.cool_classes.specs.declared.method.MethodRef.TheVariants.{Basic}
 use Rattle.cool_classes.specs.declared.method.AttributeRef.{AttributeRef}
-use Rattle.cool_classes.specs.Chains.{Class, class_number, parent_of, features_of}
+use Rattle.cool_classes.specs.Chains.{Class, class_number, features_of}
+use Rattle.cool_classes.specs.ClimbedChains.{climbed, above, chain}
 use Rattle.cool_classes.specs.Features.{basic_methods, implementation, attributes_of}
-
--- at most so many classes of a chain
-abbrev pub climb : List Class → ℕ → Option ClassId → List ClassId
-climb p zero o = []
-climb p (suc n) None = []
-climb p (suc n) (Some c) = c ∷ climb p n (parent_of p c)
-
--- the chain of a class: none has more classes than there are
-abbrev pub chain : List Class → ClassId → List ClassId
-chain p c = climb p (length p) (Some c)
 
 abbrev pub attributes : List Class → ClassId → List AttributeRef
 attributes p c = attributes_of p (chain p c)
@@ -76,7 +67,9 @@ basic =
     ∷ []
 
 length_of_string : slot basic (class_number 4) (codes "length") ≡ Some 3
+unfolding climbed above chain
 length_of_string = refl
 
 length_of_int : slot basic (class_number 2) (codes "length") ≡ None
+unfolding climbed above chain
 length_of_int = refl

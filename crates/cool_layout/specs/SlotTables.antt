@@ -11,9 +11,10 @@ use Rattle.cool_classes.specs.declared.method.MethodRef.{MethodRef}
 use Rattle.cool_classes.specs.declared.method.MethodRef.TheVariants.{Basic, User}
 use Rattle.cool_classes.specs.Chains.{Class, class_number, parent_of, features_of}
 use Rattle.cool_classes.specs.Features.{NamedMethod, basic_methods, implementation, first_of}
+use Rattle.cool_classes.specs.ClimbedChains.{chain}
 use Rattle.cool_layout.specs.declared.slots.Table.{Table}
 use Rattle.cool_layout.specs.Preorder.{preorder}
-use Rattle.cool_layout.specs.Members.{chain, with_new, slots}
+use Rattle.cool_layout.specs.Members.{with_new, slots}
 
 -- a method of a class's own
 pub record OwnMethod : Type 0 where

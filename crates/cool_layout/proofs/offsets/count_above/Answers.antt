@@ -1,7 +1,7 @@
 -- The attributes of the parent.
 use Rattle.std.proofs.Common.{length, ap, ◌∙◌}
+use Rattle.cool_classes.specs.ClimbedChains.{chain}
 use Rattle.cool_layout.specs.Offsets.{attributes_above}
-use Rattle.cool_layout.specs.Members.{chain}
 use Rattle.cool_layout.proofs.ShortChains.{chain_is}
 use Rattle.cool_layout.proofs.offsets.count_above.Goals as goal
 

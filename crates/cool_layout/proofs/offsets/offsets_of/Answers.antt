@@ -1,7 +1,8 @@
 -- A class has no more attributes than the limit.
 use Rattle.std.proofs.Common.{◌≡◌, ◌+◌, ◌<◌, ◌≤◌, length, ap, arith}
 use Rattle.cool_classes.specs.Chains.{class_number, features_of}
-use Rattle.cool_layout.specs.Members.{attributes, chain}
+use Rattle.cool_classes.specs.ClimbedChains.{chain}
+use Rattle.cool_layout.specs.Members.{attributes}
 use Rattle.cool_layout.specs.Offsets.{attribute_count, above_count}
 use Rattle.cool_layout.proofs.ShortChains.{chain_is}
 use Rattle.cool_layout.proofs.AttributePlaces.{counted}
