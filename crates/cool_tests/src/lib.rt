@@ -9,6 +9,8 @@ mod constants;
 #[cfg(test)]
 mod images;
 #[cfg(test)]
+mod layouts;
+#[cfg(test)]
 mod printed_texts;
 #[cfg(test)]
 mod routines;
