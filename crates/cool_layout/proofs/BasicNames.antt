@@ -6,7 +6,7 @@ use Rattle.cool_runtime.specs.Labels.{false_constant}
 use Rattle.cool_classes.specs.declared.class_id.ClassId.{ClassId}
 use Rattle.cool_classes.specs.Chains.{Class, class_number, name_of, nothing}
 use Rattle.cool_classes.specs.Tables.{IsTable, basic_classes}
-use Rattle.cool_layout.specs.Labels.{default_int, default_string}
+use Rattle.cool_runtime.specs.RoutineLabels.{default_int, default_string}
 use Rattle.cool_layout.specs.LinesOfLayout.{default_value}
 use Rattle.cool_layout.proofs.SlotNames.{same_bytes}
 

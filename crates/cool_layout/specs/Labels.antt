@@ -41,17 +41,3 @@ class_name c = codes "__name" ++ decimal c.0
 
 abbrev pub class_name_length : ClassId → Name
 class_name_length c = codes "__name_length" ++ decimal c.0
-
-unfoldable pub class_names : Name
-class_names = codes "class_nameTab"
-
-unfoldable pub class_objects : Name
-class_objects = codes "class_objTab"
-
--- the values of attributes that no value was given
-
-unfoldable pub default_int : Name
-default_int = codes "__default_int"
-
-unfoldable pub default_string : Name
-default_string = codes "__default_string"

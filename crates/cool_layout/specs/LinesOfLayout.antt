@@ -5,13 +5,13 @@ use Rattle.mips_isa.specs.Lines.{Line, WordItem, Number, Address}
 use Rattle.cool_classes.specs.declared.class_id.ClassId.{ClassId}
 use Rattle.cool_classes.specs.Chains.{Class, class_number, name_of}
 use Rattle.cool_classes.specs.Features.{attribute_type}
-use Rattle.cool_runtime.specs.Labels.{false_constant, string_table, end_text, abort_text, newline_text, colon_text, no_branch_text, stop_text}
-use Rattle.cool_runtime.specs.RoutineLabels.{dispatch_text, case_text, division_text, substring_text, overflow_text}
+use Rattle.cool_runtime.specs.Labels.{false_constant, string_table, name_table, end_text, abort_text, newline_text, colon_text, no_branch_text, stop_text}
+use Rattle.cool_runtime.specs.RoutineLabels.{class_objects, default_int, default_string, dispatch_text, case_text, division_text, substring_text, overflow_text}
 use Rattle.cool_runtime.specs.Instructions.{label}
 use Rattle.cool_runtime.specs.LinesOfData.{words, object_lines, int_lines, string_lines, text_lines}
 use Rattle.cool_layout.specs.Preorder.{preorder, tag}
 use Rattle.cool_layout.specs.Members.{attributes, methods}
-use Rattle.cool_layout.specs.Labels.{prototype, initializer, dispatch_table, method_label, class_name, class_name_length, class_names, class_objects, default_int, default_string}
+use Rattle.cool_layout.specs.Labels.{prototype, initializer, dispatch_table, method_label, class_name, class_name_length}
 
 abbrev pub int_tag : List Class → ℕ
 int_tag p = tag p (class_number 2)
@@ -21,7 +21,7 @@ string_tag p = tag p (class_number 4)
 
 -- the Strings of the names of the classes by tag
 abbrev pub class_names_lines : List ClassId → List Line
-class_names_lines order = label class_names ∷ words (map (λ c. Address (class_name c)) order) ∷ []
+class_names_lines order = label name_table ∷ words (map (λ c. Address (class_name c)) order) ∷ []
 
 -- the prototype and the initializer of each class by tag
 abbrev pub class_objects_lines : List Class → List ClassId → List Line

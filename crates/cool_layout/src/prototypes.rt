@@ -27,7 +27,7 @@ const HEAD_WORDS: usize = 3;
 const EMPTY_STRING_WORDS: usize = 5;
 
 /// What an attribute whose type is this class holds at first.
-#[tactic(auto, unfolding(crate::specs::Labels::default_int, crate::specs::Labels::default_string, cool_runtime::specs::Labels::false_constant))]
+#[tactic(auto, unfolding(cool_runtime::specs::RoutineLabels::default_int, cool_runtime::specs::RoutineLabels::default_string, cool_runtime::specs::Labels::false_constant))]
 fn default_of_class(alloc: Global, t: &ClassTable, class: ClassId) -> Result<WordItem, AllocError>
     requires rooted { IsRooted t.now }
     requires within { class.0 < length t.now }
@@ -100,7 +100,7 @@ fn new_fields(
 }
 
 /// What stands behind the head of the String of no bytes: its length, and a zero.
-#[tactic(auto, unfolding(crate::specs::Labels::default_int))]
+#[tactic(auto, unfolding(cool_runtime::specs::RoutineLabels::default_int))]
 fn empty_string_fields(alloc: Global) -> Result<Vec<WordItem>, AllocError>
     ensures { IfOk result (λ fields. map item_of fields.items ≡ written.empty_string_fields) }
 {
@@ -165,7 +165,7 @@ pub(crate) fn add_prototypes(
 }
 
 /// Adds the Int 0 and the String of no bytes. `Err` comes only for want of memory.
-#[tactic(auto, unfolding(crate::specs::Labels::default_int, crate::specs::Labels::default_string, cool_runtime::specs::Labels::string_table))]
+#[tactic(auto, unfolding(cool_runtime::specs::RoutineLabels::default_int, cool_runtime::specs::RoutineLabels::default_string, cool_runtime::specs::Labels::string_table))]
 pub(crate) fn add_defaults(
     alloc: Global,
     lines: &mut Vec<Line>,

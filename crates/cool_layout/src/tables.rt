@@ -32,7 +32,7 @@ fn name_addresses(alloc: Global, order: &[ClassId]) -> Result<Vec<WordItem>, All
 }
 
 /// Adds the table of the names of classes. `Err` comes only for want of memory.
-#[tactic(auto, unfolding(crate::specs::Labels::class_names))]
+#[tactic(auto, unfolding(cool_runtime::specs::Labels::name_table))]
 pub(crate) fn add_class_names(
     alloc: Global,
     lines: &mut Vec<Line>,
@@ -63,7 +63,7 @@ fn add_class_object(
 }
 
 /// Adds the table of the prototypes and the initializers of classes. `Err` comes only for want of memory.
-#[tactic(auto, unfolding(crate::specs::Labels::class_objects))]
+#[tactic(auto, unfolding(cool_runtime::specs::RoutineLabels::class_objects))]
 pub(crate) fn add_class_objects(
     alloc: Global,
     lines: &mut Vec<Line>,

@@ -3,7 +3,7 @@ use Rattle.std.proofs.Common.{◌≡◌, ℕ, List, ◌++◌, OnOk, ap, ◌∙�
 use Rattle.mips_isa.specs.Lines.{Line, WordItem, lines_of}
 use Rattle.cool_runtime.specs.Labels.{string_table}
 use Rattle.cool_runtime.specs.LinesOfData.{int_lines, object_lines}
-use Rattle.cool_layout.specs.Labels.{default_int, default_string}
+use Rattle.cool_runtime.specs.RoutineLabels.{default_int, default_string}
 use Rattle.cool_layout.specs.LinesOfLayout.{empty_string_fields, int_tag, string_tag}
 use Rattle.cool_layout.proofs.prototypes.add_defaults.Goals as goal
 

@@ -3,8 +3,9 @@ use Rattle.std.proofs.Common.{◌≤◌, List, [], ◌∷◌, ◌++◌, length, 
 use Rattle.mips_isa.specs.Lines.{Line, lines_of, Address}
 use Rattle.cool_runtime.specs.Instructions.{label}
 use Rattle.cool_runtime.specs.LinesOfData.{words}
+use Rattle.cool_runtime.specs.RoutineLabels.{class_objects}
 use Rattle.cool_classes.specs.declared.class_id.ClassId.{ClassId}
-use Rattle.cool_layout.specs.Labels.{prototype, initializer, class_objects}
+use Rattle.cool_layout.specs.Labels.{prototype, initializer}
 use Rattle.cool_layout.proofs.tables.add_class_objects.Goals as goal
 
 pub returns : goal.returns
