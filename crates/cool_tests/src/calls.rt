@@ -17,8 +17,8 @@ type Row = (
 );
 
 /// Makes the call over the input `x`: its status, its output and its notes.
-fn call(alloc: Global, row: Row) -> Result<(u8, MemSink, MemSink), Fail> {
-    let (command, file, (read, put, take, note), _, _, _) = row;
+fn call(alloc: Global, row: &Row) -> Result<(u8, MemSink, MemSink), Fail> {
+    let (command, file, (read, put, take, note), _, _, _) = *row;
     let mut files = MemShelf::new(alloc);
     files.put_file("p", file)?;
     let mut input = MemSource::new(alloc, Vec::from_slice(alloc, b"x")?);
@@ -124,9 +124,9 @@ static ROWS: [Row; 15] = [
 
 #[test]
 fn failing_devices(rt: HostRuntime) -> Result<(), Fail> {
-    for row in ROWS {
+    for row in &ROWS {
         let (status, out, notes) = call(rt.alloc(), row)?;
-        let (command, _, failing, want, held, noted) = row;
+        let (command, _, failing, want, held, noted) = *row;
         assert_eq!(rt; status, want, "{command} {failing:?}");
         assert_eq!(rt; out.held(), held.as_bytes(), "{command} {failing:?}");
         assert_eq!(rt; notes.held(), noted.as_bytes(), "{command} {failing:?}");
