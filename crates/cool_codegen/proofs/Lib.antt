@@ -1,3 +1,6 @@
+pub mod CodeByNumbers
+pub mod NumbersAgree
+pub mod NodesThere
 pub mod NamesOfFeatures
 pub mod BasesOfVariables
 pub mod ArmsInOrder

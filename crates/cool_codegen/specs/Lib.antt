@@ -6,4 +6,5 @@ pub mod Arms
 pub mod Code
 pub mod Asked
 pub mod Features
+pub mod Numbered
 pub mod Settings

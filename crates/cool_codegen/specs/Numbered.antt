@@ -1,0 +1,306 @@
+-- Expressions by the numbers of their nodes in a body: their lines, the constants after them, their types and sizes, as functions of the
+-- numbers, and the same for a node by the numbers of its parts. Lines name constants by the table after the expression.
+use Rattle.std.specs.Prelude.{◌≡◌, ℕ, ◌+◌, ◌-◌, List, [], ◌∷◌, ◌++◌, length, codes, Option, Some, None, unwrap_or, get_or}
+use Rattle.cool_syntax.specs.declared.place.Place.{Place}
+use Rattle.cool_syntax.specs.declared.operator.ArithOp.{ArithOp}
+use Rattle.cool_syntax.specs.declared.operator.ArithOp.TheVariants as arith
+use Rattle.cool_syntax.specs.declared.node.Node.{Node}
+use Rattle.cool_syntax.specs.declared.node.Node.TheVariants as node
+use Rattle.cool_syntax.specs.declared.node.NodeId.{NodeId}
+use Rattle.cool_syntax.specs.declared.node.NodeBranch.{NodeBranch}
+use Rattle.cool_syntax.specs.Tree.{Tree, tree_size}
+use Rattle.cool_syntax.specs.NodeLists.{root, nodes, tree_at}
+use Rattle.mips_isa.specs.Lines.{Name, Line}
+use Rattle.cool_classes.specs.declared.class_id.ClassId.{ClassId}
+use Rattle.cool_classes.specs.declared.class_id.Ty.{Ty}
+use Rattle.cool_classes.specs.declared.class_id.Ty.TheVariants.{Class as IsClass}
+use Rattle.cool_classes.specs.ClimbedChains.{above}
+use Rattle.cool_rules.specs.Conformance.{class_of}
+use Rattle.cool_rules.specs.Rules.{join_in, type_meant}
+use Rattle.cool_runtime.specs.Routines.{push_lines}
+use Rattle.cool_consts.specs.Constants.{Constants, with_integer, with_string}
+use Rattle.cool_codegen.specs.Pieces.{pop_lines, take_lines, test_lines, mark_lines, turn_lines, repeat_lines, values_lines, is_void_lines, complement_lines, negate_lines, case_begin_lines, case_end_lines}
+use Rattle.cool_codegen.specs.Variables.{Named, bind}
+use Rattle.cool_codegen.specs.Types.{class_meant, type_in, type_of_call, type_of_named, joined, object, int, bool, string}
+use Rattle.cool_codegen.specs.Arms.{Arm, with_arm, arms_lines}
+use Rattle.cool_codegen.specs.Asked.{integers_in, strings_in, with_integers, with_strings}
+use Rattle.cool_codegen.specs.Code.{Context, code, name_code, assign_code, new_code, default_code, truth_label, integer_label, string_label, file_label, label_at, bool_code, int_code, operation_code, compare_code, slot_code, static_code, range_code}
+
+-- Some nodes stand among nodes behind so many others.
+pub record Lies (ns : List Node) (k : ℕ) (ms : List Node) : Type 0 where
+  pub front : List Node
+  pub back : List Node
+  pub before : length front ≡ k
+  pub is : ns ≡ front ++ (ms ++ back)
+
+-- The nodes of a tree stand among nodes behind so many others.
+abbrev pub Stands : List Node → ℕ → Tree → Type 0
+Stands ns k t = Lies ns k (nodes k t)
+
+-- A number of a body is that of the root of a tree whose nodes stand there.
+pub record IsRoot (b : Tree) (id : NodeId) : Type 0 where
+  pub before : ℕ
+  pub tree : Tree
+  pub stands : Stands (nodes 0 b) before tree
+  pub number : id ≡ root before tree
+
+abbrev pub AreRoots : Tree → List NodeId → Type 0
+AreRoots b [] = Unit {0}
+AreRoots b (id ∷ ids) = IsRoot b id × AreRoots b ids
+
+abbrev pub MayBeRoot : Tree → Option NodeId → Type 0
+MayBeRoot b None = Unit {0}
+MayBeRoot b (Some id) = IsRoot b id
+
+abbrev pub AreBodies : Tree → List NodeBranch → Type 0
+AreBodies b [] = Unit {0}
+AreBodies b (w ∷ ws) = IsRoot b w.body × AreBodies b ws
+
+-- the parts of a node are roots
+abbrev pub HasRoots : Tree → Node → Type 0
+HasRoots b (node.Assign at name a) = IsRoot b a
+HasRoots b (node.Dispatch at a name ids) = IsRoot b a × AreRoots b ids
+HasRoots b (node.StaticDispatch at a class name ids) = IsRoot b a × AreRoots b ids
+HasRoots b (node.If at t y n) = IsRoot b t × IsRoot b y × IsRoot b n
+HasRoots b (node.While at t a) = IsRoot b t × IsRoot b a
+HasRoots b (node.Block at ids) = AreRoots b ids
+HasRoots b (node.Let at name declared o a) = MayBeRoot b o × IsRoot b a
+HasRoots b (node.Case at a ws) = IsRoot b a × AreBodies b ws
+HasRoots b (node.New at class) = Unit {0}
+HasRoots b (node.IsVoid at a) = IsRoot b a
+HasRoots b (node.Arith at op l r) = IsRoot b l × IsRoot b r
+HasRoots b (node.Neg at a) = IsRoot b a
+HasRoots b (node.Compare at op l r) = IsRoot b l × IsRoot b r
+HasRoots b (node.Not at a) = IsRoot b a
+HasRoots b (node.Id at name) = Unit {0}
+HasRoots b (node.Int at value) = Unit {0}
+HasRoots b (node.Str at bytes) = Unit {0}
+HasRoots b (node.Bool at value) = Unit {0}
+
+-- sizes: how many nodes the expression at a number has
+
+unfoldable pub size_at : Tree → NodeId → ℕ
+size_at b id = tree_size (tree_at b id)
+
+abbrev pub sizes_at : Tree → List NodeId → ℕ
+sizes_at b [] = 0
+sizes_at b (id ∷ ids) = size_at b id + sizes_at b ids
+
+abbrev pub maybe_size_at : Tree → Option NodeId → ℕ
+maybe_size_at b None = 0
+maybe_size_at b (Some id) = size_at b id
+
+abbrev pub branch_sizes_at : Tree → List NodeBranch → ℕ
+branch_sizes_at b [] = 0
+branch_sizes_at b (w ∷ ws) = size_at b w.body + branch_sizes_at b ws
+
+abbrev pub node_size : Tree → Node → ℕ
+node_size b (node.Assign at name a) = size_at b a + 1
+node_size b (node.Dispatch at a name ids) = size_at b a + sizes_at b ids + 1
+node_size b (node.StaticDispatch at a class name ids) = size_at b a + sizes_at b ids + 1
+node_size b (node.If at t y n) = size_at b t + size_at b y + size_at b n + 1
+node_size b (node.While at t a) = size_at b t + size_at b a + 1
+node_size b (node.Block at ids) = sizes_at b ids + 1
+node_size b (node.Let at name declared o a) = maybe_size_at b o + size_at b a + 1
+node_size b (node.Case at a ws) = size_at b a + branch_sizes_at b ws + 1
+node_size b (node.New at class) = 1
+node_size b (node.IsVoid at a) = size_at b a + 1
+node_size b (node.Arith at op l r) = size_at b l + size_at b r + 1
+node_size b (node.Neg at a) = size_at b a + 1
+node_size b (node.Compare at op l r) = size_at b l + size_at b r + 1
+node_size b (node.Not at a) = size_at b a + 1
+node_size b (node.Id at name) = 1
+node_size b (node.Int at value) = 1
+node_size b (node.Str at bytes) = 1
+node_size b (node.Bool at value) = 1
+
+-- constants: a table after the expression at a number
+
+abbrev pub after : Constants → List ℕ → List (List ℕ) → Constants
+after t ns bs = record { integers = with_integers t.integers ns; strings = with_strings t.strings bs }
+
+abbrev pub with_value : Constants → ℕ → Constants
+with_value t n = record { integers = with_integer t.integers n; strings = t.strings }
+
+abbrev pub with_bytes : Constants → List ℕ → Constants
+with_bytes t bs = record { integers = t.integers; strings = with_string t.strings bs }
+
+-- the table with the name of the file of a place
+abbrev pub with_file : List (List ℕ) → Constants → Place → Constants
+with_file files t at = with_bytes t (get_or files at.file [])
+
+abbrev pub operation_asked : List (List ℕ) → ArithOp → Place → Constants → Constants
+operation_asked files arith.Add at t = with_file files t at
+operation_asked files arith.Sub at t = with_file files t at
+operation_asked files arith.Mul at t = with_file files t at
+operation_asked files arith.Div at t = with_file files (with_file files t at) at
+
+unfoldable pub asked_at : List (List ℕ) → Tree → Constants → NodeId → Constants
+asked_at files b t id = after t (integers_in (tree_at b id)) (strings_in files (tree_at b id))
+
+abbrev pub all_asked : List (List ℕ) → Tree → Constants → List NodeId → Constants
+all_asked files b t [] = t
+all_asked files b t (id ∷ ids) = all_asked files b (asked_at files b t id) ids
+
+abbrev pub maybe_asked : List (List ℕ) → Tree → Constants → Option NodeId → Constants
+maybe_asked files b t None = t
+maybe_asked files b t (Some id) = asked_at files b t id
+
+abbrev pub branches_asked : List (List ℕ) → Tree → Constants → List NodeBranch → Constants
+branches_asked files b t [] = t
+branches_asked files b t (w ∷ ws) = branches_asked files b (asked_at files b t w.body) ws
+
+abbrev pub node_asked : List (List ℕ) → Tree → Constants → Node → Constants
+node_asked files b t (node.Assign at name a) = asked_at files b t a
+node_asked files b t (node.Dispatch at a name ids) = with_file files (asked_at files b (all_asked files b t ids) a) at
+node_asked files b t (node.StaticDispatch at a class name ids) = with_file files (asked_at files b (all_asked files b t ids) a) at
+node_asked files b t (node.If at c y n) = asked_at files b (asked_at files b (asked_at files b t c) y) n
+node_asked files b t (node.While at c a) = asked_at files b (asked_at files b t c) a
+node_asked files b t (node.Block at ids) = all_asked files b t ids
+node_asked files b t (node.Let at name declared o a) = asked_at files b (maybe_asked files b t o) a
+node_asked files b t (node.Case at a ws) = branches_asked files b (with_file files (asked_at files b t a) at) ws
+node_asked files b t (node.New at class) = t
+node_asked files b t (node.IsVoid at a) = asked_at files b t a
+node_asked files b t (node.Arith at op l r) = operation_asked files op at (asked_at files b (asked_at files b t l) r)
+node_asked files b t (node.Neg at a) = with_file files (asked_at files b t a) at
+node_asked files b t (node.Compare at op l r) = asked_at files b (asked_at files b t l) r
+node_asked files b t (node.Not at a) = asked_at files b t a
+node_asked files b t (node.Id at name) = t
+node_asked files b t (node.Int at value) = with_value t value
+node_asked files b t (node.Str at bytes) = with_bytes t bytes
+node_asked files b t (node.Bool at value) = t
+
+-- types
+
+unfoldable pub type_at : Context → Tree → List Named → ℕ → NodeId → Ty
+type_at s b vs d id = type_in s.table s.class vs d (tree_at b id)
+
+-- of the last of some expressions, behind one of this type
+abbrev pub last_type_at : Context → Tree → List Named → ℕ → Ty → List NodeId → Ty
+last_type_at s b vs d last [] = last
+last_type_at s b vs d last (id ∷ ids) = last_type_at s b vs d (type_at s b vs d id) ids
+
+-- the class that a branch declares
+abbrev pub class_of_branch : Context → NodeBranch → ClassId
+class_of_branch s w = class_meant s.table s.class w.declared.name
+
+-- the names in scope in a branch
+abbrev pub within_branch : Context → List Named → ℕ → NodeBranch → List Named
+within_branch s vs d w = bind d w.name (IsClass (class_of_branch s w)) vs
+
+-- the join of the branches behind branches with this join
+abbrev pub branches_type_at : Context → Tree → List Named → ℕ → Option Ty → List NodeBranch → Option Ty
+branches_type_at s b vs d join [] = join
+branches_type_at s b vs d join (w ∷ ws) =
+    branches_type_at s b vs d (Some (joined s.table s.class join (type_at s b (within_branch s vs d w) (d + 1) w.body))) ws
+
+abbrev pub node_type : Context → Tree → List Named → ℕ → Node → Ty
+node_type s b vs d (node.Assign at name a) = type_at s b vs d a
+node_type s b vs d (node.Dispatch at a name ids) =
+    type_of_call s.table (class_of s.class (type_at s b vs (d + length ids) a)) (type_at s b vs (d + length ids) a) name
+node_type s b vs d (node.StaticDispatch at a class name ids) =
+    type_of_call s.table (class_meant s.table s.class class.name) (type_at s b vs (d + length ids) a) name
+node_type s b vs d (node.If at t y n) = join_in s.table s.class (type_at s b vs d y) (type_at s b vs d n)
+node_type s b vs d (node.While at t a) = object
+node_type s b vs d (node.Block at ids) = last_type_at s b vs d object ids
+node_type s b vs d (node.Let at name declared o a) = type_at s b (bind d name (type_meant s.table declared.name) vs) (d + 1) a
+node_type s b vs d (node.Case at a ws) = unwrap_or (branches_type_at s b vs d None ws) object
+node_type s b vs d (node.New at class) = type_meant s.table class.name
+node_type s b vs d (node.IsVoid at a) = bool
+node_type s b vs d (node.Arith at op l r) = int
+node_type s b vs d (node.Neg at a) = int
+node_type s b vs d (node.Compare at op l r) = bool
+node_type s b vs d (node.Not at a) = bool
+node_type s b vs d (node.Id at name) = type_of_named vs name
+node_type s b vs d (node.Int at value) = int
+node_type s b vs d (node.Str at bytes) = string
+node_type s b vs d (node.Bool at value) = bool
+
+-- lines: behind a table, which names constants by the table after the expression
+
+-- how many nodes stand before the expression at a number
+abbrev pub nodes_before : Tree → NodeId → ℕ
+nodes_before b id = id.0 + 1 - tree_size (tree_at b id)
+
+unfoldable pub lines_at : Context → Tree → Constants → List Named → ℕ → NodeId → List Line
+lines_at s b t vs d id = code s (asked_at s.files b t id) vs d (nodes_before b id) (tree_at b id)
+
+-- those of expressions in order
+abbrev pub items_lines : Context → Tree → Constants → List Named → ℕ → List NodeId → List Line
+items_lines s b t vs d [] = []
+items_lines s b t vs d (id ∷ ids) = lines_at s b t vs d id ++ items_lines s b (asked_at s.files b t id) vs d ids
+
+-- those of arguments, each of which goes to the stack
+abbrev pub arguments_lines : Context → Tree → Constants → List Named → ℕ → List NodeId → List Line
+arguments_lines s b t vs d [] = []
+arguments_lines s b t vs d (id ∷ ids) = lines_at s b t vs d id ++ (push_lines ++ arguments_lines s b (asked_at s.files b t id) vs (d + 1) ids)
+
+abbrev pub initial_lines : Context → Tree → Constants → List Named → ℕ → Ty → Option NodeId → List Line
+initial_lines s b t vs d type None = default_code type
+initial_lines s b t vs d type (Some id) = lines_at s b t vs d id
+
+-- those of a branch
+abbrev pub branch_lines : Context → Tree → Constants → List Named → ℕ → Name → NodeBranch → List Line
+branch_lines s b t vs d end w =
+    range_code s (class_of_branch s w) (label_at s (codes "next") w.body)
+    ++ (lines_at s b t (within_branch s vs d w) (d + 1) w.body ++ turn_lines end (label_at s (codes "next") w.body))
+
+-- the branches put among those before them
+abbrev pub branches_arms : Context → Tree → Constants → List Named → ℕ → Name → List Arm → List NodeBranch → List Arm
+branches_arms s b t vs d end before [] = before
+branches_arms s b t vs d end before (w ∷ ws) =
+    branches_arms s b (asked_at s.files b t w.body) vs d end
+    (with_arm before (record { depth = length (above s.table (class_of_branch s w)); lines = branch_lines s b t vs d end w })) ws
+
+-- an operation, behind a table
+abbrev pub operation_lines : Context → Constants → ArithOp → Place → NodeId → List Line
+operation_lines s t op at id =
+    values_lines ++ (operation_code s (operation_asked s.files op at t) op at id ++ int_code s (operation_asked s.files op at t) at id)
+
+abbrev pub node_lines : Context → Tree → Constants → List Named → ℕ → NodeId → Node → List Line
+node_lines s b t vs d id (node.Assign at name a) = lines_at s b t vs d a ++ assign_code vs name
+node_lines s b t vs d id (node.Dispatch at a name ids) =
+    arguments_lines s b t vs d ids
+    ++ (lines_at s b (all_asked s.files b t ids) vs (d + length ids) a
+    ++ slot_code s (node_asked s.files b t (node.Dispatch at a name ids)) at (class_of s.class (type_at s b vs (d + length ids) a)) name)
+node_lines s b t vs d id (node.StaticDispatch at a class name ids) =
+    arguments_lines s b t vs d ids
+    ++ (lines_at s b (all_asked s.files b t ids) vs (d + length ids) a
+    ++ static_code s (node_asked s.files b t (node.StaticDispatch at a class name ids)) at (class_meant s.table s.class class.name) name)
+node_lines s b t vs d id (node.If at c y n) =
+    lines_at s b t vs d c
+    ++ (test_lines (label_at s (codes "else") id)
+    ++ (lines_at s b (asked_at s.files b t c) vs d y
+    ++ (turn_lines (label_at s (codes "end") id) (label_at s (codes "else") id)
+    ++ (lines_at s b (asked_at s.files b (asked_at s.files b t c) y) vs d n ++ mark_lines (label_at s (codes "end") id)))))
+node_lines s b t vs d id (node.While at c a) =
+    mark_lines (label_at s (codes "loop") id)
+    ++ (lines_at s b t vs d c
+    ++ (test_lines (label_at s (codes "end") id)
+    ++ (lines_at s b (asked_at s.files b t c) vs d a ++ repeat_lines (label_at s (codes "loop") id) (label_at s (codes "end") id))))
+node_lines s b t vs d id (node.Block at ids) = items_lines s b t vs d ids
+node_lines s b t vs d id (node.Let at name declared o a) =
+    initial_lines s b t vs d (type_meant s.table declared.name) o
+    ++ (push_lines
+    ++ (lines_at s b (maybe_asked s.files b t o) (bind d name (type_meant s.table declared.name) vs) (d + 1) a ++ pop_lines))
+node_lines s b t vs d id (node.Case at a ws) =
+    lines_at s b t vs d a
+    ++ (case_begin_lines (file_label s (with_file s.files (asked_at s.files b t a) at) at) at.line
+    ++ (push_lines
+    ++ (arms_lines (branches_arms s b (with_file s.files (asked_at s.files b t a) at) vs d (label_at s (codes "end") id) [] ws)
+    ++ case_end_lines (label_at s (codes "end") id))))
+node_lines s b t vs d id (node.New at class) = new_code s.table (type_meant s.table class.name)
+node_lines s b t vs d id (node.IsVoid at a) = lines_at s b t vs d a ++ (is_void_lines ++ bool_code s id)
+node_lines s b t vs d id (node.Arith at op l r) =
+    lines_at s b t vs d l
+    ++ (push_lines
+    ++ (lines_at s b (asked_at s.files b t l) vs (d + 1) r ++ operation_lines s (asked_at s.files b (asked_at s.files b t l) r) op at id))
+node_lines s b t vs d id (node.Neg at a) =
+    lines_at s b t vs d a ++ (negate_lines ++ int_code s (with_file s.files (asked_at s.files b t a) at) at id)
+node_lines s b t vs d id (node.Compare at op l r) =
+    lines_at s b t vs d l ++ (push_lines ++ (lines_at s b (asked_at s.files b t l) vs (d + 1) r ++ compare_code s op id))
+node_lines s b t vs d id (node.Not at a) = lines_at s b t vs d a ++ (complement_lines ++ bool_code s id)
+node_lines s b t vs d id (node.Id at name) = name_code vs name
+node_lines s b t vs d id (node.Int at value) = take_lines (integer_label (with_value t value) value)
+node_lines s b t vs d id (node.Str at bytes) = take_lines (string_label (with_bytes t bytes) bytes)
+node_lines s b t vs d id (node.Bool at value) = take_lines (truth_label value)
