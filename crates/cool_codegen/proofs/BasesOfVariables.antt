@@ -1,5 +1,5 @@
 -- A variable that is found is one of those in scope.
-use Rattle.std.proofs.Common.{◌≡◌, ℕ, ◌<◌, List, [], ◌∷◌, Some, Bool, true, false, refl, ap, sym, ◌∙◌, subst, arith}
+use Rattle.std.proofs.Common.{ℕ, ◌<◌, List, [], ◌∷◌, Some, Bool, true, false}
 use Rattle.std.specs.Prelude.{bytes_eq, if◌then◌else◌, Option, IfSome}
 use Rattle.std.specs.List.{AllByRecursion}
 use Rattle.cool_codegen.specs.declared.variables.Variable.{Variable}

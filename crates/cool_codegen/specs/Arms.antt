@@ -1,5 +1,5 @@
 -- The branches of a case in the order in which they are tried: those of deeper classes first, and else in the order of the text.
-use Rattle.std.specs.Prelude.{ℕ, List, [], ◌∷◌, ◌++◌, nat_lt, if◌then◌else◌, flat_map}
+use Rattle.std.specs.Prelude.{ℕ, List, [], ◌∷◌, nat_lt, if◌then◌else◌, flat_map}
 use Rattle.mips_isa.specs.Lines.{Line, lines_of}
 use Rattle.cool_codegen.specs.declared.arm.Arm as declared_arm
 

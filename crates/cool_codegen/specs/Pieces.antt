@@ -1,6 +1,6 @@
 -- Pieces of the code of expressions. Between the pieces $a0 has the value of the expression that just ended, $s0 self, and $fp the
 -- frame. $t0 to $t6 are free; $t8 and $t9 have the place of an error: the String of the file's name, and the line.
-use Rattle.std.specs.Prelude.{ℕ, ℤ, pos, negsuc, List, [], ◌∷◌, ◌++◌}
+use Rattle.std.specs.Prelude.{ℕ, ℤ, pos, List, [], ◌∷◌}
 use Rattle.mips_isa.specs.Lines.{Name, Line}
 use Rattle.cool_runtime.specs.Labels.{case_abort, copy, dispatch_abort, equality, false_constant, true_constant}
 use Rattle.cool_runtime.specs.RoutineLabels.{case_void, class_objects}

@@ -1,8 +1,8 @@
 -- The branch at the place is passed, or the new one stands before it.
-use Rattle.std.proofs.Common.{◌≡◌, ℕ, suc, ◌+◌, ◌<◌, map, length, subst, sym, ap, ◌∙◌, true, false, arith}
+use Rattle.std.proofs.Common.{◌+◌, ◌<◌, map, length, ap, ◌∙◌, arith}
 use Rattle.std.specs.Prelude.{nat_lt}
 use Rattle.cool_codegen.specs.declared.arm.Arm as declared_arm
-use Rattle.cool_codegen.specs.Arms.{Arm, arm_of}
+use Rattle.cool_codegen.specs.Arms.{arm_of}
 use Rattle.cool_codegen.proofs.ArmsInOrder.{at_place, less, not_less, passes, stops, up_to}
 use Rattle.cool_codegen.proofs.arm.place_among.Goals as goal
 

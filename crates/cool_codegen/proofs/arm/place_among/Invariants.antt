@@ -1,5 +1,5 @@
 -- No branch so far is of a class that is less deep.
-use Rattle.std.proofs.Common.{◌≡◌, ◌++◌, ◌∷◌, map, take, drop}
+use Rattle.std.proofs.Common.{◌≡◌, ◌++◌, map, take, drop}
 use Rattle.cool_codegen.specs.Arms.{arm_of, with_arm, Arm}
 use Rattle.cool_codegen.proofs.arm.place_among.Given as goal
 

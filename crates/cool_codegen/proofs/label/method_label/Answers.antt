@@ -1,9 +1,9 @@
 -- The label has the name of the class, a dot, and the name of the method.
-use Rattle.std.proofs.Common.{◌≡◌, List, ℕ, ◌++◌, ◌∷◌, [], ap, sym, subst, ◌∙◌, append_assoc, Some, get_or}
+use Rattle.std.proofs.Common.{◌≡◌, List, ℕ, ◌++◌, ◌∷◌, [], ap, sym, subst, ◌∙◌, append_assoc, get_or}
 use Rattle.std.specs.Prelude.{slice_get}
 use Rattle.cool_syntax.specs.declared.file_tree.Feature.{Feature}
 use Rattle.cool_classes.specs.Chains.{name_of, features_of}
-use Rattle.cool_classes.specs.Features.{name_in, HasMethod, IsMethod}
+use Rattle.cool_classes.specs.Features.{name_in, HasMethod}
 use Rattle.cool_layout.specs.Labels.{method_label}
 use Rattle.cool_codegen.proofs.NamesOfFeatures.{named}
 use Rattle.cool_codegen.proofs.label.method_label.Goals as goal

@@ -1,12 +1,11 @@
 -- The number is that of the table after more constants, too.
-use Rattle.std.proofs.Common.{◌≡◌, ℕ, ◌++◌, true, ap, sym, ◌∙◌, refl}
-use Rattle.std.specs.Prelude.{bytes_eq, string_bytes}
+use Rattle.std.proofs.Common.{◌≡◌, ◌++◌, ap, sym, ◌∙◌}
+use Rattle.std.specs.Prelude.{bytes_eq}
 use Rattle.std.specs.List.{position_or_len}
 use Rattle.std.proofs.lemmas.Result.{IfOk-weaker}
 use Rattle.cool_consts.specs.Constants.{Constants, string_number}
 use Rattle.cool_consts.specs.Labels.{string_constant}
 use Rattle.cool_codegen.specs.Asked.{Extends}
-use Rattle.cool_codegen.specs.Code.{string_label}
 use Rattle.cool_codegen.proofs.NumbersStay.{stays}
 use Rattle.cool_codegen.proofs.NatsAreEqual.{bytes_eq-same}
 use Rattle.cool_codegen.proofs.label.string_label.Goals as goal

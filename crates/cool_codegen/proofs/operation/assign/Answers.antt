@@ -1,5 +1,5 @@
 -- The register of a variable in scope is one.
-use Rattle.std.proofs.Common.{◌≡◌, ◌<◌, Some, subst, sym}
+use Rattle.std.proofs.Common.{◌<◌, subst, sym}
 use Rattle.std.specs.Prelude.{IfSome}
 use Rattle.cool_codegen.proofs.BasesOfVariables.{base_of_found}
 use Rattle.cool_codegen.proofs.operation.assign.Goals as goal

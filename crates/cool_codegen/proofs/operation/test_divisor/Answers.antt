@@ -1,5 +1,5 @@
 -- The lines name the file by its number in each table with more constants.
-use Rattle.std.proofs.Common.{◌++◌, ap, ◌∙◌, append_assoc}
+use Rattle.std.proofs.Common.{◌++◌, ◌∙◌, append_assoc}
 use Rattle.std.specs.Prelude.{codes}
 use Rattle.mips_isa.specs.Lines.{lines_of}
 use Rattle.cool_runtime.specs.Labels.{div_abort}

@@ -1,5 +1,5 @@
 -- The type that has a name is the one that the function finds.
-use Rattle.std.proofs.Common.{ap, sym, ◌∙◌, Some, None}
+use Rattle.std.proofs.Common.{ap, Some, None}
 use Rattle.std.specs.Prelude.{unwrap_or}
 use Rattle.cool_classes.specs.declared.class_id.Ty.TheVariants.{Class as IsClass}
 use Rattle.cool_classes.specs.Chains.{class_number}

@@ -1,5 +1,5 @@
 -- The nearest method on the chain is that of the chain by the table.
-use Rattle.std.proofs.Common.{ap, sym, ◌∙◌, Some, None}
+use Rattle.std.proofs.Common.{ap}
 use Rattle.std.specs.Prelude.{unwrap_or}
 use Rattle.cool_classes.specs.declared.method.BasicMethod.TheVariants.{Abort}
 use Rattle.cool_classes.specs.declared.method.MethodRef.TheVariants.{Basic}
