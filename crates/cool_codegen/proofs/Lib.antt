@@ -1,3 +1,5 @@
+pub mod OperationsAsk
+pub mod VariablesHave
 pub mod CodeByNumbers
 pub mod NumbersAgree
 pub mod NodesThere

@@ -129,6 +129,14 @@ with_bytes t bs = record { integers = t.integers; strings = with_string t.string
 abbrev pub with_file : List (List ℕ) → Constants → Place → Constants
 with_file files t at = with_bytes t (get_or files at.file [])
 
+-- the strings after the test of a divisor, which names its file
+abbrev pub tested_strings : List (List ℕ) → ArithOp → Place → List (List ℕ) → List (List ℕ)
+tested_strings files arith.Add at strings = strings
+tested_strings files arith.Sub at strings = strings
+tested_strings files arith.Mul at strings = strings
+tested_strings files arith.Div at strings = with_string strings (get_or files at.file [])
+
+-- the table after an operation, which names its file where its result does not fit
 abbrev pub operation_asked : List (List ℕ) → ArithOp → Place → Constants → Constants
 operation_asked files arith.Add at t = with_file files t at
 operation_asked files arith.Sub at t = with_file files t at

@@ -1,9 +1,17 @@
 -- In what the code of an expression is made: a class of a whole table, and the layout of that table.
-use Rattle.std.specs.Prelude.{◌<◌, length, map, string_bytes}
+use Rattle.std.specs.Prelude.{◌<◌, List, length, map, string_bytes}
+use Rattle.std.specs.List.{AllByRecursion}
+use Rattle.cool_classes.specs.Chains.{Class}
 use Rattle.cool_classes.specs.Tables.{IsTable}
+use Rattle.cool_rules.specs.Conformance.{IsType}
 use Rattle.cool_layout.specs.Layouts.{IsLayoutOf}
 use Rattle.cool_codegen.specs.declared.setting.Setting.{Setting}
+use Rattle.cool_codegen.specs.Variables.{Named}
 use Rattle.cool_codegen.specs.Code.{Context}
+
+-- all variables in scope have types of the table
+abbrev pub HaveTypes : List Class → List Named → Type 0
+HaveTypes p vs = AllByRecursion (λ v. IsType p v.variable.ty) vs
 
 abbrev pub context : Setting → Context
 context s = record { table = s.table.now; class = s.class; feature = s.feature; files = map string_bytes s.names.now }

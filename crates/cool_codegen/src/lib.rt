@@ -5,8 +5,13 @@
 #![tactic(auto)]
 
 pub mod arm;
+mod binding;
+mod call;
+mod expression;
 pub mod label;
+mod number;
 pub mod operation;
+mod operator;
 pub mod piece;
 pub mod setting;
 pub mod variables;

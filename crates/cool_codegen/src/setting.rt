@@ -1,12 +1,17 @@
 //! What stays the same while the code of a feature is made, and the rules of types there.
 
-ghost use Rattle.std.specs.Prelude.{◌≡◌, ◌<◌, length};
-ghost use Rattle.cool_classes.specs.Features.{HasMethod};
+ghost use Rattle.std.specs.Prelude.{◌≡◌, ◌<◌, ◌+◌, ◌-◌, ◌*◌, pos, length, unwrap_or};
+ghost use Rattle.cool_classes.specs.ClimbedChains.{above};
+ghost use Rattle.cool_classes.specs.Features.{result_of, HasMethod};
 ghost use Rattle.cool_rules.specs.Conformance.{IsType};
 ghost use Rattle.cool_rules.specs.Rules.{join_in, type_meant};
+ghost use Rattle.cool_layout.specs.Members.{slot};
+ghost use Rattle.cool_layout.specs.Preorder.{last_tag, tag};
+ghost use Rattle.cool_codegen.specs.Code.{minus};
 ghost use Rattle.cool_codegen.specs.Types.{method_in};
 ghost use Rattle.cool_codegen.specs.Settings.{IsSound};
 
+use crate::number::{negative, signed};
 use cool_classes::{BasicMethod, ClassId, ClassTable, MethodRef, OBJECT, Ty};
 use cool_layout::Layout;
 use cool_rules::{join_types, type_named};
@@ -60,5 +65,54 @@ impl<'a> Setting<'a> {
         ensures join { result ≡ join_in self.now.table.now self.now.class a b }
     {
         join_types(self.table, self.class, a, b)
+    }
+
+    /// The type of the result of a method.
+    pub fn result(&self, method: MethodRef) -> Ty
+        requires sound { IsSound self.now }
+        requires has { HasMethod self.now.table.now method }
+        ensures is_type { IsType self.now.table.now result }
+        ensures result { result ≡ type_meant self.now.table.now (result_of self.now.table.now method) }
+    {
+        self.table.result(method)
+    }
+
+    /// How many classes stand above a class.
+    pub fn depth(&self, class: ClassId) -> u32
+        requires sound { IsSound self.now }
+        requires class { class.0 < length self.now.table.now }
+        ensures { result ≡ length (above self.now.table.now class) }
+    {
+        self.table.depth(class)
+    }
+
+    /// Where the method of a name stands in the dispatch table of a class, in bytes.
+    pub fn slot_offset(&self, class: ClassId, name: &Name) -> i32
+        requires sound { IsSound self.now }
+        requires class { class.0 < length self.now.table.now }
+        ensures { result ≡ pos (4 * unwrap_or (slot self.now.table.now class name.now) 0) }
+    {
+        match self.layout.slot(class, name) {
+            Some(slot) => signed(4 * slot),
+            None => 0,
+        }
+    }
+
+    /// The tag of a class, with the other sign.
+    pub fn minus_tag(&self, class: ClassId) -> i32
+        requires sound { IsSound self.now }
+        requires class { class.0 < length self.now.table.now }
+        ensures { result ≡ minus (tag self.now.table.now class) }
+    {
+        negative(self.layout.tag(class))
+    }
+
+    /// How many tags a class and those below it have.
+    pub fn tag_count(&self, class: ClassId) -> i32
+        requires sound { IsSound self.now }
+        requires class { class.0 < length self.now.table.now }
+        ensures { result ≡ pos (last_tag self.now.table.now class - tag self.now.table.now class + 1) }
+    {
+        signed(self.layout.last_tag(class) - self.layout.tag(class) + 1)
     }
 }

@@ -1,0 +1,10 @@
+-- The word is four times so many bytes below the frame, and four more.
+use Rattle.std.proofs.Common.{◌≡◌, ◌+◌, ◌*◌, suc, ap, negsuc, rules, arith}
+use Rattle.cool_codegen.specs.Code.{minus}
+use Rattle.cool_codegen.proofs.binding.pushed.Goals as goal
+
+pub returns : goal.returns
+returns c =
+    let more : 4 * c.args.depth + 4 ≡ suc (4 * c.args.depth + 3) = omega arith in
+    let below : minus (4 * c.args.depth + 4) ≡ negsuc (4 * c.args.depth + 3) = ap minus more in
+    search (rules, below)

@@ -1,0 +1,35 @@
+-- The number is that of a root, so all stands by the node there.
+use Rattle.std.proofs.Common.{length, subst}
+use Rattle.cool_syntax.specs.Falls.{one_le_size}
+use Rattle.cool_syntax.specs.NodeLists.{tree_at}
+use Rattle.cool_syntax.specs.TreesWithinLimits.{IsTreeWithin}
+use Rattle.cool_codegen.specs.Numbered.{size_at}
+use Rattle.cool_codegen.specs.Settings.{context}
+use Rattle.cool_codegen.proofs.NodesThere.{has_roots, root_within}
+use Rattle.cool_codegen.proofs.CodeByNumbers.{asked_of_node, lines_of_node, size_of_node, type_of_node}
+use Rattle.cool_codegen.proofs.expression.node_of.Goals as goal
+
+pub node-requires : goal.node-requires
+node-requires c = record { below = root_within c.args.setting.now.body.now c.args.id c.requires.root }
+
+pub returns-clause-roots : goal.returns-clause-roots
+returns-clause-roots c = has_roots c.args.setting.now.body.now c.args.id _ c.requires.root c.node.ensures.node
+
+pub returns-clause-places : goal.returns-clause-places
+returns-clause-places c = subst (IsTreeWithin (length c.args.setting.now.names.now)) c.node.ensures.tree c.requires.places
+
+pub returns-clause-size : goal.returns-clause-size
+returns-clause-size c = size_of_node c.args.setting.now.body.now c.args.id _ c.requires.root c.node.ensures.node
+
+pub returns-clause-some : goal.returns-clause-some
+unfolding size_at
+returns-clause-some c = one_le_size (tree_at c.args.setting.now.body.now c.args.id)
+
+pub returns-clause-typed : goal.returns-clause-typed
+returns-clause-typed c = type_of_node (context c.args.setting.now) c.args.setting.now.body.now c.args.variables.now c.args.depth c.args.id _ c.requires.root c.node.ensures.node
+
+pub returns-clause-lines : goal.returns-clause-lines
+returns-clause-lines c = lines_of_node (context c.args.setting.now) c.args.setting.now.body.now c.args.consts.now c.args.variables.now c.args.depth c.args.id _ c.requires.root c.node.ensures.node
+
+pub returns-clause-asked : goal.returns-clause-asked
+returns-clause-asked c = asked_of_node (context c.args.setting.now).files c.args.setting.now.body.now c.args.consts.now c.args.id _ c.requires.root c.node.ensures.node

@@ -1,0 +1,7 @@
+-- A number below 2 ^ 31 is read as itself.
+use Rattle.std.proofs.Common.{w32}
+use Rattle.std.proofs.lemmas.Int.{to_z_pos}
+use Rattle.cool_codegen.proofs.number.signed.Goals as goal
+
+pub returns : goal.returns
+returns c = to_z_pos w32 c.args.number c.requires

@@ -1,0 +1,299 @@
+//! The code of expressions: names, constants, new objects, conditions, loops and blocks.
+
+ghost use Rattle.std.specs.Prelude.{◌≡◌, ◌++◌, ◌+◌, ◌*◌, ◌-◌, ◌^◌, ◌<◌, ◌≤◌, length, map, IfOk, OnOk};
+ghost use Rattle.std.specs.List.{AllByRecursion};
+ghost use Rattle.mips_isa.specs.Lines.{lines_of};
+ghost use Rattle.cool_syntax.specs.Tree.{of_list};
+ghost use Rattle.cool_syntax.specs.NodeLists.{all_trees, at_id, made, tree_at, HasPartsBelow};
+ghost use Rattle.cool_syntax.specs.TreesWithinLimits.{AreTreesWithin, IsTreeWithin};
+ghost use Rattle.cool_pool.specs.Groups.{IsControl, IsLeaf};
+ghost use Rattle.cool_rules.specs.Conformance.{IsType};
+ghost use Rattle.cool_codegen.specs.Code.{truth_label};
+ghost use Rattle.cool_codegen.specs.Numbered.{all_asked, asked_at, items_lines, last_type_at, lines_at, node_asked, node_lines, node_size, node_type, size_at, sizes_at, type_at, AreRoots, HasRoots, IsRoot};
+ghost use Rattle.cool_codegen.specs.Settings.{context, HaveTypes, IsSound};
+ghost use Rattle.cool_codegen.specs.Types.{object, type_of_named};
+
+use crate::binding::binding;
+use crate::call::dispatch;
+use crate::label::{inner_label, int_label, string_label};
+use crate::operation::{is_self, take_name, take_new};
+use crate::operator::{binary, unary};
+use crate::piece::{mark, repeat, take, test, turn};
+use crate::setting::Setting;
+use crate::variables::Variables;
+use cool_classes::{BOOL, INT, OBJECT, STRING, Ty};
+use cool_consts::Consts;
+use cool_syntax::{Name, Node, NodeId};
+use mips_isa::Line;
+use std::alloc::AllocError;
+
+/// Adds the code of the expression at this number, which begins and ends with so many words on the stack behind the frame, and
+/// answers its type. `Err` comes only for want of memory.
+#[cycle(coding)]
+pub(crate) fn expression<'a>(
+    setting: &Setting<'a>,
+    variables: &mut Variables<'a>,
+    depth: u32,
+    id: NodeId,
+    consts: &mut Consts,
+    lines: &mut Vec<Line>,
+) -> Result<Ty, AllocError>
+    requires root { IsRoot setting.now.body.now id }
+    requires places { IsTreeWithin (length setting.now.names.now) (tree_at setting.now.body.now id) }
+    requires sound { IsSound setting.now }
+    requires bases { AllByRecursion (λ v. v.variable.base < 32) variables.old }
+    requires types { HaveTypes setting.now.table.now variables.old }
+    requires deep { depth + size_at setting.now.body.now id < 2 ^ 28 }
+    requires integers { length consts.old.integers + size_at setting.now.body.now id < 2 ^ 32 - 1 }
+    requires strings { length consts.old.strings + 2 * size_at setting.now.body.now id < 2 ^ 32 - 1 }
+    ensures is_type { IfOk result (IsType setting.now.table.now) }
+    ensures typed { IfOk result (λ t. t ≡ type_at (context setting.now) setting.now.body.now variables.old depth id) }
+    ensures scope { OnOk result (variables.new ≡ variables.old) }
+    ensures lines { OnOk result (lines_of lines.new.items ≡ lines_of lines.old.items ++ lines_at (context setting.now) setting.now.body.now consts.old variables.old depth id) }
+    ensures asked { OnOk result (consts.new ≡ asked_at (context setting.now).files setting.now.body.now consts.old id) }
+    ensures more_integers { OnOk result (length consts.new.integers ≤ length consts.old.integers + size_at setting.now.body.now id) }
+    ensures more_strings { OnOk result (length consts.new.strings ≤ length consts.old.strings + 2 * size_at setting.now.body.now id) }
+    ensures some { 1 ≤ size_at setting.now.body.now id }
+{
+    let node = node_of(setting, variables, depth, consts, id);
+    match node {
+        Node::Dispatch { .. } | Node::StaticDispatch { .. } => {
+            dispatch(setting, variables, depth, id, node, consts, lines)
+        }
+        Node::Let { .. } | Node::Case { .. } => {
+            binding(setting, variables, depth, id, node, consts, lines)
+        }
+        Node::If { .. } | Node::While { .. } | Node::Block { .. } => {
+            control(setting, variables, depth, id, node, consts, lines)
+        }
+        Node::Assign { .. } | Node::IsVoid { .. } | Node::Neg { .. } | Node::Not { .. } => {
+            unary(setting, variables, depth, id, node, consts, lines)
+        }
+        Node::Arith { .. } | Node::Compare { .. } => {
+            binary(setting, variables, depth, id, node, consts, lines)
+        }
+        Node::New { .. }
+        | Node::Id { .. }
+        | Node::Int { .. }
+        | Node::Str { .. }
+        | Node::Bool { .. } => leaf(setting, variables, depth, id, node, consts, lines),
+    }
+}
+
+/// The node of this number, by which the expression there is what its node is.
+fn node_of<'a>(
+    setting: &Setting<'a>,
+    variables: &Variables<'a>,
+    depth: u32,
+    consts: &Consts,
+    id: NodeId,
+) -> &'a Node
+    requires root { IsRoot setting.now.body.now id }
+    requires places { IsTreeWithin (length setting.now.names.now) (tree_at setting.now.body.now id) }
+    ensures roots { HasRoots setting.now.body.now result.now }
+    ensures parts { HasPartsBelow id.0 result.now }
+    ensures places { IsTreeWithin (length setting.now.names.now) (made (all_trees setting.now.body.now) result.now) }
+    ensures size { size_at setting.now.body.now id ≡ node_size setting.now.body.now result.now }
+    ensures some { 1 ≤ size_at setting.now.body.now id }
+    ensures typed { type_at (context setting.now) setting.now.body.now variables.now depth id ≡ node_type (context setting.now) setting.now.body.now variables.now depth result.now }
+    ensures lines { lines_at (context setting.now) setting.now.body.now consts.now variables.now depth id ≡ node_lines (context setting.now) setting.now.body.now consts.now variables.now depth id result.now }
+    ensures asked { asked_at (context setting.now).files setting.now.body.now consts.now id ≡ node_asked (context setting.now).files setting.now.body.now consts.now result.now }
+{
+    setting.body.node(id)
+}
+
+/// Adds the code of a name, a constant or a new object.
+fn leaf(
+    setting: &Setting<'_>,
+    variables: &mut Variables<'_>,
+    depth: u32,
+    id: NodeId,
+    node: &Node,
+    consts: &mut Consts,
+    lines: &mut Vec<Line>,
+) -> Result<Ty, AllocError>
+    requires group { IsLeaf node.now }
+    requires roots { HasRoots setting.now.body.now node.now }
+    requires parts { HasPartsBelow id.0 node.now }
+    requires places { IsTreeWithin (length setting.now.names.now) (made (all_trees setting.now.body.now) node.now) }
+    requires sound { IsSound setting.now }
+    requires bases { AllByRecursion (λ v. v.variable.base < 32) variables.old }
+    requires types { HaveTypes setting.now.table.now variables.old }
+    requires deep { depth + node_size setting.now.body.now node.now < 2 ^ 28 }
+    requires integers { length consts.old.integers + node_size setting.now.body.now node.now < 2 ^ 32 - 1 }
+    requires strings { length consts.old.strings + 2 * node_size setting.now.body.now node.now < 2 ^ 32 - 1 }
+    ensures is_type { IfOk result (IsType setting.now.table.now) }
+    ensures typed { IfOk result (λ t. t ≡ node_type (context setting.now) setting.now.body.now variables.old depth node.now) }
+    ensures scope { OnOk result (variables.new ≡ variables.old) }
+    ensures lines { OnOk result (lines_of lines.new.items ≡ lines_of lines.old.items ++ node_lines (context setting.now) setting.now.body.now consts.old variables.old depth id node.now) }
+    ensures asked { OnOk result (consts.new ≡ node_asked (context setting.now).files setting.now.body.now consts.old node.now) }
+    ensures more_integers { OnOk result (length consts.new.integers ≤ length consts.old.integers + node_size setting.now.body.now node.now) }
+    ensures more_strings { OnOk result (length consts.new.strings ≤ length consts.old.strings + 2 * node_size setting.now.body.now node.now) }
+{
+    let alloc = setting.alloc;
+    match node {
+        Node::Id { name, .. } => {
+            take_name(alloc, variables, name, lines)?;
+            Ok(type_of_name(setting, variables, name))
+        }
+        Node::New { class, .. } => {
+            let made = setting.meant(&class.name);
+            take_new(setting, made, lines)?;
+            Ok(made)
+        }
+        Node::Int { value, .. } => {
+            let label = int_label(alloc, consts, *value)?;
+            take(alloc, lines, label.as_bytes())?;
+            Ok(Ty::Class(INT))
+        }
+        Node::Str { bytes, .. } => {
+            let label = string_label(alloc, consts, bytes.as_slice())?;
+            take(alloc, lines, label.as_bytes())?;
+            Ok(Ty::Class(STRING))
+        }
+        Node::Bool { value, .. } => {
+            take(alloc, lines, truth_label(*value))?;
+            Ok(Ty::Class(BOOL))
+        }
+        _ => unreachable!(),
+    }
+}
+
+/// The label of a Bool.
+#[tactic(auto, unfolding(cool_runtime::specs::Labels::false_constant, cool_runtime::specs::Labels::true_constant))]
+fn truth_label(value: bool) -> &'static [u8]
+    ensures { result.now ≡ truth_label value }
+{
+    if value {
+        b"bool_const1"
+    } else {
+        b"bool_const0"
+    }
+}
+
+/// The type of a name: of `self`, or of a variable; Object where there is none.
+fn type_of_name(setting: &Setting<'_>, variables: &Variables<'_>, name: &Name) -> Ty
+    requires sound { IsSound setting.now }
+    requires types { HaveTypes setting.now.table.now variables.now }
+    ensures is_type { IsType setting.now.table.now result }
+    ensures typed { result ≡ type_of_named variables.now name.now }
+{
+    if is_self(name) {
+        return Ty::SelfType;
+    }
+    match variables.find(name) {
+        Some(variable) => variable.ty,
+        None => Ty::Class(OBJECT),
+    }
+}
+
+/// Adds the code of a condition, a loop or a block, whose parts have numbers below this one.
+#[cycle(coding)]
+fn control<'a>(
+    setting: &Setting<'a>,
+    variables: &mut Variables<'a>,
+    depth: u32,
+    id: NodeId,
+    node: &'a Node,
+    consts: &mut Consts,
+    lines: &mut Vec<Line>,
+) -> Result<Ty, AllocError>
+    requires group { IsControl node.now }
+    requires roots { HasRoots setting.now.body.now node.now }
+    requires parts { HasPartsBelow id.0 node.now }
+    requires places { IsTreeWithin (length setting.now.names.now) (made (all_trees setting.now.body.now) node.now) }
+    requires sound { IsSound setting.now }
+    requires bases { AllByRecursion (λ v. v.variable.base < 32) variables.old }
+    requires types { HaveTypes setting.now.table.now variables.old }
+    requires deep { depth + node_size setting.now.body.now node.now < 2 ^ 28 }
+    requires integers { length consts.old.integers + node_size setting.now.body.now node.now < 2 ^ 32 - 1 }
+    requires strings { length consts.old.strings + 2 * node_size setting.now.body.now node.now < 2 ^ 32 - 1 }
+    ensures is_type { IfOk result (IsType setting.now.table.now) }
+    ensures typed { IfOk result (λ t. t ≡ node_type (context setting.now) setting.now.body.now variables.old depth node.now) }
+    ensures scope { OnOk result (variables.new ≡ variables.old) }
+    ensures lines { OnOk result (lines_of lines.new.items ≡ lines_of lines.old.items ++ node_lines (context setting.now) setting.now.body.now consts.old variables.old depth id node.now) }
+    ensures asked { OnOk result (consts.new ≡ node_asked (context setting.now).files setting.now.body.now consts.old node.now) }
+    ensures more_integers { OnOk result (length consts.new.integers ≤ length consts.old.integers + node_size setting.now.body.now node.now) }
+    ensures more_strings { OnOk result (length consts.new.strings ≤ length consts.old.strings + 2 * node_size setting.now.body.now node.now) }
+{
+    let alloc = setting.alloc;
+    match node {
+        Node::If {
+            test: condition,
+            yes,
+            no,
+            ..
+        } => {
+            let other = inner_label(setting, "else", id)?;
+            let end = inner_label(setting, "end", id)?;
+            expression(setting, variables, depth, *condition, consts, lines)?;
+            test(alloc, lines, other.as_bytes())?;
+            let first = expression(setting, variables, depth, *yes, consts, lines)?;
+            turn(alloc, lines, end.as_bytes(), other.as_bytes())?;
+            let second = expression(setting, variables, depth, *no, consts, lines)?;
+            mark(alloc, lines, end.as_bytes())?;
+            Ok(setting.join(first, second))
+        }
+        Node::While {
+            test: condition,
+            body,
+            ..
+        } => {
+            let begin = inner_label(setting, "loop", id)?;
+            let end = inner_label(setting, "end", id)?;
+            mark(alloc, lines, begin.as_bytes())?;
+            expression(setting, variables, depth, *condition, consts, lines)?;
+            test(alloc, lines, end.as_bytes())?;
+            expression(setting, variables, depth, *body, consts, lines)?;
+            repeat(alloc, lines, begin.as_bytes(), end.as_bytes())?;
+            Ok(Ty::Class(OBJECT))
+        }
+        Node::Block { items: parts, .. } => {
+            items(
+                setting,
+                variables,
+                depth,
+                id,
+                parts.as_slice(),
+                consts,
+                lines,
+            )
+        }
+        _ => unreachable!(),
+    }
+}
+
+/// Adds the code of the items of a block, and answers the type of the last one. A text has one at least; that of none is Object.
+#[cycle(coding)]
+fn items<'a>(
+    setting: &Setting<'a>,
+    variables: &mut Variables<'a>,
+    depth: u32,
+    end: NodeId,
+    items: &[NodeId],
+    consts: &mut Consts,
+    lines: &mut Vec<Line>,
+) -> Result<Ty, AllocError>
+    requires roots { AreRoots setting.now.body.now items.now }
+    requires parts { AllByRecursion (λ item. item.0 < end.0) items.now }
+    requires places { AreTreesWithin (length setting.now.names.now) (of_list (map (at_id (all_trees setting.now.body.now)) items.now)) }
+    requires sound { IsSound setting.now }
+    requires bases { AllByRecursion (λ v. v.variable.base < 32) variables.old }
+    requires types { HaveTypes setting.now.table.now variables.old }
+    requires deep { depth + sizes_at setting.now.body.now items.now < 2 ^ 28 }
+    requires integers { length consts.old.integers + sizes_at setting.now.body.now items.now < 2 ^ 32 - 1 }
+    requires strings { length consts.old.strings + 2 * sizes_at setting.now.body.now items.now < 2 ^ 32 - 1 }
+    ensures is_type { IfOk result (IsType setting.now.table.now) }
+    ensures typed { IfOk result (λ t. t ≡ last_type_at (context setting.now) setting.now.body.now variables.old depth object items.now) }
+    ensures scope { OnOk result (variables.new ≡ variables.old) }
+    ensures lines { OnOk result (lines_of lines.new.items ≡ lines_of lines.old.items ++ items_lines (context setting.now) setting.now.body.now consts.old variables.old depth items.now) }
+    ensures asked { OnOk result (consts.new ≡ all_asked (context setting.now).files setting.now.body.now consts.old items.now) }
+    ensures more_integers { OnOk result (length consts.new.integers ≤ length consts.old.integers + sizes_at setting.now.body.now items.now) }
+    ensures more_strings { OnOk result (length consts.new.strings ≤ length consts.old.strings + 2 * sizes_at setting.now.body.now items.now) }
+{
+    let mut last = Ty::Class(OBJECT);
+    for item in items {
+        last = expression(setting, variables, depth, *item, consts, lines)?;
+    }
+    Ok(last)
+}

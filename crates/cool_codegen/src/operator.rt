@@ -1,0 +1,224 @@
+//! The code of assignments and operators.
+
+ghost use Rattle.std.specs.Prelude.{◌≡◌, ◌++◌, ◌+◌, ◌*◌, ◌-◌, ◌^◌, ◌<◌, ◌≤◌, length, IfOk, OnOk};
+ghost use Rattle.std.specs.List.{AllByRecursion};
+ghost use Rattle.mips_isa.specs.Lines.{lines_of};
+ghost use Rattle.cool_syntax.specs.NodeLists.{all_trees, made, tree_at, HasPartsBelow};
+ghost use Rattle.cool_syntax.specs.TreesWithinLimits.{IsTreeWithin};
+ghost use Rattle.cool_pool.specs.Groups.{IsBinary, IsUnary};
+ghost use Rattle.cool_rules.specs.Conformance.{IsType};
+ghost use Rattle.cool_runtime.specs.Routines.{push_lines};
+ghost use Rattle.cool_codegen.specs.Numbered.{asked_at, lines_at, node_asked, node_lines, node_size, node_type, operation_asked, operation_lines, size_at, tested_strings, HasRoots, IsRoot};
+ghost use Rattle.cool_consts.specs.Constants.{Constants};
+ghost use Rattle.cool_codegen.specs.Asked.{Extends};
+ghost use Rattle.cool_codegen.specs.Code.{operation_code};
+ghost use Rattle.cool_codegen.specs.Settings.{context, HaveTypes, IsSound};
+
+use crate::expression::expression;
+use crate::operation::{assign, compare, make_bool, make_int, test_divisor};
+use crate::piece::{add, complement, divide, is_void, multiply, negate, subtract, values};
+use crate::setting::Setting;
+use crate::variables::Variables;
+use cool_classes::{BOOL, INT, Ty};
+use cool_consts::Consts;
+use cool_runtime::piece::push;
+use cool_syntax::{ArithOp, Node, NodeId, Place};
+use mips_isa::Line;
+use std::alloc::AllocError;
+
+/// Adds the code of an assignment or of an operator with one operand, which has a number below this one.
+#[cycle(coding)]
+pub(crate) fn unary<'a>(
+    setting: &Setting<'a>,
+    variables: &mut Variables<'a>,
+    depth: u32,
+    id: NodeId,
+    node: &'a Node,
+    consts: &mut Consts,
+    lines: &mut Vec<Line>,
+) -> Result<Ty, AllocError>
+    requires group { IsUnary node.now }
+    requires roots { HasRoots setting.now.body.now node.now }
+    requires parts { HasPartsBelow id.0 node.now }
+    requires places { IsTreeWithin (length setting.now.names.now) (made (all_trees setting.now.body.now) node.now) }
+    requires sound { IsSound setting.now }
+    requires bases { AllByRecursion (λ v. v.variable.base < 32) variables.old }
+    requires types { HaveTypes setting.now.table.now variables.old }
+    requires deep { depth + node_size setting.now.body.now node.now < 2 ^ 28 }
+    requires integers { length consts.old.integers + node_size setting.now.body.now node.now < 2 ^ 32 - 1 }
+    requires strings { length consts.old.strings + 2 * node_size setting.now.body.now node.now < 2 ^ 32 - 1 }
+    ensures is_type { IfOk result (IsType setting.now.table.now) }
+    ensures typed { IfOk result (λ t. t ≡ node_type (context setting.now) setting.now.body.now variables.old depth node.now) }
+    ensures scope { OnOk result (variables.new ≡ variables.old) }
+    ensures lines { OnOk result (lines_of lines.new.items ≡ lines_of lines.old.items ++ node_lines (context setting.now) setting.now.body.now consts.old variables.old depth id node.now) }
+    ensures asked { OnOk result (consts.new ≡ node_asked (context setting.now).files setting.now.body.now consts.old node.now) }
+    ensures more_integers { OnOk result (length consts.new.integers ≤ length consts.old.integers + node_size setting.now.body.now node.now) }
+    ensures more_strings { OnOk result (length consts.new.strings ≤ length consts.old.strings + 2 * node_size setting.now.body.now node.now) }
+{
+    let alloc = setting.alloc;
+    match node {
+        Node::Assign { name, value, .. } => {
+            let given = expression(setting, variables, depth, *value, consts, lines)?;
+            assign(alloc, variables, name, lines)?;
+            Ok(given)
+        }
+        Node::IsVoid { value, .. } => {
+            expression(setting, variables, depth, *value, consts, lines)?;
+            is_void(alloc, lines)?;
+            make_bool(setting, id, lines)?;
+            Ok(Ty::Class(BOOL))
+        }
+        Node::Neg { at, value } => {
+            expression(setting, variables, depth, *value, consts, lines)?;
+            negate(alloc, lines)?;
+            make_int(setting, *at, id, consts, lines)?;
+            Ok(Ty::Class(INT))
+        }
+        Node::Not { value, .. } => {
+            expression(setting, variables, depth, *value, consts, lines)?;
+            complement(alloc, lines)?;
+            make_bool(setting, id, lines)?;
+            Ok(Ty::Class(BOOL))
+        }
+        _ => unreachable!(),
+    }
+}
+
+/// Adds the code of an operator between two operands, which have numbers below this one.
+#[cycle(coding)]
+pub(crate) fn binary<'a>(
+    setting: &Setting<'a>,
+    variables: &mut Variables<'a>,
+    depth: u32,
+    id: NodeId,
+    node: &'a Node,
+    consts: &mut Consts,
+    lines: &mut Vec<Line>,
+) -> Result<Ty, AllocError>
+    requires group { IsBinary node.now }
+    requires roots { HasRoots setting.now.body.now node.now }
+    requires parts { HasPartsBelow id.0 node.now }
+    requires places { IsTreeWithin (length setting.now.names.now) (made (all_trees setting.now.body.now) node.now) }
+    requires sound { IsSound setting.now }
+    requires bases { AllByRecursion (λ v. v.variable.base < 32) variables.old }
+    requires types { HaveTypes setting.now.table.now variables.old }
+    requires deep { depth + node_size setting.now.body.now node.now < 2 ^ 28 }
+    requires integers { length consts.old.integers + node_size setting.now.body.now node.now < 2 ^ 32 - 1 }
+    requires strings { length consts.old.strings + 2 * node_size setting.now.body.now node.now < 2 ^ 32 - 1 }
+    ensures is_type { IfOk result (IsType setting.now.table.now) }
+    ensures typed { IfOk result (λ t. t ≡ node_type (context setting.now) setting.now.body.now variables.old depth node.now) }
+    ensures scope { OnOk result (variables.new ≡ variables.old) }
+    ensures lines { OnOk result (lines_of lines.new.items ≡ lines_of lines.old.items ++ node_lines (context setting.now) setting.now.body.now consts.old variables.old depth id node.now) }
+    ensures asked { OnOk result (consts.new ≡ node_asked (context setting.now).files setting.now.body.now consts.old node.now) }
+    ensures more_integers { OnOk result (length consts.new.integers ≤ length consts.old.integers + node_size setting.now.body.now node.now) }
+    ensures more_strings { OnOk result (length consts.new.strings ≤ length consts.old.strings + 2 * node_size setting.now.body.now node.now) }
+{
+    match node {
+        Node::Arith {
+            at,
+            op,
+            left,
+            right,
+        } => {
+            operands(setting, variables, depth, id, *left, *right, consts, lines)?;
+            compute(setting, *op, *at, id, consts, lines)?;
+            Ok(Ty::Class(INT))
+        }
+        Node::Compare {
+            op,
+            left,
+            right,
+            ..
+        } => {
+            operands(setting, variables, depth, id, *left, *right, consts, lines)?;
+            compare(setting, *op, id, lines)?;
+            Ok(Ty::Class(BOOL))
+        }
+        _ => unreachable!(),
+    }
+}
+
+/// Adds the code of two operands: the left one goes to the stack.
+#[cycle(coding)]
+fn operands<'a>(
+    setting: &Setting<'a>,
+    variables: &mut Variables<'a>,
+    depth: u32,
+    end: NodeId,
+    left: NodeId,
+    right: NodeId,
+    consts: &mut Consts,
+    lines: &mut Vec<Line>,
+) -> Result<(), AllocError>
+    requires left_below { left.0 < end.0 }
+    requires right_below { right.0 < end.0 }
+    requires left_root { IsRoot setting.now.body.now left }
+    requires right_root { IsRoot setting.now.body.now right }
+    requires left_places { IsTreeWithin (length setting.now.names.now) (tree_at setting.now.body.now left) }
+    requires right_places { IsTreeWithin (length setting.now.names.now) (tree_at setting.now.body.now right) }
+    requires sound { IsSound setting.now }
+    requires bases { AllByRecursion (λ v. v.variable.base < 32) variables.old }
+    requires types { HaveTypes setting.now.table.now variables.old }
+    requires deep { depth + (size_at setting.now.body.now left + size_at setting.now.body.now right + 1) < 2 ^ 28 }
+    requires integers { length consts.old.integers + (size_at setting.now.body.now left + size_at setting.now.body.now right + 1) < 2 ^ 32 - 1 }
+    requires strings { length consts.old.strings + 2 * (size_at setting.now.body.now left + size_at setting.now.body.now right + 1) < 2 ^ 32 - 1 }
+    ensures scope { OnOk result (variables.new ≡ variables.old) }
+    ensures lines { OnOk result (lines_of lines.new.items ≡ lines_of lines.old.items ++ (lines_at (context setting.now) setting.now.body.now consts.old variables.old depth left ++ (push_lines ++ lines_at (context setting.now) setting.now.body.now (asked_at (context setting.now).files setting.now.body.now consts.old left) variables.old (depth + 1) right))) }
+    ensures asked { OnOk result (consts.new ≡ asked_at (context setting.now).files setting.now.body.now (asked_at (context setting.now).files setting.now.body.now consts.old left) right) }
+    ensures more_integers { OnOk result (length consts.new.integers ≤ length consts.old.integers + (size_at setting.now.body.now left + size_at setting.now.body.now right)) }
+    ensures more_strings { OnOk result (length consts.new.strings ≤ length consts.old.strings + 2 * (size_at setting.now.body.now left + size_at setting.now.body.now right)) }
+{
+    expression(setting, variables, depth, left, consts, lines)?;
+    push(setting.alloc, lines)?;
+    expression(setting, variables, depth + 1, right, consts, lines)?;
+    Ok(())
+}
+
+/// Adds the operation of arithmetic on two operands.
+fn compute(
+    setting: &Setting<'_>,
+    op: ArithOp,
+    at: Place,
+    id: NodeId,
+    consts: &mut Consts,
+    lines: &mut Vec<Line>,
+) -> Result<(), AllocError>
+    requires few { length consts.old.strings + 2 < 2 ^ 32 - 1 }
+    requires file { at.file < length setting.now.names.now }
+    ensures lines { OnOk result (lines_of lines.new.items ≡ lines_of lines.old.items ++ operation_lines (context setting.now) consts.old op at id) }
+    ensures asked { OnOk result (consts.new ≡ operation_asked (context setting.now).files op at consts.old) }
+    ensures more_integers { OnOk result (length consts.new.integers ≡ length consts.old.integers) }
+    ensures more_strings { OnOk result (length consts.new.strings ≤ length consts.old.strings + 2) }
+{
+    values(setting.alloc, lines)?;
+    operate(setting, op, at, id, consts, lines)?;
+    make_int(setting, at, id, consts, lines)?;
+    Ok(())
+}
+
+/// Adds the operation itself, and for a division the test that the divisor is not 0.
+fn operate(
+    setting: &Setting<'_>,
+    op: ArithOp,
+    at: Place,
+    id: NodeId,
+    consts: &mut Consts,
+    lines: &mut Vec<Line>,
+) -> Result<(), AllocError>
+    requires few { length consts.old.strings + 2 < 2 ^ 32 - 1 }
+    requires file { at.file < length setting.now.names.now }
+    ensures lines { OnOk result ((g : Constants) → Extends consts.new g → lines_of lines.new.items ≡ lines_of lines.old.items ++ operation_code (context setting.now) g op at id) }
+    ensures integers { consts.new.integers ≡ consts.old.integers }
+    ensures strings { OnOk result (consts.new.strings ≡ tested_strings (context setting.now).files op at consts.old.strings) }
+{
+    let alloc = setting.alloc;
+    match op {
+        ArithOp::Add => add(alloc, lines),
+        ArithOp::Sub => subtract(alloc, lines),
+        ArithOp::Mul => multiply(alloc, lines),
+        ArithOp::Div => {
+            test_divisor(setting, at, id, consts, lines)?;
+            divide(alloc, lines)
+        }
+    }
+}
