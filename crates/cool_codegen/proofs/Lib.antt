@@ -1,3 +1,4 @@
+pub mod WholeBodies
 pub mod OperationsAsk
 pub mod VariablesHave
 pub mod CodeByNumbers

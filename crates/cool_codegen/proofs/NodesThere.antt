@@ -232,6 +232,9 @@ root_within b id r =
     let long : length (nodes 0 b) ≡ length (s.front ++ (nodes r.before r.tree ++ s.back)) = ap length s.is in
     omega (arith, length-nodes b 0, length-append s.front (nodes r.before r.tree ++ s.back), length-append (nodes r.before r.tree) s.back, length-nodes r.tree r.before, one_le_size r.tree)
 
--- the root of a body is one
+-- the nodes of a body stand in it from the first on, so its root is one
+pub whole_stands : (b : Tree) → Stands (nodes 0 b) 0 b
+whole_stands b = record { front = []; back = []; before = refl; is = simp append-nil refl }
+
 pub whole_is_root : (b : Tree) → IsRoot b (root 0 b)
-whole_is_root b = is_root b 0 b (record { front = []; back = []; before = refl; is = simp append-nil refl })
+whole_is_root b = is_root b 0 b (whole_stands b)

@@ -8,6 +8,7 @@ pub mod arm;
 mod binding;
 mod call;
 mod expression;
+pub mod feature;
 pub mod label;
 mod number;
 pub mod operation;
