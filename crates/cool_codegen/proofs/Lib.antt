@@ -1,3 +1,4 @@
+pub mod AttributesOfClasses
 pub mod WholeBodies
 pub mod OperationsAsk
 pub mod VariablesHave

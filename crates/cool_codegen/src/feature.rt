@@ -1,19 +1,29 @@
 //! The code of methods, and of the initial values of attributes.
 
-ghost use Rattle.std.specs.Prelude.{◌≡◌, ◌++◌, ◌+◌, ◌*◌, ◌-◌, ◌^◌, ◌<◌, length, OnOk};
+ghost use Rattle.std.specs.Prelude.{◌≡◌, ◌++◌, ◌+◌, ◌*◌, ◌-◌, ◌^◌, ◌<◌, length, IfOk, OnOk};
 ghost use Rattle.std.specs.List.{AllByRecursion};
 ghost use Rattle.mips_isa.specs.Lines.{lines_of};
 ghost use Rattle.cool_syntax.specs.Tree.{tree_size};
 ghost use Rattle.cool_syntax.specs.TreesWithinLimits.{IsTreeWithin};
+ghost use Rattle.cool_classes.specs.Features.{HasMethod};
+ghost use Rattle.cool_classes.specs.declared.method.MethodRef.TheVariants.{User};
 ghost use Rattle.cool_consts.specs.Constants.{Constants};
 ghost use Rattle.cool_codegen.specs.Asked.{integers_in, strings_in, with_integers, with_strings, Extends};
 ghost use Rattle.cool_codegen.specs.Code.{code};
+ghost use Rattle.cool_codegen.specs.Features.{attributes_in, method_code, with_formals};
 ghost use Rattle.cool_codegen.specs.Settings.{context, HaveTypes, IsSound};
 
 use crate::expression::expression;
+use crate::label::method_label;
+use crate::number::signed;
+use crate::piece::{leave, mark};
 use crate::setting::Setting;
-use crate::variables::Variables;
+use crate::variables::{Variable, Variables};
+use cool_classes::MethodRef;
 use cool_consts::Consts;
+use cool_runtime::piece::enter;
+use cool_runtime::register::{FP, S0};
+use cool_syntax::Formal;
 use mips_isa::Line;
 use std::alloc::AllocError;
 
@@ -37,5 +47,85 @@ pub fn body_lines<'a>(
 {
     let root = setting.body.root();
     expression(setting, variables, 0, root, consts, lines)?;
+    Ok(())
+}
+
+/// The attributes of the class of a feature, as variables.
+pub fn attribute_variables<'a>(setting: &Setting<'a>) -> Result<Variables<'a>, AllocError>
+    requires sound { IsSound setting.now }
+    ensures variables { IfOk result (λ vs. vs ≡ attributes_in setting.now.table.now setting.now.class) }
+    ensures bases { IfOk result (AllByRecursion (λ v. v.variable.base < 32)) }
+    ensures types { IfOk result (HaveTypes setting.now.table.now) }
+{
+    let mut variables = Variables::new(setting.alloc);
+    for attribute in setting.table.attributes(setting.alloc, setting.class)? {
+        let variable = Variable {
+            base: S0,
+            offset: setting.offset(attribute),
+            ty: setting.attribute(attribute),
+        };
+        variables.enter(setting.table.attribute_name(attribute), variable)?;
+    }
+    Ok(variables)
+}
+
+/// Adds the formals of a method to the names in scope: the last one is nearest to the frame.
+pub fn formal_variables<'a>(
+    setting: &Setting<'a>,
+    variables: &mut Variables<'a>,
+    formals: &'a [Formal],
+) -> Result<(), AllocError>
+    requires sound { IsSound setting.now }
+    requires few { length formals.now < 2 ^ 28 }
+    requires bases { AllByRecursion (λ v. v.variable.base < 32) variables.old }
+    requires types { HaveTypes setting.now.table.now variables.old }
+    ensures variables { OnOk result (variables.new ≡ with_formals setting.now.table.now formals.now variables.old) }
+    ensures bases { OnOk result (AllByRecursion (λ v. v.variable.base < 32) variables.new) }
+    ensures types { OnOk result (HaveTypes setting.now.table.now variables.new) }
+{
+    let mut behind = formals.len() as u32;
+    for formal in formals {
+        behind -= 1;
+        let variable = Variable {
+            base: FP,
+            offset: signed(12 + 4 * behind),
+            ty: setting.meant(&formal.declared.name),
+        };
+        variables.enter(&formal.name, variable)?;
+    }
+    Ok(())
+}
+
+/// Adds the lines of the method of these formals, whose body the setting has. `Err` comes only for want of memory.
+pub fn method_lines<'a>(
+    setting: &Setting<'a>,
+    formals: &'a [Formal],
+    consts: &mut Consts,
+    lines: &mut Vec<Line>,
+) -> Result<(), AllocError>
+    requires sound { IsSound setting.now }
+    requires has { HasMethod setting.now.table.now (User setting.now.class setting.now.feature) }
+    requires few { length formals.now < 2 ^ 28 }
+    requires places { IsTreeWithin (length setting.now.names.now) setting.now.body.now }
+    requires deep { tree_size setting.now.body.now < 2 ^ 28 }
+    requires few_integers { length consts.old.integers + tree_size setting.now.body.now < 2 ^ 32 - 1 }
+    requires few_strings { length consts.old.strings + 2 * tree_size setting.now.body.now < 2 ^ 32 - 1 }
+    ensures lines { OnOk result ((g : Constants) → Extends consts.new g → lines_of lines.new.items ≡ lines_of lines.old.items ++ method_code (context setting.now) g formals.now setting.now.body.now) }
+    ensures integers { OnOk result (consts.new.integers ≡ with_integers consts.old.integers (integers_in setting.now.body.now)) }
+    ensures strings { OnOk result (consts.new.strings ≡ with_strings consts.old.strings (strings_in (context setting.now).files setting.now.body.now)) }
+{
+    let alloc = setting.alloc;
+    let method = MethodRef::User {
+        owner: setting.class,
+        index: setting.feature,
+    };
+    let label = method_label(alloc, setting.table, method)?;
+    let mut variables = attribute_variables(setting)?;
+    formal_variables(setting, &mut variables, formals)?;
+    mark(alloc, lines, &label)?;
+    enter(alloc, lines)?;
+    body_lines(setting, &mut variables, consts, lines)?;
+    let taken = signed(12 + 4 * formals.len() as u32);
+    leave(alloc, lines, taken)?;
     Ok(())
 }

@@ -1,18 +1,18 @@
 //! What stays the same while the code of a feature is made, and the rules of types there.
 
-ghost use Rattle.std.specs.Prelude.{◌≡◌, ◌<◌, ◌+◌, ◌-◌, ◌*◌, pos, length, unwrap_or};
+ghost use Rattle.std.specs.Prelude.{◌≡◌, ◌<◌, ◌+◌, ◌-◌, ◌*◌, pos, length, unwrap_or, Contains};
 ghost use Rattle.cool_classes.specs.ClimbedChains.{above};
-ghost use Rattle.cool_classes.specs.Features.{result_of, HasMethod};
+ghost use Rattle.cool_classes.specs.Features.{attribute_type, result_of, HasAttribute, HasMethod};
 ghost use Rattle.cool_rules.specs.Conformance.{IsType};
 ghost use Rattle.cool_rules.specs.Rules.{join_in, type_meant};
-ghost use Rattle.cool_layout.specs.Members.{slot};
+ghost use Rattle.cool_layout.specs.Members.{attributes, offset, slot};
 ghost use Rattle.cool_layout.specs.Preorder.{last_tag, tag};
 ghost use Rattle.cool_codegen.specs.Code.{minus};
 ghost use Rattle.cool_codegen.specs.Types.{method_in};
 ghost use Rattle.cool_codegen.specs.Settings.{IsSound};
 
 use crate::number::{negative, signed};
-use cool_classes::{BasicMethod, ClassId, ClassTable, MethodRef, OBJECT, Ty};
+use cool_classes::{AttributeRef, BasicMethod, ClassId, ClassTable, MethodRef, OBJECT, Ty};
 use cool_layout::Layout;
 use cool_rules::{join_types, type_named};
 use cool_syntax::{Body, Name};
@@ -114,5 +114,24 @@ impl<'a> Setting<'a> {
         ensures { result ≡ pos (last_tag self.now.table.now class - tag self.now.table.now class + 1) }
     {
         signed(self.layout.last_tag(class) - self.layout.tag(class) + 1)
+    }
+
+    /// The declared type of an attribute.
+    pub fn attribute(&self, attribute: AttributeRef) -> Ty
+        requires sound { IsSound self.now }
+        requires has { HasAttribute self.now.table.now attribute }
+        ensures is_type { IsType self.now.table.now result }
+        ensures attribute { result ≡ type_meant self.now.table.now (attribute_type self.now.table.now attribute) }
+    {
+        self.table.attribute_type(attribute)
+    }
+
+    /// Where an attribute stands in the objects of the class, in bytes.
+    pub fn offset(&self, attribute: AttributeRef) -> i32
+        requires sound { IsSound self.now }
+        requires there { Contains (attributes self.now.table.now self.now.class) attribute }
+        ensures { result ≡ pos (offset self.now.table.now self.now.class attribute) }
+    {
+        signed(self.layout.offset(self.class, attribute))
     }
 }
