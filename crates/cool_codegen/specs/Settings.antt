@@ -2,6 +2,7 @@
 use Rattle.std.specs.Prelude.{◌<◌, List, length, map, string_bytes}
 use Rattle.std.specs.List.{AllByRecursion}
 use Rattle.cool_classes.specs.Chains.{Class}
+use Rattle.cool_classes.specs.declared.method.AttributeRef.{AttributeRef}
 use Rattle.cool_classes.specs.Tables.{IsTable}
 use Rattle.cool_rules.specs.Conformance.{IsType}
 use Rattle.cool_layout.specs.Layouts.{IsLayoutOf}
@@ -15,6 +16,10 @@ HaveTypes p vs = AllByRecursion (λ v. IsType p v.variable.ty) vs
 
 abbrev pub context : Setting → Context
 context s = record { table = s.table.now; class = s.class; feature = s.feature; files = map string_bytes s.names.now }
+
+-- the feature, where it is an attribute
+abbrev pub attribute_of : Setting → AttributeRef
+attribute_of s = record { owner = s.class; index = s.feature }
 
 pub record IsSound (s : Setting) : Type 0 where
   pub table : IsTable s.table.now

@@ -1,6 +1,6 @@
 //! The code of methods, and of the initial values of attributes.
 
-ghost use Rattle.std.specs.Prelude.{◌≡◌, ◌++◌, ◌+◌, ◌*◌, ◌-◌, ◌^◌, ◌<◌, length, IfOk, OnOk};
+ghost use Rattle.std.specs.Prelude.{◌≡◌, ◌++◌, ◌+◌, ◌*◌, ◌-◌, ◌^◌, ◌<◌, length, Contains, IfOk, OnOk, Some};
 ghost use Rattle.std.specs.List.{AllByRecursion};
 ghost use Rattle.mips_isa.specs.Lines.{lines_of};
 ghost use Rattle.cool_syntax.specs.Tree.{tree_size};
@@ -8,18 +8,19 @@ ghost use Rattle.cool_syntax.specs.TreesWithinLimits.{IsTreeWithin};
 ghost use Rattle.cool_classes.specs.Features.{HasMethod};
 ghost use Rattle.cool_classes.specs.declared.method.MethodRef.TheVariants.{User};
 ghost use Rattle.cool_consts.specs.Constants.{Constants};
+ghost use Rattle.cool_layout.specs.Members.{attributes};
 ghost use Rattle.cool_codegen.specs.Asked.{integers_in, strings_in, with_integers, with_strings, Extends};
 ghost use Rattle.cool_codegen.specs.Code.{code};
-ghost use Rattle.cool_codegen.specs.Features.{attributes_in, method_code, with_formals};
-ghost use Rattle.cool_codegen.specs.Settings.{context, HaveTypes, IsSound};
+ghost use Rattle.cool_codegen.specs.Features.{attributes_in, initial_value_code, method_code, with_formals};
+ghost use Rattle.cool_codegen.specs.Settings.{attribute_of, context, HaveTypes, IsSound};
 
 use crate::expression::expression;
 use crate::label::method_label;
 use crate::number::signed;
-use crate::piece::{leave, mark};
+use crate::piece::{leave, mark, store};
 use crate::setting::Setting;
 use crate::variables::{Variable, Variables};
-use cool_classes::MethodRef;
+use cool_classes::{AttributeRef, MethodRef};
 use cool_consts::Consts;
 use cool_runtime::piece::enter;
 use cool_runtime::register::{FP, S0};
@@ -127,5 +128,32 @@ pub fn method_lines<'a>(
     body_lines(setting, &mut variables, consts, lines)?;
     let taken = signed(12 + 4 * formals.len() as u32);
     leave(alloc, lines, taken)?;
+    Ok(())
+}
+
+/// Adds the part of an initializer for the attribute whose initial value the setting has. `Err` comes only for want of memory.
+pub fn attribute_lines<'a>(
+    setting: &Setting<'a>,
+    consts: &mut Consts,
+    lines: &mut Vec<Line>,
+) -> Result<(), AllocError>
+    requires sound { IsSound setting.now }
+    requires there { Contains (attributes setting.now.table.now setting.now.class) (attribute_of setting.now) }
+    requires places { IsTreeWithin (length setting.now.names.now) setting.now.body.now }
+    requires deep { tree_size setting.now.body.now < 2 ^ 28 }
+    requires few_integers { length consts.old.integers + tree_size setting.now.body.now < 2 ^ 32 - 1 }
+    requires few_strings { length consts.old.strings + 2 * tree_size setting.now.body.now < 2 ^ 32 - 1 }
+    ensures lines { OnOk result ((g : Constants) → Extends consts.new g → lines_of lines.new.items ≡ lines_of lines.old.items ++ initial_value_code (context setting.now) g (Some setting.now.body.now)) }
+    ensures integers { OnOk result (consts.new.integers ≡ with_integers consts.old.integers (integers_in setting.now.body.now)) }
+    ensures strings { OnOk result (consts.new.strings ≡ with_strings consts.old.strings (strings_in (context setting.now).files setting.now.body.now)) }
+{
+    let attribute = AttributeRef {
+        owner: setting.class,
+        index: setting.feature,
+    };
+    let mut variables = attribute_variables(setting)?;
+    body_lines(setting, &mut variables, consts, lines)?;
+    let offset = setting.offset(attribute);
+    store(setting.alloc, lines, offset, S0)?;
     Ok(())
 }

@@ -1,5 +1,5 @@
 -- At first all attributes of the class are left.
-use Rattle.std.proofs.Common.{◌≡◌, ◌∙◌, sym, subst, rules, Contains}
+use Rattle.std.proofs.Common.{◌∙◌, sym, subst, rules, Contains}
 use Rattle.std.specs.List.{AllByRecursion}
 use Rattle.cool_classes.specs.ClimbedChains.{chain}
 use Rattle.cool_classes.proofs.ChainsOfTables.{chain_is}

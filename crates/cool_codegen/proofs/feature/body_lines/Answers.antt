@@ -1,5 +1,5 @@
 -- The root of the body stands for the whole.
-use Rattle.std.proofs.Common.{◌≡◌, ◌<◌, ◌++◌, length, ap, sym, subst, ◌∙◌, arith}
+use Rattle.std.proofs.Common.{◌++◌, length, ap, sym, subst, ◌∙◌, arith}
 use Rattle.mips_isa.specs.Lines.{lines_of}
 use Rattle.cool_syntax.specs.TreesWithinLimits.{IsTreeWithin}
 use Rattle.cool_consts.specs.Constants.{Constants}
