@@ -1,7 +1,8 @@
-//! The pieces of which the code of features is made.
+//! The code of features.
 //!
-//! Comes in: the class and the layout for which code is made, names in scope, labels, constants by their numbers. Goes out: the lines of
-//! a piece. Which pieces the code of a whole feature is stands in `specs/Code.antt` and `specs/Features.antt`.
+//! Comes in: a feature's body with its class, the layout and the names of the files (`Setting`), and the constants so far. Goes out: the
+//! lines of a method, or those that compute and store an initial value, and the constants with those that the code asks for.
+//! `specs/Features.antt`, `specs/Code.antt` and `specs/Asked.antt` say which.
 #![tactic(auto)]
 
 pub mod arm;
