@@ -1,5 +1,5 @@
 -- The attributes of a class are those of its chain, and at most 2,000.
-use Rattle.std.proofs.Common.{◌≡◌, ℕ, zero, suc, ◌+◌, ◌≤◌, ◌<◌, List, [], ◌∷◌, ◌++◌, length, Some, Bool, true, false, refl, ap, subst, arith, Contains}
+use Rattle.std.proofs.Common.{◌≡◌, ℕ, zero, suc, ◌+◌, ◌≤◌, ◌<◌, List, [], ◌∷◌, ◌++◌, length, Some, Bool, true, false, refl, arith, Contains}
 use Rattle.std.specs.List.{AllByRecursion, position_or_len}
 use Rattle.std.specs.Prelude.{slice_get}
 use Rattle.cool_syntax.specs.declared.file_tree.AttributeDef.{AttributeDef}
@@ -10,16 +10,7 @@ use Rattle.cool_classes.specs.declared.method.AttributeRef.{AttributeRef}
 use Rattle.cool_classes.specs.Chains.{Class, features_of}
 use Rattle.cool_classes.specs.ClimbedChains.{above, chain}
 use Rattle.cool_classes.specs.Features.{attributes_of, own_attributes}
-use Rattle.cool_classes.specs.Tables.{IsTable}
-use Rattle.cool_classes.proofs.ChainsOfTables as tables
-use Rattle.cool_classes.proofs.Climbs.{chain_unique}
-use Rattle.cool_layout.specs.Members as members
-use Rattle.cool_layout.specs.Roots.{IsRooted}
-use Rattle.cool_layout.proofs.ShortChains as short
-
--- both chains of a class are one, so its attributes are
-pub same_attributes : (p : List Class) (c : ClassId) → IsTable p → IsRooted p → c.0 < length p → attributes_of p (chain p c) ≡ members.attributes p c
-same_attributes p c h r within = ap (attributes_of p) (chain_unique p (Some c) (chain p c) (members.chain p c) (tables.chain_is p c h within) (short.chain_is p r c within))
+use Rattle.cool_layout.specs.Members.{attributes}
 
 -- a place among some is no greater than their number
 pub place_low : {X : Type 0} (q : X → Bool) (xs : List X) → position_or_len q xs ≤ length xs
@@ -51,8 +42,6 @@ own_there c (Method m ∷ fs) k (suc j) n a h e = own_there c fs (k + 1) j n a h
 own_there c (Attribute b ∷ fs) k zero n a h e = let same : k ≡ n = omega arith in (zero, omega arith, λ i. record { owner = c; index = same i })
 own_there c (Attribute b ∷ fs) k (suc j) n a h e = behind (record { owner = c; index = k }) (own_attributes c (k + 1) fs) (record { owner = c; index = n }) (own_there c fs (k + 1) j n a h (omega arith))
 
-pub attribute_there : (p : List Class) (c : ClassId) (j : ℕ) (a : AttributeDef) → IsTable p → IsRooted p → c.0 < length p → slice_get (features_of p c) j ≡ Some (Attribute a) → Contains (members.attributes p c) (record { owner = c; index = j })
+pub attribute_there : (p : List Class) (c : ClassId) (j : ℕ) (a : AttributeDef) → slice_get (features_of p c) j ≡ Some (Attribute a) → Contains (attributes p c) (record { owner = c; index = j })
 unfolding chain
-attribute_there p c j a h r within is =
-    subst (λ (as' : List AttributeRef). Contains as' (record { owner = c; index = j })) (same_attributes p c h r within)
-    (behind_all (attributes_of p (above p c)) (own_attributes c 0 (features_of p c)) (record { owner = c; index = j }) (own_there c (features_of p c) 0 j j a is (omega arith)))
+attribute_there p c j a is = behind_all (attributes_of p (above p c)) (own_attributes c 0 (features_of p c)) (record { owner = c; index = j }) (own_there c (features_of p c) 0 j j a is (omega arith))

@@ -5,7 +5,7 @@ use Rattle.cool_classes.specs.ClimbedChains.{chain}
 use Rattle.cool_classes.proofs.ChainsOfTables.{chain_is}
 use Rattle.cool_layout.specs.Members.{attributes}
 use Rattle.cool_codegen.specs.Features.{with_attributes}
-use Rattle.cool_codegen.proofs.AttributesOfClasses.{all_there, same_attributes}
+use Rattle.cool_codegen.proofs.AttributesOfClasses.{all_there}
 use Rattle.cool_codegen.proofs.feature.attribute_variables.Goals as goal
 
 pub loop-attribute-init : goal.loop-attribute-init
@@ -20,6 +20,6 @@ loop-attribute-init c =
       bases = search rules;
       types = search rules;
       has = search rules;
-      there = subst (AllByRecursion (Contains (attributes p k))) (sym (items ∙ same_attributes p k sound.table sound.layout.rooted sound.class)) all;
+      there = subst (AllByRecursion (Contains (attributes p k))) (sym items) all;
       variables = λ i. with_attributes p k (items i) (none i);
     }

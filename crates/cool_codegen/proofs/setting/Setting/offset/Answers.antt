@@ -1,6 +1,7 @@
 -- A class has at most 2,000 attributes, so each stands below 2 ^ 31.
 use Rattle.std.proofs.Common.{arith}
-use Rattle.cool_layout.specs.Members.{attributes, chain, is_attribute}
+use Rattle.cool_classes.specs.ClimbedChains.{chain}
+use Rattle.cool_layout.specs.Members.{attributes, is_attribute}
 use Rattle.cool_layout.proofs.ShortChains.{chain_is}
 use Rattle.cool_codegen.proofs.AttributesOfClasses.{place_low}
 use Rattle.cool_codegen.proofs.setting.Setting.offset.Goals as goal
