@@ -26,7 +26,7 @@ use Rattle.cool_classes.specs.Settled.{basic_names, names_in, names_with_basic, 
 use Rattle.cool_classes.specs.Tables.{IsWholeTable}
 use Rattle.cool_classes.proofs.ChainsOfTables.{above_of}
 use Rattle.cool_classes.proofs.ClassesNamed.{named_back}
-use Rattle.cool_classes.proofs.NamesOfFeatures.{none_both, not_noted, formals_named, attributes_named}
+use Rattle.cool_classes.proofs.NamesOfFeatures.{none_both, not_noted, formals_named, methods_named, attributes_named}
 
 no_kind : (o : Option ClassKind) (at : Place) → of_kind o at ≡ [] → o ≡ None
 no_kind None at h = refl
@@ -337,6 +337,7 @@ lawful_meant ds whole (cyclic, on, none) free =
       parents = λ c q within e. all_may ds parents.0 c.0 q e;
       redefined = λ c up f m n within chain own over. all_redefined ds free c.0 within up f m n chain own over;
       formals = λ c within. formals_named (classes_meant ds) whole (λ d w up chain. all_free ds free d.0 w up chain) c within;
+      methods = λ c within. methods_named (classes_meant ds) whole (λ d w up chain. all_free ds free d.0 w up chain) c within;
       attributes = λ c up within chain. attributes_named (classes_meant ds) whole (λ d w above chain'. all_free ds free d.0 w above chain') c within up chain;
       main = has_main ds mains.0 free;
     }

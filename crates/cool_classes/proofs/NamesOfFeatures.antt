@@ -16,7 +16,7 @@ use Rattle.cool_classes.specs.Chains.{Class, parent_of, features_of, IsChain}
 use Rattle.cool_classes.specs.FeatureFaults.{noted, type_faults, redefines_otherwise, have_attribute, is_doubled, formal_faults, formals_faults, one_feature_faults, attribute_faults, features_faults}
 use Rattle.cool_classes.specs.Features.{first_method, implementation, own_attributes, attributes_of, name_in, attribute_name as name_at}
 use Rattle.cool_classes.specs.FirstNames.{first_place, is_place, attribute_name}
-use Rattle.cool_classes.specs.LawfulTables.{HasDifferentFormals}
+use Rattle.cool_classes.specs.LawfulTables.{HasDifferentFormals, method_names}
 use Rattle.cool_classes.specs.Limits.{AreDifferent}
 use Rattle.cool_classes.specs.Tables.{IsWholeTable}
 use Rattle.cool_classes.proofs.AllOfLists.{all_append}
@@ -259,3 +259,40 @@ module _ (p : List Class) where
       let (ds, chain) = whole.table.chains c within in
       let up = rest_of_chain c ds chain in
       formals_of_features c up.0 0 (features_of p c) (free c within up.0 up.1)
+
+  -- Methods
+
+  -- the methods among features, from a place on, are each the first of its name
+  abbrev AreFirstMethods : List Feature → ℕ → List Feature → Type 0
+  AreFirstMethods all k [] = Unit {0}
+  AreFirstMethods all k (Method m ∷ fs) = (first_method 0 all m.name ≡ Some k) × AreFirstMethods all (k + 1) fs
+  AreFirstMethods all k (Attribute a ∷ fs) = AreFirstMethods all (k + 1) fs
+
+  later_methods : (all : List Feature) (k j : ℕ) (n : List ℕ) (fs : List Feature) → first_method 0 all n ≡ Some j → j < k → AreFirstMethods all k fs → AllByRecursion (λ (o : List ℕ). o ≢ n) (method_names fs)
+  later_methods all k j n [] e less h = tt
+  later_methods all k j n (Method m ∷ fs) e less h =
+      ((λ same. apart (sym (subst (λ (o : List ℕ). first_method 0 all o ≡ Some k) same h.0) ∙ e)), later_methods all (k + 1) j n fs e (omega arith) h.1)
+    where
+      apart : Some k ≡ Some j → ⊥
+      apart same = let is : k ≡ j = cc in omega arith
+  later_methods all k j n (Attribute a ∷ fs) e less h = later_methods all (k + 1) j n fs e (omega arith) h
+
+  methods_different : (all : List Feature) (k : ℕ) (fs : List Feature) → AreFirstMethods all k fs → AreDifferent (method_names fs)
+  methods_different all k [] h = tt
+  methods_different all k (Method m ∷ fs) h = (later_methods all (k + 1) k m.name fs h.0 (omega arith) h.1, methods_different all (k + 1) fs h.1)
+  methods_different all k (Attribute a ∷ fs) h = methods_different all (k + 1) fs h
+
+  first_methods : (d : ClassId) (up : List ClassId) (k : ℕ) (fs : List Feature) → features_faults p d up k fs ≡ [] → AreFirstMethods (features_of p d) k fs
+  first_methods d up k [] h = tt
+  first_methods d up k (Method m ∷ fs) h =
+      let both = none_both (one_feature_faults p d up k (Method m)) (features_faults p d up (k + 1) fs) h in
+      let twice = not_noted (not (is_place k (first_method 0 (features_of p d) m.name))) F1 m.at (none_both (noted (not (is_place k (first_method 0 (features_of p d) m.name))) F1 m.at) _ both.0).0 in
+      (place_is k (first_method 0 (features_of p d) m.name) (not_false (is_place k (first_method 0 (features_of p d) m.name)) twice), first_methods d up (k + 1) fs both.1)
+  first_methods d up k (Attribute a ∷ fs) h = first_methods d up (k + 1) fs (none_both (one_feature_faults p d up k (Attribute a)) (features_faults p d up (k + 1) fs) h).1
+
+  -- where the features of no class have a fault, the methods of each have different names
+  pub methods_named : IsWholeTable p → ((d : ClassId) → d.0 < length p → IsFaultless d) → (c : ClassId) → c.0 < length p → AreDifferent (method_names (features_of p c))
+  methods_named whole free c within =
+      let (ds, chain) = whole.table.chains c within in
+      let up = rest_of_chain c ds chain in
+      methods_different (features_of p c) 0 (features_of p c) (first_methods c up.0 0 (features_of p c) (free c within up.0 up.1))

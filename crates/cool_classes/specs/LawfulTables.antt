@@ -1,6 +1,6 @@
 -- The rules of classes on which typing and running stand: from which classes others inherit, which methods may be defined anew, that no
 -- name stands twice, and that there is a method main (the Cool manual, sections 3 to 6).
-use Rattle.std.specs.Prelude.{◌≡◌, ◌≢◌, ℕ, ◌<◌, List, [], map, length, Some, codes}
+use Rattle.std.specs.Prelude.{◌≡◌, ◌≢◌, ℕ, ◌<◌, List, [], ◌∷◌, map, length, Some, codes}
 use Rattle.std.specs.List.{AllByRecursion}
 use Rattle.cool_syntax.specs.declared.file_tree.Feature.{Feature}
 use Rattle.cool_syntax.specs.declared.file_tree.Feature.TheVariants.{Method, Attribute}
@@ -27,6 +27,12 @@ abbrev pub HasDifferentFormals : Feature → Type 0
 HasDifferentFormals (Method m) = AreDifferent (map (λ (f : Formal). f.name) m.formals)
 HasDifferentFormals (Attribute a) = Unit {0}
 
+-- the names of the methods among features
+abbrev pub method_names : List Feature → List (List ℕ)
+method_names [] = []
+method_names (Method m ∷ fs) = m.name ∷ method_names fs
+method_names (Attribute a ∷ fs) = method_names fs
+
 -- a class Main has a method main of its own, without formals
 pub record HasMain (p : List Class) : Type 0 where
   pub class : ClassId
@@ -42,6 +48,8 @@ pub record IsLawful (p : List Class) : Type 0 where
   pub redefined : (c : ClassId) (above : List ClassId) (f : List ℕ) (m n : MethodRef) → c.0 < length p → IsChain p (parent_of p c) above → own_method p c f ≡ Some m → implementation p above f ≡ Some n
       → SameSignature p m n
   pub formals : (c : ClassId) → c.0 < length p → AllByRecursion HasDifferentFormals (features_of p c)
+  -- no two methods of a class's own have one name
+  pub methods : (c : ClassId) → c.0 < length p → AreDifferent (method_names (features_of p c))
   -- no two attributes of a class have one name, those that it inherits among them
   pub attributes : (c : ClassId) (ds : List ClassId) → c.0 < length p → IsChain p (Some c) ds → AreDifferent (map (attribute_name p) (attributes_of p ds))
   pub main : HasMain p
