@@ -8,6 +8,7 @@ pub mod NodesThere
 pub mod NamesOfFeatures
 pub mod BasesOfVariables
 pub mod ArmsInOrder
+pub mod FeaturesThere
 pub mod NatsAreEqual
 pub mod NumbersStay
 pub mod VariablesInOrder

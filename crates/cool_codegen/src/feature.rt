@@ -1,17 +1,21 @@
 //! The code of methods, and of the initial values of attributes.
 
-ghost use Rattle.std.specs.Prelude.{◌≡◌, ◌++◌, ◌+◌, ◌*◌, ◌-◌, ◌^◌, ◌<◌, length, Contains, IfOk, OnOk, Some};
+ghost use Rattle.std.specs.Prelude.{◌≡◌, ◌++◌, ◌+◌, ◌*◌, ◌-◌, ◌^◌, ◌<◌, length, map, slice_get, string_bytes, Contains, IfOk, OnOk, Some};
 ghost use Rattle.std.specs.List.{AllByRecursion};
 ghost use Rattle.mips_isa.specs.Lines.{lines_of};
+ghost use Rattle.cool_syntax.specs.declared.file_tree.Feature as syntax;
 ghost use Rattle.cool_syntax.specs.Tree.{tree_size};
 ghost use Rattle.cool_syntax.specs.TreesWithinLimits.{IsTreeWithin};
+ghost use Rattle.cool_classes.specs.Chains.{features_of};
 ghost use Rattle.cool_classes.specs.Features.{HasMethod};
 ghost use Rattle.cool_classes.specs.declared.method.MethodRef.TheVariants.{User};
 ghost use Rattle.cool_consts.specs.Constants.{Constants};
+ghost use Rattle.cool_layout.specs.Layouts.{IsLayoutOf};
 ghost use Rattle.cool_layout.specs.Members.{attributes};
+ghost use Rattle.cool_rules.specs.Fits.{Fits};
 ghost use Rattle.cool_codegen.specs.Asked.{integers_in, strings_in, with_integers, with_strings, Extends};
 ghost use Rattle.cool_codegen.specs.Code.{code};
-ghost use Rattle.cool_codegen.specs.Features.{attributes_in, initial_value_code, method_code, with_formals};
+ghost use Rattle.cool_codegen.specs.Features.{attributes_in, feature_code, feature_integers, feature_strings, initial_value_code, method_code, with_formals};
 ghost use Rattle.cool_codegen.specs.Settings.{attribute_of, context, HaveTypes, IsSound};
 
 use crate::expression::expression;
@@ -20,16 +24,75 @@ use crate::number::signed;
 use crate::piece::{leave, mark, store};
 use crate::setting::Setting;
 use crate::variables::{Variable, Variables};
-use cool_classes::{AttributeRef, MethodRef};
+use cool_classes::{AttributeRef, ClassId, MethodRef};
 use cool_consts::Consts;
+use cool_layout::Layout;
+use cool_rules::TypedProgram;
 use cool_runtime::piece::enter;
 use cool_runtime::register::{FP, S0};
-use cool_syntax::Formal;
+use cool_syntax::{Feature, Formal};
 use mips_isa::Line;
-use std::alloc::AllocError;
+use std::alloc::{AllocError, Global};
+
+/// The code of a feature of a class, by its number among the features of the class: a method under its label, or the part of an initializer
+/// that computes and stores an initial value; nothing for an attribute without one. The constants that the code names are numbered behind
+/// those before. The names are those of the files.
+///
+/// `Err` comes only for want of memory.
+pub fn feature_lines(
+    alloc: Global,
+    p: &TypedProgram,
+    layout: &Layout,
+    consts: &mut Consts,
+    names: &[String],
+    c: ClassId,
+    feature: u32,
+) -> Result<Vec<Line>, AllocError>
+    requires layout { IsLayoutOf layout.now p.now }
+    requires fits { Fits p.now (length names.now) }
+    requires class { c.0 < length p.now }
+    requires feature { feature < length (features_of p.now c) }
+    requires few_integers { length consts.old.integers < 2 ^ 31 }
+    requires few_strings { length consts.old.strings < 2 ^ 31 }
+    ensures lines { (x : syntax.Feature) → slice_get (features_of p.now c) feature ≡ Some x → IfOk result (λ lines. (g : Constants) → Extends consts.new g → lines_of lines.items ≡ feature_code (record { table = p.now; class = c; feature = feature; files = map string_bytes names.now }) g x) }
+    ensures integers { (x : syntax.Feature) → slice_get (features_of p.now c) feature ≡ Some x → OnOk result (consts.new.integers ≡ with_integers consts.old.integers (feature_integers x)) }
+    ensures strings { (x : syntax.Feature) → slice_get (features_of p.now c) feature ≡ Some x → OnOk result (consts.new.strings ≡ with_strings consts.old.strings (feature_strings (map string_bytes names.now) x)) }
+{
+    let table = p.table();
+    let mut lines = Vec::new(alloc);
+    match &table.features(c)[feature as usize] {
+        Feature::Method(method) => {
+            let setting = Setting {
+                alloc,
+                table,
+                layout,
+                names,
+                class: c,
+                feature,
+                body: &method.body,
+            };
+            method_lines(&setting, method.formals.as_slice(), consts, &mut lines)?;
+        }
+        Feature::Attribute(attribute) => {
+            if let Some(body) = &attribute.init {
+                let setting = Setting {
+                    alloc,
+                    table,
+                    layout,
+                    names,
+                    class: c,
+                    feature,
+                    body,
+                };
+                attribute_lines(&setting, consts, &mut lines)?;
+            }
+        }
+    }
+    Ok(lines)
+}
 
 /// Adds the code of the whole expression of a feature. `Err` comes only for want of memory.
-pub fn body_lines<'a>(
+fn body_lines<'a>(
     setting: &Setting<'a>,
     variables: &mut Variables<'a>,
     consts: &mut Consts,
@@ -52,7 +115,7 @@ pub fn body_lines<'a>(
 }
 
 /// The attributes of the class of a feature, as variables.
-pub fn attribute_variables<'a>(setting: &Setting<'a>) -> Result<Variables<'a>, AllocError>
+fn attribute_variables<'a>(setting: &Setting<'a>) -> Result<Variables<'a>, AllocError>
     requires sound { IsSound setting.now }
     ensures variables { IfOk result (λ vs. vs ≡ attributes_in setting.now.table.now setting.now.class) }
     ensures bases { IfOk result (AllByRecursion (λ v. v.variable.base < 32)) }
@@ -71,7 +134,7 @@ pub fn attribute_variables<'a>(setting: &Setting<'a>) -> Result<Variables<'a>, A
 }
 
 /// Adds the formals of a method to the names in scope: the last one is nearest to the frame.
-pub fn formal_variables<'a>(
+fn formal_variables<'a>(
     setting: &Setting<'a>,
     variables: &mut Variables<'a>,
     formals: &'a [Formal],
@@ -98,7 +161,7 @@ pub fn formal_variables<'a>(
 }
 
 /// Adds the lines of the method of these formals, whose body the setting has. `Err` comes only for want of memory.
-pub fn method_lines<'a>(
+fn method_lines<'a>(
     setting: &Setting<'a>,
     formals: &'a [Formal],
     consts: &mut Consts,
@@ -132,7 +195,7 @@ pub fn method_lines<'a>(
 }
 
 /// Adds the part of an initializer for the attribute whose initial value the setting has. `Err` comes only for want of memory.
-pub fn attribute_lines<'a>(
+fn attribute_lines<'a>(
     setting: &Setting<'a>,
     consts: &mut Consts,
     lines: &mut Vec<Line>,
