@@ -1,0 +1,47 @@
+-- The routines, the classes and the data stand behind one another, and the constants are those that all features ask for.
+use Rattle.std.proofs.Common.{◌≡◌, ◌∙◌, ◌++◌, ◌∷◌, List, map, ap}
+use Rattle.std.specs.Prelude.{string_bytes}
+use Rattle.mips_isa.specs.Assembly.{unlabelled}
+use Rattle.mips_isa.specs.Lines.{Line, ToData, lines_of}
+use Rattle.cool_runtime.specs.RoutineLines.{all_routine_lines}
+use Rattle.cool_consts.specs.Constants.{Constants}
+use Rattle.cool_codegen.specs.Asked.{with_integers, with_strings}
+use Rattle.cool_codegen.proofs.NumbersAgree.{extends_same}
+use Rattle.cool_emit.specs.Additions.{integers_asked, strings_asked}
+use Rattle.cool_emit.specs.Programs.{all_features, classes_code, data_lines, program_constants}
+use Rattle.cool_emit.proofs.ProgramsAreSound.{names_sound}
+use Rattle.cool_emit.proofs.program.lines.Goals as goal
+
+pub returns-clause-lines : goal.returns-clause-lines
+returns-clause-lines c =
+    let p = c.args.p.now in
+    let files = map string_bytes c.args.names.now in
+    let constants = c.add_classes.new.consts in
+    let classes = c.in_ok-add_classes.ensures in
+    let all : constants ≡ program_constants p files =
+    classes.constants
+    ∙ (λ i. record {
+      integers = with_integers (c.new-consts.ensures.integers i) (integers_asked (all_features p));
+      strings = with_strings (c.new-consts.ensures.strings i) (strings_asked files (all_features p));
+    }) in
+    let text : lines_of c.routines.new.lines.items ≡ all_routine_lines =
+    c.in_ok-routines.ensures ∙ ap (λ ls. lines_of ls ++ all_routine_lines) c.new-lines.ensures.items in
+    c.in_ok-add_data.ensures
+    ∙ (ap (λ (ls : List Line). ls ++ unlabelled ToData ∷ data_lines p constants)
+    (classes.lines constants (extends_same constants) ∙ ap (λ (ls : List Line). ls ++ classes_code p files constants) text)
+    ∙ ap (λ (t : Constants). (all_routine_lines ++ classes_code p files t) ++ unlabelled ToData ∷ data_lines p t) all)
+
+pub returns-in_err-layout-clause-sound : goal.returns-in_err-layout-clause-sound
+returns-in_err-layout-clause-sound c = names_sound c.args.p.now c.table.result.now c.args.names.now c.table.ensures.table c.requires.fits c.requires.names c.table.ensures.typed
+
+pub returns-in_err-routines-clause-sound : goal.returns-in_err-routines-clause-sound
+returns-in_err-routines-clause-sound c = names_sound c.args.p.now c.table.result.now c.args.names.now c.table.ensures.table c.requires.fits c.requires.names c.table.ensures.typed
+
+pub returns-in_err-add_classes-clause-sound : goal.returns-in_err-add_classes-clause-sound
+returns-in_err-add_classes-clause-sound c = names_sound c.args.p.now c.table.result.now c.args.names.now c.table.ensures.table c.requires.fits c.requires.names c.table.ensures.typed
+
+pub returns-in_err-add_data-clause-sound : goal.returns-in_err-add_data-clause-sound
+returns-in_err-add_data-clause-sound c = names_sound c.args.p.now c.table.result.now c.args.names.now c.table.ensures.table c.requires.fits c.requires.names c.table.ensures.typed
+
+pub returns-clause-sound : goal.returns-clause-sound
+returns-clause-sound c = names_sound c.args.p.now c.table.result.now c.args.names.now c.table.ensures.table c.requires.fits c.requires.names c.table.ensures.typed

@@ -1,0 +1,59 @@
+//! The initializers of classes.
+
+ghost use Rattle.std.specs.Prelude.{◌≡◌, ◌++◌, ◌<◌, ◌^◌, length, OnOk};
+ghost use Rattle.mips_isa.specs.Lines.{lines_of};
+ghost use Rattle.cool_classes.specs.Chains.{parent_of};
+ghost use Rattle.cool_emit.specs.Additions.{Adds, files_of, IsSound};
+ghost use Rattle.cool_emit.specs.Programs.{attributes_in, initializer_code, parent_code};
+
+use crate::emission::{Emission, Part};
+use cool_classes::ClassId;
+use cool_codegen::piece::{begin_init, call_init, leave, return_basic, take_self};
+use cool_consts::Consts;
+use cool_layout::initializer_label;
+use cool_runtime::piece::enter;
+use mips_isa::Line;
+use std::alloc::AllocError;
+
+/// The number of basic classes, which stand first.
+const BASIC_CLASSES: u32 = 5;
+
+/// Adds the initializer of a class. The one of a basic class does nothing. `Err` comes only for want of memory.
+pub(crate) fn add_initializer(
+    emission: &Emission<'_>,
+    c: ClassId,
+    consts: &mut Consts,
+    lines: &mut Vec<Line>,
+) -> Result<(), AllocError>
+    requires sound { IsSound emission.now }
+    requires class { c.0 < length emission.now.program.now }
+    requires few_integers { length consts.old.integers < 2 ^ 30 }
+    requires few_strings { length consts.old.strings < 2 ^ 30 }
+    ensures { OnOk result (Adds (files_of emission.now) (attributes_in emission.now.program.now c) (λ g. initializer_code emission.now.program.now (files_of emission.now) g c) consts.old consts.new (lines_of lines.old.items) (lines_of lines.new.items)) }
+{
+    let alloc = emission.alloc;
+    let name = initializer_label(alloc, emission.table(), c)?;
+    if c.0 < BASIC_CLASSES {
+        return return_basic(alloc, lines, name.as_slice());
+    }
+    begin_init(alloc, lines, name.as_slice())?;
+    enter(alloc, lines)?;
+    add_parent(emission, c, lines)?;
+    emission.add_features(c, Part::Attributes, consts, lines)?;
+    take_self(alloc, lines)?;
+    leave(alloc, lines, 12)
+}
+
+/// Adds the call of the parent's initializer, whose attributes come first. `Err` comes only for want of memory.
+fn add_parent(emission: &Emission<'_>, c: ClassId, lines: &mut Vec<Line>) -> Result<(), AllocError>
+    requires class { c.0 < length emission.now.program.now }
+    ensures { OnOk result (lines_of lines.new.items ≡ lines_of lines.old.items ++ parent_code emission.now.program.now (parent_of emission.now.program.now c)) }
+{
+    match emission.table().parent(c) {
+        Some(parent) => {
+            let name = initializer_label(emission.alloc, emission.table(), parent)?;
+            call_init(emission.alloc, lines, name.as_slice())
+        }
+        None => Ok(()),
+    }
+}
