@@ -1,29 +1,39 @@
 -- What is due for files that were read, by their fault list: its lines, or what comes where it is empty.
-use Rattle.std.proofs.Common.{◌≡◌, ◌≢◌, ℕ, List, [], ◌∷◌, ◌++◌, get_or, inl, inr, refl, sym, ◌∙◌, ap, subst}
+use Rattle.std.proofs.Common.{◌≡◌, ◌≢◌, ℕ, List, [], ◌∷◌, inl, inr, refl, ◌∙◌, ap, subst}
 use Rattle.cool_faults.specs.declared.fault.Fault.{Fault}
 use Rattle.cool_faults.specs.Verdicts.{IsFaultList}
 use Rattle.cool_faults.proofs.OneVerdict.{one_list}
 use Rattle.cool_ports.specs.ShelfFiles.{FileMap}
+use Rattle.mips_isa.specs.ImageBounds.{ImageParts}
 use Rattle.cool_driver.specs.CommandLine.{plan_of}
-use Rattle.cool_driver.specs.Notes.{not_yet_note, refused_note}
-use Rattle.cool_driver.specs.Ends.{Request, Due, IsRead, MayRefuse, Told}
-use Rattle.cool_driver.specs.Ends.Due.{checked, refused, ran, not_yet, executed, unread_input, unfit, misread, usage, too_many, missing, unread, too_large}
+use Rattle.cool_driver.specs.Notes.{refused_note}
+use Rattle.cool_driver.specs.Ends.{Request, Due, IsRead, IsRunOf, MayRefuse, Told}
+use Rattle.cool_driver.specs.Ends.IsRunOf.{of_file, of_program}
+use Rattle.cool_driver.specs.Ends.Due.{checked, refused, ran, executed, unread_input, unfit, misread, usage, too_many, missing, unread, too_large}
 use Rattle.cool_driver.specs.declared.command_line.Command.{Command}
 use Rattle.cool_driver.specs.declared.command_line.Command.TheVariants.{Check, Run, Exec}
-use Rattle.cool_driver.proofs.Findings.{same_plan, no_plan_and_plan, same_read, may_refuse, no_file_fault}
+use Rattle.cool_driver.proofs.ReadTwice.{same_plan, no_plan_and_plan, same_read, may_refuse}
+use Rattle.cool_driver.proofs.Findings.{no_file_fault}
 
 -- The status and the note that come for files of these names with this fault list.
 pub record Answers (command : Command) (names : List (List ℕ)) (faults : List Fault) (status : ℕ) (note : List ℕ) : Type 0 where
   pub refused : faults ≢ [] → (status ≡ 1) × (note ≡ refused_note names faults)
   pub checked : command ≡ Check → faults ≡ [] → status ≡ 0
-  pub not_yet : command ≡ Run → faults ≡ [] → (status ≡ 1) × (note ≡ not_yet_note (get_or names 0 []))
 
--- `check` is not `run`
-check_or_run : (command : Command) → Check ≡ command → command ≡ Run → ⊥
-check_or_run command a b = let same = a ∙ b in cc
-
+-- `run` is not `check`
 run_or_check : (command : Command) → Run ≡ command → command ≡ Check → ⊥
 run_or_check command a b = let same = a ∙ b in cc
+
+-- the run of an image answers the empty list of `run`
+answered_by_run : (r : Request) (files : FileMap) (found : ImageParts) (command : Command) (names contents : List (List ℕ)) (faults : List Fault) (status : ℕ) (note : List ℕ) → IsRunOf r found
+    → Told r files → IsRead r command names contents → MayRefuse command contents → IsFaultList contents faults → Answers command names faults status note
+answered_by_run r files found command names contents faults status note (of_file name bytes read' is) told read may list =
+    absurd (may_refuse r files command Exec names (name ∷ []) contents (bytes ∷ []) told read read' may)
+answered_by_run r files found command names contents faults status note (of_program names' contents' p read' other is made) told read may list =
+    let same = same_read r files Run command names' names contents' contents told read' read in
+    let none : faults ≡ [] = one_list contents faults [] list (subst (λ (cs : List (List ℕ)). IsFaultList cs []) same is.list) in
+    let asked = (same_plan (plan_of r.words) Run command names' names read'.plan read.plan).0 in
+    record { refused = λ some. absurd (some none); checked = λ check _. absurd (run_or_check command asked check) }
 
 -- what is due answers the fault list
 pub answered : (r : Request) (status : ℕ) (output note left : List ℕ) (files : FileMap) (command : Command) (names contents : List (List ℕ)) (faults : List Fault) → Due r status output note left
@@ -31,8 +41,7 @@ pub answered : (r : Request) (status : ℕ) (output note left : List ℕ) (files
 answered r _ _ _ _ files command names contents faults (checked names' contents' p read' is) told read may list =
     let same = same_read r files Check command names' names contents' contents told read' read in
     let none : faults ≡ [] = one_list contents faults [] list (subst (λ (cs : List (List ℕ)). IsFaultList cs []) same is.list) in
-    let asked = (same_plan (plan_of r.words) Check command names' names read'.plan read.plan).0 in
-    record { refused = λ some. absurd (some none); checked = λ _ _. refl; not_yet = λ run _. absurd (check_or_run command asked run) }
+    record { refused = λ some. absurd (some none); checked = λ _ _. refl }
 answered r _ _ _ _ files command names contents faults (refused command' names' contents' faults' read' may' is) told read may list =
     let same = same_read r files command' command names' names contents' contents told read' read in
     let one : faults' ≡ faults = one_list contents faults' faults (subst (λ (cs : List (List ℕ)). IsFaultList cs faults') same is.list) list in
@@ -40,23 +49,11 @@ answered r _ _ _ _ files command names contents faults (refused command' names' 
     record {
       refused = λ _. (refl, ap (λ (ns : List (List ℕ)). refused_note ns faults') named ∙ ap (λ (fs : List Fault). refused_note names fs) one);
       checked = λ _ none. absurd (is.some (one ∙ none));
-      not_yet = λ _ none. absurd (is.some (one ∙ none));
     }
 answered r _ _ _ _ files command names contents faults (ran names' contents' strings' read' is) told read may list =
     absurd (may_refuse r files command Run names names' contents contents' told read read' may strings' is)
-answered r _ _ _ _ files command names contents faults (not_yet name' names' contents' p read' other is) told read may list =
-    let same = same_read r files Run command (name' ∷ names') names contents' contents told read' read in
-    let none : faults ≡ [] = one_list contents faults [] list (subst (λ (cs : List (List ℕ)). IsFaultList cs []) same is.list) in
-    let plans = same_plan (plan_of r.words) Run command (name' ∷ names') names read'.plan read.plan in
-    record {
-      refused = λ some. absurd (some none);
-      checked = λ check _. absurd (run_or_check command plans.0 check);
-      not_yet = λ _ _. (refl, ap (λ (ns : List (List ℕ)). not_yet_note (get_or ns 0 [])) plans.1);
-    }
-answered r _ _ _ _ files command names contents faults (executed name bytes found read' is) told read may list =
-    absurd (may_refuse r files command Exec names (name ∷ []) contents (bytes ∷ []) told read read' may)
-answered r _ _ _ _ files command names contents faults (unread_input name bytes found at output left read' is comes fails) told read may list =
-    absurd (may_refuse r files command Exec names (name ∷ []) contents (bytes ∷ []) told read read' may)
+answered r _ _ _ _ files command names contents faults (executed found run) told read may list = answered_by_run r files _ command names contents faults _ _ run told read may list
+answered r _ _ _ _ files command names contents faults (unread_input found at output left run comes fails) told read may list = answered_by_run r files _ command names contents faults _ _ run told read may list
 answered r _ _ _ _ files command names contents faults (unfit name bytes fault read' binary is) told read may list =
     absurd (may_refuse r files command Exec names (name ∷ []) contents (bytes ∷ []) told read read' may)
 answered r _ _ _ _ files command names contents faults (misread name bytes fault read' text) told read may list =

@@ -1,18 +1,16 @@
 -- What is left to do is what is due.
-use Rattle.std.proofs.Common.{◌≡◌, ℕ, ◌<◌, ◌≤◌, true, List, [], ◌∷◌, length, Some, refl, sym, ◌∙◌, ap, inl, inr, eqb-true, arith}
-use Rattle.std.specs.Prelude.{◌&&◌, Option, Result, Ok, Err, IfOk}
-use Rattle.std.specs.List.{list_all}
-use Rattle.std.proofs.lemmas.Bool.{and_parts}
-use Rattle.std.proofs.lemmas.Option.{cond_some, option_and_then_some}
+use Rattle.std.proofs.Common.{◌≡◌, ℕ, ◌<◌, ◌≤◌, true, List, [], ◌∷◌, length, Some, refl, ◌∙◌, ap, inl, inr, eqb-true, arith}
+use Rattle.std.specs.Prelude.{Option, Result, Ok, Err, IfOk}
 use Rattle.cool_syntax.specs.declared.TheConstants.{MOST_FILES}
 use Rattle.cool_faults.specs.Files.{total}
 use Rattle.cool_ports.specs.ShelfFiles.{FileMap}
 use Rattle.cool_ports.specs.declared.shelf.ShelfFault.{ShelfFault}
 use Rattle.cool_ports.specs.declared.shelf.ShelfFault.TheVariants as faults
-use Rattle.cool_driver.specs.CommandLine.{command_of, is_name, is_number_of_files, plan_of, most_bytes}
+use Rattle.cool_driver.specs.CommandLine.{is_number_of_files, plan_of, most_bytes}
 use Rattle.cool_driver.specs.Notes.{missing_note, unread_note, too_large_note, too_many_note}
 use Rattle.cool_driver.specs.Ends.{Request, Due, IsRead, IsReadUpTo, AreHeld}
-use Rattle.cool_driver.specs.Ends.Due.{checked, refused, not_yet, unfit, misread, too_many, missing, unread, too_large}
+use Rattle.cool_driver.specs.Ends.Due.{checked, refused, unfit, misread, too_many, missing, unread, too_large}
+use Rattle.cool_driver.specs.Ends.IsRunOf.{of_file, of_program}
 use Rattle.cool_driver.specs.Reading.{IsStopAt}
 use Rattle.cool_driver.specs.Tasks.{fault_note, IsTaskOf, IsTaskOfFile, IsTaskOfChecked, IsTaskOfRun, IsLine, IsDue, IsFileTask}
 use Rattle.cool_driver.specs.declared.command_line.Command.{Command}
@@ -21,17 +19,7 @@ use Rattle.cool_driver.specs.declared.status.Status.TheVariants as statuses
 use Rattle.cool_driver.specs.declared.task.Task.{Task}
 use Rattle.cool_driver.specs.declared.task.Task.TheVariants.{Tell, Run, Execute}
 use Rattle.cool_driver.proofs.NoteLines.{line_due}
-
--- the number of files is one that the command takes
-pub plan_number : (words names : List (List ℕ)) (asked : Command) → plan_of words ≡ Some (asked, names) → is_number_of_files asked (length names) ≡ true
-plan_number [] names asked e = absurd cc
-plan_number (word ∷ given) names asked e =
-    option_and_then_some _ (command_of word) _ e (λ found is f.
-    let test = cond_some (is_number_of_files found (length given) && list_all is_name given) (found, given) (asked, names) f in
-    let both = and_parts (is_number_of_files found (length given)) (list_all is_name given) test.0 in
-    let same : found ≡ asked = ap (λ (plan : Command × List (List ℕ)). plan.0) test.1 in
-    let all : given ≡ names = ap (λ (plan : Command × List (List ℕ)). plan.1) test.1 in
-    sym (ap (λ (c : Command). is_number_of_files c (length names)) same) ∙ sym (ap (λ (ns : List (List ℕ)). is_number_of_files found (length ns)) all) ∙ both.0)
+use Rattle.cool_driver.proofs.Plans.{plan_parts}
 
 -- for files that `check` names
 checked_due : (r : Request) (names contents : List (List ℕ)) (task : Task) → IsRead r command.Check names contents → IsTaskOfChecked names contents task → IsDue r task
@@ -41,19 +29,17 @@ checked_due r names contents (Run image) read h = absurd h
 checked_due r names contents (Execute image) read h = absurd h
 
 -- for files that `run` names
-run_due : (r : Request) (names contents : List (List ℕ)) (task : Task) → IsRead r command.Run names contents → is_number_of_files command.Run (length names) ≡ true → IsTaskOfRun names contents task → IsDue r task
-run_due r [] contents (Tell status lines) read some (are, other, one, inl h) = absurd cc
-run_due r (name ∷ names) contents (Tell status lines) read some (are, other, one, inl h) = rw (one, h.2) (not_yet name names contents h.0 read other h.1, are, λ e. omega (arith, e))
-run_due r names contents (Tell status lines) read some (are, other, one, inr h) = rw (one, h.2) (refused command.Run names contents h.0 read other h.1, are, λ e. omega (arith, e))
-run_due r names contents (Run image) read some h = (names, contents, h.0, read, h.1, h.2)
-run_due r names contents (Execute image) read some h = absurd h
+run_due : (r : Request) (names contents : List (List ℕ)) (task : Task) → IsRead r command.Run names contents → IsTaskOfRun names contents task → IsDue r task
+run_due r names contents (Tell status lines) read (are, other, one, h) = rw (one, h.2) (refused command.Run names contents h.0 read other h.1, are, λ e. omega (arith, e))
+run_due r names contents (Run image) read h = (names, contents, h.0, read, h.1, h.2)
+run_due r names contents (Execute image) read h = of_program names contents h.0 read h.1 h.2 h.3
 
 -- for the file that `exec` names
 file_due : (r : Request) (name bytes : List ℕ) (task : Task) → IsRead r command.Exec (name ∷ []) (bytes ∷ []) → IsTaskOfFile name bytes task → IsDue r task
 file_due r name bytes (Tell status lines) read (twelve, are, inl h) = rw (twelve, h.1) (unfit name bytes h.0 read h.2 h.3, are, λ e. omega (arith, e))
 file_due r name bytes (Tell status lines) read (twelve, are, inr h) = rw (twelve, h.1) (misread name bytes h.0 read h.2, are, λ e. omega (arith, e))
 file_due r name bytes (Run image) read h = absurd h
-file_due r name bytes (Execute image) read h = (name, bytes, read, h)
+file_due r name bytes (Execute image) read h = of_file name bytes read h
 
 -- `exec` names one file
 exec_due : (r : Request) (names contents : List (List ℕ)) (task : Task) → IsRead r command.Exec names contents → length names ≡ 1 → AreHeld r.files names contents → IsTaskOf command.Exec names contents task → IsDue r task
@@ -66,7 +52,7 @@ exec_due r (name ∷ more ∷ names) contents task read one held h = absurd (ome
 -- for files that were read
 task_due : (r : Request) (asked : Command) (names contents : List (List ℕ)) (task : Task) → IsRead r asked names contents → is_number_of_files asked (length names) ≡ true → IsTaskOf asked names contents task → IsDue r task
 task_due r command.Check names contents task read number h = checked_due r names contents task read h
-task_due r command.Run names contents task read number h = run_due r names contents task read number h
+task_due r command.Run names contents task read number h = run_due r names contents task read h
 task_due r command.Exec names contents task read number h = exec_due r names contents task read (eqb-true (length names) 1 number) read.held h
 
 -- what follows for each task follows for one that was made
@@ -80,7 +66,7 @@ pub file_task : (files : Option FileMap) (before after : ℕ) (asked : Command) 
 file_task files before after asked names contents task held few within calm h words input plan =
     let r : Request = record { words = words; files = files; faults_before = before; faults_after = after; input = input } in
     let read : IsRead r asked names contents = record { plan = plan; few = few; held = held; within = within; calm = calm } in
-    task_due r asked names contents task read (plan_number words names asked plan) h
+    task_due r asked names contents task read (plan_parts words names asked plan).0 h
 
 -- for too many files
 pub many_task : (files : Option FileMap) (faults : ℕ) (asked : Command) (names : List (List ℕ)) (task : Task) → MOST_FILES < length names → IsLine statuses.FileFault too_many_note task → IsFileTask files faults faults asked names task

@@ -6,12 +6,13 @@ use Rattle.cool_faults.specs.declared.fault.Fault.{Fault}
 use Rattle.cool_faults.specs.Verdicts.{IsFaultList}
 use Rattle.cool_ports.specs.ShelfFiles.{FileMap}
 use Rattle.cool_driver.specs.declared.command_line.Command.{Command}
-use Rattle.cool_driver.specs.declared.command_line.Command.TheVariants.{Check, Run}
+use Rattle.cool_driver.specs.declared.command_line.Command.TheVariants.{Check}
 use Rattle.cool_driver.specs.Ends.{Request, Due, Writing, Call, NoLess, Ends, FailedOutput, FailedNote, Got, Told, IsRead, MayRefuse}
-use Rattle.cool_driver.specs.Ends.Writing.{by_run, by_exec}
+use Rattle.cool_driver.specs.Ends.Writing.{by_run, by_image}
 use Rattle.cool_driver.proofs.AnsweredFaults.{answered}
 use Rattle.cool_driver.proofs.Findings as findings
-use Rattle.cool_driver.proofs.Findings.{Finding, IsRunStatus, finding_of_due, finding_below}
+use Rattle.cool_driver.proofs.Findings.{Finding, finding_of_due, finding_below}
+use Rattle.cool_driver.proofs.ImagesOfCalls.{read_for_run}
 
 -- The counts of faults after a run of an image, or where none was made: only status 7 comes with a fault, of the input.
 pub record Calm (c : Call) (status : ℕ) : Type 0 where
@@ -71,11 +72,8 @@ ends_found c status found calm written =
       refused_exactly = λ files command names contents faults told read may list some _ _.
           let a = answer command names contents faults files told read may list in
           ((a.refused some).0, subst (Got c.notes) (a.refused some).1 written.4);
-      not_yet_exactly = λ files names contents told read other list _ _.
-          let a = answer Run names contents [] files told read other list in
-          ((a.not_yet refl refl).0, subst (Got c.notes) (a.not_yet refl refl).1 written.4);
-      not_ran_exactly = λ files names contents told read other _ _. findings.not_ran_exactly r status files names contents found told read other;
       ran_exactly = λ files names contents strings told read simple _ _. findings.ran_exactly r status files names contents strings found told read simple;
+      compiled_exactly = λ files names contents p told read other is _ _. findings.compiled_exactly r status files names contents p found told read other is;
       unfit_exactly = λ files name bytes told read binary none _ _. findings.unfit_exactly r status files name bytes found told read binary none;
       executed_exactly = λ files name bytes image told read is _ _. findings.executed_exactly r status files name bytes image found told read is;
       no_less = record {
@@ -100,7 +98,7 @@ ends_written c status output note due out notes calm rose =
 -- what was read before a write failed
 read_of : (r : Request) (bytes more left : List ℕ) → Writing r bytes more left → r.faults_after ≡ r.faults_before
 read_of r _ _ _ (by_run names contents strings read is) = read.calm
-read_of r _ _ _ (by_exec name bytes image at printed read is comes prints) = read.calm
+read_of r _ _ _ (by_image image at printed is comes prints) = (read_for_run r image is).3.calm
 
 -- no count fell where a write failed
 no_less_of : (c : Call) → FailedOutput c ⊎ FailedNote c → c.input_before ≤ c.input_after → NoLess c
@@ -135,9 +133,8 @@ ends_write_fault c rose part input = record {
   too_large_exactly = λ files command names contents told plan held large other _. absurd (other refl);
   checked_exactly = λ files names contents faults told read list other _. absurd (other refl);
   refused_exactly = λ files command names contents faults told read may list some other _. absurd (other refl);
-  not_yet_exactly = λ files names contents told read form list other _. absurd (other refl);
-  not_ran_exactly = λ files names contents told read form other _. absurd (other refl);
   ran_exactly = λ files names contents strings told read form other _. absurd (other refl);
+  compiled_exactly = λ files names contents p told read form is other _. absurd (other refl);
   unfit_exactly = λ files name bytes told read binary none other _. absurd (other refl);
   executed_exactly = λ files name bytes image told read is other _. absurd (other refl);
   out_fault = λ _. refl;
@@ -163,9 +160,8 @@ ends_without_memory c files out notes left calm = record {
   too_large_exactly = λ files command names contents told plan held large _ other. absurd (other refl);
   checked_exactly = λ files names contents faults told read list _ other. absurd (other refl);
   refused_exactly = λ files command names contents faults told read may list some _ other. absurd (other refl);
-  not_yet_exactly = λ files names contents told read form list _ other. absurd (other refl);
-  not_ran_exactly = λ files names contents told read form _ other. absurd (other refl);
   ran_exactly = λ files names contents strings told read form _ other. absurd (other refl);
+  compiled_exactly = λ files names contents p told read form is _ other. absurd (other refl);
   unfit_exactly = λ files name bytes told read binary none _ other. absurd (other refl);
   executed_exactly = λ files name bytes image told read is _ other. absurd (other refl);
   out_fault = λ more. absurd (omega (arith, out.1, more));

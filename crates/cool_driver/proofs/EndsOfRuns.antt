@@ -1,5 +1,5 @@
 -- How a call ends that ran an image.
-use Rattle.std.proofs.Common.{◌≡◌, ◌≢◌, ◌∙◌, inl, inr, refl, sym, ap, subst, ℕ, Bool, false, List, [], ◌∷◌, arith}
+use Rattle.std.proofs.Common.{◌≡◌, ◌≢◌, ◌∙◌, inl, inr, refl, sym, ap, subst, ℕ, Bool, false, List, [], arith}
 use Rattle.std.specs.Prelude.{Option, Some}
 use Rattle.cool_ports.specs.Answers.{Past}
 use Rattle.cool_ports.specs.Counts.{Rose}
@@ -17,41 +17,34 @@ use Rattle.spim_machine.specs.Input.{Took}
 use Rattle.spim_machine.specs.Machine.{MachineParts, state_of, IsIn}
 use Rattle.spim_machine.specs.Ends.{Counted, FailsReading, Ran}
 use Rattle.cool_driver.specs.declared.TheConstants.{DEFAULT_HEAP, DEFAULT_STACK, DEFAULT_STEPS}
-use Rattle.cool_driver.specs.declared.command_line.Command.TheVariants.{Exec}
 use Rattle.cool_driver.specs.declared.status.Status.{Status}
 use Rattle.cool_driver.specs.Notes.{read_fault_note, step_limit_note, heap_limit_note, stack_limit_note, trap_note}
-use Rattle.cool_driver.specs.Execution.{IsRunnable, segments_by_default, run_of, left_by, status_of, note_of}
-use Rattle.cool_driver.specs.Ends.{Request, Due, IsRead, Writing, Got, GotPart, Call, Ends}
+use Rattle.cool_driver.specs.Execution.{segments_by_default, run_of, left_by, status_of, note_of}
+use Rattle.cool_driver.specs.Ends.{Request, Due, IsRunOf, Writing, Got, GotPart, Call, Ends}
 use Rattle.cool_driver.specs.Ends.Due.{executed, unread_input}
-use Rattle.cool_driver.specs.Ends.Writing.{by_exec}
+use Rattle.cool_driver.specs.Ends.Writing.{by_image}
 use Rattle.cool_driver.specs.Tasks.{code_of, Noted}
 use Rattle.cool_driver.proofs.RunsByDefault.{run_of-is, ran_by_default}
 use Rattle.cool_driver.proofs.EndsOfDue.{ends_written, ends_write_fault, input_no_less}
 
 -- The run of an image in a call: how it ended, and the counts of faults.
 pub record IsRun (c : Call) (halt : Halt) : Type 0 where
-  pub name : List ℕ
-  pub bytes : List ℕ
   pub image : ImageParts
-  pub read : IsRead c.request Exec (name ∷ []) (bytes ∷ [])
-  pub is : IsRunnable image bytes
+  pub is : IsRunOf c.request image
   pub last : MachineParts
   pub ran : Ran image.text (segments_by_default image) DEFAULT_STEPS (start image (segments_by_default image) c.request.input) c.out.held_before halt last (Some c.left) c.out.held_after
   pub counted : Counted halt c.input_before c.input_after c.out.faults_before c.out.faults_after
 
 -- of a machine that was loaded with it
-pub is_run : (c : Call) (name bytes : List ℕ) (image : ImageParts) (heap stack : ℕ) (loaded last : MachineParts) (halt halt' : Halt)
+pub is_run : (c : Call) (image : ImageParts) (heap stack : ℕ) (loaded last : MachineParts) (halt halt' : Halt)
     → heap ≡ DEFAULT_HEAP → stack ≡ DEFAULT_STACK
     → ((input : List ℕ) → state_of loaded input [] ≡ start image (segments_of image heap stack) input) → loaded.cpu.memory.text ≡ image.text → segments loaded.cpu.memory ≡ segments_of image heap stack
     → ((first : Option (List ℕ)) (s : State) → IsIn first s loaded (Some c.request.input) c.out.held_before → Ran loaded.cpu.memory.text (segments loaded.cpu.memory) DEFAULT_STEPS s first halt last (Some c.left) c.out.held_after)
     → Counted halt c.input_before c.input_after c.out.faults_before c.out.faults_after
-    → halt ≡ halt' → IsRead c.request Exec (name ∷ []) (bytes ∷ []) → IsRunnable image bytes → IsRun c halt'
-is_run c name bytes image heap stack loaded last halt halt' least most state text same ran counted ends read is =
+    → halt ≡ halt' → IsRunOf c.request image → IsRun c halt'
+is_run c image heap stack loaded last halt halt' least most state text same ran counted ends is =
     subst (λ (h : Halt). IsRun c h) ends (record {
-      name = name;
-      bytes = bytes;
       image = image;
-      read = read;
       is = is;
       last = last;
       ran = ran_by_default image heap stack loaded last DEFAULT_STEPS c.request.input halt (Some c.request.input) c.out.held_before (Some c.left) c.out.held_after least most (state c.request.input) text same refl ran;
@@ -86,10 +79,10 @@ noted_ends c status answered note f (inr (is, part)) =
     subst (λ (s : Status). Ends c (code_of s)) (sym is) (note_failed c (code_of status) note f part)
 
 -- what is due for a run that ended so
-executed_so : (r : Request) (name bytes : List ℕ) (image : ImageParts) (o : Outcome) → IsRead r Exec (name ∷ []) (bytes ∷ []) → IsRunnable image bytes → run_of image r.input ≡ o
+executed_so : (r : Request) (image : ImageParts) (o : Outcome) → IsRunOf r image → run_of image r.input ≡ o
     → Due r (status_of o) (left_by o).output (note_of o) (left_by o).input
-executed_so r name bytes image o read is ends =
-    subst (λ (o : Outcome). Due r (status_of o) (left_by o).output (note_of o) (left_by o).input) ends (executed name bytes image read is)
+executed_so r image o is ends =
+    subst (λ (o : Outcome). Due r (status_of o) (left_by o).output (note_of o) (left_by o).input) ends (executed image is)
 
 -- a kind of end, with its status and its note whatever state is left
 record IsKind (build : State → Outcome) (status : ℕ) (note : List ℕ) : Type 0 where
@@ -113,7 +106,7 @@ finished_so : (c : Call) (halt : Halt) (h : IsRun c halt) (build : State → Out
     → (end : State) × (run_of h.image c.request.input ≡ build end) × IsIn c.out.held_before end h.last (Some c.left) c.out.held_after
     → c.input_after ≡ c.input_before → c.out.faults_after ≡ c.out.faults_before → status ≢ 7 → IsFinished c status note
 finished_so c halt h build status note kind (end, ran, stands) input out other =
-    let due = executed_so c.request h.name h.bytes h.image (build end) h.read h.is ran in
+    let due = executed_so c.request h.image (build end) h.is ran in
     let left : (left_by (build end)).input ≡ c.left = ap (λ (s : State). s.input) (kind.left_is end) ∙ some_same end.input c.left (sym stands.input) in
     record {
       output = end.output;
@@ -183,7 +176,7 @@ read_failed c h =
     let (at, comes, fails) = h.ran in
     record {
       output = at.output;
-      due = unread_input h.name h.bytes h.image at at.output c.left h.read h.is comes (fails_alone _ at _ _ _ fails);
+      due = unread_input h.image at at.output c.left h.is comes (fails_alone _ at _ _ _ fails);
       out = (fails.held_is, h.counted.1);
       calm = λ other. absurd (other refl);
       rose = λ _. h.counted.0;
@@ -193,7 +186,7 @@ read_failed c h =
 pub write_failed : (c : Call) → Got c.notes [] → IsRun c halts.WriteFault → Ends c 8
 write_failed c notes h =
     let (at, comes, fails) = h.ran in
-    let writing = by_exec h.name h.bytes h.image at fails.bytes h.read h.is comes fails.prints in
+    let writing = by_image h.image at fails.bytes h.is comes fails.prints in
     let left : at.input ≡ c.left = some_same at.input c.left (sym fails.left_is) in
     ends_write_fault c (inl h.counted.1) (inl (at.output, fails.bytes, subst (λ (l : List ℕ). Writing c.request at.output fails.bytes l) left writing, (fails.held_is, h.counted.1), notes)) (omega (arith, h.counted.0))
 

@@ -2,22 +2,29 @@
 use Rattle.std.proofs.Common.{◌≡◌, ◌≢◌, ℕ, ◌+◌, ◌-◌, ◌<◌, ◌≤◌, ◌⊎◌, inl, inr, Bool, true, false, cond, List, [], ◌∷◌, ◌++◌, length, Some, None, refl, sym, ◌∙◌, ap, arith, subst}
 use Rattle.std.specs.Prelude.{Option, Contains, ◌==◌}
 use Rattle.cool_syntax.specs.declared.TheConstants.{MOST_FILES}
+use Rattle.cool_classes.specs.Chains.{Class}
+use Rattle.cool_faults.specs.declared.fault.Fault.{Fault}
 use Rattle.cool_faults.specs.Files.{total}
+use Rattle.cool_faults.specs.Verdicts.{IsAccepted, IsRefused}
+use Rattle.cool_faults.proofs.OneVerdict.{never_both_verdicts}
 use Rattle.cool_ports.specs.Counts.{Rose}
 use Rattle.cool_ports.specs.ShelfFiles.{FileMap, IsMissing, IsLonger}
+use Rattle.mips_isa.specs.Assembly.{image_of}
 use Rattle.mips_isa.specs.ImageBounds.{ImageParts}
 use Rattle.mips_isa.specs.Calls.{Outcome, Running, Exited, Trapped}
-use Rattle.mips_image.specs.ImageReading.{first_fault, parts_of}
+use Rattle.mips_image.specs.ImageReading.{first_fault}
 use Rattle.mips_image.specs.declared.image_error.ImageError.{ImageError}
-use Rattle.mips_image.proofs.ImagesAreRead.{no_fault, parts_read}
+use Rattle.cool_emit.specs.Programs.{program_lines}
 use Rattle.cool_driver.specs.CommandLine.{plan_of, most_bytes}
-use Rattle.cool_driver.specs.Execution.{IsImageOf, IsRunnable, is_text_file, run_of, status_of}
+use Rattle.cool_driver.specs.Execution.{IsImageOf, is_text_file, run_of, status_of}
 use Rattle.cool_driver.specs.SimpleFiles.{AreSimple, AreNotSimple}
-use Rattle.cool_driver.specs.Ends.{Request, Due, IsRead, AreHeld, MayRefuse, Told}
-use Rattle.cool_driver.specs.Ends.Due.{checked, refused, ran, not_yet, executed, unread_input, unfit, misread, usage, too_many, missing, unread, too_large}
+use Rattle.cool_driver.specs.Ends.{Request, Due, IsRead, IsRunOf, AreHeld, MayRefuse, Told}
+use Rattle.cool_driver.specs.Ends.Due.{checked, refused, ran, executed, unread_input, unfit, misread, usage, too_many, missing, unread, too_large}
 use Rattle.cool_driver.specs.declared.command_line.Command.{Command}
 use Rattle.cool_driver.specs.declared.command_line.Command.TheVariants.{Check, Run, Exec}
 use Rattle.cool_driver.proofs.HeldFiles.{held_same, held_behind, none_missing}
+use Rattle.cool_driver.proofs.ReadTwice.{same_plan, no_run_exec, no_check_exec, no_check_run, no_plan_and_plan, held_told, files_read, same_read, same_file, may_refuse}
+use Rattle.cool_driver.proofs.ImagesOfCalls.{image_without_fault, no_text, not_runnable, same_runnable, read_for_run, run_of_file, run_of_program, simple_not_run}
 
 -- a file that is missing or too large, behind those that were read
 pub record IsRefusedFile (r : Request) (command : Command) (names : List (List ℕ)) : Type 0 where
@@ -43,10 +50,9 @@ IsRunStatus status = ((end : Outcome) × (status ≡ status_of end)) ⊎ (status
 -- what was found, with the status that it leaves
 pub data Finding (r : Request) (status : ℕ) : Type 0 where
   accepted : (names contents : List (List ℕ)) → IsRead r Check names contents → status ≡ 0 → Finding r status
-  faulty : (command : Command) (names contents : List (List ℕ)) → IsRead r command names contents → MayRefuse command contents → status ≡ 1 → Finding r status
+  faulty : (command : Command) (names contents : List (List ℕ)) (faults : List Fault) → IsRead r command names contents → MayRefuse command contents → IsRefused contents faults → status ≡ 1 → Finding r status
   simple : (names contents strings : List (List ℕ)) → IsRead r Run names contents → AreSimple contents strings → status ≡ 0 → Finding r status
-  image : (name bytes : List ℕ) (found : ImageParts) → IsRead r Exec (name ∷ []) (bytes ∷ []) → IsRunnable found bytes → IsRunStatus status
-      → (status ≡ 7) ⊎ (status ≡ status_of (run_of found r.input)) → Finding r status
+  image : (found : ImageParts) → IsRunOf r found → IsRunStatus status → (status ≡ 7) ⊎ (status ≡ status_of (run_of found r.input)) → Finding r status
   no_image : (name bytes : List ℕ) (fault : ImageError) → IsRead r Exec (name ∷ []) (bytes ∷ []) → first_fault bytes ≡ Some fault → status ≡ 12 → Finding r status
   bad_text : (name bytes : List ℕ) → IsRead r Exec (name ∷ []) (bytes ∷ []) → is_text_file bytes ≡ true → status ≡ 12 → Finding r status
   no_plan : plan_of r.words ≡ None → r.faults_after ≡ r.faults_before → status ≡ 2 → Finding r status
@@ -55,11 +61,10 @@ pub data Finding (r : Request) (status : ℕ) : Type 0 where
 -- what is due is a finding
 pub finding_of_due : (r : Request) (status : ℕ) (output note left : List ℕ) → Due r status output note left → Finding r status
 finding_of_due r _ _ _ _ (checked names contents p read is) = accepted names contents read refl
-finding_of_due r _ _ _ _ (refused command names contents faults read may is) = faulty command names contents read may refl
+finding_of_due r _ _ _ _ (refused command names contents faults read may is) = faulty command names contents faults read may is refl
 finding_of_due r _ _ _ _ (ran names contents strings read is) = simple names contents strings read is refl
-finding_of_due r _ _ _ _ (not_yet name names contents p read other is) = faulty Run (name ∷ names) contents read other refl
-finding_of_due r _ _ _ _ (executed name bytes found read is) = image name bytes found read is (inl (run_of found r.input, refl)) (inr refl)
-finding_of_due r _ _ _ _ (unread_input name bytes found at output left read is comes fails) = image name bytes found read is (inr refl) (inl refl)
+finding_of_due r _ _ _ _ (executed found run) = image found run (inl (run_of found r.input, refl)) (inr refl)
+finding_of_due r _ _ _ _ (unread_input found at output left run comes fails) = image found run (inr refl) (inl refl)
 finding_of_due r _ _ _ _ (unfit name bytes fault read binary is) = no_image name bytes fault read is refl
 finding_of_due r _ _ _ _ (misread name bytes fault read text) = bad_text name bytes read text refl
 finding_of_due r _ _ _ _ (usage plan calm) = no_plan plan calm refl
@@ -103,47 +108,15 @@ below status is = omega (arith, is)
 -- no finding leaves a status above 12, nor those of a failed write and of want of memory
 pub finding_below : (r : Request) (status : ℕ) → Finding r status → (status ≤ 12) × (status ≢ 8) × (status ≢ 9)
 finding_below r status (accepted names contents read e) = (omega (arith, e), λ q. omega (arith, e, q), λ q. omega (arith, e, q))
-finding_below r status (faulty command names contents read may e) = (omega (arith, e), λ q. omega (arith, e, q), λ q. omega (arith, e, q))
+finding_below r status (faulty command names contents faults read may is e) = (omega (arith, e), λ q. omega (arith, e, q), λ q. omega (arith, e, q))
 finding_below r status (simple names contents strings read is e) = (omega (arith, e), λ q. omega (arith, e, q), λ q. omega (arith, e, q))
-finding_below r status (image name bytes found read is run e) =
-    let one = run_status status run in
+finding_below r status (image found run ends e) =
+    let one = run_status status ends in
     (below status one, λ q. not_of_run status 8 one q (inr (inr (inl refl))), λ q. not_of_run status 9 one q (inr (inr (inr (inl refl)))))
 finding_below r status (no_image name bytes fault read is e) = (omega (arith, e), λ q. omega (arith, e, q), λ q. omega (arith, e, q))
 finding_below r status (bad_text name bytes read text e) = (omega (arith, e), λ q. omega (arith, e, q), λ q. omega (arith, e, q))
 finding_below r status (no_plan plan calm e) = (omega (arith, e), λ q. omega (arith, e, q), λ q. omega (arith, e, q))
 finding_below r status (no_file command names plan fault e) = (omega (arith, e), λ q. omega (arith, e, q), λ q. omega (arith, e, q))
-
--- a plan, or another one where there is none
-plan_or : Command × List (List ℕ) → Option (Command × List (List ℕ)) → Command × List (List ℕ)
-plan_or other None = other
-plan_or other (Some plan) = plan
-
--- two plans are one
-pub same_plan : (plan : Option (Command × List (List ℕ))) (a b : Command) (names others : List (List ℕ)) → plan ≡ Some (a, names) → plan ≡ Some (b, others) → (a ≡ b) × (names ≡ others)
-unfolding plan_or
-same_plan plan a b names others p q =
-    let both = ap (plan_or (a, names)) (sym p ∙ q) in
-    (ap (λ (x : Command × List (List ℕ)). x.0) both, ap (λ (x : Command × List (List ℕ)). x.1) both)
-
--- a plan is not both one of `run` and one of `exec`
-no_run_exec : (plan : Option (Command × List (List ℕ))) (names others : List (List ℕ)) → plan ≡ Some (Run, names) → plan ≡ Some (Exec, others) → ⊥
-no_run_exec plan names others p q = cc (same_plan plan Run Exec names others p q).0
-
--- not both those of `check` and of `exec`
-no_check_exec : (plan : Option (Command × List (List ℕ))) (names others : List (List ℕ)) → plan ≡ Some (Check, names) → plan ≡ Some (Exec, others) → ⊥
-no_check_exec plan names others p q = cc (same_plan plan Check Exec names others p q).0
-
--- not both those of `check` and of `run`
-no_check_run : (plan : Option (Command × List (List ℕ))) (names others : List (List ℕ)) → plan ≡ Some (Check, names) → plan ≡ Some (Run, others) → ⊥
-no_check_run plan names others p q = cc (same_plan plan Check Run names others p q).0
-
--- there is a plan or none
-pub no_plan_and_plan : (plan : Option (Command × List (List ℕ))) (a : Command) (names : List (List ℕ)) → plan ≡ None → plan ≡ Some (a, names) → ⊥
-no_plan_and_plan plan a names p q = cc
-
--- what a told shelf holds
-held_told : (told : Option FileMap) (files : FileMap) (names contents : List (List ℕ)) → told ≡ Some files → AreHeld told names contents → AreHeld (Some files) names contents
-held_told told files names contents e h = subst (λ t. AreHeld t names contents) e h
 
 -- what a told shelf lacks
 missing_told : (told : Option FileMap) (files : FileMap) (name : List ℕ) (before after : ℕ) → told ≡ Some files → IsMissing told name before after → files name ≡ None
@@ -154,28 +127,6 @@ longer_told : (told : Option FileMap) (files : FileMap) (name : List ℕ) (most 
 longer_told told files name most before after e h =
     let long = subst (λ t. IsLonger t name most before after) e h in
     (long.0, long.1, long.2)
-
--- the files that were read are those that the told shelf holds under the plan's names
-files_read : (r : Request) (files : FileMap) (a b : Command) (names others contents : List (List ℕ)) → Told r files → IsRead r a names contents → plan_of r.words ≡ Some (b, others) → AreHeld (Some files) others contents
-files_read r files a b names others contents told read plan =
-    subst (λ (ns : List (List ℕ)). AreHeld (Some files) ns contents) (same_plan (plan_of r.words) a b names others read.plan plan).1 (held_told r.files files names contents told.0 read.held)
-
--- files that were read twice are the same
-pub same_read : (r : Request) (files : FileMap) (a b : Command) (names others contents more : List (List ℕ)) → Told r files → IsRead r a names contents → IsRead r b others more → contents ≡ more
-same_read r files a b names others contents more told read again =
-    held_same files others contents more (files_read r files a b names others contents told read again.plan) (held_told r.files files others more told.0 again.held)
-
--- so a single file is
-same_file : (r : Request) (files : FileMap) (a b : Command) (names others : List (List ℕ)) (bytes more : List ℕ) → Told r files → IsRead r a names (bytes ∷ []) → IsRead r b others (more ∷ []) → bytes ≡ more
-same_file r files a b names others bytes more told read again =
-    let same = same_read r files a b names others (bytes ∷ []) (more ∷ []) told read again in
-    cc
-
--- files that were read for a command that has another name
-pub may_refuse : (r : Request) (files : FileMap) (a b : Command) (names others contents more : List (List ℕ)) → Told r files → IsRead r a names contents → IsRead r b others more → MayRefuse a contents → MayRefuse b more
-may_refuse r files a b names others contents more told read again may =
-    let command = (same_plan (plan_of r.words) a b names others read.plan again.plan).0 in
-    subst (λ (c : Command). MayRefuse c more) command (subst (λ (cs : List (List ℕ)). MayRefuse a cs) (same_read r files a b names others contents more told read again) may)
 
 -- a file that is there, within the bytes that are left, is neither missing nor too large
 refused_there : (r : Request) (files : FileMap) (command : Command) (name bytes : List ℕ) (before all : ℕ) → Told r files → files name ≡ Some bytes → before + length bytes ≤ all → all ≤ most_bytes command
@@ -207,41 +158,12 @@ no_file_fault r files a b names others contents told read plan (inl many) =
 no_file_fault r files a b names others contents told read plan (inr (inl rose)) = omega (arith, rose.more told.1, told.2)
 no_file_fault r files a b names others contents told read plan (inr (inr refusal)) = no_refused_file r files a b names others contents refusal told read plan refusal.cause
 
--- the bytes of an image have no fault
-image_without_fault : (found : ImageParts) (bytes : List ℕ) (fault : ImageError) → IsImageOf found bytes → first_fault bytes ≡ Some fault → ⊥
-image_without_fault found bytes fault is e =
-    let none : first_fault bytes ≡ None = ap first_fault is.bytes_are ∙ no_fault found is.bounds in
-    cc
-
--- bytes are those of one image
-same_image : (a b : ImageParts) (bytes : List ℕ) → IsImageOf a bytes → IsImageOf b bytes → a ≡ b
-same_image a b bytes is also =
-    sym (ap parts_of is.bytes_are ∙ parts_read a is.bounds is.words) ∙ (ap parts_of also.bytes_are ∙ parts_read b also.bounds also.words)
-
--- an image is no text
-no_text : (found : ImageParts) (bytes : List ℕ) → IsImageOf found bytes → is_text_file bytes ≡ true → ⊥
-no_text found bytes is text =
-    let binary : is_text_file bytes ≡ false = ap is_text_file is.bytes_are in
-    cc
-
--- what runs and is no text is an image
-not_runnable : (found : ImageParts) (bytes : List ℕ) → IsRunnable found bytes → is_text_file bytes ≡ false → ((other : ImageParts) → IsImageOf other bytes → ⊥) → ⊥
-not_runnable found bytes (inl is) binary none = none found is
-not_runnable found bytes (inr made) binary none =
-    let text = made.text in
-    cc
-
--- what runs and is an image is that one
-same_runnable : (found other : ImageParts) (bytes : List ℕ) → IsRunnable found bytes → IsImageOf other bytes → found ≡ other
-same_runnable found other bytes (inl is) also = same_image found other bytes is also
-same_runnable found other bytes (inr made) also = absurd (no_text other bytes also made.text)
-
 -- status 2 is left only where there is no plan
 pub usage_only : (r : Request) (status : ℕ) → Finding r status → status ≡ 2 → plan_of r.words ≡ None
 usage_only r status (accepted names' contents' read' e) q = absurd (omega (arith, e, q))
-usage_only r status (faulty command' names' contents' read' may e) q = absurd (omega (arith, e, q))
+usage_only r status (faulty command' names' contents' faults' read' may is e) q = absurd (omega (arith, e, q))
 usage_only r status (simple names' contents' strings' read' is e) q = absurd (omega (arith, e, q))
-usage_only r status (image name' bytes' found read' is run e) q = absurd (not_of_run status 2 (run_status status run) q (inr (inl refl)))
+usage_only r status (image found run ends e) q = absurd (not_of_run status 2 (run_status status ends) q (inr (inl refl)))
 usage_only r status (no_image name' bytes' fault read' is e) q = absurd (omega (arith, e, q))
 usage_only r status (bad_text name' bytes' read' text e) q = absurd (omega (arith, e, q))
 usage_only r status (no_plan none calm e) q = none
@@ -250,9 +172,9 @@ usage_only r status (no_file command' names' plan' fault e) q = absurd (omega (a
 -- and always there
 pub usage_exactly : (r : Request) (status : ℕ) → Finding r status → plan_of r.words ≡ None → status ≡ 2
 usage_exactly r status (accepted names' contents' read' e) gone = absurd (no_plan_and_plan _ _ _ gone read'.plan)
-usage_exactly r status (faulty command' names' contents' read' may e) gone = absurd (no_plan_and_plan _ _ _ gone read'.plan)
+usage_exactly r status (faulty command' names' contents' faults' read' may is e) gone = absurd (no_plan_and_plan _ _ _ gone read'.plan)
 usage_exactly r status (simple names' contents' strings' read' is e) gone = absurd (no_plan_and_plan _ _ _ gone read'.plan)
-usage_exactly r status (image name' bytes' found read' is run e) gone = absurd (no_plan_and_plan _ _ _ gone read'.plan)
+usage_exactly r status (image found run ends e) gone = absurd (no_plan_and_plan _ _ _ gone (read_for_run r found run).3.plan)
 usage_exactly r status (no_image name' bytes' fault read' is e) gone = absurd (no_plan_and_plan _ _ _ gone read'.plan)
 usage_exactly r status (bad_text name' bytes' read' text e) gone = absurd (no_plan_and_plan _ _ _ gone read'.plan)
 usage_exactly r status (no_plan none calm e) gone = e
@@ -267,9 +189,9 @@ read_are_few r a b names others contents read plan many =
 -- status 10 is left where there are too many files
 pub too_many_exactly : (r : Request) (status : ℕ) (command : Command) (names : List (List ℕ)) → Finding r status → plan_of r.words ≡ Some (command, names) → MOST_FILES < length names → status ≡ 10
 too_many_exactly r status command names (accepted names' contents' read' e) plan many = absurd (read_are_few r _ _ _ _ _ read' plan many)
-too_many_exactly r status command names (faulty command' names' contents' read' may e) plan many = absurd (read_are_few r _ _ _ _ _ read' plan many)
+too_many_exactly r status command names (faulty command' names' contents' faults' read' may is e) plan many = absurd (read_are_few r _ _ _ _ _ read' plan many)
 too_many_exactly r status command names (simple names' contents' strings' read' is e) plan many = absurd (read_are_few r _ _ _ _ _ read' plan many)
-too_many_exactly r status command names (image name' bytes' found read' is run e) plan many = absurd (read_are_few r _ _ _ _ _ read' plan many)
+too_many_exactly r status command names (image found run ends e) plan many = absurd (read_are_few r _ _ _ _ _ (read_for_run r found run).3 plan many)
 too_many_exactly r status command names (no_image name' bytes' fault read' is e) plan many = absurd (read_are_few r _ _ _ _ _ read' plan many)
 too_many_exactly r status command names (bad_text name' bytes' read' text e) plan many = absurd (read_are_few r _ _ _ _ _ read' plan many)
 too_many_exactly r status command names (no_plan none calm e) plan many = absurd (no_plan_and_plan _ _ _ none plan)
@@ -282,9 +204,9 @@ read_are_there r files a b names others contents name told read plan named gone 
 -- and where one is missing
 pub missing_exactly : (r : Request) (status : ℕ) (files : FileMap) (command : Command) (names : List (List ℕ)) (name : List ℕ) → Finding r status → Told r files → plan_of r.words ≡ Some (command, names) → Contains names name → files name ≡ None → status ≡ 10
 missing_exactly r status files command names name (accepted names' contents' read' e) told plan named gone = absurd (read_are_there r files _ _ _ _ _ _ told read' plan named gone)
-missing_exactly r status files command names name (faulty command' names' contents' read' may e) told plan named gone = absurd (read_are_there r files _ _ _ _ _ _ told read' plan named gone)
+missing_exactly r status files command names name (faulty command' names' contents' faults' read' may is e) told plan named gone = absurd (read_are_there r files _ _ _ _ _ _ told read' plan named gone)
 missing_exactly r status files command names name (simple names' contents' strings' read' is e) told plan named gone = absurd (read_are_there r files _ _ _ _ _ _ told read' plan named gone)
-missing_exactly r status files command names name (image name' bytes' found read' is run e) told plan named gone = absurd (read_are_there r files _ _ _ _ _ _ told read' plan named gone)
+missing_exactly r status files command names name (image found run ends e) told plan named gone = absurd (read_are_there r files _ _ _ _ _ _ told (read_for_run r found run).3 plan named gone)
 missing_exactly r status files command names name (no_image name' bytes' fault read' is e) told plan named gone = absurd (read_are_there r files _ _ _ _ _ _ told read' plan named gone)
 missing_exactly r status files command names name (bad_text name' bytes' read' text e) told plan named gone = absurd (read_are_there r files _ _ _ _ _ _ told read' plan named gone)
 missing_exactly r status files command names name (no_plan none calm e) told plan named gone = absurd (no_plan_and_plan _ _ _ none plan)
@@ -300,43 +222,46 @@ read_are_small r files a b names others contents large told read plan held more 
 -- and where all are too large
 pub too_large_exactly : (r : Request) (status : ℕ) (files : FileMap) (command : Command) (names large : List (List ℕ)) → Finding r status → Told r files → plan_of r.words ≡ Some (command, names) → AreHeld (Some files) names large → most_bytes command < total large → status ≡ 10
 too_large_exactly r status files command names large (accepted names' contents' read' e) told plan held more = absurd (read_are_small r files _ _ _ _ _ _ told read' plan held more)
-too_large_exactly r status files command names large (faulty command' names' contents' read' may e) told plan held more = absurd (read_are_small r files _ _ _ _ _ _ told read' plan held more)
+too_large_exactly r status files command names large (faulty command' names' contents' faults' read' may is e) told plan held more = absurd (read_are_small r files _ _ _ _ _ _ told read' plan held more)
 too_large_exactly r status files command names large (simple names' contents' strings' read' is e) told plan held more = absurd (read_are_small r files _ _ _ _ _ _ told read' plan held more)
-too_large_exactly r status files command names large (image name' bytes' found read' is run e) told plan held more = absurd (read_are_small r files _ _ _ _ _ _ told read' plan held more)
+too_large_exactly r status files command names large (image found run ends e) told plan held more = absurd (read_are_small r files _ _ _ _ _ _ told (read_for_run r found run).3 plan held more)
 too_large_exactly r status files command names large (no_image name' bytes' fault read' is e) told plan held more = absurd (read_are_small r files _ _ _ _ _ _ told read' plan held more)
 too_large_exactly r status files command names large (bad_text name' bytes' read' text e) told plan held more = absurd (read_are_small r files _ _ _ _ _ _ told read' plan held more)
 too_large_exactly r status files command names large (no_plan none calm e) told plan held more = absurd (no_plan_and_plan _ _ _ none plan)
 too_large_exactly r status files command names large (no_file command' names' plan' fault e) told plan held more = e
 
--- status 1 is left where `run` read its files, and they are no program of the simple form
-pub not_ran_exactly : (r : Request) (status : ℕ) (files : FileMap) (names contents : List (List ℕ)) → Finding r status → Told r files → IsRead r Run names contents → AreNotSimple contents → status ≡ 1
-not_ran_exactly r status files names contents (accepted names' contents' read' e) told read other = absurd (no_check_run _ _ _ read'.plan read.plan)
-not_ran_exactly r status files names contents (faulty command' names' contents' read' may e) told read other = e
-not_ran_exactly r status files names contents (simple names' contents' strings' read' is e) told read other = absurd (other strings' (subst (λ (cs : List (List ℕ)). AreSimple cs strings') (same_read r files _ _ _ _ _ _ told read' read) is))
-not_ran_exactly r status files names contents (image name' bytes' found read' is run e) told read other = absurd (no_run_exec _ _ _ read.plan read'.plan)
-not_ran_exactly r status files names contents (no_image name' bytes' fault read' is e) told read other = absurd (no_run_exec _ _ _ read.plan read'.plan)
-not_ran_exactly r status files names contents (bad_text name' bytes' read' text e) told read other = absurd (no_run_exec _ _ _ read.plan read'.plan)
-not_ran_exactly r status files names contents (no_plan none calm e) told read other = absurd (no_plan_and_plan _ _ _ none read.plan)
-not_ran_exactly r status files names contents (no_file command' names' plan' fault e) told read other = absurd (no_file_fault r files _ _ _ _ _ told read plan' fault)
-
--- and status 0 where they are one
+-- status 0 is left where `run` read files that are a program of the simple form
 pub ran_exactly : (r : Request) (status : ℕ) (files : FileMap) (names contents strings : List (List ℕ)) → Finding r status → Told r files → IsRead r Run names contents → AreSimple contents strings → status ≡ 0
 ran_exactly r status files names contents strings (accepted names' contents' read' e) told read form = absurd (no_check_run _ _ _ read'.plan read.plan)
-ran_exactly r status files names contents strings (faulty command' names' contents' read' may e) told read form = absurd (may_refuse r files command' Run names' names contents' contents told read' read may strings form)
+ran_exactly r status files names contents strings (faulty command' names' contents' faults' read' may is e) told read form = absurd (may_refuse r files command' Run names' names contents' contents told read' read may strings form)
 ran_exactly r status files names contents strings (simple names' contents' strings' read' is e) told read form = e
-ran_exactly r status files names contents strings (image name' bytes' found read' is run e) told read form = absurd (no_run_exec _ _ _ read.plan read'.plan)
+ran_exactly r status files names contents strings (image found run ends e) told read form = absurd (simple_not_run r files found names contents strings run told read form)
 ran_exactly r status files names contents strings (no_image name' bytes' fault read' is e) told read form = absurd (no_run_exec _ _ _ read.plan read'.plan)
 ran_exactly r status files names contents strings (bad_text name' bytes' read' text e) told read form = absurd (no_run_exec _ _ _ read.plan read'.plan)
 ran_exactly r status files names contents strings (no_plan none calm e) told read form = absurd (no_plan_and_plan _ _ _ none read.plan)
 ran_exactly r status files names contents strings (no_file command' names' plan' fault e) told read form = absurd (no_file_fault r files _ _ _ _ _ told read plan' fault)
 
+-- and the status of the run's end, or 7, where they are another program
+pub compiled_exactly : (r : Request) (status : ℕ) (files : FileMap) (names contents : List (List ℕ)) (p : List Class) → Finding r status → Told r files → IsRead r Run names contents → AreNotSimple contents → IsAccepted contents p
+    → (status ≡ 7) ⊎ (status ≡ status_of (run_of (image_of (program_lines p names)) r.input))
+compiled_exactly r status files names contents p (accepted names' contents' read' e) told read other form = absurd (no_check_run _ _ _ read'.plan read.plan)
+compiled_exactly r status files names contents p (faulty command' names' contents' faults' read' may is e) told read other form =
+    absurd (never_both_verdicts contents p faults' form (subst (λ (cs : List (List ℕ)). IsRefused cs faults') (same_read r files _ _ _ _ _ _ told read' read) is))
+compiled_exactly r status files names contents p (simple names' contents' strings' read' is e) told read other form =
+    absurd (other strings' (subst (λ (cs : List (List ℕ)). AreSimple cs strings') (same_read r files _ _ _ _ _ _ told read' read) is))
+compiled_exactly r status files names contents p (image found run ends e) told read other form =
+    subst (λ i. (status ≡ 7) ⊎ (status ≡ status_of (run_of i r.input))) (run_of_program r files found names contents p run told read form) e
+compiled_exactly r status files names contents p (no_image name' bytes' fault read' is e) told read other form = absurd (no_run_exec _ _ _ read.plan read'.plan)
+compiled_exactly r status files names contents p (bad_text name' bytes' read' text e) told read other form = absurd (no_run_exec _ _ _ read.plan read'.plan)
+compiled_exactly r status files names contents p (no_plan none calm e) told read other form = absurd (no_plan_and_plan _ _ _ none read.plan)
+compiled_exactly r status files names contents p (no_file command' names' plan' fault e) told read other form = absurd (no_file_fault r files _ _ _ _ _ told read plan' fault)
+
 -- status 12 is left where `exec` read a file that is no text and no image
 pub unfit_exactly : (r : Request) (status : ℕ) (files : FileMap) (name bytes : List ℕ) → Finding r status → Told r files → IsRead r Exec (name ∷ []) (bytes ∷ []) → is_text_file bytes ≡ false → ((found : ImageParts) → IsImageOf found bytes → ⊥) → status ≡ 12
 unfit_exactly r status files name bytes (accepted names' contents' read' e) told read binary other = absurd (no_check_exec _ _ _ read'.plan read.plan)
-unfit_exactly r status files name bytes (faulty command' names' contents' read' may e) told read binary other = absurd (may_refuse r files command' Exec names' (name ∷ []) contents' (bytes ∷ []) told read' read may)
+unfit_exactly r status files name bytes (faulty command' names' contents' faults' read' may is e) told read binary other = absurd (may_refuse r files command' Exec names' (name ∷ []) contents' (bytes ∷ []) told read' read may)
 unfit_exactly r status files name bytes (simple names' contents' strings' read' is e) told read binary other = absurd (no_run_exec _ _ _ read'.plan read.plan)
-unfit_exactly r status files name bytes (image name' bytes' found read' is run e) told read binary other =
-    absurd (not_runnable found bytes (subst (λ (b : List ℕ). IsRunnable found b) (same_file r files _ _ _ _ _ _ told read' read) is) binary other)
+unfit_exactly r status files name bytes (image found run ends e) told read binary other = absurd (not_runnable found bytes (run_of_file r files found name bytes run told read) binary other)
 unfit_exactly r status files name bytes (no_image name' bytes' fault read' is e) told read binary other = e
 unfit_exactly r status files name bytes (bad_text name' bytes' read' text e) told read binary other = e
 unfit_exactly r status files name bytes (no_plan none calm e) told read binary other = absurd (no_plan_and_plan _ _ _ none read.plan)
@@ -346,10 +271,10 @@ unfit_exactly r status files name bytes (no_file command' names' plan' fault e) 
 pub executed_exactly : (r : Request) (status : ℕ) (files : FileMap) (name bytes : List ℕ) (image' : ImageParts) → Finding r status → Told r files → IsRead r Exec (name ∷ []) (bytes ∷ []) → IsImageOf image' bytes
     → (status ≡ 7) ⊎ (status ≡ status_of (run_of image' r.input))
 executed_exactly r status files name bytes image' (accepted names' contents' read' e) told read form = absurd (no_check_exec _ _ _ read'.plan read.plan)
-executed_exactly r status files name bytes image' (faulty command' names' contents' read' may e) told read form = absurd (may_refuse r files command' Exec names' (name ∷ []) contents' (bytes ∷ []) told read' read may)
+executed_exactly r status files name bytes image' (faulty command' names' contents' faults' read' may is e) told read form = absurd (may_refuse r files command' Exec names' (name ∷ []) contents' (bytes ∷ []) told read' read may)
 executed_exactly r status files name bytes image' (simple names' contents' strings' read' is e) told read form = absurd (no_run_exec _ _ _ read'.plan read.plan)
-executed_exactly r status files name bytes image' (image name' bytes' found read' is run e) told read form =
-    let same = same_runnable found image' bytes (subst (λ (b : List ℕ). IsRunnable found b) (same_file r files _ _ _ _ _ _ told read' read) is) form in
+executed_exactly r status files name bytes image' (image found run ends e) told read form =
+    let same = same_runnable found image' bytes (run_of_file r files found name bytes run told read) form in
     subst (λ i. (status ≡ 7) ⊎ (status ≡ status_of (run_of i r.input))) same e
 executed_exactly r status files name bytes image' (no_image name' bytes' fault read' is e) told read form =
     absurd (image_without_fault image' bytes' fault (subst (λ (b : List ℕ). IsImageOf image' b) (same_file r files _ _ _ _ _ _ told read read') form) is)
@@ -360,9 +285,9 @@ executed_exactly r status files name bytes image' (no_file command' names' plan'
 -- where the shelf failed, a file fault is found
 pub shelf_fault : (r : Request) (status : ℕ) → Finding r status → r.faults_before < r.faults_after → status ≡ 10
 shelf_fault r status (accepted names' contents' read' e) more = absurd (omega (arith, read'.calm, more))
-shelf_fault r status (faulty command' names' contents' read' may e) more = absurd (omega (arith, read'.calm, more))
+shelf_fault r status (faulty command' names' contents' faults' read' may is e) more = absurd (omega (arith, read'.calm, more))
 shelf_fault r status (simple names' contents' strings' read' is e) more = absurd (omega (arith, read'.calm, more))
-shelf_fault r status (image name' bytes' found read' is run e) more = absurd (omega (arith, read'.calm, more))
+shelf_fault r status (image found run ends e) more = absurd (omega (arith, (read_for_run r found run).3.calm, more))
 shelf_fault r status (no_image name' bytes' fault read' is e) more = absurd (omega (arith, read'.calm, more))
 shelf_fault r status (bad_text name' bytes' read' text e) more = absurd (omega (arith, read'.calm, more))
 shelf_fault r status (no_plan none calm e) more = absurd (omega (arith, calm, more))
@@ -378,9 +303,9 @@ cause_no_less (Some files) name most before after (inr long) = omega (arith, lon
 -- the shelf's count of faults does not fall
 pub shelf_no_less : (r : Request) (status : ℕ) → Finding r status → r.faults_before ≤ r.faults_after
 shelf_no_less r status (accepted names' contents' read' e) = omega (arith, read'.calm)
-shelf_no_less r status (faulty command' names' contents' read' may e) = omega (arith, read'.calm)
+shelf_no_less r status (faulty command' names' contents' faults' read' may is e) = omega (arith, read'.calm)
 shelf_no_less r status (simple names' contents' strings' read' is e) = omega (arith, read'.calm)
-shelf_no_less r status (image name' bytes' found read' is run e) = omega (arith, read'.calm)
+shelf_no_less r status (image found run ends e) = omega (arith, (read_for_run r found run).3.calm)
 shelf_no_less r status (no_image name' bytes' fault read' is e) = omega (arith, read'.calm)
 shelf_no_less r status (bad_text name' bytes' read' text e) = omega (arith, read'.calm)
 shelf_no_less r status (no_plan none calm e) = omega (arith, calm)

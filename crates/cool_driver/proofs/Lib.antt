@@ -4,6 +4,8 @@ pub mod ReadingStrings
 pub mod SpelledCalls
 pub mod ReadingIsSimple
 pub mod HeldFiles
+pub mod ReadTwice
+pub mod ImagesOfCalls
 pub mod ReadingNames
 pub mod NoteLines
 pub mod Plans

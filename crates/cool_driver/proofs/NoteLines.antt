@@ -6,11 +6,10 @@ use Rattle.std.specs.List.{concat, AllByRecursion}
 use Rattle.std.proofs.Math.ListN.{length-append}
 use Rattle.std.proofs.lemmas.List.{at_drop_more}
 use Rattle.cool_syntax.specs.TokenFacts.{IsPlaced}
-use Rattle.cool_classes.specs.Chains.{Class}
 use Rattle.cool_faults.specs.declared.fault.Fault.{Fault}
 use Rattle.cool_faults.specs.Texts.{fault_words, fault_line}
-use Rattle.cool_faults.specs.Verdicts.{place_of, IsAccepted, IsRefused}
-use Rattle.cool_driver.specs.Notes.{not_yet_note, image_fault, image_note, asm_words, asm_note}
+use Rattle.cool_faults.specs.Verdicts.{place_of, IsRefused}
+use Rattle.cool_driver.specs.Notes.{image_fault, image_note, asm_words, asm_note}
 use Rattle.cool_driver.specs.SimpleFiles.{AreNotSimple}
 use Rattle.cool_driver.specs.SimpleReading.{texts}
 use Rattle.cool_driver.specs.Ends.{Request, Due}
@@ -31,10 +30,6 @@ some_line names fault =
 some_lines : (names : List (List ℕ)) (faults : List Fault) → AllByRecursion (λ line. 0 < length line) (map (fault_line names) faults)
 some_lines names [] = tt
 some_lines names (fault ∷ faults) = (some_line names fault, some_lines names faults)
-
--- the note of files that cannot be compiled yet is not empty
-some_not_yet : (name : List ℕ) → 0 < length (not_yet_note name)
-some_not_yet name = omega (arith, length-append name (codes ":1: N1: not yet\n"))
 
 -- the note of a file that is no image is not empty
 some_unfit : (name : List ℕ) (fault : ImageError) → 0 < length (image_note name fault)
@@ -71,18 +66,9 @@ checked_lines names contents faults (Execute image) is h = absurd h
 
 -- the faults of files that `run` names
 pub run_lines : (names contents : List (List ℕ)) (faults : List Fault) (task : Task) → AreNotSimple contents → IsRefused contents faults → AreLinesOf names faults task → IsTaskOfRun names contents task
-run_lines names contents faults (Tell status lines) other is h = (are_lines lines.items _ h.1 (some_lines names faults), other, h.0, inr (faults, is, ap concat h.1))
+run_lines names contents faults (Tell status lines) other is h = (are_lines lines.items _ h.1 (some_lines names faults), other, h.0, (faults, is, ap concat h.1))
 run_lines names contents faults (Run image) other is h = absurd h
 run_lines names contents faults (Execute image) other is h = absurd h
-
--- files that are accepted, but cannot be compiled yet
-pub not_yet_line : (names contents : List (List ℕ)) (p : List Class) (line : List ℕ) (task : Task) → AreNotSimple contents → IsAccepted contents p → line ≡ not_yet_note (get_or names 0 []) → IsLine statuses.Refused line task
-    → IsTaskOfRun names contents task
-not_yet_line names contents p line (Tell status lines) other is same h =
-    let some : 0 < length line = rw same (some_not_yet (get_or names 0 [])) in
-    (are_lines lines.items (line ∷ []) h.1 (some, tt), other, ap code_of h.0, inl (p, is, one_line lines.items line h.1 ∙ same))
-not_yet_line names contents p line (Run image) other is same h = absurd h
-not_yet_line names contents p line (Execute image) other is same h = absurd h
 
 -- a file that is no image
 pub unfit_line : (name bytes line : List ℕ) (task : Task) → IsUnfit name bytes line → IsLine statuses.Unfit line task → IsTaskOfFile name bytes task

@@ -1,9 +1,11 @@
--- Which plan words are.
-use Rattle.std.proofs.Common.{◌≡◌, true, false, List, ◌∷◌, length, Some, None, if◌then◌else◌, ◌&&◌, ap, ◌∙◌, sym}
-use Rattle.std.specs.Prelude.{option_and_then, string_bytes, String}
+-- Which plan words are, and what holds of its names.
+use Rattle.std.proofs.Common.{◌≡◌, ℕ, ◌≤◌, true, false, List, [], ◌∷◌, length, Some, None, if◌then◌else◌, ◌&&◌, ap, ◌∙◌, sym}
+use Rattle.std.specs.Prelude.{option_and_then, string_bytes, String, not, ◌==◌, nat_le, slice_index}
 use Rattle.std.specs.Global.{Global}
-use Rattle.std.specs.List.{list_all}
+use Rattle.std.specs.List.{list_any, list_all, AllByRecursion}
+use Rattle.std.proofs.lemmas.Bool.{and_parts, leb-true}
 use Rattle.std.proofs.lemmas.List.{length-map}
+use Rattle.std.proofs.lemmas.Option.{cond_some, option_and_then_some}
 use Rattle.cool_driver.specs.CommandLine.{words_of, is_name, command_of, is_number_of_files, plan_of}
 use Rattle.cool_driver.specs.declared.command_line.Command.{Command}
 
@@ -34,3 +36,28 @@ pub plan_without_name : (words : List (String Global)) (word : String Global) (n
 plan_without_name words word names command split is number named =
     let many : is_number_of_files command (length (words_of names)) ≡ true = ap (is_number_of_files command) (length-map names string_bytes) ∙ number in
     sym (plan_at words word names command split is ∙ rw (many, named))
+
+-- the number of files is one that the command takes, and all names are good
+pub plan_parts : (words names : List (List ℕ)) (asked : Command) → plan_of words ≡ Some (asked, names) → (is_number_of_files asked (length names) ≡ true) × (list_all is_name names ≡ true)
+plan_parts [] names asked e = absurd cc
+plan_parts (word ∷ given) names asked e =
+    option_and_then_some _ (command_of word) _ e (λ found is f.
+    let test = cond_some (is_number_of_files found (length given) && list_all is_name given) (found, given) (asked, names) f in
+    let both = and_parts (is_number_of_files found (length given)) (list_all is_name given) test.0 in
+    let same : found ≡ asked = ap (λ (plan : Command × List (List ℕ)). plan.0) test.1 in
+    let all : given ≡ names = ap (λ (plan : Command × List (List ℕ)). plan.1) test.1 in
+    let number = sym (ap (λ (c : Command). is_number_of_files c (length names)) same) ∙ sym (ap (λ (ns : List (List ℕ)). is_number_of_files found (length ns)) all) ∙ both.0 in
+    (number, sym (ap (λ (ns : List (List ℕ)). list_all is_name ns) all) ∙ both.1))
+
+-- a good name has at most 4,096 bytes
+short_name : (name : List ℕ) → is_name name ≡ true → length name ≤ 4096
+short_name name good =
+    let rest = (and_parts (not (slice_index name 0 == 45)) (nat_le (length name) 4096 && not (list_any (λ b. b == 0) name)) good).1 in
+    leb-true (length name) 4096 (and_parts (nat_le (length name) 4096) (not (list_any (λ b. b == 0) name)) rest).0
+
+-- so has each of good names
+pub short_names : (names : List (List ℕ)) → list_all is_name names ≡ true → AllByRecursion (λ name. length name ≤ 4096) names
+short_names [] good = tt
+short_names (name ∷ names) good =
+    let both = and_parts (is_name name) (list_all is_name names) good in
+    (short_name name both.0, short_names names both.1)

@@ -2,7 +2,7 @@
 use Rattle.std.proofs.Common.{◌≡◌, ◌≢◌, ℕ, ◌+◌, ◌-◌, ◌<◌, List, [], ◌∷◌, ◌++◌, length, get_or, take, drop, refl, sym, ◌∙◌, ap, subst, take-append-drop, arith}
 use Rattle.std.specs.Prelude.{Option, string_bytes, String}
 use Rattle.std.specs.Global.{Global, Vec}
-use Rattle.std.proofs.lemmas.List.{get_or-map, at_drop_more, map_more, map_push, map-append}
+use Rattle.std.proofs.lemmas.List.{at_drop_more, map_more, map_push, map-append}
 use Rattle.cool_ports.specs.Counts.{Rose}
 use Rattle.cool_ports.specs.ShelfFiles.{FileMap, MayHold, IsMissing, IsLonger}
 use Rattle.cool_ports.specs.declared.shelf.ShelfFault.{ShelfFault}
@@ -23,10 +23,6 @@ names_cut : (names : List (String Global)) (i : ℕ) (name : String Global) → 
 names_cut names i name h is =
     ap words_of (sym (take-append-drop i names)) ∙ map-append string_bytes (take i names) (drop i names)
     ∙ ap (λ (ns : List (List ℕ)). words_of (take i names) ++ ns) (at_drop_more words_of names i name h ∙ ap (λ (n : String Global). string_bytes n ∷ words_of (drop (i + 1) names)) (sym is))
-
--- the first name
-pub first_name : (names : List (String Global)) (name : String Global) → 0 < length names → name ≡ get_or names 0 name → string_bytes name ≡ get_or (words_of names) 0 []
-first_name names name some is = ap string_bytes is ∙ sym (get_or-map string_bytes names 0 name [] some)
 
 -- one more file was read
 pub held_turn : (told now : Option FileMap) (names : List (String Global)) (i : ℕ) (name : String Global) (given : List ℕ) (contents more : List (Vec ℕ)) (file : Vec ℕ) → now ≡ told → i < length names → name ≡ get_or names i name → given ≡ string_bytes name

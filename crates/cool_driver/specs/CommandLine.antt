@@ -40,4 +40,4 @@ most_bytes Exec = MOST_IMAGE_BYTES
 
 -- the words do not ask to take of the input
 abbrev pub TakesNoInput : List (List ℕ) → Type 0
-TakesNoInput words = (names : List (List ℕ)) → plan_of words ≢ Some (Exec, names)
+TakesNoInput words = (names : List (List ℕ)) → (plan_of words ≢ Some (Exec, names)) × (plan_of words ≢ Some (Run, names))

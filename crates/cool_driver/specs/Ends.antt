@@ -1,5 +1,5 @@
 -- How a call of `cool` ends: what is due for the words over the shelf's files and the input, and what came of it.
-use Rattle.std.specs.Prelude.{◌≡◌, ◌≢◌, ℕ, ◌<◌, ◌≤◌, ◌⊎◌, ◌-◌, true, false, List, [], ◌∷◌, ◌++◌, length, get_or, Contains, Option, Some, None}
+use Rattle.std.specs.Prelude.{◌≡◌, ◌≢◌, ℕ, ◌<◌, ◌≤◌, ◌⊎◌, ◌-◌, true, false, List, [], ◌∷◌, ◌++◌, length, Contains, Option, Some, None}
 use Rattle.std.specs.List.{concat}
 use Rattle.cool_syntax.specs.declared.TheConstants.{MOST_FILES}
 use Rattle.cool_classes.specs.Chains.{Class}
@@ -9,14 +9,16 @@ use Rattle.cool_faults.specs.Verdicts.{IsAccepted, IsFaultList, IsRefused}
 use Rattle.cool_ports.specs.Counts.{last_count, Rose}
 use Rattle.cool_ports.specs.ShelfFiles.{FileMap, MayHold, IsMissing, IsLonger}
 use Rattle.cool_ports.specs.SinkBytes.{appended, GotPrefix}
+use Rattle.mips_isa.specs.Assembly.{image_of}
 use Rattle.mips_isa.specs.ImageBounds.{ImageParts}
 use Rattle.mips_isa.specs.Calls.{State, call, print}
 use Rattle.mips_isa.specs.declared.line.AsmFault.{AsmFault}
 use Rattle.mips_image.specs.ImageReading.{first_fault}
 use Rattle.mips_image.specs.declared.image_error.ImageError.{ImageError}
 use Rattle.spim_machine.specs.Ends.{FailsReading, call_with}
+use Rattle.cool_emit.specs.Programs.{program_lines}
 use Rattle.cool_driver.specs.CommandLine.{plan_of, most_bytes}
-use Rattle.cool_driver.specs.Notes.{end_text, not_yet_note, refused_note, usage_note, missing_note, unread_note, too_many_note, too_large_note, read_fault_note, image_note, asm_note}
+use Rattle.cool_driver.specs.Notes.{end_text, refused_note, usage_note, missing_note, unread_note, too_many_note, too_large_note, read_fault_note, image_note, asm_note}
 use Rattle.cool_driver.specs.SimpleFiles.{AreSimple, AreNotSimple}
 use Rattle.cool_driver.specs.Execution.{IsImageOf, IsRunnable, is_text_file, segments_by_default, run_of, ComesTo, left_by, status_of, note_of}
 use Rattle.cool_driver.specs.declared.command_line.Command.{Command}
@@ -62,6 +64,12 @@ MayRefuse Check contents = Unit {0}
 MayRefuse Run contents = AreNotSimple contents
 MayRefuse Exec contents = ⊥
 
+-- The image that a call runs over its input: that of the file of `exec`, or the one of the lines of the program that the files of `run` are,
+-- unless they are one of the simple form.
+pub data IsRunOf (r : Request) (image : ImageParts) : Type 0 where
+  of_file : (name bytes : List ℕ) → IsRead r Exec (name ∷ []) (bytes ∷ []) → IsRunnable image bytes → IsRunOf r image
+  of_program : (names contents : List (List ℕ)) (p : List Class) → IsRead r Run names contents → AreNotSimple contents → IsAccepted contents p → image ≡ image_of (program_lines p names) → IsRunOf r image
+
 -- What is due: the status, the output, the note, and what is left of the input.
 pub data Due (r : Request) : ℕ → List ℕ → List ℕ → List ℕ → Type 0 where
   -- `check`: nothing, where the files are accepted
@@ -69,16 +77,16 @@ pub data Due (r : Request) : ℕ → List ℕ → List ℕ → List ℕ → Type
   -- `check` and `run`: a line for each fault
   refused : (command : Command) (names contents : List (List ℕ)) (faults : List Fault) → IsRead r command names contents → MayRefuse command contents → IsRefused contents faults
       → Due r 1 [] (refused_note names faults) r.input
-  -- `run`: the strings of the program in order, and the end text; no other program can be compiled yet
+  -- `run` of a program of the simple form: its strings in order, and the end text
   ran : (names contents strings : List (List ℕ)) → IsRead r Run names contents → AreSimple contents strings → Due r 0 (concat strings ++ end_text) [] r.input
-  not_yet : (name : List ℕ) (names contents : List (List ℕ)) (p : List Class) → IsRead r Run (name ∷ names) contents → AreNotSimple contents → IsAccepted contents p → Due r 1 [] (not_yet_note name) r.input
-  -- `exec`: as the run of the image ends
-  executed : (name bytes : List ℕ) (image : ImageParts) → IsRead r Exec (name ∷ []) (bytes ∷ []) → IsRunnable image bytes
+  -- `run` and `exec`: as the run of the image ends
+  executed : (image : ImageParts) → IsRunOf r image
       → Due r (status_of (run_of image r.input)) (left_by (run_of image r.input)).output (note_of (run_of image r.input)) (left_by (run_of image r.input)).input
-  -- `exec`: the run comes to a call that fails to read, over what is left
-  unread_input : (name bytes : List ℕ) (image : ImageParts) (at : State) (output left : List ℕ) → IsRead r Exec (name ∷ []) (bytes ∷ []) → IsRunnable image bytes
+  -- `run` and `exec`: the run comes to a call that fails to read, over what is left
+  unread_input : (image : ImageParts) (at : State) (output left : List ℕ) → IsRunOf r image
       → ComesTo image r.input at → FailsReading (call_with (segments_by_default image) at) at (Some []) (Some left) (Some output)
       → Due r 7 output read_fault_note left
+  -- `exec`: the file has a fault
   unfit : (name bytes : List ℕ) (fault : ImageError) → IsRead r Exec (name ∷ []) (bytes ∷ []) → is_text_file bytes ≡ false → first_fault bytes ≡ Some fault → Due r 12 [] (image_note name fault) r.input
   misread : (name bytes : List ℕ) (fault : AsmFault) → IsRead r Exec (name ∷ []) (bytes ∷ []) → is_text_file bytes ≡ true → Due r 12 [] (asm_note name fault) r.input
   -- all
@@ -93,7 +101,7 @@ pub data Due (r : Request) : ℕ → List ℕ → List ℕ → List ℕ → Type
 pub data Writing (r : Request) : List ℕ → List ℕ → List ℕ → Type 0 where
   by_run : (names contents strings : List (List ℕ)) → IsRead r Run names contents → AreSimple contents strings → Writing r [] (concat strings ++ end_text) r.input
   -- the run of the image comes to a call that prints these bytes
-  by_exec : (name bytes : List ℕ) (image : ImageParts) (at : State) (printed : List ℕ) → IsRead r Exec (name ∷ []) (bytes ∷ []) → IsRunnable image bytes
+  by_image : (image : ImageParts) (at : State) (printed : List ℕ) → IsRunOf r image
       → ComesTo image r.input at → call (segments_by_default image) at ≡ print at printed → Writing r at.output printed at.input
 
 -- What a sink held, and its count of faults, before a call and after it.
@@ -172,12 +180,11 @@ pub record Ends (c : Call) (status : ℕ) : Type 0 where
   -- `check` and `run`: status 1 comes where the files were read and their fault list is not empty, with a line for each fault of it
   pub refused_exactly : (files : FileMap) (command : Command) (names contents : List (List ℕ)) (faults : List Fault) → Told c.request files → IsRead c.request command names contents → MayRefuse command contents
       → IsFaultList contents faults → faults ≢ [] → Unless status ((status ≡ 1) × Got c.notes (refused_note names faults))
-  -- `run`: status 1 and the note N1 come where the files were read, their fault list is empty, and they are no program of the simple form
-  pub not_yet_exactly : (files : FileMap) (names contents : List (List ℕ)) → Told c.request files → IsRead c.request Run names contents → AreNotSimple contents → IsFaultList contents []
-      → Unless status ((status ≡ 1) × Got c.notes (not_yet_note (get_or names 0 [])))
-  -- `run`: status 1 comes where the files were read and are no program of the simple form, and status 0 where they are one
-  pub not_ran_exactly : (files : FileMap) (names contents : List (List ℕ)) → Told c.request files → IsRead c.request Run names contents → AreNotSimple contents → Unless status (status ≡ 1)
+  -- `run`: status 0 comes where the files were read and are a program of the simple form, and the status of its run's end where they are
+  -- another program
   pub ran_exactly : (files : FileMap) (names contents strings : List (List ℕ)) → Told c.request files → IsRead c.request Run names contents → AreSimple contents strings → Unless status (status ≡ 0)
+  pub compiled_exactly : (files : FileMap) (names contents : List (List ℕ)) (p : List Class) → Told c.request files → IsRead c.request Run names contents → AreNotSimple contents → IsAccepted contents p
+      → Unless status ((status ≡ 7) ⊎ (status ≡ status_of (run_of (image_of (program_lines p names)) c.request.input)))
   -- `exec`: status 12 comes where the file was read, is no text and no image, and the status of the run's end where it is an image
   pub unfit_exactly : (files : FileMap) (name bytes : List ℕ) → Told c.request files → IsRead c.request Exec (name ∷ []) (bytes ∷ []) → is_text_file bytes ≡ false → ((image : ImageParts) → IsImageOf image bytes → ⊥)
       → Unless status (status ≡ 12)

@@ -18,10 +18,6 @@ use Rattle.mips_image.specs.declared.image_error.ImageError.TheVariants.{Memory,
 abbrev pub end_text : List ℕ
 end_text = codes "COOL program successfully executed\n"
 
--- a program that is accepted, but cannot be compiled yet
-abbrev pub not_yet_note : List ℕ → List ℕ
-not_yet_note name = name ++ codes ":1: N1: not yet\n"
-
 -- a line for each fault of the files of these names
 abbrev pub refused_note : List (List ℕ) → List Fault → List ℕ
 refused_note names faults = concat (map (fault_line names) faults)

@@ -9,15 +9,17 @@ use Rattle.cool_faults.specs.Verdicts.{IsAccepted, IsRefused}
 use Rattle.cool_ports.specs.declared.shelf.ShelfFault.{ShelfFault}
 use Rattle.cool_ports.specs.declared.shelf.ShelfFault.TheVariants as faults
 use Rattle.cool_ports.specs.ShelfFiles.{FileMap}
+use Rattle.mips_isa.specs.Assembly.{image_of}
 use Rattle.mips_isa.specs.ImageBounds.{ImageParts}
 use Rattle.mips_isa.specs.Calls.{State, Exited}
 use Rattle.mips_isa.specs.declared.line.AsmFault.{AsmFault}
 use Rattle.mips_image.specs.ImageReading.{first_fault}
 use Rattle.mips_image.specs.declared.image_error.ImageError.{ImageError}
+use Rattle.cool_emit.specs.Programs.{program_lines}
 use Rattle.cool_driver.specs.CommandLine.{plan_of}
-use Rattle.cool_driver.specs.Notes.{end_text, not_yet_note, refused_note, missing_note, unread_note, too_large_note, image_note, asm_note}
+use Rattle.cool_driver.specs.Notes.{end_text, refused_note, missing_note, unread_note, too_large_note, image_note, asm_note}
 use Rattle.cool_driver.specs.Execution.{IsRunnable, is_text_file, run_of}
-use Rattle.cool_driver.specs.Ends.{Request, Due, IsRead, SinkUse, Got, GotPart}
+use Rattle.cool_driver.specs.Ends.{Request, Due, IsRead, IsRunOf, SinkUse, Got, GotPart}
 use Rattle.cool_driver.specs.SimpleFiles.{AreSimple, AreNotSimple}
 use Rattle.cool_driver.specs.SimpleReading.{texts}
 use Rattle.cool_driver.specs.declared.command_line.Command.{Command}
@@ -87,10 +89,9 @@ IsTaskOfChecked names contents (Execute image) = ⊥
 abbrev pub IsTaskOfRun : List (List ℕ) → List (List ℕ) → Task → Type 0
 IsTaskOfRun names contents (Tell status lines) =
     AreLines lines.items × AreNotSimple contents × (code_of status ≡ 1)
-    × (((p : List Class) × IsAccepted contents p × (note_of lines.items ≡ not_yet_note (get_or names 0 [])))
-    ⊎ ((faults : List Fault) × IsRefused contents faults × (note_of lines.items ≡ refused_note names faults)))
+    × ((faults : List Fault) × IsRefused contents faults × (note_of lines.items ≡ refused_note names faults))
 IsTaskOfRun names contents (Run image) = (strings : List (List ℕ)) × AreSimple contents strings × Prints image (concat strings ++ end_text)
-IsTaskOfRun names contents (Execute image) = ⊥
+IsTaskOfRun names contents (Execute image) = (p : List Class) × AreNotSimple contents × IsAccepted contents p × (image ≡ image_of (program_lines p names))
 
 abbrev pub IsTaskOf : Command → List (List ℕ) → List (List ℕ) → Task → Type 0
 IsTaskOf command.Check names contents task = IsTaskOfChecked names contents task
@@ -114,7 +115,7 @@ abbrev pub IsDue : Request → Task → Type 0
 IsDue r (Tell status lines) = Due r (code_of status) [] (note_of lines.items) r.input × AreLines lines.items × (code_of status ≢ 7)
 IsDue r (Run image) =
     (names : List (List ℕ)) × (contents : List (List ℕ)) × (strings : List (List ℕ)) × IsRead r command.Run names contents × AreSimple contents strings × Prints image (concat strings ++ end_text)
-IsDue r (Execute image) = (name : List ℕ) × (bytes : List ℕ) × IsRead r command.Exec (name ∷ []) (bytes ∷ []) × IsRunnable image bytes
+IsDue r (Execute image) = IsRunOf r image
 
 -- what is left to do for any words that name these files for this command, over a shelf of these files, and for any input
 abbrev pub IsFileTask : Option FileMap → ℕ → ℕ → Command → List (List ℕ) → Task → Type 0

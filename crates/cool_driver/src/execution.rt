@@ -1,12 +1,10 @@
 //! Runs of images within the default limits.
 
-ghost use Rattle.std.specs.Prelude.{◌≡◌, List, [], ◌∷◌, ℕ, Bool, false};
+ghost use Rattle.std.specs.Prelude.{◌≡◌, List, ℕ, Bool, false};
 ghost use Rattle.cool_ports.specs.Answers.{Leaves};
 ghost use Rattle.spim_machine.specs.Input.{Took};
-ghost use Rattle.cool_driver.specs.Execution.{IsRunnable};
-ghost use Rattle.cool_driver.specs.Ends.{Request, IsRead, Ends};
+ghost use Rattle.cool_driver.specs.Ends.{Request, IsRunOf, Ends};
 ghost use Rattle.cool_driver.specs.Tasks.{code_of, Prints, RunsSimple};
-ghost use Rattle.cool_driver.specs.declared.command_line.Command.TheVariants as command;
 
 use crate::notes::{tell, trap_note};
 use crate::status::Status;
@@ -58,7 +56,7 @@ pub fn execute<I: Source, O: Sink, E: Sink>(
     notes: &mut E,
 ) -> Status
     ensures taken { (ended : Bool) × Took false ended (I.past input.old) (I.past input.new) (I.left input.old) (I.left input.new) }
-    ensures ends { (r : Request) (name bytes rest : List ℕ) → IsRead r command.Exec (name ∷ []) (bytes ∷ []) → IsRunnable image.now bytes → Leaves (I.past input.old) (I.past input.new) r.input rest → Ends (record {
+    ensures ends { (r : Request) (rest : List ℕ) → IsRunOf r image.now → Leaves (I.past input.old) (I.past input.new) r.input rest → Ends (record {
       request = r;
       out = record {
         held_before = O.held out.old;

@@ -56,7 +56,7 @@ pub fn cool<F: Shelf, I: Source, O: Sink, E: Sink>(
     // The shelf keeps its files.
     ensures files { F.files files.new ≡ F.files files.old }
 
-    // Only `exec` takes of the input.
+    // Only `run` and `exec` take of the input.
     ensures input { TakesNoInput (words_of words.now) → input.new ≡ input.old }
 
     // What it takes of the input: bytes, and then perhaps the answer that nothing is left, once.

@@ -8,7 +8,7 @@ ghost use Rattle.cool_driver.specs.Tasks.{code_of};
 pub enum Status {
     /// The run ended well, or the files were accepted.
     Done = 0,
-    /// The files are no program, or none that can be compiled yet.
+    /// The files are no program.
     Refused = 1,
     /// The words are no command line.
     Usage = 2,

@@ -1,7 +1,7 @@
 //! What is left to do once the words and the file were read.
 
 ghost use Rattle.std.specs.Prelude.{◌≡◌, ◌≢◌, ◌+◌, ◌<◌, ◌≤◌, ◌^◌, ◌++◌, length, IfOk, List, ℕ, Option, Some, None, true, false, string_bytes};
-ghost use Rattle.std.specs.List.{concat, AllByRecursion};
+ghost use Rattle.std.specs.List.{concat, list_all, AllByRecursion};
 ghost use Rattle.cool_driver.specs.CommandLine.{words_of};
 ghost use Rattle.cool_driver.specs.SimpleReading.{texts};
 ghost use Rattle.cool_driver.specs.Emitted.{HasNoZero, data_of};
@@ -13,7 +13,7 @@ ghost use Rattle.mips_isa.specs.Lines.{Line};
 ghost use Rattle.mips_isa.specs.Assembly.{fault_of, image_of};
 ghost use Rattle.cool_faults.specs.Files.{total};
 ghost use Rattle.cool_faults.specs.Verdicts.{place_of};
-ghost use Rattle.cool_driver.specs.CommandLine.{is_number_of_files, most_bytes};
+ghost use Rattle.cool_driver.specs.CommandLine.{is_name, is_number_of_files, most_bytes};
 ghost use Rattle.cool_driver.specs.Tasks.{fault_note, Prints, IsLine, AreLinesOf, IsTaskOf, IsTaskOfFile, IsTaskOfChecked, IsTaskOfRun, IsDue, IsFileTask};
 
 use crate::command_line::{Command, read_words};
@@ -21,6 +21,7 @@ use crate::program::compile;
 use crate::reading::{ReadError, read_files};
 use crate::simple_form::{SimpleError, read_programs};
 use crate::status::Status;
+use cool_emit::build;
 use cool_faults::{Fault, Verdict, accept, fault_text};
 use cool_ports::{Shelf, ShelfFault};
 use cool_syntax::MOST_FILES;
@@ -82,7 +83,8 @@ fn find_file_task<F: Shelf>(
     names: &[String],
     files: &mut F,
 ) -> Result<Task, AllocError>
-    requires { is_number_of_files command (length names.now) ≡ true }
+    requires number { is_number_of_files command (length names.now) ≡ true }
+    requires names { list_all is_name (words_of names.now) ≡ true }
     ensures kept { F.files files.new ≡ F.files files.old }
     ensures count { F.faults files.old ≤ F.faults files.new }
     ensures due { IfOk result (IsFileTask (F.files files.old) (F.faults files.old) (F.faults files.new) command (words_of names.now)) }
@@ -108,6 +110,7 @@ fn find_content_task(
     contents: &[Vec<u8>],
 ) -> Result<Task, AllocError>
     requires each { length names.now ≡ length contents.now }
+    requires names { list_all is_name (words_of names.now) ≡ true }
     requires number { is_number_of_files command (length names.now) ≡ true }
     requires few { length contents.now ≤ MOST_FILES }
     requires small { total (texts contents.now) ≤ most_bytes command }
@@ -149,6 +152,7 @@ fn refuse(alloc: Global, names: &[String], faults: &[Fault]) -> Result<Task, All
 /// What is left to do to run files of these names that have these bytes.
 fn compile_files(alloc: Global, names: &[String], contents: &[Vec<u8>]) -> Result<Task, AllocError>
     requires each { length names.now ≡ length contents.now }
+    requires names { list_all is_name (words_of names.now) ≡ true }
     requires some { 0 < length names.now }
     requires few { length contents.now ≤ MOST_FILES }
     requires small { total (texts contents.now) ≤ MOST_SOURCE_BYTES }
@@ -157,11 +161,7 @@ fn compile_files(alloc: Global, names: &[String], contents: &[Vec<u8>]) -> Resul
     match read_programs(alloc, contents) {
         Ok(strings) => Ok(Task::Run(compile_with_end(alloc, strings)?)),
         Err(SimpleError::NotSimple) => match accept(alloc, contents)? {
-            Verdict::Accepted(_) => {
-                let name = names[0].as_str();
-                let note = format!(in alloc; "{name}:1: N1: not yet\n")?;
-                tell_line(alloc, Status::Refused, note.as_bytes())
-            }
+            Verdict::Accepted(program) => Ok(Task::Execute(build(alloc, &program, names)?)),
             Verdict::Refused(faults) => refuse(alloc, names, faults.as_slice()),
         },
         Err(SimpleError::Memory) => Err(AllocError),

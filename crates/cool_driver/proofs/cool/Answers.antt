@@ -5,6 +5,7 @@ use Rattle.spim_machine.proofs.InputsInParts.{took_nothing, leaves_same}
 use Rattle.cool_driver.specs.Notes.{end_text}
 use Rattle.cool_driver.proofs.EndsOfDue.{ends_without_memory}
 use Rattle.cool_driver.proofs.EndsOfTasks.{note_ends, simple_ends}
+use Rattle.cool_driver.proofs.ImagesOfCalls.{run_takes_input}
 use Rattle.cool_driver.proofs.cool.Goals as goal
 use Rattle.cool_driver.proofs.cool.Goals.{in-Err, in-Ok-Tell, in-Ok-Run, in-Ok-Execute}
 
@@ -28,7 +29,7 @@ returns-clause-input g c none =
       | in-Ok-Run w ↦ w.input-is
       | in-Ok-Execute w ↦
           let due = rw w.in-Ok-Execute.field-0-is at (w.in-Ok-Execute.ensures.due []) in
-          absurd (none _ due.2.plan)
+          absurd (run_takes_input _ _ due none)
     ]
 
 pub returns-clause-ends : goal.returns-clause-ends
@@ -49,7 +50,7 @@ returns-clause-ends g c given rest leaves =
       | in-Ok-Execute w ↦
           let here = rw w.input-is at leaves in
           let due = rw w.in-Ok-Execute.field-0-is at (w.in-Ok-Execute.ensures.due given) in
-          rw (c.code.ensures, w.status-is, w.out-is, w.notes-is, w.input-is) (w.execute-status.ensures.ends _ due.0 due.1 rest due.2 due.3 here)
+          rw (c.code.ensures, w.status-is, w.out-is, w.notes-is, w.input-is) (w.execute-status.ensures.ends _ rest due here)
     ]
 
 pub returns-clause-taken : goal.returns-clause-taken

@@ -6,14 +6,19 @@ use Rattle.cool_driver.specs.Notes.{usage_note}
 use Rattle.cool_driver.specs.Ends.Due.{usage}
 use Rattle.cool_driver.specs.declared.status.Status.TheVariants as statuses
 use Rattle.cool_driver.proofs.NoteLines.{line_due}
-use Rattle.cool_driver.proofs.DueTasks.{plan_number, for_task}
+use Rattle.cool_driver.proofs.DueTasks.{for_task}
+use Rattle.cool_driver.proofs.Plans.{plan_parts}
 use Rattle.cool_driver.proofs.task.find_task.Goals as goal
 
 -- the plan has as many files as its command takes
-pub find_file_task-requires : goal.find_file_task-requires
-find_file_task-requires g c =
-    let number = plan_number (words_of c.args.words.now) (words_of c.in-Some.plan.names.now) c.in-Some.plan.command (sym c.in-Some.ensures) in
-    sym (ap (is_number_of_files c.in-Some.plan.command) (length-map c.in-Some.plan.names.now string_bytes)) ∙ number
+pub find_file_task-requires-clause-number : goal.find_file_task-requires-clause-number
+find_file_task-requires-clause-number g c =
+    let parts = plan_parts (words_of c.args.words.now) (words_of c.in-Some.plan.names.now) c.in-Some.plan.command (sym c.in-Some.ensures) in
+    sym (ap (is_number_of_files c.in-Some.plan.command) (length-map c.in-Some.plan.names.now string_bytes)) ∙ parts.0
+
+-- and their names are good
+pub find_file_task-requires-clause-names : goal.find_file_task-requires-clause-names
+find_file_task-requires-clause-names g c = (plan_parts (words_of c.args.words.now) (words_of c.in-Some.plan.names.now) c.in-Some.plan.command (sym c.in-Some.ensures)).1
 
 -- what is left to do for the plan's files is due
 pub returns-in-Some-clause-due : goal.returns-in-Some-clause-due

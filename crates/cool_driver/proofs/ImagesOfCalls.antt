@@ -1,0 +1,80 @@
+-- The image that a call runs: which files were read for it, and that there is one.
+use Rattle.std.proofs.Common.{◌≡◌, ℕ, inl, inr, true, false, List, [], ◌∷◌, Some, None, sym, ◌∙◌, ap, subst}
+use Rattle.cool_classes.specs.Chains.{Class}
+use Rattle.cool_faults.specs.Verdicts.{IsAccepted}
+use Rattle.cool_faults.proofs.OneVerdict.{one_program}
+use Rattle.cool_ports.specs.ShelfFiles.{FileMap}
+use Rattle.mips_isa.specs.Assembly.{image_of}
+use Rattle.mips_isa.specs.ImageBounds.{ImageParts}
+use Rattle.mips_image.specs.ImageReading.{first_fault, parts_of}
+use Rattle.mips_image.specs.declared.image_error.ImageError.{ImageError}
+use Rattle.mips_image.proofs.ImagesAreRead.{no_fault, parts_read}
+use Rattle.cool_emit.specs.Programs.{program_lines}
+use Rattle.cool_driver.specs.CommandLine.{plan_of, TakesNoInput}
+use Rattle.cool_driver.specs.Execution.{IsImageOf, IsRunnable, is_text_file}
+use Rattle.cool_driver.specs.SimpleFiles.{AreSimple}
+use Rattle.cool_driver.specs.Ends.{Request, IsRead, IsRunOf, Told}
+use Rattle.cool_driver.specs.Ends.IsRunOf.{of_file, of_program}
+use Rattle.cool_driver.specs.declared.command_line.Command.{Command}
+use Rattle.cool_driver.specs.declared.command_line.Command.TheVariants.{Run, Exec}
+use Rattle.cool_driver.proofs.ReadTwice.{same_plan, no_run_exec, same_read, same_file}
+
+-- the bytes of an image have no fault
+pub image_without_fault : (found : ImageParts) (bytes : List ℕ) (fault : ImageError) → IsImageOf found bytes → first_fault bytes ≡ Some fault → ⊥
+image_without_fault found bytes fault is e =
+    let none : first_fault bytes ≡ None = ap first_fault is.bytes_are ∙ no_fault found is.bounds in
+    cc
+
+-- bytes are those of one image
+same_image : (a b : ImageParts) (bytes : List ℕ) → IsImageOf a bytes → IsImageOf b bytes → a ≡ b
+same_image a b bytes is also =
+    sym (ap parts_of is.bytes_are ∙ parts_read a is.bounds is.words) ∙ (ap parts_of also.bytes_are ∙ parts_read b also.bounds also.words)
+
+-- an image is no text
+pub no_text : (found : ImageParts) (bytes : List ℕ) → IsImageOf found bytes → is_text_file bytes ≡ true → ⊥
+no_text found bytes is text =
+    let binary : is_text_file bytes ≡ false = ap is_text_file is.bytes_are in
+    cc
+
+-- what runs and is no text is an image
+pub not_runnable : (found : ImageParts) (bytes : List ℕ) → IsRunnable found bytes → is_text_file bytes ≡ false → ((other : ImageParts) → IsImageOf other bytes → ⊥) → ⊥
+not_runnable found bytes (inl is) binary none = none found is
+not_runnable found bytes (inr made) binary none =
+    let text = made.text in
+    cc
+
+-- what runs and is an image is that one
+pub same_runnable : (found other : ImageParts) (bytes : List ℕ) → IsRunnable found bytes → IsImageOf other bytes → found ≡ other
+same_runnable found other bytes (inl is) also = same_image found other bytes is also
+same_runnable found other bytes (inr made) also = absurd (no_text other bytes also made.text)
+
+-- the files that were read for the image that runs
+pub read_for_run : (r : Request) (found : ImageParts) → IsRunOf r found → (command : Command) × (names : List (List ℕ)) × (contents : List (List ℕ)) × IsRead r command names contents
+read_for_run r found (of_file name bytes read is) = (Exec, name ∷ [], bytes ∷ [], read)
+read_for_run r found (of_program names contents p read other is made) = (Run, names, contents, read)
+
+-- the words ask to take of the input
+pub run_takes_input : (r : Request) (found : ImageParts) → IsRunOf r found → TakesNoInput r.words → ⊥
+run_takes_input r found (of_file name bytes read is) none = (none (name ∷ [])).0 read.plan
+run_takes_input r found (of_program names contents p read other is made) none = (none names).1 read.plan
+
+-- what runs for a file of `exec` is what the file stands for
+pub run_of_file : (r : Request) (files : FileMap) (found : ImageParts) (name bytes : List ℕ) → IsRunOf r found → Told r files → IsRead r Exec (name ∷ []) (bytes ∷ []) → IsRunnable found bytes
+run_of_file r files found name bytes (of_file name' bytes' read' is) told read = subst (λ (b : List ℕ). IsRunnable found b) (same_file r files _ _ _ _ _ _ told read' read) is
+run_of_file r files found name bytes (of_program names' contents' p' read' other is made) told read = absurd (no_run_exec _ _ _ read'.plan read.plan)
+
+-- what runs for the files of `run` is the image of their program
+pub run_of_program : (r : Request) (files : FileMap) (found : ImageParts) (names contents : List (List ℕ)) (p : List Class) → IsRunOf r found → Told r files → IsRead r Run names contents → IsAccepted contents p
+    → found ≡ image_of (program_lines p names)
+run_of_program r files found names contents p (of_file name' bytes' read' is) told read form = absurd (no_run_exec _ _ _ read.plan read'.plan)
+run_of_program r files found names contents p (of_program names' contents' p' read' other is made) told read form =
+    let same = same_read r files Run Run names' names contents' contents told read' read in
+    let one : p' ≡ p = one_program contents p' p (subst (λ (cs : List (List ℕ)). IsAccepted cs p') same is) form in
+    let named = (same_plan (plan_of r.words) Run Run names' names read'.plan read.plan).1 in
+    made ∙ ap (λ (q : List Class). image_of (program_lines q names')) one ∙ ap (λ (ns : List (List ℕ)). image_of (program_lines p ns)) named
+
+-- no image runs for a program of the simple form
+pub simple_not_run : (r : Request) (files : FileMap) (found : ImageParts) (names contents strings : List (List ℕ)) → IsRunOf r found → Told r files → IsRead r Run names contents → AreSimple contents strings → ⊥
+simple_not_run r files found names contents strings (of_file name' bytes' read' is) told read form = no_run_exec _ _ _ read.plan read'.plan
+simple_not_run r files found names contents strings (of_program names' contents' p' read' other is made) told read form =
+    other strings (subst (λ (cs : List (List ℕ)). AreSimple cs strings) (sym (same_read r files Run Run names' names contents' contents told read' read)) form)

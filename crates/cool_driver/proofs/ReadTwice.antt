@@ -1,0 +1,63 @@
+-- Words have one plan, and files that were read twice are the same.
+use Rattle.std.proofs.Common.{◌≡◌, ℕ, List, [], ◌∷◌, Some, None, sym, ◌∙◌, ap, subst}
+use Rattle.std.specs.Prelude.{Option}
+use Rattle.cool_ports.specs.ShelfFiles.{FileMap}
+use Rattle.cool_driver.specs.CommandLine.{plan_of}
+use Rattle.cool_driver.specs.Ends.{Request, IsRead, AreHeld, MayRefuse, Told}
+use Rattle.cool_driver.specs.declared.command_line.Command.{Command}
+use Rattle.cool_driver.specs.declared.command_line.Command.TheVariants.{Check, Run, Exec}
+use Rattle.cool_driver.proofs.HeldFiles.{held_same}
+
+-- a plan, or another one where there is none
+plan_or : Command × List (List ℕ) → Option (Command × List (List ℕ)) → Command × List (List ℕ)
+plan_or other None = other
+plan_or other (Some plan) = plan
+
+-- two plans are one
+pub same_plan : (plan : Option (Command × List (List ℕ))) (a b : Command) (names others : List (List ℕ)) → plan ≡ Some (a, names) → plan ≡ Some (b, others) → (a ≡ b) × (names ≡ others)
+unfolding plan_or
+same_plan plan a b names others p q =
+    let both = ap (plan_or (a, names)) (sym p ∙ q) in
+    (ap (λ (x : Command × List (List ℕ)). x.0) both, ap (λ (x : Command × List (List ℕ)). x.1) both)
+
+-- a plan is not both one of `run` and one of `exec`
+pub no_run_exec : (plan : Option (Command × List (List ℕ))) (names others : List (List ℕ)) → plan ≡ Some (Run, names) → plan ≡ Some (Exec, others) → ⊥
+no_run_exec plan names others p q = cc (same_plan plan Run Exec names others p q).0
+
+-- not both those of `check` and of `exec`
+pub no_check_exec : (plan : Option (Command × List (List ℕ))) (names others : List (List ℕ)) → plan ≡ Some (Check, names) → plan ≡ Some (Exec, others) → ⊥
+no_check_exec plan names others p q = cc (same_plan plan Check Exec names others p q).0
+
+-- not both those of `check` and of `run`
+pub no_check_run : (plan : Option (Command × List (List ℕ))) (names others : List (List ℕ)) → plan ≡ Some (Check, names) → plan ≡ Some (Run, others) → ⊥
+no_check_run plan names others p q = cc (same_plan plan Check Run names others p q).0
+
+-- there is a plan or none
+pub no_plan_and_plan : (plan : Option (Command × List (List ℕ))) (a : Command) (names : List (List ℕ)) → plan ≡ None → plan ≡ Some (a, names) → ⊥
+no_plan_and_plan plan a names p q = cc
+
+-- what a told shelf holds
+pub held_told : (told : Option FileMap) (files : FileMap) (names contents : List (List ℕ)) → told ≡ Some files → AreHeld told names contents → AreHeld (Some files) names contents
+held_told told files names contents e h = subst (λ t. AreHeld t names contents) e h
+
+-- the files that were read are those that the told shelf holds under the plan's names
+pub files_read : (r : Request) (files : FileMap) (a b : Command) (names others contents : List (List ℕ)) → Told r files → IsRead r a names contents → plan_of r.words ≡ Some (b, others) → AreHeld (Some files) others contents
+files_read r files a b names others contents told read plan =
+    subst (λ (ns : List (List ℕ)). AreHeld (Some files) ns contents) (same_plan (plan_of r.words) a b names others read.plan plan).1 (held_told r.files files names contents told.0 read.held)
+
+-- files that were read twice are the same
+pub same_read : (r : Request) (files : FileMap) (a b : Command) (names others contents more : List (List ℕ)) → Told r files → IsRead r a names contents → IsRead r b others more → contents ≡ more
+same_read r files a b names others contents more told read again =
+    held_same files others contents more (files_read r files a b names others contents told read again.plan) (held_told r.files files others more told.0 again.held)
+
+-- so a single file is
+pub same_file : (r : Request) (files : FileMap) (a b : Command) (names others : List (List ℕ)) (bytes more : List ℕ) → Told r files → IsRead r a names (bytes ∷ []) → IsRead r b others (more ∷ []) → bytes ≡ more
+same_file r files a b names others bytes more told read again =
+    let same = same_read r files a b names others (bytes ∷ []) (more ∷ []) told read again in
+    cc
+
+-- files that were read for a command that has another name
+pub may_refuse : (r : Request) (files : FileMap) (a b : Command) (names others contents more : List (List ℕ)) → Told r files → IsRead r a names contents → IsRead r b others more → MayRefuse a contents → MayRefuse b more
+may_refuse r files a b names others contents more told read again may =
+    let command = (same_plan (plan_of r.words) a b names others read.plan again.plan).0 in
+    subst (λ (c : Command). MayRefuse c more) command (subst (λ (cs : List (List ℕ)). MayRefuse a cs) (same_read r files a b names others contents more told read again) may)
