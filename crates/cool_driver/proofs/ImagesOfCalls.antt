@@ -22,13 +22,13 @@ use Rattle.cool_driver.proofs.ReadTwice.{same_plan, no_run_exec, same_read, same
 -- the bytes of an image have no fault
 pub image_without_fault : (found : ImageParts) (bytes : List ℕ) (fault : ImageError) → IsImageOf found bytes → first_fault bytes ≡ Some fault → ⊥
 image_without_fault found bytes fault is e =
-    let none : first_fault bytes ≡ None = ap first_fault is.bytes_are ∙ no_fault found is.bounds in
+    let none : first_fault bytes ≡ None = ap first_fault is.bytes_are ∙ no_fault is.version found is.known is.bounds in
     cc
 
 -- bytes are those of one image
 same_image : (a b : ImageParts) (bytes : List ℕ) → IsImageOf a bytes → IsImageOf b bytes → a ≡ b
 same_image a b bytes is also =
-    sym (ap parts_of is.bytes_are ∙ parts_read a is.bounds is.words) ∙ (ap parts_of also.bytes_are ∙ parts_read b also.bounds also.words)
+    sym (ap parts_of is.bytes_are ∙ parts_read is.version a is.bounds is.words) ∙ (ap parts_of also.bytes_are ∙ parts_read also.version b also.bounds also.words)
 
 -- an image is no text
 pub no_text : (found : ImageParts) (bytes : List ℕ) → IsImageOf found bytes → is_text_file bytes ≡ true → ⊥

@@ -1,12 +1,13 @@
 -- Bytes that are read without a fault are those of an image: it has the bounds of one, and words of 32 bits.
 use Rattle.std.proofs.Common.{◌≡◌, ℕ, suc, zero, ◌+◌, ◌*◌, ◌<◌, Bool, true, false, not, cond, List, length, take, drop, get_or, Some, None, refl, sym, arith}
-use Rattle.std.specs.Prelude.{◌^◌, Option, nat_lt, bytes_eq, ◌==◌}
+use Rattle.std.specs.Prelude.{◌^◌, Option, nat_lt, bytes_eq}
 use Rattle.std.specs.List.{AllByRecursion}
 use Rattle.std.proofs.lemmas.List.{get_or-drop}
 use Rattle.std.proofs.Math.ListN.{length-drop}
 use Rattle.mips_isa.specs.ImageBounds.{ImageParts, IsImage}
-use Rattle.mips_image.specs.ImageBytes.{magic, image_bytes}
-use Rattle.mips_image.specs.ImageReading.{word_at, words_at, are_sizes, size_of, size_fault, first_fault, parts_of}
+use Rattle.mips_image.specs.declared.stored_image.TheConstants.{MAGIC}
+use Rattle.mips_image.specs.ImageBytes.{IsVersion, image_bytes}
+use Rattle.mips_image.specs.ImageReading.{word_at, words_at, is_version, are_sizes, size_of, size_fault, first_fault, parts_of}
 use Rattle.mips_image.proofs.ReadingIsImage.{AreBytes}
 use Rattle.mips_image.proofs.ReadingParts.{length-words_at, sizes_of_image}
 use Rattle.cool_driver.specs.Execution.{IsImageOf}
@@ -39,8 +40,8 @@ sizes_pass : (bytes : List ℕ) → first_fault bytes ≡ None → size_fault by
 unfolding first_fault
 sizes_pass bytes e =
     let a = passed (nat_lt (length bytes) 20) _ _ e in
-    let b = passed (not (bytes_eq (take 4 bytes) magic)) _ _ a.1 in
-    (passed (not (word_at bytes 4 == 1)) _ _ b.1).1
+    let b = passed (not (bytes_eq (take 4 bytes) MAGIC)) _ _ a.1 in
+    (passed (not (is_version (word_at bytes 4))) _ _ b.1).1
 
 sizes_fit : (bytes : List ℕ) (words data_bytes entry : ℕ) → size_fault bytes words data_bytes entry ≡ None → (are_sizes words data_bytes entry ≡ true) × (length bytes ≡ size_of words data_bytes)
 sizes_fit bytes words data_bytes entry e =
@@ -60,9 +61,11 @@ bounds_read bytes e =
     sizes_of_image (parts_of bytes) words (word_at bytes 12) sizes.0 (length-words_at words (drop 20 bytes)) data_bytes
 
 -- bytes without a fault are those of the image that is read
-pub loaded_is_image : (bytes : List ℕ) (image : ImageParts) → AreBytes bytes → first_fault bytes ≡ None → image ≡ parts_of bytes → bytes ≡ image_bytes image → IsImageOf image bytes
-loaded_is_image bytes image f none is found = record {
+pub loaded_is_image : (bytes : List ℕ) (version : ℕ) (image : ImageParts) → AreBytes bytes → first_fault bytes ≡ None → IsVersion version → image ≡ parts_of bytes → bytes ≡ image_bytes version image → IsImageOf image bytes
+loaded_is_image bytes version image f none known is found = record {
   bounds = rw is (bounds_read bytes none);
   words = rw is (small_words (word_at bytes 8) (drop 20 bytes) (drop_bytes 20 bytes f));
+  version = version;
+  known = known;
   bytes_are = found;
 }

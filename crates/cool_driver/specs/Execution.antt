@@ -6,16 +6,18 @@ use Rattle.mips_isa.specs.Lines.{Line}
 use Rattle.mips_isa.specs.Assembly.{fault_of, image_of}
 use Rattle.mips_isa.specs.Calls.{State, Outcome, Running, Exited, Trapped}
 use Rattle.mips_isa.specs.Run.{start, run_image}
-use Rattle.mips_image.specs.ImageBytes.{image_bytes, HasWords}
+use Rattle.mips_image.specs.ImageBytes.{IsVersion, image_bytes, HasWords}
 use Rattle.spim_machine.specs.Ends.{ComesToCall}
 use Rattle.cool_driver.specs.declared.TheConstants.{DEFAULT_HEAP, DEFAULT_STACK, DEFAULT_STEPS}
 use Rattle.cool_driver.specs.Notes.{heap_limit_note, stack_limit_note, step_limit_note, trap_note}
 
--- The bytes are those of this image.
+-- The bytes are those of this image, in version 1 or 2.
 pub record IsImageOf (image : ImageParts) (bytes : List ℕ) : Type 0 where
   pub bounds : IsImage image
   pub words : HasWords image
-  pub bytes_are : bytes ≡ image_bytes image
+  pub version : ℕ
+  pub known : IsVersion version
+  pub bytes_are : bytes ≡ image_bytes version image
 
 -- a file whose first byte is 127 is taken for an image, and every other one for a text of assembly
 abbrev pub is_text_file : List ℕ → Bool

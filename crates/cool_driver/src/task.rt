@@ -186,7 +186,7 @@ fn load_image(alloc: Global, name: &str, bytes: &[u8]) -> Result<Task, AllocErro
     ensures { IfOk result (IsTaskOfFile name.now bytes.now) }
 {
     match read_image(alloc, bytes) {
-        Ok(image) => Ok(Task::Execute(image)),
+        Ok(stored) => Ok(Task::Execute(stored.image)),
         Err(fault) => {
             let note = image_note(alloc, name, fault)?;
             tell_line(alloc, Status::Unfit, note.as_bytes())

@@ -1,11 +1,12 @@
 -- Bytes without a fault are the bytes of the image that is read from them.
-use Rattle.std.proofs.Common.{◌≡◌, ℕ, suc, zero, ◌+◌, ◌*◌, ◌<◌, ◌≤◌, Bool, true, false, not, cond, List, [], ◌∷◌, ◌++◌, length, take, drop, get_or, flat_map, Some, None, refl, sym, ◌∙◌, ap, append_assoc, arith}
+use Rattle.std.proofs.Common.{◌≡◌, ℕ, suc, zero, ◌+◌, ◌*◌, ◌<◌, ◌≤◌, Bool, true, false, not, cond, List, [], ◌∷◌, ◌++◌, length, take, drop, get_or, flat_map, Some, None, inl, inr, refl, sym, ◌∙◌, ap, append_assoc, arith}
 use Rattle.std.specs.Prelude.{Option, nat_lt, bytes_eq, ◌==◌}
 use Rattle.std.proofs.lemmas.List.{take-append-drop, drop-drop, get_or-drop}
 use Rattle.std.proofs.Math.ListN.{length-drop}
 use Rattle.std.proofs.lemmas.Slice.Eq.{bytes_eq-Decides}
-use Rattle.mips_image.specs.ImageBytes.{magic, word_bytes, image_bytes}
-use Rattle.mips_image.specs.ImageReading.{word_at, words_at, are_sizes, size_of, first_fault, parts_of}
+use Rattle.mips_image.specs.declared.stored_image.TheConstants.{MAGIC}
+use Rattle.mips_image.specs.ImageBytes.{word_bytes, IsVersion, image_bytes}
+use Rattle.mips_image.specs.ImageReading.{word_at, words_at, is_version, are_sizes, size_of, first_fault, parts_of}
 use Rattle.mips_image.proofs.ReadingParts.{length-words_at}
 
 -- each number of a list is a byte
@@ -52,43 +53,49 @@ not_false : (b : Bool) → not b ≡ false → b ≡ true
 not_false true e = refl
 not_false false e = sym e
 
+-- the number that passes the test is a version
+version_known : (v : ℕ) → is_version v ≡ true → IsVersion v
+version_known v h = by (v == 1) refl where
+  by : (b : Bool) → (v == 1) ≡ b → IsVersion v
+  by true e = inl (grind (arith, e))
+  by false e = inr (grind (arith, e, h))
+
 -- What bytes without a fault have.
 record Sound (bytes : List ℕ) : Type 0 where
   long : 20 ≤ length bytes
-  begins : take 4 bytes ≡ magic
-  version : word_at bytes 4 ≡ 1
+  begins : take 4 bytes ≡ MAGIC
+  version : IsVersion (word_at bytes 4)
   size : length bytes ≡ size_of (word_at bytes 8) (word_at bytes 12)
 
 sound : (bytes : List ℕ) → first_fault bytes ≡ None → Sound bytes
 unfolding first_fault
 sound bytes e =
     let a = passed (nat_lt (length bytes) 20) _ _ e in
-    let b = passed (not (bytes_eq (take 4 bytes) magic)) _ _ a.1 in
-    let c = passed (not (word_at bytes 4 == 1)) _ _ b.1 in
+    let b = passed (not (bytes_eq (take 4 bytes) MAGIC)) _ _ a.1 in
+    let c = passed (not (is_version (word_at bytes 4))) _ _ b.1 in
     let d = passed (not (are_sizes (word_at bytes 8) (word_at bytes 12) (word_at bytes 16))) _ _ c.1 in
     let size = size_of (word_at bytes 8) (word_at bytes 12) in
     let f = passed (nat_lt (length bytes) size) _ _ d.1 in
     let g = passed (nat_lt size (length bytes)) _ _ f.1 in
-    let version = not_false _ c.0 in
     let long = a.0 in
     let no_less = f.0 in
     let no_more = g.0 in
     record {
       long = grind arith;
       begins = (bytes_eq-Decides _ _).0 (not_false _ b.0);
-      version = grind arith;
+      version = version_known (word_at bytes 4) (not_false _ c.0);
       size = grind arith;
     }
 
 -- bytes without a fault are those of the image that is read from them
-pub bytes_of_image : (bytes : List ℕ) → AreBytes bytes → first_fault bytes ≡ None → bytes ≡ image_bytes (parts_of bytes)
+pub bytes_of_image : (bytes : List ℕ) → AreBytes bytes → first_fault bytes ≡ None → bytes ≡ image_bytes (word_at bytes 4) (parts_of bytes)
 bytes_of_image bytes f e =
     let s = sound bytes e in
     let words = word_at bytes 8 in
     let rest = drop 20 bytes in
     let text = length-words_at words rest in
     let data_bytes : length (drop (20 + 4 * words) bytes) ≡ word_at bytes 12 = omega (arith, length-drop (20 + 4 * words) bytes, s.size) in
-    let front : bytes ≡ magic ++ drop 4 bytes = sym (take-append-drop 4 bytes) ∙ ap (λ xs. xs ++ drop 4 bytes) s.begins in
+    let front : bytes ≡ MAGIC ++ drop 4 bytes = sym (take-append-drop 4 bytes) ∙ ap (λ xs. xs ++ drop 4 bytes) s.begins in
     let at4 = number_first bytes 4 (omega (arith, s.long)) f in
     let at8 = number_first bytes 8 (omega (arith, s.long)) f in
     let at12 = number_first bytes 12 (omega (arith, s.long)) f in
@@ -97,6 +104,10 @@ bytes_of_image bytes f e =
     let behind : drop (4 * words) rest ≡ drop (20 + 4 * words) bytes = drop-drop (4 * words) 20 bytes in
     let flat = flat_map word_bytes (words_at words rest) in
     let tail = at20 ∙ ap (λ xs. flat ++ xs) behind in
-    let all = front ∙ ap (λ xs. magic ++ xs) (at4 ∙ ap (λ xs. word_bytes (word_at bytes 4) ++ xs) (at8 ∙ ap (λ xs. word_bytes words ++ xs) (at12
+    let all = front ∙ ap (λ xs. MAGIC ++ xs) (at4 ∙ ap (λ xs. word_bytes (word_at bytes 4) ++ xs) (at8 ∙ ap (λ xs. word_bytes words ++ xs) (at12
     ∙ ap (λ xs. word_bytes (word_at bytes 12) ++ xs) (at16 ∙ ap (λ xs. word_bytes (word_at bytes 16) ++ xs) tail)))) in
-    rw (text, data_bytes) (rw s.version at all)
+    rw (text, data_bytes) all
+
+-- bytes without a fault have a version that is known
+pub version_of_image : (bytes : List ℕ) → first_fault bytes ≡ None → IsVersion (word_at bytes 4)
+version_of_image bytes e = (sound bytes e).version

@@ -1,8 +1,9 @@
 -- How the bytes of an image are read, and which fault is the first.
-use Rattle.std.specs.Prelude.{◌≡◌, ℕ, zero, suc, ◌+◌, ◌*◌, ◌%◌, ◌&&◌, ◌==◌, not, nat_lt, nat_le, bytes_eq, if◌then◌else◌, Bool, true, List, [], ◌∷◌, length, take, drop, Option, Some, None, Result, Ok, Err}
+use Rattle.std.specs.Prelude.{◌≡◌, ℕ, zero, suc, ◌+◌, ◌*◌, ◌%◌, ◌&&◌, ◌||◌, ◌==◌, not, nat_lt, nat_le, bytes_eq, if◌then◌else◌, Bool, true, List, [], ◌∷◌, length, take, drop, Option, Some, None, Result, Ok, Err}
 use Rattle.byteorder.specs.Endian.{little_number}
 use Rattle.mips_isa.specs.ImageBounds.{ImageParts, text_start}
-use Rattle.mips_image.specs.ImageBytes.{magic}
+use Rattle.mips_image.specs.declared.stored_image.TheConstants.{MAGIC, HEADER_BYTES, UNCHECKED_VERSION, CHECKED_VERSION}
+use Rattle.mips_image.specs.declared.stored_image.StoredImage.{StoredImage}
 use Rattle.mips_image.specs.declared.image_error.ImageError.{ImageError}
 use Rattle.mips_image.specs.declared.image_error.ImageError.TheVariants.{Memory, I1, I2, I3, I4, I5}
 
@@ -15,6 +16,10 @@ abbrev pub words_at : ℕ → List ℕ → List ℕ
 words_at zero bytes = []
 words_at (suc n) bytes = word_at bytes 0 ∷ words_at n (drop 4 bytes)
 
+-- the version is 1 or 2
+abbrev pub is_version : ℕ → Bool
+is_version version = version == UNCHECKED_VERSION || version == CHECKED_VERSION
+
 -- there is a word, neither segment is too large, and the entry is the address of a word
 abbrev pub are_sizes : ℕ → ℕ → ℕ → Bool
 are_sizes words data_bytes entry =
@@ -23,7 +28,7 @@ are_sizes words data_bytes entry =
 
 -- the bytes that an image of these sizes has
 abbrev pub size_of : ℕ → ℕ → ℕ
-size_of words data_bytes = 20 + 4 * words + data_bytes
+size_of words data_bytes = HEADER_BYTES + 4 * words + data_bytes
 
 -- the fault of bytes with a header, from the sizes on
 abbrev pub size_fault : List ℕ → ℕ → ℕ → ℕ → Option ImageError
@@ -35,34 +40,35 @@ size_fault bytes words data_bytes entry =
 -- the first test that fails: a header, its magic, its version, its sizes, and the length
 unfoldable pub first_fault : List ℕ → Option ImageError
 first_fault bytes =
-    if nat_lt (length bytes) 20 then Some I3
-    else (if not (bytes_eq (take 4 bytes) magic) then Some I1
-    else (if not (word_at bytes 4 == 1) then Some I2
+    if nat_lt (length bytes) HEADER_BYTES then Some I3
+    else (if not (bytes_eq (take 4 bytes) MAGIC) then Some I1
+    else (if not (is_version (word_at bytes 4)) then Some I2
     else size_fault bytes (word_at bytes 8) (word_at bytes 12) (word_at bytes 16)))
 
 -- the parts of the image that bytes without a fault are
 abbrev pub parts_of : List ℕ → ImageParts
 parts_of bytes = record {
   entry = word_at bytes 16;
-  text = words_at (word_at bytes 8) (drop 20 bytes);
-  bytes = drop (20 + 4 * word_at bytes 8) bytes;
+  text = words_at (word_at bytes 8) (drop HEADER_BYTES bytes);
+  bytes = drop (HEADER_BYTES + 4 * word_at bytes 8) bytes;
 }
 
--- what reading answers: the image, or the first fault, unless memory runs out
-abbrev pub Reads : List ℕ → Result ImageParts ImageError → Type 0
-Reads bytes (Ok image) = (first_fault bytes ≡ None) × (image ≡ parts_of bytes)
+-- what reading answers: the image and its version, or the first fault, unless memory runs out
+abbrev pub Reads : List ℕ → Result StoredImage ImageError → Type 0
+Reads bytes (Ok stored) = (first_fault bytes ≡ None) × (stored.version ≡ word_at bytes 4) × (stored.image ≡ parts_of bytes)
 Reads bytes (Err Memory) = Unit {0}
 Reads bytes (Err fault) = first_fault bytes ≡ Some fault
 
--- this image was read, unless memory ran out
-abbrev pub IsReadAs : ImageParts → Result ImageParts ImageError → Type 0
-IsReadAs image (Ok read) = read ≡ image
-IsReadAs image (Err Memory) = Unit {0}
-IsReadAs image (Err fault) = ⊥
+-- this image was read in this version, unless memory ran out
+abbrev pub IsReadAs : ℕ → ImageParts → Result StoredImage ImageError → Type 0
+IsReadAs version image (Ok read) = (read.version ≡ version) × (read.image ≡ image)
+IsReadAs version image (Err Memory) = Unit {0}
+IsReadAs version image (Err fault) = ⊥
 
 -- The bytes are without a fault, and have this header.
-pub record HasHeader (bytes : List ℕ) (words data_bytes entry : ℕ) : Type 0 where
+pub record HasHeader (bytes : List ℕ) (version words data_bytes entry : ℕ) : Type 0 where
   pub no_fault : first_fault bytes ≡ None
+  pub version_is : version ≡ word_at bytes 4
   pub words_is : words ≡ word_at bytes 8
   pub data_bytes_is : data_bytes ≡ word_at bytes 12
   pub entry_is : entry ≡ word_at bytes 16

@@ -1,13 +1,15 @@
 //! Images as bytes.
 //!
-//! Comes in: bytes, or an image. Goes out: the other of the two, or the first fault of the bytes. It meets
-//! `specs/ImageBytes.antt`.
+//! Comes in: bytes, or an image and its version. Goes out: the other of the two, or the first fault of the bytes. It
+//! meets `specs/ImageBytes.antt`.
 #![tactic(auto)]
 
 mod image_error;
 mod reading;
+mod stored_image;
 mod writing;
 
 pub use image_error::ImageError;
 pub use reading::read_image;
+pub use stored_image::{CHECKED_VERSION, HEADER_BYTES, MAGIC, StoredImage, UNCHECKED_VERSION};
 pub use writing::write_image;

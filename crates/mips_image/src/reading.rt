@@ -1,17 +1,14 @@
-//! From bytes to an image.
+//! From bytes to an image and its version.
 
-ghost use Rattle.std.specs.Prelude.{◌≡◌, ◌+◌, ◌*◌, ◌≤◌, length, None, Some, MatchResult, IfOk, IsNone, take, drop, bytes_eq, true};
+ghost use Rattle.std.specs.Prelude.{◌≡◌, ◌+◌, ◌*◌, ◌≤◌, ℕ, length, None, Some, MatchResult, IfOk, IsNone, take, drop, bytes_eq, true};
 ghost use Rattle.mips_isa.specs.ImageBounds.{ImageParts, IsImage};
-ghost use Rattle.mips_image.specs.ImageBytes.{magic, image_bytes, HasWords};
+ghost use Rattle.mips_image.specs.ImageBytes.{image_bytes, IsVersion, HasWords};
 ghost use Rattle.mips_image.specs.ImageReading.{HasHeader, word_at, words_at, are_sizes, size_fault, size_of, first_fault, parts_of, Reads, IsReadAs};
 
-use crate::ImageError;
+use crate::{CHECKED_VERSION, HEADER_BYTES, ImageError, MAGIC, StoredImage, UNCHECKED_VERSION};
 use byteorder::{ByteOrder, LittleEndian};
 use mips_isa::Image;
 use std::alloc::{AllocError, Global};
-
-/// The bytes of the header.
-const HEADER_BYTES: usize = 20;
 
 /// Where the text begins in the machine.
 const TEXT_START: u32 = 0x0040_0000;
@@ -22,16 +19,17 @@ const MOST_WORDS: u32 = 66_060_288;
 /// The most bytes of the data.
 const MOST_DATA_BYTES: u32 = 268_435_456;
 
-/// The image of these bytes, or their first fault.
+/// The image of these bytes and its version, or their first fault.
 ///
-/// The tests, in order: fewer than 20 bytes is I3, another magic I1, another version I2, sizes or an entry out of range
-/// I4, fewer bytes than the sizes say I3, and more I5. `Memory` comes only for want of memory.
-pub fn read_image(alloc: Global, bytes: &[u8]) -> Result<Image, ImageError>
-    // What is read has these bytes.
-    ensures found { IfOk result (λ image. bytes.now ≡ image_bytes image) }
+/// The tests, in order: fewer than 20 bytes is I3, another magic I1, a version other than 1 and 2 I2, sizes or an entry
+/// out of range I4, fewer bytes than the sizes say I3, and more I5. `Memory` comes only for want of memory.
+pub fn read_image(alloc: Global, bytes: &[u8]) -> Result<StoredImage, ImageError>
+    // What is read has these bytes, in version 1 or 2.
+    ensures found { IfOk result (λ stored. bytes.now ≡ image_bytes stored.version stored.image) }
+    ensures version { IfOk result (λ stored. IsVersion stored.version) }
 
-    // The bytes of an image are read as that image, unless memory runs out.
-    ensures only { (image : ImageParts) → IsImage image → HasWords image → bytes.now ≡ image_bytes image → IsReadAs image result }
+    // The bytes of an image are read as that image in that version, unless memory runs out.
+    ensures only { (version : ℕ) (image : ImageParts) → IsVersion version → IsImage image → HasWords image → bytes.now ≡ image_bytes version image → IsReadAs version image result }
 
     // Which fault it is.
     ensures exact { Reads bytes.now result }
@@ -39,7 +37,7 @@ pub fn read_image(alloc: Global, bytes: &[u8]) -> Result<Image, ImageError>
     read_all(alloc, bytes)
 }
 
-fn read_all(alloc: Global, bytes: &[u8]) -> Result<Image, ImageError>
+fn read_all(alloc: Global, bytes: &[u8]) -> Result<StoredImage, ImageError>
     ensures { Reads bytes.now result }
 {
     let header = read_header(bytes)?;
@@ -47,16 +45,20 @@ fn read_all(alloc: Global, bytes: &[u8]) -> Result<Image, ImageError>
     let text = read_words(alloc, behind, header.words)?;
     let (_, data_bytes) = bytes.split_at(HEADER_BYTES + 4 * header.words as usize);
     let data_bytes = Vec::from_slice(alloc, data_bytes)?;
-    Ok(Image {
-        entry: header.entry,
-        text,
-        bytes: data_bytes,
+    Ok(StoredImage {
+        image: Image {
+            entry: header.entry,
+            text,
+            bytes: data_bytes,
+        },
+        version: header.version,
     })
 }
 
 /// What the header says.
 #[derive(Clone, Copy)]
 struct Header {
+    version: u32,
     words: u32,
     data_bytes: u32,
     entry: u32,
@@ -65,7 +67,7 @@ struct Header {
 /// The header of bytes without a fault, or their first fault.
 #[tactic(auto, unfolding(crate::specs::ImageReading::first_fault))]
 fn read_header(bytes: &[u8]) -> Result<Header, ImageError>
-    ensures { MatchResult result (λ header. HasHeader bytes.now header.words header.data_bytes header.entry) (λ fault. first_fault bytes.now ≡ Some fault) }
+    ensures { MatchResult result (λ header. HasHeader bytes.now header.version header.words header.data_bytes header.entry) (λ fault. first_fault bytes.now ≡ Some fault) }
 {
     if bytes.len() < HEADER_BYTES {
         return Err(ImageError::I3);
@@ -73,10 +75,12 @@ fn read_header(bytes: &[u8]) -> Result<Header, ImageError>
     if !has_magic(bytes) {
         return Err(ImageError::I1);
     }
-    if read_word(bytes, 4) != 1 {
+    let version = read_word(bytes, 4);
+    if version != UNCHECKED_VERSION && version != CHECKED_VERSION {
         return Err(ImageError::I2);
     }
     let header = Header {
+        version,
         words: read_word(bytes, 8),
         data_bytes: read_word(bytes, 12),
         entry: read_word(bytes, 16),
@@ -89,10 +93,10 @@ fn read_header(bytes: &[u8]) -> Result<Header, ImageError>
 
 fn has_magic(bytes: &[u8]) -> bool
     requires { 4 ≤ length bytes.now }
-    ensures { result ≡ bytes_eq (take 4 bytes.now) magic }
+    ensures { result ≡ bytes_eq (take 4 bytes.now) MAGIC }
 {
     let (front, _) = bytes.split_at(4);
-    front == [0x7f, b'C', b'M', b'I'].as_slice()
+    front == MAGIC.as_slice()
 }
 
 /// The number in the four bytes from a place on.

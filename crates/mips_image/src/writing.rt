@@ -1,20 +1,22 @@
 //! From an image to bytes.
 
 ghost use Rattle.std.specs.Prelude.{◌≡◌, ◌++◌, IfOk, OnOk, flat_map, length, ◌<◌, ◌^◌};
-ghost use Rattle.mips_image.specs.ImageBytes.{word_bytes, image_bytes, magic};
+ghost use Rattle.mips_image.specs.ImageBytes.{word_bytes, image_bytes, IsVersion};
 
+use crate::{HEADER_BYTES, MAGIC};
 use byteorder::{ByteOrder, LittleEndian};
 use mips_isa::Image;
 use std::alloc::{AllocError, Global};
 
-/// The bytes of an image. `Err` comes only for want of memory.
-pub fn write_image(alloc: Global, image: &Image) -> Result<Vec<u8>, AllocError>
-    ensures bytes { IfOk result (λ bytes. bytes.items ≡ image_bytes image.now) }
+/// The bytes of an image in a version, 1 or 2. `Err` comes only for want of memory.
+pub fn write_image(alloc: Global, image: &Image, version: u32) -> Result<Vec<u8>, AllocError>
+    requires version { IsVersion version }
+    ensures bytes { IfOk result (λ bytes. bytes.items ≡ image_bytes version image.now) }
 {
-    let size = 20 + 4 * image.text.len() + image.bytes.len();
+    let size = HEADER_BYTES + 4 * image.text.len() + image.bytes.len();
     let mut bytes = Vec::with_capacity(alloc, size)?;
-    bytes.extend_from_slice(&[0x7f, b'C', b'M', b'I'])?;
-    push_word(&mut bytes, 1)?;
+    bytes.extend_from_slice(&MAGIC)?;
+    push_word(&mut bytes, version)?;
     push_word(&mut bytes, image.text.len() as u32)?;
     push_word(&mut bytes, image.bytes.len() as u32)?;
     push_word(&mut bytes, image.entry)?;

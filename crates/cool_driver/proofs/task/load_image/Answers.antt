@@ -9,7 +9,7 @@ use Rattle.cool_driver.proofs.task.load_image.Goals as goal
 pub returns-in-Ok : goal.returns-in-Ok
 returns-in-Ok c =
     let read = c.in-Ok.ensures in
-    inl (loaded_is_image c.args.bytes.now c.in-Ok.image (λ i. omega (arith, c.type_inv.bytes i)) read.exact.0 read.exact.1 read.found)
+    inl (loaded_is_image c.args.bytes.now c.in-Ok.stored.version c.in-Ok.stored.image (λ i. omega (arith, c.type_inv.bytes i)) read.exact.0 read.version read.exact.2 read.found)
 
 -- it is none
 pub returns-in_ok-note-in-Err : goal.returns-in_ok-note-in-Err
