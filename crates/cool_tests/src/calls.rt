@@ -52,6 +52,10 @@ const STRINGS: &[u8] =
 const LONG_STRING: &[u8] =
     b"class Main inherits IO { main() : Object { { out_string(\"aaaaaaaaaaaaaaaaaaaaaaaaaaaaaaaaaaaaaaaaaaaaaaaaaaaaaaaaaaaaaaaaaaaaaa\"); out_string(\"\"); } }; };";
 
+/// A question, a number that is read, and its sum with 1: each is one call.
+const QUESTION: &[u8] =
+    b"class Main inherits IO { main() : Object { { out_string(\"n? \"); out_int(in_int() + 1); } }; };";
+
 /// Three faults.
 const CYCLE: &[u8] = b"class A inherits B { }; class B inherits A { };";
 
@@ -59,7 +63,7 @@ const CYCLE: &[u8] = b"class A inherits B { }; class B inherits A { };";
 const ASSEMBLY: &[u8] =
     b"__start: li $a0, 65\nli $v0, 11\nsyscall\nli $v0, 12\nsyscall\nli $a0, 4\nli $v0, 17\nsyscall\n";
 
-static ROWS: [Row; 15] = [
+static ROWS: [Row; 18] = [
     (
         "run",
         STRINGS,
@@ -104,6 +108,24 @@ static ROWS: [Row; 15] = [
         "aaaaaaaaaaaaaaaaaaaaaaaaaaaaaaaaaaaaaaaaaaaaaaaaaaaaaaaaaaaaaaaaaaaaaaCOOL program successfully executed\n",
         "",
     ),
+    // The input is `x`, whose number is 0.
+    (
+        "run",
+        QUESTION,
+        (0, 0, 0, 0),
+        0,
+        "n? 1COOL program successfully executed\n",
+        "",
+    ),
+    (
+        "run",
+        QUESTION,
+        (0, 0, 1, 0),
+        7,
+        "n? ",
+        "cool: read fault\n",
+    ),
+    ("run", QUESTION, (0, 2, 0, 0), 8, "n? ", ""),
     // Each line of the notes is put by itself.
     ("run", b"no program", (0, 0, 0, 1), 8, "", ""),
     ("check", CYCLE, (0, 0, 0, 1), 8, "", ""),
