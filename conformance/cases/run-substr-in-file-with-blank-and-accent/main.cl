@@ -1,0 +1,1 @@
+class Main inherits Two { main() : Object { cut("word") }; };
