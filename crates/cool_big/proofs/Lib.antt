@@ -1,0 +1,2 @@
+mod LinesInOrder
+pub mod TextIsLong
