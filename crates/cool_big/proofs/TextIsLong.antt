@@ -2,9 +2,8 @@
 use Rattle.std.proofs.Common.{◌≡◌, ℕ, zero, suc, ◌+◌, ◌*◌, List, ◌++◌, length, flat_map, codes, refl, arith}
 use Rattle.std.specs.List.{range_with_len}
 use Rattle.std.proofs.lemmas.List.{length-append}
-use Rattle.cool_big.specs.declared.line.Line.{Line}
 use Rattle.cool_big.specs.declared.line.Line.TheVariants.{Class, Method, Call}
-use Rattle.cool_big.specs.BigPrograms.{root_text, class_text, method_text, call_text, line_text, line_texts, body_text, main_text, big_text}
+use Rattle.cool_big.specs.BigPrograms.{class_text, method_text, call_text, line_texts, body_text, main_text, big_text}
 
 -- lines of the same length
 all_long : (f : ℕ → List ℕ) (size : ℕ) → ((i : ℕ) → length (f i) ≡ size)

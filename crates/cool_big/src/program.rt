@@ -11,7 +11,8 @@ pub const MOST_BIG: u32 = 300;
 
 /// The text of a valid program of n + 2 classes and 154 + 151 n bytes.
 ///
-/// Run, it writes 2001 + 2 i and a newline for each i from 1 to n, and ends normally. `Err` comes only for want of memory.
+/// Run, it writes 2001 + 2 i and a newline for each i from 1 to n, and ends normally; no clause says this. `Err` comes
+/// only for want of memory.
 pub fn big_program(alloc: Global, n: u32) -> Result<Vec<u8>, AllocError>
     requires { (1 ≤ n) × (n ≤ MOST_BIG) }
     ensures text { IfOk result (λ bytes. bytes.items ≡ big_text n) }
