@@ -1,0 +1,47 @@
+-- What the getters of clap's matches give, by their rows.
+use Rattle.std.proofs.Common.{◌≡◌, ◌∙◌, sym, ap, ℕ, true, false, List, Option, Some, None}
+use Rattle.std.specs.Prelude.{codes, if◌then◌else◌, option_and_then, option_map}
+use Rattle.std.specs.List.{list_all}
+use Rattle.std.specs.Option.{option_map_or}
+use Rattle.clap.specs.Words.{Text, all_of, first_of, first_value, matched_of, raw_values, rows_of}
+use Rattle.clap.specs.declared.parser.matches.Found.{Found}
+use Rattle.clap.proofs.WalkLemmas.{first_value-rows, raw_values-rows}
+use Rattle.cool_words.specs.Numbers.{number_in}
+use Rattle.cool_words.specs.Plans.{file_in, files_in, if_name, if_names, is_file_name, value_in}
+
+-- the one name is there
+name_there : (f : Found) (name : Option Text) → name ≡ first_value f (codes "FILE") → file_in (rows_of f) ≡ option_and_then if_name name
+name_there f name e = ap (option_and_then if_name) (sym (e ∙ first_value-rows f (codes "FILE")))
+
+-- and is a file's
+pub name_found : (f : Found) (name : Text) → Some name ≡ first_value f (codes "FILE") → is_file_name name ≡ true → file_in (rows_of f) ≡ Some name
+name_found f name e k = name_there f (Some name) e ∙ ap (λ b. if b then Some name else None) k
+
+-- it is not
+pub name_refused : (f : Found) (name : Text) → Some name ≡ first_value f (codes "FILE") → is_file_name name ≡ false → file_in (rows_of f) ≡ None
+name_refused f name e k = name_there f (Some name) e ∙ ap (λ b. if b then Some name else None) k
+
+-- there is none
+pub name_missing : (f : Found) → None ≡ first_value f (codes "FILE") → file_in (rows_of f) ≡ None
+name_missing f e = name_there f None e
+
+-- the names are there
+names_there : (f : Found) (names : Option (List Text)) → names ≡ option_map raw_values (matched_of f (codes "FILES")) → files_in (rows_of f) ≡ option_and_then if_names names
+names_there f names e = ap (option_and_then if_names) (sym (e ∙ raw_values-rows f (codes "FILES")))
+
+-- and are those of files
+pub names_found : (f : Found) (names : List Text) → Some names ≡ option_map raw_values (matched_of f (codes "FILES")) → list_all is_file_name names ≡ true → files_in (rows_of f) ≡ Some names
+names_found f names e k = names_there f (Some names) e ∙ ap (λ b. if b then Some names else None) k
+
+-- they are not
+pub names_refused : (f : Found) (names : List Text) → Some names ≡ option_map raw_values (matched_of f (codes "FILES")) → list_all is_file_name names ≡ false → files_in (rows_of f) ≡ None
+names_refused f names e k = names_there f (Some names) e ∙ ap (λ b. if b then Some names else None) k
+
+-- there are none
+pub names_missing : (f : Found) → None ≡ option_map raw_values (matched_of f (codes "FILES")) → files_in (rows_of f) ≡ None
+names_missing f e = names_there f None e
+
+-- the value of an argument
+pub value_there : (f : Found) (name : Text) (low high : ℕ) (default : Option ℕ) (text : Option Text) → text ≡ first_value f name
+    → option_map_or (number_in low high) text default ≡ value_in name low high default (rows_of f)
+value_there f name low high default text e = ap (λ o. option_map_or (number_in low high) o default) (e ∙ first_value-rows f name)

@@ -1,0 +1,3 @@
+pub mod FoundValues
+pub mod NoNumbers
+pub mod ParsedWords

@@ -1,0 +1,51 @@
+-- The commands of a command line, each as a simple command of clap: what it takes beside its name.
+use Rattle.std.specs.Prelude.{true, List, [], Option, Some, None, bytes_eq, codes, if◌then◌else◌}
+use Rattle.clap.specs.Words.{App, Rule, Text, new_rule, with_rule}
+use Rattle.clap.specs.Simple.{new_shape}
+use Rattle.clap.specs.declared.builder.action.ArgAction.{ArgAction}
+use Rattle.clap.specs.declared.builder.action.ArgAction.TheVariants.{Set, Append}
+use Rattle.cool_words.specs.declared.command_word.CommandWord.{CommandWord}
+use Rattle.cool_words.specs.declared.command_word.CommandWord.TheVariants.{Check, Asm, Build, Run, Exec, Big}
+
+abbrev pub name_of : CommandWord → Text
+name_of Check = codes "check"
+name_of Asm = codes "asm"
+name_of Build = codes "build"
+name_of Run = codes "run"
+name_of Exec = codes "exec"
+name_of Big = codes "big"
+
+abbrev pub command_of : Text → Option CommandWord
+command_of word =
+    if bytes_eq word (codes "check") then Some Check
+    else (if bytes_eq word (codes "asm") then Some Asm
+    else (if bytes_eq word (codes "build") then Some Build
+    else (if bytes_eq word (codes "run") then Some Run
+    else (if bytes_eq word (codes "exec") then Some Exec
+    else (if bytes_eq word (codes "big") then Some Big else None)))))
+
+-- an option `--name`, which takes one value, at most once
+abbrev pub option_rule : Text → Rule
+option_rule name = record (new_rule name) { long = Some name; action = Some Set }
+
+-- a positional that must be there: one value, or with Append one or more
+abbrev pub positional_rule : Text → ArgAction → Rule
+positional_rule name action = record (new_rule name) { action = Some action; required = true }
+
+abbrev pub FILES : Rule
+FILES = positional_rule (codes "FILES") Append
+
+-- a command with the options of a run
+abbrev pub with_limits : App → App
+with_limits app = with_rule (with_rule (with_rule app (option_rule (codes "heap"))) (option_rule (codes "stack"))) (option_rule (codes "steps"))
+
+-- a command with no arguments so far, and no `--help`
+abbrev pub bare : Text → App
+bare name = record { top = record (new_shape name) { disable_help_flag = true }; subs = [] }
+
+-- the command as clap has it
+abbrev pub app_for : CommandWord → App
+app_for Run = with_rule (with_limits (bare (codes "run"))) FILES
+app_for Exec = with_rule (with_limits (bare (codes "exec"))) (positional_rule (codes "FILE") Set)
+app_for Big = with_rule (bare (codes "big")) (positional_rule (codes "N") Set)
+app_for command = with_rule (bare (name_of command)) FILES

@@ -1,0 +1,158 @@
+-- What a command line asks for, if anything: clap takes its words, and its numbers and names are in bounds.
+use Rattle.std.specs.Prelude.{◌≡◌, ◌&&◌, ◌==◌, ℕ, Bool, not, List, [], ◌∷◌, length, map, nat_le, if◌then◌else◌, Option, Some, None, option_map, option_and_then, codes, String, string_bytes, Result, MatchResult, refl}
+use Rattle.std.specs.List.{list_all, list_any}
+use Rattle.std.specs.Global.{Global}
+use Rattle.std.specs.Option.{option_map_or}
+use Rattle.std.specs.Char.{encode_utf8}
+use Rattle.std.specs.Str.{chars}
+use Rattle.clap.specs.Faults.{defaults_fault, flags_fault, walk_fault}
+use Rattle.clap.specs.Walk.{bundle_met, is_empty, texts, walked}
+use Rattle.clap.specs.Words.{Row, Text, all_of, first_of, matches_of, fault_of}
+use Rattle.cool_words.specs.Commands.{app_for, command_of}
+use Rattle.cool_words.specs.Numbers.{number_in}
+use Rattle.cool_words.specs.declared.command_word.CommandWord.{CommandWord}
+use Rattle.cool_words.specs.declared.command_word.CommandWord.TheVariants.{Check, Asm, Build, Run, Exec, Big}
+use Rattle.cool_words.specs.declared.plan.RunLimits.{RunLimits}
+use Rattle.cool_words.specs.declared.plan.Plan.{Plan}
+use Rattle.cool_words.specs.declared.plan.Plan.TheVariants as plan
+use Rattle.cool_words.specs.declared.words_error.WordsError.{WordsError}
+use Rattle.cool_words.specs.declared.words_error.WordsError.TheVariants.{Usage}
+
+-- the words as lists of bytes
+abbrev pub words_of : List (String Global) → List Text
+words_of = map string_bytes
+
+-- what a command line asks for, where names are lists of bytes
+pub data Asked : Type 0 where
+  check : List Text → Asked
+  asm : List Text → Asked
+  build : List Text → Asked
+  run : List Text → RunLimits → Asked
+  exec : Text → RunLimits → Asked
+  big : ℕ → Asked
+
+abbrev pub asked_by : Plan → Asked
+asked_by (plan.Check files) = check (texts files.items)
+asked_by (plan.Asm files) = asm (texts files.items)
+asked_by (plan.Build files) = build (texts files.items)
+asked_by (plan.Run files limits) = run (texts files.items) limits
+asked_by (plan.Exec file limits) = exec file.now limits
+asked_by (plan.Big n) = big n
+
+-- ---- names and limits
+
+-- a file's name has at most 4,096 bytes, none of them 0
+abbrev pub is_file_name : Text → Bool
+is_file_name name = nat_le (length name) 4096 && not (list_any (λ b. b == 0) name)
+
+abbrev pub if_names : List Text → Option (List Text)
+if_names names = if list_all is_file_name names then Some names else None
+
+abbrev pub files_in : List Row → Option (List Text)
+files_in rows = option_and_then if_names (all_of (codes "FILES") rows)
+
+abbrev pub if_name : Text → Option Text
+if_name name = if is_file_name name then Some name else None
+
+abbrev pub file_in : List Row → Option Text
+file_in rows = option_and_then if_name (first_of (codes "FILE") rows)
+
+-- the value of the argument from low to high, and the default where it is not used
+abbrev pub value_in : Text → ℕ → ℕ → Option ℕ → List Row → Option ℕ
+value_in name low high default rows = option_map_or (number_in low high) (first_of name rows) default
+
+abbrev pub limits_in : List Row → Option RunLimits
+limits_in rows =
+    option_and_then (λ heap. option_and_then (λ stack. option_map (λ steps. record { heap_kib = heap; stack_kib = stack; steps = steps })
+    (value_in (codes "steps") 1 4611686018427387904 (Some 1000000000) rows))
+    (value_in (codes "stack") 4 65536 (Some 8192) rows))
+    (value_in (codes "heap") 4 262144 (Some 32768) rows)
+
+-- ---- plans
+
+-- what the command asks for, by what clap found
+abbrev pub asked_of : CommandWord → List Row → Option Asked
+asked_of Check rows = option_map check (files_in rows)
+asked_of Asm rows = option_map asm (files_in rows)
+asked_of Build rows = option_map build (files_in rows)
+asked_of Run rows = option_and_then (λ files. option_map (run files) (limits_in rows)) (files_in rows)
+asked_of Exec rows = option_and_then (λ file. option_map (exec file) (limits_in rows)) (file_in rows)
+asked_of Big rows = option_map big (value_in (codes "N") 1 300 None rows)
+
+-- clap finds no fault in the words, of which the first is the command's
+abbrev pub is_accepted : CommandWord → List Text → Bool
+is_accepted command words = is_empty (fault_of (app_for command) words)
+
+abbrev pub plan_by : List Text → CommandWord → Option Asked
+plan_by words command = if is_accepted command words then asked_of command (matches_of (app_for command) words) else None
+
+-- what the words after the program's name ask for
+abbrev pub plan_of : List Text → Option Asked
+plan_of [] = None
+plan_of (word ∷ rest) = option_and_then (plan_by (word ∷ rest)) (command_of word)
+
+-- worked examples
+abbrev limits : ℕ → RunLimits
+limits heap_kib = record { heap_kib = heap_kib; stack_kib = 8192; steps = 1000000000 }
+
+run_with_heap : plan_of (codes "run" ∷ codes "--heap=64" ∷ codes "hello.cl" ∷ []) ≡ Some (run (codes "hello.cl" ∷ []) (limits 64))
+unfolding walked bundle_met chars encode_utf8 flags_fault walk_fault defaults_fault
+run_with_heap = refl
+
+run_of_two : plan_of (codes "run" ∷ codes "a.cl" ∷ codes "--heap" ∷ codes "0064" ∷ codes "b.cl" ∷ [])
+    ≡ Some (run (codes "a.cl" ∷ codes "b.cl" ∷ []) (limits 64))
+unfolding walked bundle_met chars encode_utf8 flags_fault walk_fault defaults_fault
+run_of_two = refl
+
+name_with_hyphen : plan_of (codes "check" ∷ codes "--" ∷ codes "-x.cl" ∷ []) ≡ Some (check (codes "-x.cl" ∷ []))
+unfolding walked bundle_met chars encode_utf8 flags_fault walk_fault defaults_fault
+name_with_hyphen = refl
+
+hyphen_alone : plan_of (codes "check" ∷ codes "-" ∷ []) ≡ Some (check (codes "-" ∷ []))
+unfolding walked bundle_met chars encode_utf8 flags_fault walk_fault defaults_fault
+hyphen_alone = refl
+
+size_of_300 : plan_of (codes "big" ∷ codes "300" ∷ []) ≡ Some (big 300)
+unfolding walked bundle_met chars encode_utf8 flags_fault walk_fault defaults_fault
+size_of_300 = refl
+
+-- and of what asks for nothing
+no_words : plan_of [] ≡ None
+no_words = refl
+
+no_command : plan_of (codes "fly" ∷ codes "p.cl" ∷ []) ≡ None
+no_command = refl
+
+no_file : plan_of (codes "run" ∷ []) ≡ None
+unfolding walked bundle_met chars encode_utf8 flags_fault walk_fault defaults_fault
+no_file = refl
+
+two_files : plan_of (codes "exec" ∷ codes "a" ∷ codes "b" ∷ []) ≡ None
+unfolding walked bundle_met chars encode_utf8 flags_fault walk_fault defaults_fault
+two_files = refl
+
+heap_of_3 : plan_of (codes "run" ∷ codes "--heap" ∷ codes "3" ∷ codes "hello.cl" ∷ []) ≡ None
+unfolding walked bundle_met chars encode_utf8 flags_fault walk_fault defaults_fault
+heap_of_3 = refl
+
+heap_twice : plan_of (codes "run" ∷ codes "--heap" ∷ codes "64" ∷ codes "--heap" ∷ codes "64" ∷ codes "hello.cl" ∷ []) ≡ None
+unfolding walked bundle_met chars encode_utf8 flags_fault walk_fault defaults_fault
+heap_twice = refl
+
+steps_of_1x : plan_of (codes "run" ∷ codes "--steps" ∷ codes "1x" ∷ codes "hello.cl" ∷ []) ≡ None
+unfolding walked bundle_met chars encode_utf8 flags_fault walk_fault defaults_fault
+steps_of_1x = refl
+
+hyphen_first : plan_of (codes "check" ∷ codes "-x.cl" ∷ []) ≡ None
+unfolding walked bundle_met chars encode_utf8 flags_fault walk_fault defaults_fault
+hyphen_first = refl
+
+help : plan_of (codes "check" ∷ codes "--help" ∷ []) ≡ None
+unfolding walked bundle_met chars encode_utf8 flags_fault walk_fault defaults_fault
+help = refl
+
+-- ---- what an answer says
+
+-- an Ok is what is wanted, Usage comes only where nothing is, and want of memory says nothing
+abbrev pub Answers : {T X : Type 0} → (T → X) → Option X → Result T WordsError → Type 0
+Answers view wanted result = MatchResult result (λ t. wanted ≡ Some (view t)) (λ e. e ≡ Usage → wanted ≡ None)

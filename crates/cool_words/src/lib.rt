@@ -1,0 +1,17 @@
+//! The words of a command line as a plan.
+//!
+//! Comes in: the words after the program's name. Goes out: what they ask for, or that they are no command line. It meets
+//! `specs/Plans.antt`.
+#![tactic(auto)]
+
+mod command_word;
+mod names;
+mod numbers;
+mod plan;
+mod reading;
+mod words_error;
+
+pub use command_word::CommandWord;
+pub use plan::{Plan, RunLimits};
+pub use reading::read_words;
+pub use words_error::WordsError;

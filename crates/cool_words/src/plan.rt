@@ -1,0 +1,43 @@
+//! What a command line asks for.
+
+/// The limits of a run.
+#[derive(Clone, Copy, Debug, PartialEq, Eq)]
+pub struct RunLimits {
+    /// The most KiB of the heap.
+    pub heap_kib: u32,
+    /// The most KiB of the stack.
+    pub stack_kib: u32,
+    /// The most instructions that run.
+    pub steps: u64,
+}
+
+/// What a command line asks for. Names are those of files, as the words have them.
+#[derive(Drop)]
+pub enum Plan<'a> {
+    /// To say whether the files are a program.
+    Check {
+        files: Vec<&'a str>,
+    },
+    /// To compile the files and run the program within the limits.
+    Run {
+        files: Vec<&'a str>,
+        limits: RunLimits,
+    },
+    /// To write the program's assembly.
+    Asm {
+        files: Vec<&'a str>,
+    },
+    /// To write the program's image.
+    Build {
+        files: Vec<&'a str>,
+    },
+    /// To run the image that the file is within the limits.
+    Exec {
+        file: &'a str,
+        limits: RunLimits,
+    },
+    /// To write a program of size `n`.
+    Big {
+        n: u32,
+    },
+}

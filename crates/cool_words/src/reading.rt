@@ -1,0 +1,193 @@
+//! From the words of a command line to a plan.
+
+ghost use Rattle.std.specs.Prelude.{◌≡◌, ◌≤◌, IfOk, IfSome, Err, Some, None, codes};
+ghost use Rattle.clap.specs.Words.{found_of, matches_of, rows_of, fault_of};
+ghost use Rattle.clap.specs.Walk.{texts};
+ghost use Rattle.cool_words.specs.Numbers.{number_in};
+ghost use Rattle.cool_words.specs.Plans.{Answers, asked_by, asked_of, file_in, files_in, limits_in, plan_by, plan_of, value_in, words_of};
+
+use crate::command_word::{CommandWord, command_of};
+use crate::names::{are_file_names, is_file_name};
+use crate::numbers::read_number;
+use crate::{Plan, RunLimits, WordsError};
+use clap::ArgMatches;
+use clap::error::ErrorKind;
+use std::alloc::Global;
+
+/// The least KiB of a heap or a stack.
+const LEAST_KIB: u64 = 4;
+
+/// The most KiB of a heap.
+const MOST_HEAP_KIB: u64 = 262_144;
+
+/// The KiB of a heap where the words do not say.
+const USUAL_HEAP_KIB: u64 = 32_768;
+
+/// The most KiB of a stack.
+const MOST_STACK_KIB: u64 = 65_536;
+
+/// The KiB of a stack where the words do not say.
+const USUAL_STACK_KIB: u64 = 8_192;
+
+/// The most steps of a run, 2 to the 62.
+const MOST_STEPS: u64 = 4_611_686_018_427_387_904;
+
+/// The steps of a run where the words do not say.
+const USUAL_STEPS: u64 = 1_000_000_000;
+
+/// The most that the size of a big program may be.
+const MOST_SIZE: u64 = 300;
+
+/// What the words after the program's name ask for.
+///
+/// `Usage` comes exactly where they are no command line: the first word is no command, clap refuses the words, a number
+/// is out of its bounds, or a file's name is longer than 4,096 bytes or holds a byte 0. `Memory` comes only for want of
+/// memory.
+pub fn read_words(alloc: Global, words: &[String]) -> Result<Plan<'_>, WordsError>
+    ensures plan { IfOk result (λ p. plan_of (words_of words.now) ≡ Some (asked_by p)) }
+    ensures usage { result ≡ Err WordsError.Usage → plan_of (words_of words.now) ≡ None }
+{
+    let command = match words.first() {
+        Some(word) => command_of(word.as_str()),
+        None => None,
+    };
+    match command {
+        Some(command) => read_command(alloc, command, words),
+        None => Err(WordsError::Usage),
+    }
+}
+
+/// What the words ask for, of which the first is the command's.
+fn read_command<'a>(
+    alloc: Global,
+    command: CommandWord,
+    words: &'a [String],
+) -> Result<Plan<'a>, WordsError>
+    ensures { Answers asked_by (plan_by (words_of words.now) command) result }
+{
+    let parser = command.parser(alloc)?;
+    match parser.try_get_matches_from(words) {
+        Ok(matches) => read_matches(alloc, command, &matches),
+        Err(error) => match error.kind() {
+            ErrorKind::OutOfMemory => Err(WordsError::Memory),
+            _ => Err(WordsError::Usage),
+        },
+    }
+}
+
+/// What the command asks for, by what clap found.
+fn read_matches<'a>(
+    alloc: Global,
+    command: CommandWord,
+    matches: &ArgMatches<'a>,
+) -> Result<Plan<'a>, WordsError>
+    ensures { Answers asked_by (asked_of command (rows_of (found_of matches.now))) result }
+{
+    match command {
+        CommandWord::Check => Ok(Plan::Check {
+            files: files_of(alloc, matches)?,
+        }),
+        CommandWord::Asm => Ok(Plan::Asm {
+            files: files_of(alloc, matches)?,
+        }),
+        CommandWord::Build => Ok(Plan::Build {
+            files: files_of(alloc, matches)?,
+        }),
+        CommandWord::Run => Ok(Plan::Run {
+            files: files_of(alloc, matches)?,
+            limits: limits_of(matches)?,
+        }),
+        CommandWord::Exec => Ok(Plan::Exec {
+            file: file_of(matches)?,
+            limits: limits_of(matches)?,
+        }),
+        CommandWord::Big => Ok(Plan::Big {
+            n: size_of(matches)?,
+        }),
+    }
+}
+
+/// The names of the files.
+fn files_of<'a>(alloc: Global, matches: &ArgMatches<'a>) -> Result<Vec<&'a str>, WordsError>
+    ensures { Answers (λ files. texts files.items) (files_in (rows_of (found_of matches.now))) result }
+{
+    match matches.get_strs("FILES") {
+        Some(names) if are_file_names(names) => Ok(Vec::from_slice(alloc, names)?),
+        _ => Err(WordsError::Usage),
+    }
+}
+
+/// The name of the one file.
+fn file_of<'a>(matches: &ArgMatches<'a>) -> Result<&'a str, WordsError>
+    ensures { Answers (λ file. file.now) (file_in (rows_of (found_of matches.now))) result }
+{
+    match matches.get_str("FILE") {
+        Some(name) if is_file_name(name) => Ok(name),
+        _ => Err(WordsError::Usage),
+    }
+}
+
+/// The limits that the options set.
+fn limits_of(matches: &ArgMatches<'_>) -> Result<RunLimits, WordsError>
+    ensures { Answers (λ limits. limits) (limits_in (rows_of (found_of matches.now))) result }
+{
+    let heap = value_of(
+        matches,
+        "heap",
+        LEAST_KIB,
+        MOST_HEAP_KIB,
+        Some(USUAL_HEAP_KIB),
+    )?;
+    let stack = value_of(
+        matches,
+        "stack",
+        LEAST_KIB,
+        MOST_STACK_KIB,
+        Some(USUAL_STACK_KIB),
+    )?;
+    let steps = value_of(matches, "steps", 1, MOST_STEPS, Some(USUAL_STEPS))?;
+    Ok(RunLimits {
+        heap_kib: heap as u32,
+        stack_kib: stack as u32,
+        steps,
+    })
+}
+
+/// The size of the program to write.
+fn size_of(matches: &ArgMatches<'_>) -> Result<u32, WordsError>
+    ensures { Answers (λ n. n) (value_in (codes "N") 1 300 None (rows_of (found_of matches.now))) result }
+{
+    Ok(value_of(matches, "N", 1, MOST_SIZE, None)? as u32)
+}
+
+/// The value of an argument from `low` to `high`, and the default where it is not used.
+fn value_of(
+    matches: &ArgMatches<'_>,
+    name: &str,
+    low: u64,
+    high: u64,
+    default: Option<u64>,
+) -> Result<u64, WordsError>
+    requires { IfSome default (λ n. n ≤ high) }
+    ensures value { Answers (λ n. n) (value_in name.now low high default (rows_of (found_of matches.now))) result }
+    ensures bound { IfOk result (λ n. n ≤ high) }
+{
+    match matches.get_str(name) {
+        Some(text) => number_or_usage(text, low, high),
+        None => match default {
+            Some(number) => Ok(number),
+            None => Err(WordsError::Usage),
+        },
+    }
+}
+
+/// The number that the text is, from `low` to `high`.
+fn number_or_usage(text: &str, low: u64, high: u64) -> Result<u64, WordsError>
+    ensures value { Answers (λ n. n) (number_in low high text.now) result }
+    ensures bound { IfOk result (λ n. n ≤ high) }
+{
+    match read_number(text, low, high) {
+        Some(number) => Ok(number),
+        None => Err(WordsError::Usage),
+    }
+}
