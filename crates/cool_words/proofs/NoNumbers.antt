@@ -1,5 +1,5 @@
 -- Digits that do not parse are no number within bounds.
-use Rattle.std.proofs.Common.{◌≡◌, ◌<◌, ◌^◌, ◌∙◌, sym, ap, refl, subst, arith, ℕ, Bool, true, false, List, [], ◌∷◌, Option, None, Some, length}
+use Rattle.std.proofs.Common.{◌≡◌, ◌<◌, ◌^◌, ◌∙◌, sym, ap, refl, subst, arith, ℕ, Bool, true, false, List, [], ◌∷◌, None, Some}
 use Rattle.std.specs.Prelude.{◌&&◌, if◌then◌else◌}
 use Rattle.std.specs.List.{list_all}
 use Rattle.std.specs.Char.{digit_value, is_ascii_digit}

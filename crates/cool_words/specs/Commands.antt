@@ -1,5 +1,5 @@
 -- The commands of a command line, each as a simple command of clap: what it takes beside its name.
-use Rattle.std.specs.Prelude.{true, List, [], Option, Some, None, bytes_eq, codes, if◌then◌else◌}
+use Rattle.std.specs.Prelude.{true, [], Option, Some, None, bytes_eq, codes, if◌then◌else◌}
 use Rattle.clap.specs.Words.{App, Rule, Text, new_rule, with_rule}
 use Rattle.clap.specs.Simple.{new_shape}
 use Rattle.clap.specs.declared.builder.action.ArgAction.{ArgAction}

@@ -1,5 +1,5 @@
 -- Which texts are numbers within bounds.
-use Rattle.std.specs.Prelude.{◌&&◌, ◌≡◌, ℕ, Bool, List, length, nat_le, nat_lt, if◌then◌else◌, Option, Some, None, codes, refl}
+use Rattle.std.specs.Prelude.{◌&&◌, ◌≡◌, ◌≤◌, ℕ, Bool, List, length, nat_le, nat_lt, if◌then◌else◌, Option, Some, None, codes, refl}
 use Rattle.std.specs.List.{list_all}
 use Rattle.std.specs.Char.{is_ascii_digit}
 use Rattle.std.specs.Str.Parse.{digits_value}
@@ -10,6 +10,10 @@ is_number text = nat_lt 0 (length text) && (nat_le (length text) 19 && list_all 
 
 abbrev pub is_within : ℕ → ℕ → ℕ → Bool
 is_within low high n = nat_le low n && nat_le n high
+
+-- the same as a fact
+abbrev pub IsWithin : ℕ → ℕ → ℕ → Type 0
+IsWithin low high n = (low ≤ n) × (n ≤ high)
 
 -- the number that the text is, if it is one from low to high
 abbrev pub number_in : ℕ → ℕ → List ℕ → Option ℕ

@@ -1,5 +1,5 @@
 -- What a command line asks for, if anything: clap takes its words, and its numbers and names are in bounds.
-use Rattle.std.specs.Prelude.{◌≡◌, ◌&&◌, ◌==◌, ℕ, Bool, not, List, [], ◌∷◌, length, map, nat_le, if◌then◌else◌, Option, Some, None, option_map, option_and_then, codes, String, string_bytes, Result, MatchResult, refl}
+use Rattle.std.specs.Prelude.{◌≡◌, ◌&&◌, ◌==◌, ℕ, Bool, true, not, List, [], ◌∷◌, length, map, nat_le, if◌then◌else◌, Option, Some, None, option_map, option_and_then, codes, String, string_bytes, Result, MatchResult, refl}
 use Rattle.std.specs.List.{list_all, list_any}
 use Rattle.std.specs.Global.{Global}
 use Rattle.std.specs.Option.{option_map_or}
@@ -9,7 +9,7 @@ use Rattle.clap.specs.Faults.{defaults_fault, flags_fault, walk_fault}
 use Rattle.clap.specs.Walk.{bundle_met, is_empty, texts, walked}
 use Rattle.clap.specs.Words.{Row, Text, all_of, first_of, matches_of, fault_of}
 use Rattle.cool_words.specs.Commands.{app_for, command_of}
-use Rattle.cool_words.specs.Numbers.{number_in}
+use Rattle.cool_words.specs.Numbers.{IsWithin, number_in}
 use Rattle.cool_words.specs.declared.command_word.CommandWord.{CommandWord}
 use Rattle.cool_words.specs.declared.command_word.CommandWord.TheVariants.{Check, Asm, Build, Run, Exec, Big}
 use Rattle.cool_words.specs.declared.plan.RunLimits.{RunLimits}
@@ -156,3 +156,23 @@ help = refl
 -- an Ok is what is wanted, Usage comes only where nothing is, and want of memory says nothing
 abbrev pub Answers : {T X : Type 0} → (T → X) → Option X → Result T WordsError → Type 0
 Answers view wanted result = MatchResult result (λ t. wanted ≡ Some (view t)) (λ e. e ≡ Usage → wanted ≡ None)
+
+-- ---- bounds
+
+-- the limits are those that the words may set
+pub record IsBounded (limits : RunLimits) : Type 0 where
+  pub heap : IsWithin 4 262144 limits.heap_kib
+  pub stack : IsWithin 4 65536 limits.stack_kib
+  pub steps : IsWithin 1 4611686018427387904 limits.steps
+
+abbrev pub HasFileNames : List Text → Type 0
+HasFileNames names = list_all is_file_name names ≡ true
+
+-- the plan's names are those of files, and its numbers are in their bounds
+abbrev pub IsWithinBounds : Plan → Type 0
+IsWithinBounds (plan.Check files) = HasFileNames (texts files.items)
+IsWithinBounds (plan.Asm files) = HasFileNames (texts files.items)
+IsWithinBounds (plan.Build files) = HasFileNames (texts files.items)
+IsWithinBounds (plan.Run files limits) = HasFileNames (texts files.items) × IsBounded limits
+IsWithinBounds (plan.Exec file limits) = (is_file_name file.now ≡ true) × IsBounded limits
+IsWithinBounds (plan.Big n) = IsWithin 1 300 n

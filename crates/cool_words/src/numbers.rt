@@ -1,16 +1,17 @@
 //! Numbers within bounds.
 
-ghost use Rattle.std.specs.Prelude.{◌≡◌, ◌≤◌};
+ghost use Rattle.std.specs.Prelude.{◌≡◌, IfSome};
 ghost use Rattle.std.specs.List.{list_all};
 ghost use Rattle.std.specs.Char.{is_ascii_digit};
-ghost use Rattle.cool_words.specs.Numbers.{number_in};
+ghost use Rattle.cool_words.specs.Numbers.{IsWithin, number_in};
 
 /// The most digits of a number.
 const MOST_DIGITS: usize = 19;
 
 /// The number that the text is: 1 to 19 decimal digits, from `low` to `high`. `None` where it is no such number.
 pub(crate) fn read_number(text: &str, low: u64, high: u64) -> Option<u64>
-    ensures { result ≡ number_in low high text.now }
+    ensures value { result ≡ number_in low high text.now }
+    ensures bounds { IfSome result (IsWithin low high) }
 {
     if MOST_DIGITS < text.len() || !are_digits(text.as_bytes()) {
         return None;

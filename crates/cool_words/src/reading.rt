@@ -1,10 +1,10 @@
 //! From the words of a command line to a plan.
 
-ghost use Rattle.std.specs.Prelude.{◌≡◌, ◌≤◌, IfOk, IfSome, Err, Some, None, codes};
+ghost use Rattle.std.specs.Prelude.{◌≡◌, IfOk, IfSome, Err, Some, None, codes, true};
 ghost use Rattle.clap.specs.Words.{found_of, matches_of, rows_of, fault_of};
 ghost use Rattle.clap.specs.Walk.{texts};
-ghost use Rattle.cool_words.specs.Numbers.{number_in};
-ghost use Rattle.cool_words.specs.Plans.{Answers, asked_by, asked_of, file_in, files_in, limits_in, plan_by, plan_of, value_in, words_of};
+ghost use Rattle.cool_words.specs.Numbers.{IsWithin, number_in};
+ghost use Rattle.cool_words.specs.Plans.{Answers, HasFileNames, IsBounded, IsWithinBounds, asked_by, asked_of, file_in, files_in, is_file_name, limits_in, plan_by, plan_of, value_in, words_of};
 
 use crate::command_word::{CommandWord, command_of};
 use crate::names::{are_file_names, is_file_name};
@@ -44,8 +44,12 @@ const MOST_SIZE: u64 = 300;
 /// is out of its bounds, or a file's name is longer than 4,096 bytes or holds a byte 0. `Memory` comes only for want of
 /// memory.
 pub fn read_words(alloc: Global, words: &[String]) -> Result<Plan<'_>, WordsError>
+    // A plan is what the words ask for, and Usage comes only where they ask for nothing.
     ensures plan { IfOk result (λ p. plan_of (words_of words.now) ≡ Some (asked_by p)) }
     ensures usage { result ≡ Err WordsError.Usage → plan_of (words_of words.now) ≡ None }
+
+    // The plan's names and numbers are in their bounds.
+    ensures bounds { IfOk result IsWithinBounds }
 {
     let command = match words.first() {
         Some(word) => command_of(word.as_str()),
@@ -63,7 +67,8 @@ fn read_command<'a>(
     command: CommandWord,
     words: &'a [String],
 ) -> Result<Plan<'a>, WordsError>
-    ensures { Answers asked_by (plan_by (words_of words.now) command) result }
+    ensures value { Answers asked_by (plan_by (words_of words.now) command) result }
+    ensures bounds { IfOk result IsWithinBounds }
 {
     let parser = command.parser(alloc)?;
     match parser.try_get_matches_from(words) {
@@ -81,7 +86,8 @@ fn read_matches<'a>(
     command: CommandWord,
     matches: &ArgMatches<'a>,
 ) -> Result<Plan<'a>, WordsError>
-    ensures { Answers asked_by (asked_of command (rows_of (found_of matches.now))) result }
+    ensures value { Answers asked_by (asked_of command (rows_of (found_of matches.now))) result }
+    ensures bounds { IfOk result IsWithinBounds }
 {
     match command {
         CommandWord::Check => Ok(Plan::Check {
@@ -109,7 +115,8 @@ fn read_matches<'a>(
 
 /// The names of the files.
 fn files_of<'a>(alloc: Global, matches: &ArgMatches<'a>) -> Result<Vec<&'a str>, WordsError>
-    ensures { Answers (λ files. texts files.items) (files_in (rows_of (found_of matches.now))) result }
+    ensures value { Answers (λ files. texts files.items) (files_in (rows_of (found_of matches.now))) result }
+    ensures bounds { IfOk result (λ files. HasFileNames (texts files.items)) }
 {
     match matches.get_strs("FILES") {
         Some(names) if are_file_names(names) => Ok(Vec::from_slice(alloc, names)?),
@@ -119,7 +126,8 @@ fn files_of<'a>(alloc: Global, matches: &ArgMatches<'a>) -> Result<Vec<&'a str>,
 
 /// The name of the one file.
 fn file_of<'a>(matches: &ArgMatches<'a>) -> Result<&'a str, WordsError>
-    ensures { Answers (λ file. file.now) (file_in (rows_of (found_of matches.now))) result }
+    ensures value { Answers (λ file. file.now) (file_in (rows_of (found_of matches.now))) result }
+    ensures bounds { IfOk result (λ file. is_file_name file.now ≡ true) }
 {
     match matches.get_str("FILE") {
         Some(name) if is_file_name(name) => Ok(name),
@@ -129,7 +137,8 @@ fn file_of<'a>(matches: &ArgMatches<'a>) -> Result<&'a str, WordsError>
 
 /// The limits that the options set.
 fn limits_of(matches: &ArgMatches<'_>) -> Result<RunLimits, WordsError>
-    ensures { Answers (λ limits. limits) (limits_in (rows_of (found_of matches.now))) result }
+    ensures value { Answers (λ limits. limits) (limits_in (rows_of (found_of matches.now))) result }
+    ensures bounds { IfOk result IsBounded }
 {
     let heap = value_of(
         matches,
@@ -155,7 +164,8 @@ fn limits_of(matches: &ArgMatches<'_>) -> Result<RunLimits, WordsError>
 
 /// The size of the program to write.
 fn size_of(matches: &ArgMatches<'_>) -> Result<u32, WordsError>
-    ensures { Answers (λ n. n) (value_in (codes "N") 1 300 None (rows_of (found_of matches.now))) result }
+    ensures value { Answers (λ n. n) (value_in (codes "N") 1 300 None (rows_of (found_of matches.now))) result }
+    ensures bounds { IfOk result (IsWithin 1 300) }
 {
     Ok(value_of(matches, "N", 1, MOST_SIZE, None)? as u32)
 }
@@ -168,9 +178,9 @@ fn value_of(
     high: u64,
     default: Option<u64>,
 ) -> Result<u64, WordsError>
-    requires { IfSome default (λ n. n ≤ high) }
+    requires { IfSome default (IsWithin low high) }
     ensures value { Answers (λ n. n) (value_in name.now low high default (rows_of (found_of matches.now))) result }
-    ensures bound { IfOk result (λ n. n ≤ high) }
+    ensures bounds { IfOk result (IsWithin low high) }
 {
     match matches.get_str(name) {
         Some(text) => number_or_usage(text, low, high),
@@ -184,7 +194,7 @@ fn value_of(
 /// The number that the text is, from `low` to `high`.
 fn number_or_usage(text: &str, low: u64, high: u64) -> Result<u64, WordsError>
     ensures value { Answers (λ n. n) (number_in low high text.now) result }
-    ensures bound { IfOk result (λ n. n ≤ high) }
+    ensures bounds { IfOk result (IsWithin low high) }
 {
     match read_number(text, low, high) {
         Some(number) => Ok(number),

@@ -5,13 +5,13 @@ use Rattle.cool_words.proofs.FoundValues.{names_found, names_missing, names_refu
 use Rattle.cool_words.proofs.reading.files_of.Goals as goal
 use Rattle.cool_words.proofs.reading.files_of.Goals.{in_default-via-in-Some+else-are_file_names, in_default-via-in_default}
 
-pub returns-in_ok-from_slice-in-Some : goal.returns-in_ok-from_slice-in-Some
-returns-in_ok-from_slice-in-Some c =
+pub returns-in_ok-from_slice-in-Some-clause-value : goal.returns-in_ok-from_slice-in-Some-clause-value
+returns-in_ok-from_slice-in-Some-clause-value c =
     names_found (found_of c.args.matches.now) (texts c.in-Some.names.now) c.in-Some.ensures (sym c.are_file_names.ensures ∙ c.if-are_file_names.true)
     ∙ ap (λ names. Some (texts names)) (sym c.in_ok-from_slice-in-Some.ensures.items)
 
-pub returns-in_default : goal.returns-in_default
-returns-in_default c = λ _. elim c.in_default.branch [
+pub returns-in_default-clause-value : goal.returns-in_default-clause-value
+returns-in_default-clause-value c = λ _. elim c.in_default.branch [
   | in_default-via-in-Some+else-are_file_names w ↦
       names_refused (found_of c.args.matches.now) (texts w.in-Some.names.now) w.in-Some.ensures (sym w.are_file_names.ensures ∙ w.if-are_file_names.false)
   | in_default-via-in_default w ↦ names_missing (found_of c.args.matches.now) w.in_default.ensures
