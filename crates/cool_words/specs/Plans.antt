@@ -1,6 +1,6 @@
 -- What a command line asks for, if anything: clap takes its words, and its numbers and names are in bounds.
-use Rattle.std.specs.Prelude.{◌≡◌, ◌&&◌, ◌==◌, ℕ, Bool, true, not, List, [], ◌∷◌, length, map, nat_le, if◌then◌else◌, Option, Some, None, option_map, option_and_then, codes, String, string_bytes, Result, MatchResult, refl}
-use Rattle.std.specs.List.{list_all, list_any}
+use Rattle.std.specs.Prelude.{◌≡◌, ◌&&◌, ◌==◌, ℕ, Bool, true, false, not, List, [], ◌∷◌, length, map, nat_le, if◌then◌else◌, Option, Some, None, option_map, option_and_then, codes, String, string_bytes, Result, MatchResult, ⊤, refl}
+use Rattle.std.specs.List.{list_all, list_any, repeat}
 use Rattle.std.specs.Global.{Global}
 use Rattle.std.specs.Option.{option_map_or}
 use Rattle.std.specs.Char.{encode_utf8}
@@ -44,6 +44,16 @@ asked_by (plan.Big n) = big n
 -- a file's name has at most 4,096 bytes, none of them 0
 abbrev pub is_file_name : Text → Bool
 is_file_name name = nat_le (length name) 4096 && not (list_any (λ b. b == 0) name)
+
+-- worked examples
+longest_name : is_file_name (repeat 4096 (codes "a")) ≡ true
+longest_name = refl
+
+past_the_longest : is_file_name (repeat 4097 (codes "a")) ≡ false
+past_the_longest = refl
+
+byte_0_in_it : is_file_name (97 ∷ 0 ∷ []) ≡ false
+byte_0_in_it = refl
 
 abbrev pub if_names : List Text → Option (List Text)
 if_names names = if list_all is_file_name names then Some names else None
@@ -91,29 +101,34 @@ abbrev pub plan_of : List Text → Option Asked
 plan_of [] = None
 plan_of (word ∷ rest) = option_and_then (plan_by (word ∷ rest)) (command_of word)
 
+-- what computes clap's answer at words that are written out
+unfoldable on_literals : ⊤
+unfolding walked bundle_met chars encode_utf8 flags_fault walk_fault defaults_fault
+on_literals = tt
+
 -- worked examples
 abbrev limits : ℕ → RunLimits
 limits heap_kib = record { heap_kib = heap_kib; stack_kib = 8192; steps = 1000000000 }
 
 run_with_heap : plan_of (codes "run" ∷ codes "--heap=64" ∷ codes "hello.cl" ∷ []) ≡ Some (run (codes "hello.cl" ∷ []) (limits 64))
-unfolding walked bundle_met chars encode_utf8 flags_fault walk_fault defaults_fault
+unfolding on_literals
 run_with_heap = refl
 
 run_of_two : plan_of (codes "run" ∷ codes "a.cl" ∷ codes "--heap" ∷ codes "0064" ∷ codes "b.cl" ∷ [])
     ≡ Some (run (codes "a.cl" ∷ codes "b.cl" ∷ []) (limits 64))
-unfolding walked bundle_met chars encode_utf8 flags_fault walk_fault defaults_fault
+unfolding on_literals
 run_of_two = refl
 
 name_with_hyphen : plan_of (codes "check" ∷ codes "--" ∷ codes "-x.cl" ∷ []) ≡ Some (check (codes "-x.cl" ∷ []))
-unfolding walked bundle_met chars encode_utf8 flags_fault walk_fault defaults_fault
+unfolding on_literals
 name_with_hyphen = refl
 
 hyphen_alone : plan_of (codes "check" ∷ codes "-" ∷ []) ≡ Some (check (codes "-" ∷ []))
-unfolding walked bundle_met chars encode_utf8 flags_fault walk_fault defaults_fault
+unfolding on_literals
 hyphen_alone = refl
 
 size_of_300 : plan_of (codes "big" ∷ codes "300" ∷ []) ≡ Some (big 300)
-unfolding walked bundle_met chars encode_utf8 flags_fault walk_fault defaults_fault
+unfolding on_literals
 size_of_300 = refl
 
 -- and of what asks for nothing
@@ -124,31 +139,31 @@ no_command : plan_of (codes "fly" ∷ codes "p.cl" ∷ []) ≡ None
 no_command = refl
 
 no_file : plan_of (codes "run" ∷ []) ≡ None
-unfolding walked bundle_met chars encode_utf8 flags_fault walk_fault defaults_fault
+unfolding on_literals
 no_file = refl
 
 two_files : plan_of (codes "exec" ∷ codes "a" ∷ codes "b" ∷ []) ≡ None
-unfolding walked bundle_met chars encode_utf8 flags_fault walk_fault defaults_fault
+unfolding on_literals
 two_files = refl
 
 heap_of_3 : plan_of (codes "run" ∷ codes "--heap" ∷ codes "3" ∷ codes "hello.cl" ∷ []) ≡ None
-unfolding walked bundle_met chars encode_utf8 flags_fault walk_fault defaults_fault
+unfolding on_literals
 heap_of_3 = refl
 
 heap_twice : plan_of (codes "run" ∷ codes "--heap" ∷ codes "64" ∷ codes "--heap" ∷ codes "64" ∷ codes "hello.cl" ∷ []) ≡ None
-unfolding walked bundle_met chars encode_utf8 flags_fault walk_fault defaults_fault
+unfolding on_literals
 heap_twice = refl
 
 steps_of_1x : plan_of (codes "run" ∷ codes "--steps" ∷ codes "1x" ∷ codes "hello.cl" ∷ []) ≡ None
-unfolding walked bundle_met chars encode_utf8 flags_fault walk_fault defaults_fault
+unfolding on_literals
 steps_of_1x = refl
 
 hyphen_first : plan_of (codes "check" ∷ codes "-x.cl" ∷ []) ≡ None
-unfolding walked bundle_met chars encode_utf8 flags_fault walk_fault defaults_fault
+unfolding on_literals
 hyphen_first = refl
 
 help : plan_of (codes "check" ∷ codes "--help" ∷ []) ≡ None
-unfolding walked bundle_met chars encode_utf8 flags_fault walk_fault defaults_fault
+unfolding on_literals
 help = refl
 
 -- ---- what an answer says
