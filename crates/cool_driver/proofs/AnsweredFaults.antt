@@ -1,47 +1,77 @@
 -- What is due for files that were read, by their fault list: its lines, or what comes where it is empty.
 use Rattle.std.proofs.Common.{◌≡◌, ◌≢◌, ℕ, List, [], ◌∷◌, inl, inr, refl, ◌∙◌, ap, subst}
+use Rattle.cool_classes.specs.Chains.{Class}
 use Rattle.cool_faults.specs.declared.fault.Fault.{Fault}
-use Rattle.cool_faults.specs.Verdicts.{IsFaultList}
-use Rattle.cool_faults.proofs.OneVerdict.{one_list}
+use Rattle.cool_faults.specs.Verdicts.{IsAccepted, IsFaultList}
+use Rattle.cool_faults.proofs.OneVerdict.{one_list, one_program}
 use Rattle.cool_ports.specs.ShelfFiles.{FileMap}
 use Rattle.mips_isa.specs.ImageBounds.{ImageParts}
 use Rattle.cool_driver.specs.CommandLine.{plan_of}
 use Rattle.cool_driver.specs.Notes.{refused_note}
-use Rattle.cool_driver.specs.Ends.{Request, Due, IsRead, IsRunOf, MayRefuse, Told}
+use Rattle.cool_driver.specs.Ends.{Request, Due, IsRead, IsRunOf, MayRefuse, built_bytes, Told}
 use Rattle.cool_driver.specs.Ends.IsRunOf.{of_file, of_program}
-use Rattle.cool_driver.specs.Ends.Due.{checked, refused, ran, executed, unread_input, unfit, misread, usage, too_many, missing, unread, too_large}
+use Rattle.cool_driver.specs.Ends.Due.{checked, built, refused, ran, executed, unread_input, unfit, misread, usage, too_many, missing, unread, too_large}
 use Rattle.cool_driver.specs.declared.command_line.Command.{Command}
-use Rattle.cool_driver.specs.declared.command_line.Command.TheVariants.{Check, Run, Exec}
+use Rattle.cool_driver.specs.declared.command_line.Command.TheVariants.{Check, Build, Run, Exec}
 use Rattle.cool_driver.proofs.ReadTwice.{same_plan, no_plan_and_plan, same_read, may_refuse}
 use Rattle.cool_driver.proofs.Findings.{no_file_fault}
 
--- The status and the note that come for files of these names with this fault list.
-pub record Answers (command : Command) (names : List (List ℕ)) (faults : List Fault) (status : ℕ) (note : List ℕ) : Type 0 where
+-- The status, the output and the note that come for files of these names with this fault list.
+pub record Answers (command : Command) (names contents : List (List ℕ)) (faults : List Fault) (status : ℕ) (output note : List ℕ) : Type 0 where
   pub refused : faults ≢ [] → (status ≡ 1) × (note ≡ refused_note names faults)
   pub checked : command ≡ Check → faults ≡ [] → status ≡ 0
+  pub built : (p : List Class) → command ≡ Build → IsAccepted contents p → (status ≡ 0) × (output ≡ built_bytes p names)
 
 -- `run` is not `check`
 run_or_check : (command : Command) → Run ≡ command → command ≡ Check → ⊥
 run_or_check command a b = let same = a ∙ b in cc
 
+-- neither of the two is `build`
+run_or_build : (command : Command) → Run ≡ command → command ≡ Build → ⊥
+run_or_build command a b = let same = a ∙ b in cc
+
+check_or_build : (command : Command) → Check ≡ command → command ≡ Build → ⊥
+check_or_build command a b = let same = a ∙ b in cc
+
 -- the run of an image answers the empty list of `run`
-answered_by_run : (r : Request) (files : FileMap) (found : ImageParts) (command : Command) (names contents : List (List ℕ)) (faults : List Fault) (status : ℕ) (note : List ℕ) → IsRunOf r found
-    → Told r files → IsRead r command names contents → MayRefuse command contents → IsFaultList contents faults → Answers command names faults status note
-answered_by_run r files found command names contents faults status note (of_file name bytes read' is) told read may list =
+answered_by_run : (r : Request) (files : FileMap) (found : ImageParts) (command : Command) (names contents : List (List ℕ)) (faults : List Fault) (status : ℕ) (output note : List ℕ) → IsRunOf r found
+    → Told r files → IsRead r command names contents → MayRefuse command contents → IsFaultList contents faults → Answers command names contents faults status output note
+answered_by_run r files found command names contents faults status output note (of_file name bytes read' is) told read may list =
     absurd (may_refuse r files command Exec names (name ∷ []) contents (bytes ∷ []) told read read' may)
-answered_by_run r files found command names contents faults status note (of_program names' contents' p read' other is made) told read may list =
+answered_by_run r files found command names contents faults status output note (of_program names' contents' p read' other is made) told read may list =
     let same = same_read r files Run command names' names contents' contents told read' read in
     let none : faults ≡ [] = one_list contents faults [] list (subst (λ (cs : List (List ℕ)). IsFaultList cs []) same is.list) in
     let asked = (same_plan (plan_of r.words) Run command names' names read'.plan read.plan).0 in
-    record { refused = λ some. absurd (some none); checked = λ check _. absurd (run_or_check command asked check) }
+    record {
+      refused = λ some. absurd (some none);
+      checked = λ check _. absurd (run_or_check command asked check);
+      built = λ q build _. absurd (run_or_build command asked build);
+    }
 
 -- what is due answers the fault list
 pub answered : (r : Request) (status : ℕ) (output note left : List ℕ) (files : FileMap) (command : Command) (names contents : List (List ℕ)) (faults : List Fault) → Due r status output note left
-    → Told r files → IsRead r command names contents → MayRefuse command contents → IsFaultList contents faults → Answers command names faults status note
+    → Told r files → IsRead r command names contents → MayRefuse command contents → IsFaultList contents faults → Answers command names contents faults status output note
 answered r _ _ _ _ files command names contents faults (checked names' contents' p read' is) told read may list =
     let same = same_read r files Check command names' names contents' contents told read' read in
     let none : faults ≡ [] = one_list contents faults [] list (subst (λ (cs : List (List ℕ)). IsFaultList cs []) same is.list) in
-    record { refused = λ some. absurd (some none); checked = λ _ _. refl }
+    let asked = (same_plan (plan_of r.words) Check command names' names read'.plan read.plan).0 in
+    record {
+      refused = λ some. absurd (some none);
+      checked = λ _ _. refl;
+      built = λ q build _. absurd (check_or_build command asked build);
+    }
+answered r _ _ _ _ files command names contents faults (built names' contents' p read' is) told read may list =
+    let same = same_read r files Build command names' names contents' contents told read' read in
+    let here : IsAccepted contents p = subst (λ (cs : List (List ℕ)). IsAccepted cs p) same is in
+    let none : faults ≡ [] = one_list contents faults [] list here.list in
+    let named = (same_plan (plan_of r.words) Build command names' names read'.plan read.plan).1 in
+    record {
+      refused = λ some. absurd (some none);
+      checked = λ _ _. refl;
+      built = λ q _ accepted.
+          let one = one_program contents p q here accepted in
+          (refl, ap (λ (x : List Class). built_bytes x names') one ∙ ap (λ (ns : List (List ℕ)). built_bytes q ns) named);
+    }
 answered r _ _ _ _ files command names contents faults (refused command' names' contents' faults' read' may' is) told read may list =
     let same = same_read r files command' command names' names contents' contents told read' read in
     let one : faults' ≡ faults = one_list contents faults' faults (subst (λ (cs : List (List ℕ)). IsFaultList cs faults') same is.list) list in
@@ -49,11 +79,12 @@ answered r _ _ _ _ files command names contents faults (refused command' names' 
     record {
       refused = λ _. (refl, ap (λ (ns : List (List ℕ)). refused_note ns faults') named ∙ ap (λ (fs : List Fault). refused_note names fs) one);
       checked = λ _ none. absurd (is.some (one ∙ none));
+      built = λ q _ accepted. absurd (is.some (one ∙ one_list contents faults [] list accepted.list));
     }
 answered r _ _ _ _ files command names contents faults (ran names' contents' strings' read' is) told read may list =
     absurd (may_refuse r files command Run names names' contents contents' told read read' may strings' is)
-answered r _ _ _ _ files command names contents faults (executed found run) told read may list = answered_by_run r files _ command names contents faults _ _ run told read may list
-answered r _ _ _ _ files command names contents faults (unread_input found at output left run comes fails) told read may list = answered_by_run r files _ command names contents faults _ _ run told read may list
+answered r _ _ _ _ files command names contents faults (executed found run) told read may list = answered_by_run r files _ command names contents faults _ _ _ run told read may list
+answered r _ _ _ _ files command names contents faults (unread_input found at output left run comes fails) told read may list = answered_by_run r files _ command names contents faults _ _ _ run told read may list
 answered r _ _ _ _ files command names contents faults (unfit name bytes fault read' binary is) told read may list =
     absurd (may_refuse r files command Exec names (name ∷ []) contents (bytes ∷ []) told read read' may)
 answered r _ _ _ _ files command names contents faults (misread name bytes fault read' text) told read may list =

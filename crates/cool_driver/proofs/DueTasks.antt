@@ -12,12 +12,12 @@ use Rattle.cool_driver.specs.Ends.{Request, Due, IsRead, IsReadUpTo, AreHeld}
 use Rattle.cool_driver.specs.Ends.Due.{checked, refused, unfit, misread, too_many, missing, unread, too_large}
 use Rattle.cool_driver.specs.Ends.IsRunOf.{of_file, of_program}
 use Rattle.cool_driver.specs.Reading.{IsStopAt}
-use Rattle.cool_driver.specs.Tasks.{fault_note, IsTaskOf, IsTaskOfFile, IsTaskOfChecked, IsTaskOfRun, IsLine, IsDue, IsFileTask}
+use Rattle.cool_driver.specs.Tasks.{fault_note, IsTaskOf, IsTaskOfFile, IsTaskOfChecked, IsTaskOfBuilt, IsTaskOfRun, IsLine, IsDue, IsFileTask}
 use Rattle.cool_driver.specs.declared.command_line.Command.{Command}
 use Rattle.cool_driver.specs.declared.command_line.Command.TheVariants as command
 use Rattle.cool_driver.specs.declared.status.Status.TheVariants as statuses
 use Rattle.cool_driver.specs.declared.task.Task.{Task}
-use Rattle.cool_driver.specs.declared.task.Task.TheVariants.{Tell, Run, Execute}
+use Rattle.cool_driver.specs.declared.task.Task.TheVariants.{Tell, Write, Run, Execute}
 use Rattle.cool_driver.proofs.NoteLines.{line_due}
 use Rattle.cool_driver.proofs.Plans.{plan_parts}
 
@@ -25,12 +25,23 @@ use Rattle.cool_driver.proofs.Plans.{plan_parts}
 checked_due : (r : Request) (names contents : List (List ℕ)) (task : Task) → IsRead r command.Check names contents → IsTaskOfChecked names contents task → IsDue r task
 checked_due r names contents (Tell status lines) read (are, inl h) = rw (h.0, h.1) (checked names contents h.2.0 read h.2.1, are, λ e. omega (arith, e))
 checked_due r names contents (Tell status lines) read (are, inr h) = rw (h.0, h.1.2) (refused command.Check names contents h.1.0 read tt h.1.1, are, λ e. omega (arith, e))
+checked_due r names contents (Write made) read h = absurd h
 checked_due r names contents (Run image) read h = absurd h
 checked_due r names contents (Execute image) read h = absurd h
+
+-- for files that `build` names
+built_due : (r : Request) (names contents : List (List ℕ)) (task : Task) → IsRead r command.Build names contents
+    → IsTaskOfBuilt names contents task → IsDue r task
+built_due r names contents (Tell status lines) read (are, one, h) =
+    rw (one, h.2) (refused command.Build names contents h.0 read tt h.1, are, λ e. omega (arith, e))
+built_due r names contents (Write made) read h = (names, contents, h.0, read, h.1, h.2)
+built_due r names contents (Run image) read h = absurd h
+built_due r names contents (Execute image) read h = absurd h
 
 -- for files that `run` names
 run_due : (r : Request) (names contents : List (List ℕ)) (task : Task) → IsRead r command.Run names contents → IsTaskOfRun names contents task → IsDue r task
 run_due r names contents (Tell status lines) read (are, other, one, h) = rw (one, h.2) (refused command.Run names contents h.0 read other h.1, are, λ e. omega (arith, e))
+run_due r names contents (Write made) read h = absurd h
 run_due r names contents (Run image) read h = (names, contents, h.0, read, h.1, h.2)
 run_due r names contents (Execute image) read h = of_program names contents h.0 read h.1 h.2 h.3
 
@@ -38,6 +49,7 @@ run_due r names contents (Execute image) read h = of_program names contents h.0 
 file_due : (r : Request) (name bytes : List ℕ) (task : Task) → IsRead r command.Exec (name ∷ []) (bytes ∷ []) → IsTaskOfFile name bytes task → IsDue r task
 file_due r name bytes (Tell status lines) read (twelve, are, inl h) = rw (twelve, h.1) (unfit name bytes h.0 read h.2 h.3, are, λ e. omega (arith, e))
 file_due r name bytes (Tell status lines) read (twelve, are, inr h) = rw (twelve, h.1) (misread name bytes h.0 read h.2, are, λ e. omega (arith, e))
+file_due r name bytes (Write made) read h = absurd h
 file_due r name bytes (Run image) read h = absurd h
 file_due r name bytes (Execute image) read h = of_file name bytes read h
 
@@ -52,6 +64,7 @@ exec_due r (name ∷ more ∷ names) contents task read one held h = absurd (ome
 -- for files that were read
 task_due : (r : Request) (asked : Command) (names contents : List (List ℕ)) (task : Task) → IsRead r asked names contents → is_number_of_files asked (length names) ≡ true → IsTaskOf asked names contents task → IsDue r task
 task_due r command.Check names contents task read number h = checked_due r names contents task read h
+task_due r command.Build names contents task read number h = built_due r names contents task read h
 task_due r command.Run names contents task read number h = run_due r names contents task read h
 task_due r command.Exec names contents task read number h = exec_due r names contents task read (eqb-true (length names) 1 number) read.held h
 

@@ -19,11 +19,11 @@ use Rattle.cool_driver.specs.CommandLine.{plan_of, most_bytes}
 use Rattle.cool_driver.specs.Execution.{IsImageOf, is_text_file, run_of, status_of}
 use Rattle.cool_driver.specs.SimpleFiles.{AreSimple, AreNotSimple}
 use Rattle.cool_driver.specs.Ends.{Request, Due, IsRead, IsRunOf, AreHeld, MayRefuse, Told}
-use Rattle.cool_driver.specs.Ends.Due.{checked, refused, ran, executed, unread_input, unfit, misread, usage, too_many, missing, unread, too_large}
+use Rattle.cool_driver.specs.Ends.Due.{checked, built, refused, ran, executed, unread_input, unfit, misread, usage, too_many, missing, unread, too_large}
 use Rattle.cool_driver.specs.declared.command_line.Command.{Command}
-use Rattle.cool_driver.specs.declared.command_line.Command.TheVariants.{Check, Run, Exec}
+use Rattle.cool_driver.specs.declared.command_line.Command.TheVariants.{Check, Build, Run, Exec}
 use Rattle.cool_driver.proofs.HeldFiles.{held_same, held_behind, none_missing}
-use Rattle.cool_driver.proofs.ReadTwice.{same_plan, no_run_exec, no_check_exec, no_check_run, no_plan_and_plan, held_told, files_read, same_read, same_file, may_refuse}
+use Rattle.cool_driver.proofs.ReadTwice.{same_plan, no_run_exec, RunsNothing, runs_nothing, no_plan_and_plan, held_told, files_read, same_read, same_file, may_refuse}
 use Rattle.cool_driver.proofs.ImagesOfCalls.{image_without_fault, no_text, not_runnable, same_runnable, read_for_run, run_of_file, run_of_program, simple_not_run}
 
 -- a file that is missing or too large, behind those that were read
@@ -49,7 +49,7 @@ IsRunStatus status = ((end : Outcome) × (status ≡ status_of end)) ⊎ (status
 
 -- what was found, with the status that it leaves
 pub data Finding (r : Request) (status : ℕ) : Type 0 where
-  accepted : (names contents : List (List ℕ)) → IsRead r Check names contents → status ≡ 0 → Finding r status
+  accepted : (command : Command) (names contents : List (List ℕ)) → RunsNothing command → IsRead r command names contents → status ≡ 0 → Finding r status
   faulty : (command : Command) (names contents : List (List ℕ)) (faults : List Fault) → IsRead r command names contents → MayRefuse command contents → IsRefused contents faults → status ≡ 1 → Finding r status
   simple : (names contents strings : List (List ℕ)) → IsRead r Run names contents → AreSimple contents strings → status ≡ 0 → Finding r status
   image : (found : ImageParts) → IsRunOf r found → IsRunStatus status → (status ≡ 7) ⊎ (status ≡ status_of (run_of found r.input)) → Finding r status
@@ -60,7 +60,8 @@ pub data Finding (r : Request) (status : ℕ) : Type 0 where
 
 -- what is due is a finding
 pub finding_of_due : (r : Request) (status : ℕ) (output note left : List ℕ) → Due r status output note left → Finding r status
-finding_of_due r _ _ _ _ (checked names contents p read is) = accepted names contents read refl
+finding_of_due r _ _ _ _ (checked names contents p read is) = accepted Check names contents tt read refl
+finding_of_due r _ _ _ _ (built names contents p read is) = accepted Build names contents tt read refl
 finding_of_due r _ _ _ _ (refused command names contents faults read may is) = faulty command names contents faults read may is refl
 finding_of_due r _ _ _ _ (ran names contents strings read is) = simple names contents strings read is refl
 finding_of_due r _ _ _ _ (executed found run) = image found run (inl (run_of found r.input, refl)) (inr refl)
@@ -107,7 +108,7 @@ below status is = omega (arith, is)
 
 -- no finding leaves a status above 12, nor those of a failed write and of want of memory
 pub finding_below : (r : Request) (status : ℕ) → Finding r status → (status ≤ 12) × (status ≢ 8) × (status ≢ 9)
-finding_below r status (accepted names contents read e) = (omega (arith, e), λ q. omega (arith, e, q), λ q. omega (arith, e, q))
+finding_below r status (accepted command names contents quiet read e) = (omega (arith, e), λ q. omega (arith, e, q), λ q. omega (arith, e, q))
 finding_below r status (faulty command names contents faults read may is e) = (omega (arith, e), λ q. omega (arith, e, q), λ q. omega (arith, e, q))
 finding_below r status (simple names contents strings read is e) = (omega (arith, e), λ q. omega (arith, e, q), λ q. omega (arith, e, q))
 finding_below r status (image found run ends e) =
@@ -160,7 +161,7 @@ no_file_fault r files a b names others contents told read plan (inr (inr refusal
 
 -- status 2 is left only where there is no plan
 pub usage_only : (r : Request) (status : ℕ) → Finding r status → status ≡ 2 → plan_of r.words ≡ None
-usage_only r status (accepted names' contents' read' e) q = absurd (omega (arith, e, q))
+usage_only r status (accepted command' names' contents' quiet read' e) q = absurd (omega (arith, e, q))
 usage_only r status (faulty command' names' contents' faults' read' may is e) q = absurd (omega (arith, e, q))
 usage_only r status (simple names' contents' strings' read' is e) q = absurd (omega (arith, e, q))
 usage_only r status (image found run ends e) q = absurd (not_of_run status 2 (run_status status ends) q (inr (inl refl)))
@@ -171,7 +172,7 @@ usage_only r status (no_file command' names' plan' fault e) q = absurd (omega (a
 
 -- and always there
 pub usage_exactly : (r : Request) (status : ℕ) → Finding r status → plan_of r.words ≡ None → status ≡ 2
-usage_exactly r status (accepted names' contents' read' e) gone = absurd (no_plan_and_plan _ _ _ gone read'.plan)
+usage_exactly r status (accepted command' names' contents' quiet read' e) gone = absurd (no_plan_and_plan _ _ _ gone read'.plan)
 usage_exactly r status (faulty command' names' contents' faults' read' may is e) gone = absurd (no_plan_and_plan _ _ _ gone read'.plan)
 usage_exactly r status (simple names' contents' strings' read' is e) gone = absurd (no_plan_and_plan _ _ _ gone read'.plan)
 usage_exactly r status (image found run ends e) gone = absurd (no_plan_and_plan _ _ _ gone (read_for_run r found run).3.plan)
@@ -188,7 +189,7 @@ read_are_few r a b names others contents read plan many =
 
 -- status 10 is left where there are too many files
 pub too_many_exactly : (r : Request) (status : ℕ) (command : Command) (names : List (List ℕ)) → Finding r status → plan_of r.words ≡ Some (command, names) → MOST_FILES < length names → status ≡ 10
-too_many_exactly r status command names (accepted names' contents' read' e) plan many = absurd (read_are_few r _ _ _ _ _ read' plan many)
+too_many_exactly r status command names (accepted command' names' contents' quiet read' e) plan many = absurd (read_are_few r _ _ _ _ _ read' plan many)
 too_many_exactly r status command names (faulty command' names' contents' faults' read' may is e) plan many = absurd (read_are_few r _ _ _ _ _ read' plan many)
 too_many_exactly r status command names (simple names' contents' strings' read' is e) plan many = absurd (read_are_few r _ _ _ _ _ read' plan many)
 too_many_exactly r status command names (image found run ends e) plan many = absurd (read_are_few r _ _ _ _ _ (read_for_run r found run).3 plan many)
@@ -203,7 +204,7 @@ read_are_there r files a b names others contents name told read plan named gone 
 
 -- and where one is missing
 pub missing_exactly : (r : Request) (status : ℕ) (files : FileMap) (command : Command) (names : List (List ℕ)) (name : List ℕ) → Finding r status → Told r files → plan_of r.words ≡ Some (command, names) → Contains names name → files name ≡ None → status ≡ 10
-missing_exactly r status files command names name (accepted names' contents' read' e) told plan named gone = absurd (read_are_there r files _ _ _ _ _ _ told read' plan named gone)
+missing_exactly r status files command names name (accepted command' names' contents' quiet read' e) told plan named gone = absurd (read_are_there r files _ _ _ _ _ _ told read' plan named gone)
 missing_exactly r status files command names name (faulty command' names' contents' faults' read' may is e) told plan named gone = absurd (read_are_there r files _ _ _ _ _ _ told read' plan named gone)
 missing_exactly r status files command names name (simple names' contents' strings' read' is e) told plan named gone = absurd (read_are_there r files _ _ _ _ _ _ told read' plan named gone)
 missing_exactly r status files command names name (image found run ends e) told plan named gone = absurd (read_are_there r files _ _ _ _ _ _ told (read_for_run r found run).3 plan named gone)
@@ -221,7 +222,7 @@ read_are_small r files a b names others contents large told read plan held more 
 
 -- and where all are too large
 pub too_large_exactly : (r : Request) (status : ℕ) (files : FileMap) (command : Command) (names large : List (List ℕ)) → Finding r status → Told r files → plan_of r.words ≡ Some (command, names) → AreHeld (Some files) names large → most_bytes command < total large → status ≡ 10
-too_large_exactly r status files command names large (accepted names' contents' read' e) told plan held more = absurd (read_are_small r files _ _ _ _ _ _ told read' plan held more)
+too_large_exactly r status files command names large (accepted command' names' contents' quiet read' e) told plan held more = absurd (read_are_small r files _ _ _ _ _ _ told read' plan held more)
 too_large_exactly r status files command names large (faulty command' names' contents' faults' read' may is e) told plan held more = absurd (read_are_small r files _ _ _ _ _ _ told read' plan held more)
 too_large_exactly r status files command names large (simple names' contents' strings' read' is e) told plan held more = absurd (read_are_small r files _ _ _ _ _ _ told read' plan held more)
 too_large_exactly r status files command names large (image found run ends e) told plan held more = absurd (read_are_small r files _ _ _ _ _ _ told (read_for_run r found run).3 plan held more)
@@ -232,7 +233,7 @@ too_large_exactly r status files command names large (no_file command' names' pl
 
 -- status 0 is left where `run` read files that are a program of the simple form
 pub ran_exactly : (r : Request) (status : ℕ) (files : FileMap) (names contents strings : List (List ℕ)) → Finding r status → Told r files → IsRead r Run names contents → AreSimple contents strings → status ≡ 0
-ran_exactly r status files names contents strings (accepted names' contents' read' e) told read form = absurd (no_check_run _ _ _ read'.plan read.plan)
+ran_exactly r status files names contents strings (accepted command' names' contents' quiet read' e) told read form = absurd (runs_nothing _ _ Run _ _ quiet read'.plan read.plan)
 ran_exactly r status files names contents strings (faulty command' names' contents' faults' read' may is e) told read form = absurd (may_refuse r files command' Run names' names contents' contents told read' read may strings form)
 ran_exactly r status files names contents strings (simple names' contents' strings' read' is e) told read form = e
 ran_exactly r status files names contents strings (image found run ends e) told read form = absurd (simple_not_run r files found names contents strings run told read form)
@@ -244,7 +245,7 @@ ran_exactly r status files names contents strings (no_file command' names' plan'
 -- and the status of the run's end, or 7, where they are another program
 pub compiled_exactly : (r : Request) (status : ℕ) (files : FileMap) (names contents : List (List ℕ)) (p : List Class) → Finding r status → Told r files → IsRead r Run names contents → AreNotSimple contents → IsAccepted contents p
     → (status ≡ 7) ⊎ (status ≡ status_of (run_of (image_of (program_lines p names)) r.input))
-compiled_exactly r status files names contents p (accepted names' contents' read' e) told read other form = absurd (no_check_run _ _ _ read'.plan read.plan)
+compiled_exactly r status files names contents p (accepted command' names' contents' quiet read' e) told read other form = absurd (runs_nothing _ _ Run _ _ quiet read'.plan read.plan)
 compiled_exactly r status files names contents p (faulty command' names' contents' faults' read' may is e) told read other form =
     absurd (never_both_verdicts contents p faults' form (subst (λ (cs : List (List ℕ)). IsRefused cs faults') (same_read r files _ _ _ _ _ _ told read' read) is))
 compiled_exactly r status files names contents p (simple names' contents' strings' read' is e) told read other form =
@@ -258,7 +259,7 @@ compiled_exactly r status files names contents p (no_file command' names' plan' 
 
 -- status 12 is left where `exec` read a file that is no text and no image
 pub unfit_exactly : (r : Request) (status : ℕ) (files : FileMap) (name bytes : List ℕ) → Finding r status → Told r files → IsRead r Exec (name ∷ []) (bytes ∷ []) → is_text_file bytes ≡ false → ((found : ImageParts) → IsImageOf found bytes → ⊥) → status ≡ 12
-unfit_exactly r status files name bytes (accepted names' contents' read' e) told read binary other = absurd (no_check_exec _ _ _ read'.plan read.plan)
+unfit_exactly r status files name bytes (accepted command' names' contents' quiet read' e) told read binary other = absurd (runs_nothing _ _ Exec _ _ quiet read'.plan read.plan)
 unfit_exactly r status files name bytes (faulty command' names' contents' faults' read' may is e) told read binary other = absurd (may_refuse r files command' Exec names' (name ∷ []) contents' (bytes ∷ []) told read' read may)
 unfit_exactly r status files name bytes (simple names' contents' strings' read' is e) told read binary other = absurd (no_run_exec _ _ _ read'.plan read.plan)
 unfit_exactly r status files name bytes (image found run ends e) told read binary other = absurd (not_runnable found bytes (run_of_file r files found name bytes run told read) binary other)
@@ -270,7 +271,7 @@ unfit_exactly r status files name bytes (no_file command' names' plan' fault e) 
 -- and the status of the run's end, or 7, where it is an image
 pub executed_exactly : (r : Request) (status : ℕ) (files : FileMap) (name bytes : List ℕ) (image' : ImageParts) → Finding r status → Told r files → IsRead r Exec (name ∷ []) (bytes ∷ []) → IsImageOf image' bytes
     → (status ≡ 7) ⊎ (status ≡ status_of (run_of image' r.input))
-executed_exactly r status files name bytes image' (accepted names' contents' read' e) told read form = absurd (no_check_exec _ _ _ read'.plan read.plan)
+executed_exactly r status files name bytes image' (accepted command' names' contents' quiet read' e) told read form = absurd (runs_nothing _ _ Exec _ _ quiet read'.plan read.plan)
 executed_exactly r status files name bytes image' (faulty command' names' contents' faults' read' may is e) told read form = absurd (may_refuse r files command' Exec names' (name ∷ []) contents' (bytes ∷ []) told read' read may)
 executed_exactly r status files name bytes image' (simple names' contents' strings' read' is e) told read form = absurd (no_run_exec _ _ _ read'.plan read.plan)
 executed_exactly r status files name bytes image' (image found run ends e) told read form =
@@ -284,7 +285,7 @@ executed_exactly r status files name bytes image' (no_file command' names' plan'
 
 -- where the shelf failed, a file fault is found
 pub shelf_fault : (r : Request) (status : ℕ) → Finding r status → r.faults_before < r.faults_after → status ≡ 10
-shelf_fault r status (accepted names' contents' read' e) more = absurd (omega (arith, read'.calm, more))
+shelf_fault r status (accepted command' names' contents' quiet read' e) more = absurd (omega (arith, read'.calm, more))
 shelf_fault r status (faulty command' names' contents' faults' read' may is e) more = absurd (omega (arith, read'.calm, more))
 shelf_fault r status (simple names' contents' strings' read' is e) more = absurd (omega (arith, read'.calm, more))
 shelf_fault r status (image found run ends e) more = absurd (omega (arith, (read_for_run r found run).3.calm, more))
@@ -302,7 +303,7 @@ cause_no_less (Some files) name most before after (inr long) = omega (arith, lon
 
 -- the shelf's count of faults does not fall
 pub shelf_no_less : (r : Request) (status : ℕ) → Finding r status → r.faults_before ≤ r.faults_after
-shelf_no_less r status (accepted names' contents' read' e) = omega (arith, read'.calm)
+shelf_no_less r status (accepted command' names' contents' quiet read' e) = omega (arith, read'.calm)
 shelf_no_less r status (faulty command' names' contents' faults' read' may is e) = omega (arith, read'.calm)
 shelf_no_less r status (simple names' contents' strings' read' is e) = omega (arith, read'.calm)
 shelf_no_less r status (image found run ends e) = omega (arith, (read_for_run r found run).3.calm)

@@ -13,11 +13,11 @@ use Rattle.cool_driver.specs.Notes.{image_fault, image_note, asm_words, asm_note
 use Rattle.cool_driver.specs.SimpleFiles.{AreNotSimple}
 use Rattle.cool_driver.specs.SimpleReading.{texts}
 use Rattle.cool_driver.specs.Ends.{Request, Due}
-use Rattle.cool_driver.specs.Tasks.{code_of, AreLines, note_of, IsUnfit, IsMisread, IsTaskOfFile, IsTaskOfChecked, IsTaskOfRun, IsLine, AreLinesOf, IsDue}
+use Rattle.cool_driver.specs.Tasks.{code_of, AreLines, note_of, IsUnfit, IsMisread, IsTaskOfFile, IsTaskOfChecked, IsTaskOfBuilt, IsTaskOfRun, IsLine, AreLinesOf, IsDue}
 use Rattle.cool_driver.specs.declared.status.Status.{Status}
 use Rattle.cool_driver.specs.declared.status.Status.TheVariants as statuses
 use Rattle.cool_driver.specs.declared.task.Task.{Task}
-use Rattle.cool_driver.specs.declared.task.Task.TheVariants.{Tell, Run, Execute}
+use Rattle.cool_driver.specs.declared.task.Task.TheVariants.{Tell, Write, Run, Execute}
 use Rattle.mips_isa.specs.declared.line.AsmFault.{AsmFault}
 use Rattle.mips_image.specs.declared.image_error.ImageError.{ImageError}
 
@@ -55,18 +55,30 @@ one_line lines line e = ap concat e ∙ append-nil line
 -- what is due where one line is told
 pub line_due : (r : Request) (status : Status) (line : List ℕ) (task : Task) → IsLine status line task → 0 < length line → code_of status ≢ 7 → Due r (code_of status) [] line r.input → IsDue r task
 line_due r status line (Tell told lines) h some other due = rw (h.0, one_line lines.items line h.1) (due, are_lines lines.items (line ∷ []) h.1 (some, tt), other)
+line_due r status line (Write made) h some other due = absurd h
 line_due r status line (Run image) h some other due = absurd h
 line_due r status line (Execute image) h some other due = absurd h
 
 -- the faults of files that `check` names
 pub checked_lines : (names contents : List (List ℕ)) (faults : List Fault) (task : Task) → IsRefused contents faults → AreLinesOf names faults task → IsTaskOfChecked names contents task
 checked_lines names contents faults (Tell status lines) is h = (are_lines lines.items _ h.1 (some_lines names faults), inr (h.0, (faults, is, ap concat h.1)))
+checked_lines names contents faults (Write made) is h = absurd h
 checked_lines names contents faults (Run image) is h = absurd h
 checked_lines names contents faults (Execute image) is h = absurd h
+
+-- the faults of files that `build` names
+pub built_lines : (names contents : List (List ℕ)) (faults : List Fault) (task : Task)
+    → IsRefused contents faults → AreLinesOf names faults task → IsTaskOfBuilt names contents task
+built_lines names contents faults (Tell status lines) is h =
+    (are_lines lines.items _ h.1 (some_lines names faults), h.0, (faults, is, ap concat h.1))
+built_lines names contents faults (Write made) is h = absurd h
+built_lines names contents faults (Run image) is h = absurd h
+built_lines names contents faults (Execute image) is h = absurd h
 
 -- the faults of files that `run` names
 pub run_lines : (names contents : List (List ℕ)) (faults : List Fault) (task : Task) → AreNotSimple contents → IsRefused contents faults → AreLinesOf names faults task → IsTaskOfRun names contents task
 run_lines names contents faults (Tell status lines) other is h = (are_lines lines.items _ h.1 (some_lines names faults), other, h.0, (faults, is, ap concat h.1))
+run_lines names contents faults (Write made) other is h = absurd h
 run_lines names contents faults (Run image) other is h = absurd h
 run_lines names contents faults (Execute image) other is h = absurd h
 
@@ -76,6 +88,7 @@ unfit_line name bytes line (Tell status lines) is h =
     let some : 0 < length line = rw is.1 (some_unfit name is.0) in
     let same : note_of lines.items ≡ image_note name is.0 = one_line lines.items line h.1 ∙ is.1 in
     (ap code_of h.0, are_lines lines.items (line ∷ []) h.1 (some, tt), inl (is.0, same, is.2, is.3))
+unfit_line name bytes line (Write made) is h = absurd h
 unfit_line name bytes line (Run image) is h = absurd h
 unfit_line name bytes line (Execute image) is h = absurd h
 
@@ -85,6 +98,7 @@ misread_line name bytes line (Tell status lines) is h =
     let some : 0 < length line = rw is.1 (some_misread name is.0) in
     let same : note_of lines.items ≡ asm_note name is.0 = one_line lines.items line h.1 ∙ is.1 in
     (ap code_of h.0, are_lines lines.items (line ∷ []) h.1 (some, tt), inr (is.0, same, is.2))
+misread_line name bytes line (Write made) is h = absurd h
 misread_line name bytes line (Run image) is h = absurd h
 misread_line name bytes line (Execute image) is h = absurd h
 

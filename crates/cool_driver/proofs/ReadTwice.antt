@@ -5,7 +5,7 @@ use Rattle.cool_ports.specs.ShelfFiles.{FileMap}
 use Rattle.cool_driver.specs.CommandLine.{plan_of}
 use Rattle.cool_driver.specs.Ends.{Request, IsRead, AreHeld, MayRefuse, Told}
 use Rattle.cool_driver.specs.declared.command_line.Command.{Command}
-use Rattle.cool_driver.specs.declared.command_line.Command.TheVariants.{Check, Run, Exec}
+use Rattle.cool_driver.specs.declared.command_line.Command.TheVariants.{Check, Build, Run, Exec}
 use Rattle.cool_driver.proofs.HeldFiles.{held_same}
 
 -- a plan, or another one where there is none
@@ -24,13 +24,17 @@ same_plan plan a b names others p q =
 pub no_run_exec : (plan : Option (Command × List (List ℕ))) (names others : List (List ℕ)) → plan ≡ Some (Run, names) → plan ≡ Some (Exec, others) → ⊥
 no_run_exec plan names others p q = cc (same_plan plan Run Exec names others p q).0
 
--- not both those of `check` and of `exec`
-pub no_check_exec : (plan : Option (Command × List (List ℕ))) (names others : List (List ℕ)) → plan ≡ Some (Check, names) → plan ≡ Some (Exec, others) → ⊥
-no_check_exec plan names others p q = cc (same_plan plan Check Exec names others p q).0
+-- a command that runs no image
+abbrev pub RunsNothing : Command → Type 0
+RunsNothing Check = Unit {0}
+RunsNothing Build = Unit {0}
+RunsNothing Run = ⊥
+RunsNothing Exec = ⊥
 
--- not both those of `check` and of `run`
-pub no_check_run : (plan : Option (Command × List (List ℕ))) (names others : List (List ℕ)) → plan ≡ Some (Check, names) → plan ≡ Some (Run, others) → ⊥
-no_check_run plan names others p q = cc (same_plan plan Check Run names others p q).0
+-- where a plan is one of such a command, every plan is
+pub runs_nothing : (plan : Option (Command × List (List ℕ))) (a b : Command) (names others : List (List ℕ))
+    → RunsNothing a → plan ≡ Some (a, names) → plan ≡ Some (b, others) → RunsNothing b
+runs_nothing plan a b names others nothing p q = subst RunsNothing (same_plan plan a b names others p q).0 nothing
 
 -- there is a plan or none
 pub no_plan_and_plan : (plan : Option (Command × List (List ℕ))) (a : Command) (names : List (List ℕ)) → plan ≡ None → plan ≡ Some (a, names) → ⊥

@@ -13,8 +13,10 @@ use Rattle.mips_isa.specs.Assembly.{image_of}
 use Rattle.mips_isa.specs.ImageBounds.{ImageParts}
 use Rattle.mips_isa.specs.Calls.{State, call, print}
 use Rattle.mips_isa.specs.declared.line.AsmFault.{AsmFault}
+use Rattle.mips_image.specs.ImageBytes.{image_bytes}
 use Rattle.mips_image.specs.ImageReading.{first_fault}
 use Rattle.mips_image.specs.declared.image_error.ImageError.{ImageError}
+use Rattle.mips_image.specs.declared.stored_image.TheConstants.{CHECKED_VERSION}
 use Rattle.spim_machine.specs.Ends.{FailsReading, call_with}
 use Rattle.cool_emit.specs.Programs.{program_lines}
 use Rattle.cool_driver.specs.CommandLine.{plan_of, most_bytes}
@@ -22,7 +24,7 @@ use Rattle.cool_driver.specs.Notes.{end_text, refused_note, usage_note, missing_
 use Rattle.cool_driver.specs.SimpleFiles.{AreSimple, AreNotSimple}
 use Rattle.cool_driver.specs.Execution.{IsImageOf, IsRunnable, is_text_file, segments_by_default, run_of, ComesTo, left_by, status_of, note_of}
 use Rattle.cool_driver.specs.declared.command_line.Command.{Command}
-use Rattle.cool_driver.specs.declared.command_line.Command.TheVariants.{Check, Run, Exec}
+use Rattle.cool_driver.specs.declared.command_line.Command.TheVariants.{Check, Build, Run, Exec}
 
 -- What a call was asked: its words, the files that the shelf tells, the shelf's count of faults before and after, and an input
 -- that the source may have had left at first.
@@ -61,6 +63,7 @@ pub record IsReadUpTo (r : Request) (command : Command) (name : List ℕ) (conte
 -- the command refuses such files for their faults: `run` looks for a program of the simple form first, and `exec` never does
 abbrev pub MayRefuse : Command → List (List ℕ) → Type 0
 MayRefuse Check contents = Unit {0}
+MayRefuse Build contents = Unit {0}
 MayRefuse Run contents = AreNotSimple contents
 MayRefuse Exec contents = ⊥
 
@@ -70,11 +73,18 @@ pub data IsRunOf (r : Request) (image : ImageParts) : Type 0 where
   of_file : (name bytes : List ℕ) → IsRead r Exec (name ∷ []) (bytes ∷ []) → IsRunnable image bytes → IsRunOf r image
   of_program : (names contents : List (List ℕ)) (p : List Class) → IsRead r Run names contents → AreNotSimple contents → IsAccepted contents p → image ≡ image_of (program_lines p names) → IsRunOf r image
 
+-- what `build` writes for a program whose files have these names: the image of its lines, in the version of checked arithmetic
+abbrev pub built_bytes : List Class → List (List ℕ) → List ℕ
+built_bytes p names = image_bytes CHECKED_VERSION (image_of (program_lines p names))
+
 -- What is due: the status, the output, the note, and what is left of the input.
 pub data Due (r : Request) : ℕ → List ℕ → List ℕ → List ℕ → Type 0 where
   -- `check`: nothing, where the files are accepted
   checked : (names contents : List (List ℕ)) (p : List Class) → IsRead r Check names contents → IsAccepted contents p → Due r 0 [] [] r.input
-  -- `check` and `run`: a line for each fault
+  -- `build`: the image, where the files are accepted
+  built : (names contents : List (List ℕ)) (p : List Class) → IsRead r Build names contents → IsAccepted contents p
+      → Due r 0 (built_bytes p names) [] r.input
+  -- `check`, `build` and `run`: a line for each fault
   refused : (command : Command) (names contents : List (List ℕ)) (faults : List Fault) → IsRead r command names contents → MayRefuse command contents → IsRefused contents faults
       → Due r 1 [] (refused_note names faults) r.input
   -- `run` of a program of the simple form: its strings in order, and the end text
@@ -99,6 +109,9 @@ pub data Due (r : Request) : ℕ → List ℕ → List ℕ → List ℕ → Type
 
 -- What is written when a write of the output fails: what was written before, what is being written, and what is left of the input.
 pub data Writing (r : Request) : List ℕ → List ℕ → List ℕ → Type 0 where
+  -- the image that `build` writes
+  by_build : (names contents : List (List ℕ)) (p : List Class) → IsRead r Build names contents → IsAccepted contents p
+      → Writing r [] (built_bytes p names) r.input
   by_run : (names contents strings : List (List ℕ)) → IsRead r Run names contents → AreSimple contents strings → Writing r [] (concat strings ++ end_text) r.input
   -- the run of the image comes to a call that prints these bytes
   by_image : (image : ImageParts) (at : State) (printed : List ℕ) → IsRunOf r image
@@ -177,7 +190,11 @@ pub record Ends (c : Call) (status : ℕ) : Type 0 where
   -- `check`: status 0 comes where the files were read and their fault list is empty, and status 1 where it is not
   pub checked_exactly : (files : FileMap) (names contents : List (List ℕ)) (faults : List Fault) → Told c.request files → IsRead c.request Check names contents → IsFaultList contents faults
       → Unless status ((faults ≡ [] → status ≡ 0) × (faults ≢ [] → status ≡ 1))
-  -- `check` and `run`: status 1 comes where the files were read and their fault list is not empty, with a line for each fault of it
+  -- `build`: status 0 and the image come where the files were read and are accepted
+  pub built_exactly : (files : FileMap) (names contents : List (List ℕ)) (p : List Class) → Told c.request files
+      → IsRead c.request Build names contents → IsAccepted contents p → Unless status ((status ≡ 0) × Got c.out (built_bytes p names))
+  -- `check`, `build` and `run`: status 1 comes where the files were read and their fault list is not empty, with a line for each fault
+  -- of it
   pub refused_exactly : (files : FileMap) (command : Command) (names contents : List (List ℕ)) (faults : List Fault) → Told c.request files → IsRead c.request command names contents → MayRefuse command contents
       → IsFaultList contents faults → faults ≢ [] → Unless status ((status ≡ 1) × Got c.notes (refused_note names faults))
   -- `run`: status 0 comes where the files were read and are a program of the simple form, and the status of its run's end where they are

@@ -1,4 +1,4 @@
--- What is left to do once the words and the files were read: a note to write, or an image to run.
+-- What is left to do once the words and the files were read: a note or an image to write, or an image to run.
 use Rattle.std.specs.Prelude.{◌≡◌, ◌≢◌, ℕ, ◌<◌, ◌⊎◌, true, false, List, [], ◌∷◌, ◌++◌, Option, Some, None, get_or, map, length}
 use Rattle.std.specs.List.{concat, AllByRecursion}
 use Rattle.std.specs.Global.{Vec}
@@ -19,7 +19,7 @@ use Rattle.cool_emit.specs.Programs.{program_lines}
 use Rattle.cool_driver.specs.CommandLine.{plan_of}
 use Rattle.cool_driver.specs.Notes.{end_text, refused_note, missing_note, unread_note, too_large_note, image_note, asm_note}
 use Rattle.cool_driver.specs.Execution.{IsRunnable, is_text_file, run_of}
-use Rattle.cool_driver.specs.Ends.{Request, Due, IsRead, IsRunOf, SinkUse, Got, GotPart}
+use Rattle.cool_driver.specs.Ends.{Request, Due, IsRead, IsRunOf, built_bytes, SinkUse, Got, GotPart}
 use Rattle.cool_driver.specs.SimpleFiles.{AreSimple, AreNotSimple}
 use Rattle.cool_driver.specs.SimpleReading.{texts}
 use Rattle.cool_driver.specs.declared.command_line.Command.{Command}
@@ -27,7 +27,7 @@ use Rattle.cool_driver.specs.declared.command_line.Command.TheVariants as comman
 use Rattle.cool_driver.specs.declared.status.Status.{Status}
 use Rattle.cool_driver.specs.declared.status.Status.TheVariants as statuses
 use Rattle.cool_driver.specs.declared.task.Task.{Task}
-use Rattle.cool_driver.specs.declared.task.Task.TheVariants.{Tell, Run, Execute}
+use Rattle.cool_driver.specs.declared.task.Task.TheVariants.{Tell, Write, Run, Execute}
 
 abbrev pub code_of : Status → ℕ
 code_of statuses.Done = 0
@@ -73,6 +73,7 @@ IsMisread name bytes note = (fault : AsmFault) × (note ≡ asm_note name fault)
 -- what is left to do for a file of this name that `exec` names and that has these bytes
 abbrev pub IsTaskOfFile : List ℕ → List ℕ → Task → Type 0
 IsTaskOfFile name bytes (Tell status lines) = (code_of status ≡ 12) × AreLines lines.items × (IsUnfit name bytes (note_of lines.items) ⊎ IsMisread name bytes (note_of lines.items))
+IsTaskOfFile name bytes (Write made) = ⊥
 IsTaskOfFile name bytes (Run image) = ⊥
 IsTaskOfFile name bytes (Execute image) = IsRunnable image bytes
 
@@ -82,37 +83,54 @@ IsTaskOfChecked names contents (Tell status lines) =
     AreLines lines.items
     × (((code_of status ≡ 0) × (note_of lines.items ≡ []) × ((p : List Class) × IsAccepted contents p))
     ⊎ ((code_of status ≡ 1) × ((faults : List Fault) × IsRefused contents faults × (note_of lines.items ≡ refused_note names faults))))
+IsTaskOfChecked names contents (Write made) = ⊥
 IsTaskOfChecked names contents (Run image) = ⊥
 IsTaskOfChecked names contents (Execute image) = ⊥
+
+-- what is left to do for files of these names that `build` names and that have these bytes
+abbrev pub IsTaskOfBuilt : List (List ℕ) → List (List ℕ) → Task → Type 0
+IsTaskOfBuilt names contents (Tell status lines) =
+    AreLines lines.items × (code_of status ≡ 1)
+    × ((faults : List Fault) × IsRefused contents faults × (note_of lines.items ≡ refused_note names faults))
+IsTaskOfBuilt names contents (Write made) = (p : List Class) × IsAccepted contents p × (made.items ≡ built_bytes p names)
+IsTaskOfBuilt names contents (Run image) = ⊥
+IsTaskOfBuilt names contents (Execute image) = ⊥
 
 -- what is left to do for files of these names that `run` names and that have these bytes
 abbrev pub IsTaskOfRun : List (List ℕ) → List (List ℕ) → Task → Type 0
 IsTaskOfRun names contents (Tell status lines) =
     AreLines lines.items × AreNotSimple contents × (code_of status ≡ 1)
     × ((faults : List Fault) × IsRefused contents faults × (note_of lines.items ≡ refused_note names faults))
+IsTaskOfRun names contents (Write made) = ⊥
 IsTaskOfRun names contents (Run image) = (strings : List (List ℕ)) × AreSimple contents strings × Prints image (concat strings ++ end_text)
 IsTaskOfRun names contents (Execute image) = (p : List Class) × AreNotSimple contents × IsAccepted contents p × (image ≡ image_of (program_lines p names))
 
 abbrev pub IsTaskOf : Command → List (List ℕ) → List (List ℕ) → Task → Type 0
 IsTaskOf command.Check names contents task = IsTaskOfChecked names contents task
+IsTaskOf command.Build names contents task = IsTaskOfBuilt names contents task
 IsTaskOf command.Run names contents task = IsTaskOfRun names contents task
 IsTaskOf command.Exec names contents task = IsTaskOfFile (get_or names 0 []) (get_or contents 0 []) task
 
 -- one line
 abbrev pub IsLine : Status → List ℕ → Task → Type 0
 IsLine status line (Tell told lines) = (told ≡ status) × (texts lines.items ≡ line ∷ [])
+IsLine status line (Write made) = ⊥
 IsLine status line (Run image) = ⊥
 IsLine status line (Execute image) = ⊥
 
 -- a line for each fault of files of these names
 abbrev pub AreLinesOf : List (List ℕ) → List Fault → Task → Type 0
 AreLinesOf names faults (Tell status lines) = (code_of status ≡ 1) × (texts lines.items ≡ map (fault_line names) faults)
+AreLinesOf names faults (Write made) = ⊥
 AreLinesOf names faults (Run image) = ⊥
 AreLinesOf names faults (Execute image) = ⊥
 
 -- what is left to do is what is due
 abbrev pub IsDue : Request → Task → Type 0
 IsDue r (Tell status lines) = Due r (code_of status) [] (note_of lines.items) r.input × AreLines lines.items × (code_of status ≢ 7)
+IsDue r (Write made) =
+    (names : List (List ℕ)) × (contents : List (List ℕ)) × (p : List Class) × IsRead r command.Build names contents × IsAccepted contents p
+    × (made.items ≡ built_bytes p names)
 IsDue r (Run image) =
     (names : List (List ℕ)) × (contents : List (List ℕ)) × (strings : List (List ℕ)) × IsRead r command.Run names contents × AreSimple contents strings × Prints image (concat strings ++ end_text)
 IsDue r (Execute image) = IsRunOf r image
@@ -123,9 +141,9 @@ IsFileTask files before after command names task =
     (words : List (List ℕ)) (input : List ℕ) → plan_of words ≡ Some (command, names)
     → IsDue (record { words = words; files = files; faults_before = before; faults_after = after; input = input }) task
 
--- A note was written and this status answered, or the write failed.
+-- Bytes were written, a note or an image, and this status answered, or the write failed.
 abbrev pub Noted : SinkUse → List ℕ → Status → Status → Type 0
-Noted s note status answered = ((answered ≡ status) × Got s note) ⊎ ((answered ≡ statuses.WriteFault) × GotPart s [] note)
+Noted s bytes status answered = ((answered ≡ status) × Got s bytes) ⊎ ((answered ≡ statuses.WriteFault) × GotPart s [] bytes)
 
 -- A program of the simple form wrote its output, or a write failed, or there was no memory for the run.
 abbrev pub RunsSimple : SinkUse → List ℕ → Status → Type 0

@@ -15,6 +15,8 @@ const MOST_NAME_BYTES: usize = 4_096;
 pub enum Command {
     /// To say whether they are a program.
     Check,
+    /// To compile them to an image, and write that.
+    Build,
     /// To compile and run them.
     Run,
     /// To run the image that the one file is.
@@ -27,7 +29,7 @@ impl Command {
         ensures { result ≡ most_bytes self }
     {
         match self {
-            Command::Check | Command::Run => MOST_SOURCE_BYTES,
+            Command::Check | Command::Build | Command::Run => MOST_SOURCE_BYTES,
             Command::Exec => MOST_IMAGE_BYTES,
         }
     }
@@ -37,7 +39,7 @@ impl Command {
         ensures { result ≡ is_number_of_files self count }
     {
         match self {
-            Command::Check | Command::Run => 1 <= count,
+            Command::Check | Command::Build | Command::Run => 1 <= count,
             Command::Exec => count == 1,
         }
     }
@@ -68,6 +70,7 @@ fn command_of(word: &str) -> Option<Command>
 {
     match word {
         "check" => Some(Command::Check),
+        "build" => Some(Command::Build),
         "run" => Some(Command::Run),
         "exec" => Some(Command::Exec),
         _ => None,

@@ -21,6 +21,7 @@ mod reading;
 mod simple_form;
 mod status;
 mod task;
+mod writing;
 
 use cool_ports::{Failed, Shelf, Sink, Source};
 use execution::{execute, run_simple};
@@ -28,6 +29,7 @@ use notes::tell_lines;
 pub use status::Status;
 use std::alloc::{AllocError, Global};
 use task::{Task, find_task};
+use writing::write_pieces;
 
 /// The most bytes of a file for `exec`: those of the greatest image.
 pub const MOST_IMAGE_BYTES: u64 = 532_676_628;
@@ -92,6 +94,7 @@ pub fn cool<F: Shelf, I: Source, O: Sink, E: Sink>(
     let status = match find_task(alloc, words, files) {
         Err(AllocError) => Status::Memory,
         Ok(Task::Tell(status, lines)) => tell_lines(notes, status, &lines),
+        Ok(Task::Write(bytes)) => write_pieces(out, &bytes),
         Ok(Task::Run(image)) => run_simple(alloc, &image, out),
         Ok(Task::Execute(image)) => execute(alloc, &image, input, out, notes),
     };

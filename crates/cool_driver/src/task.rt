@@ -1,4 +1,4 @@
-//! What is left to do once the words and the file were read.
+//! What is left to do once the words and the files were read.
 
 ghost use Rattle.std.specs.Prelude.{◌≡◌, ◌≢◌, ◌+◌, ◌<◌, ◌≤◌, ◌^◌, ◌++◌, length, IfOk, List, ℕ, Option, Some, None, true, false, string_bytes};
 ghost use Rattle.std.specs.List.{concat, list_all, AllByRecursion};
@@ -14,7 +14,7 @@ ghost use Rattle.mips_isa.specs.Assembly.{fault_of, image_of};
 ghost use Rattle.cool_faults.specs.Files.{total};
 ghost use Rattle.cool_faults.specs.Verdicts.{place_of};
 ghost use Rattle.cool_driver.specs.CommandLine.{is_name, is_number_of_files, most_bytes};
-ghost use Rattle.cool_driver.specs.Tasks.{fault_note, Prints, IsLine, AreLinesOf, IsTaskOf, IsTaskOfFile, IsTaskOfChecked, IsTaskOfRun, IsDue, IsFileTask};
+ghost use Rattle.cool_driver.specs.Tasks.{fault_note, Prints, IsLine, AreLinesOf, IsTaskOf, IsTaskOfFile, IsTaskOfChecked, IsTaskOfBuilt, IsTaskOfRun, IsDue, IsFileTask};
 
 use crate::command_line::{Command, read_words};
 use crate::program::compile;
@@ -26,7 +26,7 @@ use cool_faults::{Fault, Verdict, accept, fault_text};
 use cool_ports::{Shelf, ShelfFault};
 use cool_syntax::MOST_FILES;
 use mips_asm::assemble;
-use mips_image::{ImageError, read_image};
+use mips_image::{CHECKED_VERSION, ImageError, read_image, write_image};
 use mips_isa::{AsmError, AsmFault, AsmKind, Image};
 use mips_text::read_asm;
 use std::alloc::{AllocError, Global};
@@ -39,6 +39,8 @@ const IMAGE_START: u8 = 127;
 pub enum Task {
     /// To write these lines as notes, and end with this status.
     Tell(Status, Vec<Vec<u8>>),
+    /// To write these bytes, which are an image, to the output.
+    Write(Vec<u8>),
     /// To run the image of a program of the simple form.
     Run(Image),
     /// To run this image over the input.
@@ -118,6 +120,7 @@ fn find_content_task(
 {
     match command {
         Command::Check => check_files(alloc, names, contents),
+        Command::Build => build_files(alloc, names, contents),
         Command::Run => compile_files(alloc, names, contents),
         Command::Exec => load(alloc, names[0].as_str(), &contents[0]),
     }
@@ -133,6 +136,24 @@ fn check_files(alloc: Global, names: &[String], contents: &[Vec<u8>]) -> Result<
 {
     match accept(alloc, contents)? {
         Verdict::Accepted(_) => Ok(Task::Tell(Status::Done, Vec::new(alloc))),
+        Verdict::Refused(faults) => refuse(alloc, names, faults.as_slice()),
+    }
+}
+
+/// What is left to do to write the image of files of these names that have these bytes.
+fn build_files(alloc: Global, names: &[String], contents: &[Vec<u8>]) -> Result<Task, AllocError>
+    requires each { length names.now ≡ length contents.now }
+    requires names { list_all is_name (words_of names.now) ≡ true }
+    requires some { 0 < length names.now }
+    requires few { length contents.now ≤ MOST_FILES }
+    requires small { total (texts contents.now) ≤ MOST_SOURCE_BYTES }
+    ensures { IfOk result (IsTaskOfBuilt (words_of names.now) (texts contents.now)) }
+{
+    match accept(alloc, contents)? {
+        Verdict::Accepted(program) => {
+            let image = build(alloc, &program, names)?;
+            Ok(Task::Write(write_image(alloc, &image, CHECKED_VERSION)?))
+        }
         Verdict::Refused(faults) => refuse(alloc, names, faults.as_slice()),
     }
 }

@@ -4,10 +4,10 @@ use Rattle.cool_ports.proofs.GettingBytes.{appended-nil}
 use Rattle.spim_machine.proofs.InputsInParts.{took_nothing, leaves_same}
 use Rattle.cool_driver.specs.Notes.{end_text}
 use Rattle.cool_driver.proofs.EndsOfDue.{ends_without_memory}
-use Rattle.cool_driver.proofs.EndsOfTasks.{note_ends, simple_ends}
+use Rattle.cool_driver.proofs.EndsOfTasks.{note_ends, image_ends, simple_ends}
 use Rattle.cool_driver.proofs.ImagesOfCalls.{run_takes_input}
 use Rattle.cool_driver.proofs.cool.Goals as goal
-use Rattle.cool_driver.proofs.cool.Goals.{in-Err, in-Ok-Tell, in-Ok-Run, in-Ok-Execute}
+use Rattle.cool_driver.proofs.cool.Goals.{in-Err, in-Ok-Tell, in-Ok-Write, in-Ok-Run, in-Ok-Execute}
 
 -- no line is empty
 pub tell_lines-status-requires : goal.tell_lines-status-requires
@@ -26,6 +26,7 @@ returns-clause-input g c none =
     elim c.match-find_task.branch [
       | in-Err w ↦ w.input-is
       | in-Ok-Tell w ↦ w.input-is
+      | in-Ok-Write w ↦ w.input-is
       | in-Ok-Run w ↦ w.input-is
       | in-Ok-Execute w ↦
           let due = rw w.in-Ok-Execute.field-0-is at (w.in-Ok-Execute.ensures.due []) in
@@ -43,6 +44,12 @@ returns-clause-ends g c given rest leaves =
           let due = rw w.in-Ok-Tell.field-0-is at (w.in-Ok-Tell.ensures.due given) in
           let told = rw w.deref.ensures.value at w.tell_lines-status.ensures in
           rw (c.code.ensures, w.status-is, w.out-is, w.notes-is, w.input-is) (note_ends _ _ _ _ due.0 due.2 (sym (appended-nil _), refl) (record { left = leaves_same _ given rest here; calm = refl }) told)
+      | in-Ok-Write w ↦
+          let here = rw w.input-is at leaves in
+          let due = rw w.in-Ok-Write.field-0-is at (w.in-Ok-Write.ensures.due given) in
+          let wrote = rw w.deref-in-Ok-Write.ensures.value at w.write_pieces-status.ensures in
+          rw (c.code.ensures, w.status-is, w.out-is, w.notes-is, w.input-is)
+          (image_ends _ due.0 due.1 due.2 _ _ due.3 due.4 due.5 (sym (appended-nil _), refl) (record { left = leaves_same _ given rest here; calm = refl }) wrote)
       | in-Ok-Run w ↦
           let here = rw w.input-is at leaves in
           let due = rw w.in-Ok-Run.field-0-is at (w.in-Ok-Run.ensures.due given) in
@@ -58,6 +65,7 @@ returns-clause-taken g c =
     elim c.match-find_task.branch [
       | in-Err w ↦ rw w.input-is (false, took_nothing _ _ _)
       | in-Ok-Tell w ↦ rw w.input-is (false, took_nothing _ _ _)
+      | in-Ok-Write w ↦ rw w.input-is (false, took_nothing _ _ _)
       | in-Ok-Run w ↦ rw w.input-is (false, took_nothing _ _ _)
       | in-Ok-Execute w ↦ rw w.input-is w.execute-status.ensures.taken
     ]
