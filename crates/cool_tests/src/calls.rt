@@ -17,12 +17,17 @@ type Row = (
 );
 
 /// Makes the call over the input `x`: its status, its output and its notes.
-fn call(alloc: Global, row: &Row) -> Result<(u8, MemSink, MemSink), Fail> {
-    let (command, file, (read, put, take, note), _, _, _) = *row;
+fn call(
+    alloc: Global,
+    command: &str,
+    file: &[u8],
+    failing: (u64, u64, u64, u64),
+) -> Result<(u8, MemSink, MemSink), Fail> {
+    let (read, put, take, note) = failing;
     let mut files = MemShelf::new(alloc);
     files.put_file("p", file)?;
     let mut input = MemSource::new(alloc, Vec::from_slice(alloc, b"x")?);
-    let mut out = MemSink::new(alloc, 1_000)?;
+    let mut out = MemSink::new(alloc, 10_000)?;
     let mut notes = MemSink::new(alloc, 1_000)?;
     if read != 0 {
         files.fail_call(read)?;
@@ -51,6 +56,10 @@ const STRINGS: &[u8] =
 /// A string of 70 bytes and an empty one.
 const LONG_STRING: &[u8] =
     b"class Main inherits IO { main() : Object { { out_string(\"aaaaaaaaaaaaaaaaaaaaaaaaaaaaaaaaaaaaaaaaaaaaaaaaaaaaaaaaaaaaaaaaaaaaaa\"); out_string(\"\"); } }; };";
+
+/// Twelve strings: their image has more than 4,096 bytes and fewer than 8,192.
+const TWELVE_STRINGS: &[u8] =
+    b"class Main inherits IO { main() : Object { { out_string(\"a\"); out_string(\"b\"); out_string(\"c\"); out_string(\"d\"); out_string(\"e\"); out_string(\"f\"); out_string(\"g\"); out_string(\"h\"); out_string(\"i\"); out_string(\"j\"); out_string(\"k\"); out_string(\"l\"); } }; };";
 
 /// A question, a number that is read, and its sum with 1: each is one call.
 const QUESTION: &[u8] =
@@ -147,11 +156,26 @@ static ROWS: [Row; 18] = [
 #[test]
 fn failing_devices(rt: HostRuntime) -> Result<(), Fail> {
     for row in &ROWS {
-        let (status, out, notes) = call(rt.alloc(), row)?;
-        let (command, _, failing, want, held, noted) = *row;
+        let (command, file, failing, want, held, noted) = *row;
+        let (status, out, notes) = call(rt.alloc(), command, file, failing)?;
         assert_eq!(rt; status, want, "{command} {failing:?}");
         assert_eq!(rt; out.held(), held.as_bytes(), "{command} {failing:?}");
         assert_eq!(rt; notes.held(), noted.as_bytes(), "{command} {failing:?}");
     }
+    Ok(())
+}
+
+/// An image is put in pieces of 4,096 bytes, the last one shorter: twelve strings are two puts.
+#[test]
+fn pieces_of_an_image(rt: HostRuntime) -> Result<(), Fail> {
+    let (status, whole, _) = call(rt.alloc(), "build", TWELVE_STRINGS, (0, 3, 0, 0))?;
+    assert_eq!(rt; status, 0);
+    let (status, front, _) = call(rt.alloc(), "build", TWELVE_STRINGS, (0, 2, 0, 0))?;
+    assert_eq!(rt; status, 8);
+    assert_eq!(rt; front.held().len(), 4_096);
+    assert!(rt; whole.held().starts_with(front.held()));
+    let (status, nothing, _) = call(rt.alloc(), "build", TWELVE_STRINGS, (0, 1, 0, 0))?;
+    assert_eq!(rt; status, 8);
+    assert_eq!(rt; nothing.held().len(), 0);
     Ok(())
 }
