@@ -1,13 +1,12 @@
 -- What the getters of clap's matches give, by their rows.
 use Rattle.std.proofs.Common.{◌≡◌, ◌∙◌, sym, ap, ℕ, true, false, List, Option, Some, None}
 use Rattle.std.specs.Prelude.{codes, if◌then◌else◌, option_and_then, option_map}
-use Rattle.std.specs.List.{list_all}
 use Rattle.std.specs.Option.{option_map_or}
 use Rattle.clap.specs.Words.{Text, first_value, matched_of, raw_values, rows_of}
 use Rattle.clap.specs.declared.parser.matches.Found.{Found}
 use Rattle.clap.proofs.WalkLemmas.{first_value-rows, raw_values-rows}
 use Rattle.cool_words.specs.Numbers.{number_in}
-use Rattle.cool_words.specs.Plans.{file_in, files_in, if_name, if_names, is_file_name, value_in}
+use Rattle.cool_words.specs.Plans.{are_file_names, file_in, files_in, if_name, if_names, is_file_name, value_in}
 
 -- the one name is there
 name_there : (f : Found) (name : Option Text) → name ≡ first_value f (codes "FILE") → file_in (rows_of f) ≡ option_and_then if_name name
@@ -30,11 +29,11 @@ names_there : (f : Found) (names : Option (List Text)) → names ≡ option_map 
 names_there f names e = ap (option_and_then if_names) (sym (e ∙ raw_values-rows f (codes "FILES")))
 
 -- and are those of files
-pub names_found : (f : Found) (names : List Text) → Some names ≡ option_map raw_values (matched_of f (codes "FILES")) → list_all is_file_name names ≡ true → files_in (rows_of f) ≡ Some names
+pub names_found : (f : Found) (names : List Text) → Some names ≡ option_map raw_values (matched_of f (codes "FILES")) → are_file_names names ≡ true → files_in (rows_of f) ≡ Some names
 names_found f names e k = names_there f (Some names) e ∙ ap (λ b. if b then Some names else None) k
 
 -- they are not
-pub names_refused : (f : Found) (names : List Text) → Some names ≡ option_map raw_values (matched_of f (codes "FILES")) → list_all is_file_name names ≡ false → files_in (rows_of f) ≡ None
+pub names_refused : (f : Found) (names : List Text) → Some names ≡ option_map raw_values (matched_of f (codes "FILES")) → are_file_names names ≡ false → files_in (rows_of f) ≡ None
 names_refused f names e k = names_there f (Some names) e ∙ ap (λ b. if b then Some names else None) k
 
 -- there are none

@@ -1,12 +1,12 @@
 -- What a command line asks for, if anything: clap takes its words, and its numbers and names are in bounds.
-use Rattle.std.specs.Prelude.{◌≡◌, ◌&&◌, ◌==◌, ℕ, Bool, true, false, not, List, [], ◌∷◌, length, map, nat_le, if◌then◌else◌, Option, Some, None, option_map, option_and_then, codes, String, string_bytes, Result, MatchResult, ⊤, refl}
+use Rattle.std.specs.Prelude.{◌≡◌, ◌&&◌, ◌==◌, ℕ, Bool, true, false, not, List, [], ◌∷◌, length, map, nat_le, nat_lt, if◌then◌else◌, Option, Some, None, option_map, option_and_then, codes, String, string_bytes, Result, MatchResult, ⊤, refl}
 use Rattle.std.specs.List.{list_all, list_any, repeat}
 use Rattle.std.specs.Global.{Global}
 use Rattle.std.specs.Option.{option_map_or}
 use Rattle.std.specs.Char.{encode_utf8}
 use Rattle.std.specs.Str.{chars}
 use Rattle.clap.specs.Faults.{defaults_fault, flags_fault, walk_fault}
-use Rattle.clap.specs.Walk.{bundle_met, is_empty, texts, walked}
+use Rattle.clap.specs.Walk.{bundle_met, is_empty, walked}
 use Rattle.clap.specs.Words.{Row, Text, all_of, first_of, matches_of, fault_of}
 use Rattle.cool_words.specs.Commands.{app_for, command_of}
 use Rattle.cool_words.specs.Numbers.{IsWithin, number_in}
@@ -32,11 +32,11 @@ pub data Asked : Type 0 where
   big : ℕ → Asked
 
 abbrev pub asked_by : Plan → Asked
-asked_by (plan.Check files) = check (texts files.items)
-asked_by (plan.Asm files) = asm (texts files.items)
-asked_by (plan.Build files) = build (texts files.items)
-asked_by (plan.Run files limits) = run (texts files.items) limits
-asked_by (plan.Exec file limits) = exec file.now limits
+asked_by (plan.Check files) = check (words_of files.items)
+asked_by (plan.Asm files) = asm (words_of files.items)
+asked_by (plan.Build files) = build (words_of files.items)
+asked_by (plan.Run files limits) = run (words_of files.items) limits
+asked_by (plan.Exec file limits) = exec (string_bytes file) limits
 asked_by (plan.Big n) = big n
 
 -- ---- names and limits
@@ -55,8 +55,12 @@ past_the_longest = refl
 byte_0_in_it : is_file_name (97 ∷ 0 ∷ []) ≡ false
 byte_0_in_it = refl
 
+-- one name or more, each a file's
+abbrev pub are_file_names : List Text → Bool
+are_file_names names = nat_lt 0 (length names) && list_all is_file_name names
+
 abbrev pub if_names : List Text → Option (List Text)
-if_names names = if list_all is_file_name names then Some names else None
+if_names names = if are_file_names names then Some names else None
 
 abbrev pub files_in : List Row → Option (List Text)
 files_in rows = option_and_then if_names (all_of (codes "FILES") rows)
@@ -181,13 +185,13 @@ pub record IsBounded (limits : RunLimits) : Type 0 where
   pub steps : IsWithin 1 4611686018427387904 limits.steps
 
 abbrev pub HasFileNames : List Text → Type 0
-HasFileNames names = list_all is_file_name names ≡ true
+HasFileNames names = are_file_names names ≡ true
 
 -- the plan's names are those of files, and its numbers are in their bounds
 abbrev pub IsWithinBounds : Plan → Type 0
-IsWithinBounds (plan.Check files) = HasFileNames (texts files.items)
-IsWithinBounds (plan.Asm files) = HasFileNames (texts files.items)
-IsWithinBounds (plan.Build files) = HasFileNames (texts files.items)
-IsWithinBounds (plan.Run files limits) = HasFileNames (texts files.items) × IsBounded limits
-IsWithinBounds (plan.Exec file limits) = (is_file_name file.now ≡ true) × IsBounded limits
+IsWithinBounds (plan.Check files) = HasFileNames (words_of files.items)
+IsWithinBounds (plan.Asm files) = HasFileNames (words_of files.items)
+IsWithinBounds (plan.Build files) = HasFileNames (words_of files.items)
+IsWithinBounds (plan.Run files limits) = HasFileNames (words_of files.items) × IsBounded limits
+IsWithinBounds (plan.Exec file limits) = (is_file_name (string_bytes file) ≡ true) × IsBounded limits
 IsWithinBounds (plan.Big n) = IsWithin 1 300 n

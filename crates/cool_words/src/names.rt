@@ -1,18 +1,30 @@
 //! Names of files.
 
-ghost use Rattle.std.specs.Prelude.{◌≡◌};
-ghost use Rattle.std.specs.List.{list_all};
+ghost use Rattle.std.specs.Prelude.{◌≡◌, IfOk};
 ghost use Rattle.clap.specs.Walk.{texts};
-ghost use Rattle.cool_words.specs.Plans.{is_file_name};
+ghost use Rattle.cool_words.specs.Plans.{are_file_names, is_file_name, words_of};
+
+use std::alloc::{AllocError, Global};
 
 /// The most bytes of a file's name.
 const MOST_NAME_BYTES: usize = 4_096;
 
-/// Whether each is a file's name.
+/// Whether they are the names of files, one or more.
 pub(crate) fn are_file_names(names: &[&str]) -> bool
-    ensures { result ≡ list_all is_file_name (texts names.now) }
+    ensures { result ≡ are_file_names (texts names.now) }
 {
-    names.iter().all(|name| is_file_name(name))
+    !names.is_empty() && names.iter().all(|name| is_file_name(name))
+}
+
+/// The names, each in memory of its own. `Err` comes only for want of memory.
+pub(crate) fn copy_names(alloc: Global, names: &[&str]) -> Result<Vec<String>, AllocError>
+    ensures { IfOk result (λ copies. words_of copies.items ≡ texts names.now) }
+{
+    let mut copies = Vec::new(alloc);
+    for name in names {
+        copies.push(String::from_str(alloc, name)?)?;
+    }
+    Ok(copies)
 }
 
 /// Whether it has at most 4,096 bytes, none of them 0.

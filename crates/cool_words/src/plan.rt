@@ -13,27 +13,27 @@ pub struct RunLimits {
 
 /// What a command line asks for. Names are those of files, as the words have them.
 #[derive(Drop)]
-pub enum Plan<'a> {
+pub enum Plan {
     /// To say whether the files are a program.
     Check {
-        files: Vec<&'a str>,
+        files: Vec<String>,
     },
     /// To compile the files and run the program within the limits.
     Run {
-        files: Vec<&'a str>,
+        files: Vec<String>,
         limits: RunLimits,
     },
     /// To write the program's assembly.
     Asm {
-        files: Vec<&'a str>,
+        files: Vec<String>,
     },
     /// To write the program's image.
     Build {
-        files: Vec<&'a str>,
+        files: Vec<String>,
     },
     /// To run the image that the file is within the limits.
     Exec {
-        file: &'a str,
+        file: String,
         limits: RunLimits,
     },
     /// To write a program of size `n`.

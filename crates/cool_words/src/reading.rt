@@ -1,13 +1,12 @@
 //! From the words of a command line to a plan.
 
-ghost use Rattle.std.specs.Prelude.{◌≡◌, IfOk, IfSome, Err, Some, None, codes, true};
+ghost use Rattle.std.specs.Prelude.{◌≡◌, IfOk, IfSome, Err, Some, None, codes, string_bytes, true};
 ghost use Rattle.clap.specs.Words.{found_of, matches_of, rows_of, fault_of};
-ghost use Rattle.clap.specs.Walk.{texts};
 ghost use Rattle.cool_words.specs.Numbers.{IsWithin, number_in};
 ghost use Rattle.cool_words.specs.Plans.{Answers, HasFileNames, IsBounded, IsWithinBounds, asked_by, asked_of, file_in, files_in, is_file_name, limits_in, plan_by, plan_of, value_in, words_of};
 
 use crate::command_word::{CommandWord, command_of};
-use crate::names::{are_file_names, is_file_name};
+use crate::names::{are_file_names, copy_names, is_file_name};
 use crate::numbers::read_number;
 use crate::{Plan, RunLimits, WordsError};
 use clap::ArgMatches;
@@ -43,7 +42,7 @@ const MOST_SIZE: u64 = 300;
 /// `Usage` comes exactly where they are no command line: the first word is no command, clap refuses the words, a number
 /// is out of its bounds, or a file's name is longer than 4,096 bytes or holds a byte 0. `Memory` comes only for want of
 /// memory.
-pub fn read_words(alloc: Global, words: &[String]) -> Result<Plan<'_>, WordsError>
+pub fn read_words(alloc: Global, words: &[String]) -> Result<Plan, WordsError>
     // A plan is what the words ask for, and Usage comes only where they ask for nothing.
     ensures plan { IfOk result (λ p. plan_of (words_of words.now) ≡ Some (asked_by p)) }
     ensures usage { result ≡ Err WordsError.Usage → plan_of (words_of words.now) ≡ None }
@@ -62,11 +61,7 @@ pub fn read_words(alloc: Global, words: &[String]) -> Result<Plan<'_>, WordsErro
 }
 
 /// What the words ask for, of which the first is the command's.
-fn read_command<'a>(
-    alloc: Global,
-    command: CommandWord,
-    words: &'a [String],
-) -> Result<Plan<'a>, WordsError>
+fn read_command(alloc: Global, command: CommandWord, words: &[String]) -> Result<Plan, WordsError>
     ensures value { Answers asked_by (plan_by (words_of words.now) command) result }
     ensures bounds { IfOk result IsWithinBounds }
 {
@@ -81,11 +76,11 @@ fn read_command<'a>(
 }
 
 /// What the command asks for, by what clap found.
-fn read_matches<'a>(
+fn read_matches(
     alloc: Global,
     command: CommandWord,
-    matches: &ArgMatches<'a>,
-) -> Result<Plan<'a>, WordsError>
+    matches: &ArgMatches<'_>,
+) -> Result<Plan, WordsError>
     ensures value { Answers asked_by (asked_of command (rows_of (found_of matches.now))) result }
     ensures bounds { IfOk result IsWithinBounds }
 {
@@ -104,7 +99,7 @@ fn read_matches<'a>(
             limits: limits_of(matches)?,
         }),
         CommandWord::Exec => Ok(Plan::Exec {
-            file: file_of(matches)?,
+            file: file_of(alloc, matches)?,
             limits: limits_of(matches)?,
         }),
         CommandWord::Big => Ok(Plan::Big {
@@ -114,23 +109,23 @@ fn read_matches<'a>(
 }
 
 /// The names of the files.
-fn files_of<'a>(alloc: Global, matches: &ArgMatches<'a>) -> Result<Vec<&'a str>, WordsError>
-    ensures value { Answers (λ files. texts files.items) (files_in (rows_of (found_of matches.now))) result }
-    ensures bounds { IfOk result (λ files. HasFileNames (texts files.items)) }
+fn files_of(alloc: Global, matches: &ArgMatches<'_>) -> Result<Vec<String>, WordsError>
+    ensures value { Answers (λ files. words_of files.items) (files_in (rows_of (found_of matches.now))) result }
+    ensures bounds { IfOk result (λ files. HasFileNames (words_of files.items)) }
 {
     match matches.get_strs("FILES") {
-        Some(names) if are_file_names(names) => Ok(Vec::from_slice(alloc, names)?),
+        Some(names) if are_file_names(names) => Ok(copy_names(alloc, names)?),
         _ => Err(WordsError::Usage),
     }
 }
 
 /// The name of the one file.
-fn file_of<'a>(matches: &ArgMatches<'a>) -> Result<&'a str, WordsError>
-    ensures value { Answers (λ file. file.now) (file_in (rows_of (found_of matches.now))) result }
-    ensures bounds { IfOk result (λ file. is_file_name file.now ≡ true) }
+fn file_of(alloc: Global, matches: &ArgMatches<'_>) -> Result<String, WordsError>
+    ensures value { Answers string_bytes (file_in (rows_of (found_of matches.now))) result }
+    ensures bounds { IfOk result (λ file. is_file_name (string_bytes file) ≡ true) }
 {
     match matches.get_str("FILE") {
-        Some(name) if is_file_name(name) => Ok(name),
+        Some(name) if is_file_name(name) => Ok(String::from_str(alloc, name)?),
         _ => Err(WordsError::Usage),
     }
 }

@@ -1,11 +1,13 @@
-use Rattle.std.proofs.Common.{◌∙◌, sym}
+use Rattle.std.proofs.Common.{◌∙◌, sym, ap, Some}
 use Rattle.clap.specs.Words.{found_of}
 use Rattle.cool_words.proofs.FoundValues.{name_found, name_missing, name_refused}
 use Rattle.cool_words.proofs.reading.file_of.Goals as goal
 use Rattle.cool_words.proofs.reading.file_of.Goals.{in_default-via-in-Some+else-is_file_name, in_default-via-in_default}
 
-pub returns-in-Some-clause-value : goal.returns-in-Some-clause-value
-returns-in-Some-clause-value c = name_found (found_of c.args.matches.now) c.in-Some.name.now c.in-Some.ensures (sym c.is_file_name.ensures ∙ c.if-is_file_name.true)
+pub returns-in_ok-from_str-in-Some-clause-value : goal.returns-in_ok-from_str-in-Some-clause-value
+returns-in_ok-from_str-in-Some-clause-value c =
+    name_found (found_of c.args.matches.now) c.in-Some.name.now c.in-Some.ensures (sym c.is_file_name.ensures ∙ c.if-is_file_name.true)
+    ∙ ap Some (sym c.in_ok-from_str-in-Some.ensures.ok)
 
 pub returns-in_default-clause-value : goal.returns-in_default-clause-value
 returns-in_default-clause-value c = λ _. elim c.in_default.branch [

@@ -5,10 +5,10 @@ use Rattle.cool_words.proofs.FoundValues.{names_found, names_missing, names_refu
 use Rattle.cool_words.proofs.reading.files_of.Goals as goal
 use Rattle.cool_words.proofs.reading.files_of.Goals.{in_default-via-in-Some+else-are_file_names, in_default-via-in_default}
 
-pub returns-in_ok-from_slice-in-Some-clause-value : goal.returns-in_ok-from_slice-in-Some-clause-value
-returns-in_ok-from_slice-in-Some-clause-value c =
+pub returns-in_ok-copy_names-in-Some-clause-value : goal.returns-in_ok-copy_names-in-Some-clause-value
+returns-in_ok-copy_names-in-Some-clause-value c =
     names_found (found_of c.args.matches.now) (texts c.in-Some.names.now) c.in-Some.ensures (sym c.are_file_names.ensures ∙ c.if-are_file_names.true)
-    ∙ ap (λ names. Some (texts names)) (sym c.in_ok-from_slice-in-Some.ensures.items)
+    ∙ ap Some (sym c.in_ok-copy_names-in-Some.ensures)
 
 pub returns-in_default-clause-value : goal.returns-in_default-clause-value
 returns-in_default-clause-value c = λ _. elim c.in_default.branch [
