@@ -6,6 +6,7 @@ use Rattle.cool_faults.specs.Verdicts.{IsAccepted, IsFaultList}
 use Rattle.cool_faults.proofs.OneVerdict.{one_list, one_program}
 use Rattle.cool_ports.specs.ShelfFiles.{FileMap}
 use Rattle.mips_isa.specs.ImageBounds.{ImageParts}
+use Rattle.cool_words.specs.declared.plan.RunLimits.{RunLimits}
 use Rattle.cool_driver.specs.CommandLine.{plan_of}
 use Rattle.cool_driver.specs.Notes.{refused_note}
 use Rattle.cool_driver.specs.Ends.{Request, Due, IsRead, IsRunOf, MayRefuse, built_bytes, Told}
@@ -23,29 +24,29 @@ pub record Answers (command : Command) (names contents : List (List ℕ)) (fault
   pub built : (p : List Class) → command ≡ Build → IsAccepted contents p → (status ≡ 0) × (output ≡ built_bytes p names)
 
 -- `run` is not `check`
-run_or_check : (command : Command) → Run ≡ command → command ≡ Check → ⊥
-run_or_check command a b = let same = a ∙ b in cc
+run_or_check : (limits : RunLimits) (command : Command) → Run limits ≡ command → command ≡ Check → ⊥
+run_or_check limits command a b = let same = a ∙ b in cc
 
 -- neither of the two is `build`
-run_or_build : (command : Command) → Run ≡ command → command ≡ Build → ⊥
-run_or_build command a b = let same = a ∙ b in cc
+run_or_build : (limits : RunLimits) (command : Command) → Run limits ≡ command → command ≡ Build → ⊥
+run_or_build limits command a b = let same = a ∙ b in cc
 
 check_or_build : (command : Command) → Check ≡ command → command ≡ Build → ⊥
 check_or_build command a b = let same = a ∙ b in cc
 
 -- the run of an image answers the empty list of `run`
-answered_by_run : (r : Request) (files : FileMap) (found : ImageParts) (command : Command) (names contents : List (List ℕ)) (faults : List Fault) (status : ℕ) (output note : List ℕ) → IsRunOf r found
+answered_by_run : (r : Request) (files : FileMap) (limits : RunLimits) (found : ImageParts) (command : Command) (names contents : List (List ℕ)) (faults : List Fault) (status : ℕ) (output note : List ℕ) → IsRunOf r limits found
     → Told r files → IsRead r command names contents → MayRefuse command contents → IsFaultList contents faults → Answers command names contents faults status output note
-answered_by_run r files found command names contents faults status output note (of_file name bytes read' is) told read may list =
-    absurd (may_refuse r files command Exec names (name ∷ []) contents (bytes ∷ []) told read read' may)
-answered_by_run r files found command names contents faults status output note (of_program names' contents' p read' other is made) told read may list =
-    let same = same_read r files Run command names' names contents' contents told read' read in
+answered_by_run r files limits found command names contents faults status output note (of_file name bytes read' is) told read may list =
+    absurd (may_refuse r files command (Exec limits) names (name ∷ []) contents (bytes ∷ []) told read read' may)
+answered_by_run r files limits found command names contents faults status output note (of_program names' contents' p read' other is made) told read may list =
+    let same = same_read r files (Run limits) command names' names contents' contents told read' read in
     let none : faults ≡ [] = one_list contents faults [] list (subst (λ (cs : List (List ℕ)). IsFaultList cs []) same is.list) in
-    let asked = (same_plan (plan_of r.words) Run command names' names read'.plan read.plan).0 in
+    let asked = (same_plan (plan_of r.words) (Run limits) command names' names read'.plan read.plan).0 in
     record {
       refused = λ some. absurd (some none);
-      checked = λ check _. absurd (run_or_check command asked check);
-      built = λ q build _. absurd (run_or_build command asked build);
+      checked = λ check _. absurd (run_or_check limits command asked check);
+      built = λ q build _. absurd (run_or_build limits command asked build);
     }
 
 -- what is due answers the fault list
@@ -81,14 +82,14 @@ answered r _ _ _ _ files command names contents faults (refused command' names' 
       checked = λ _ none. absurd (is.some (one ∙ none));
       built = λ q _ accepted. absurd (is.some (one ∙ one_list contents faults [] list accepted.list));
     }
-answered r _ _ _ _ files command names contents faults (ran names' contents' strings' read' is) told read may list =
-    absurd (may_refuse r files command Run names names' contents contents' told read read' may strings' is)
-answered r _ _ _ _ files command names contents faults (executed found run) told read may list = answered_by_run r files _ command names contents faults _ _ _ run told read may list
-answered r _ _ _ _ files command names contents faults (unread_input found at output left run comes fails) told read may list = answered_by_run r files _ command names contents faults _ _ _ run told read may list
-answered r _ _ _ _ files command names contents faults (unfit name bytes fault read' binary is) told read may list =
-    absurd (may_refuse r files command Exec names (name ∷ []) contents (bytes ∷ []) told read read' may)
-answered r _ _ _ _ files command names contents faults (misread name bytes fault read' text) told read may list =
-    absurd (may_refuse r files command Exec names (name ∷ []) contents (bytes ∷ []) told read read' may)
+answered r _ _ _ _ files command names contents faults (ran limits names' contents' strings' read' is) told read may list =
+    absurd (may_refuse r files command (Run limits) names names' contents contents' told read read' may strings' is)
+answered r _ _ _ _ files command names contents faults (executed limits found run) told read may list = answered_by_run r files _ _ command names contents faults _ _ _ run told read may list
+answered r _ _ _ _ files command names contents faults (unread_input limits found at output left run comes fails) told read may list = answered_by_run r files _ _ command names contents faults _ _ _ run told read may list
+answered r _ _ _ _ files command names contents faults (unfit limits name bytes fault read' binary is) told read may list =
+    absurd (may_refuse r files command (Exec limits) names (name ∷ []) contents (bytes ∷ []) told read read' may)
+answered r _ _ _ _ files command names contents faults (misread limits name bytes fault read' text) told read may list =
+    absurd (may_refuse r files command (Exec limits) names (name ∷ []) contents (bytes ∷ []) told read read' may)
 answered r _ _ _ _ files command names contents faults (usage plan calm) told read may list = absurd (no_plan_and_plan _ _ _ plan read.plan)
 answered r _ _ _ _ files command names contents faults (too_many command' names' plan many calm) told read may list = absurd (no_file_fault r files _ _ _ _ _ told read plan (inl (many, calm)))
 answered r _ _ _ _ files command names contents faults (missing command' name contents' u gone) told read may list =

@@ -6,28 +6,29 @@ use Rattle.cool_faults.specs.Files.{total}
 use Rattle.cool_ports.specs.ShelfFiles.{FileMap}
 use Rattle.cool_ports.specs.declared.shelf.ShelfFault.{ShelfFault}
 use Rattle.cool_ports.specs.declared.shelf.ShelfFault.TheVariants as faults
+use Rattle.cool_words.specs.declared.plan.RunLimits.{RunLimits}
+use Rattle.cool_words.specs.Plans.{IsBounded}
 use Rattle.cool_driver.specs.CommandLine.{is_number_of_files, plan_of, most_bytes}
 use Rattle.cool_driver.specs.Notes.{missing_note, unread_note, too_large_note, too_many_note}
 use Rattle.cool_driver.specs.Ends.{Request, Due, IsRead, IsReadUpTo, AreHeld}
 use Rattle.cool_driver.specs.Ends.Due.{checked, refused, unfit, misread, too_many, missing, unread, too_large}
 use Rattle.cool_driver.specs.Ends.IsRunOf.{of_file, of_program}
 use Rattle.cool_driver.specs.Reading.{IsStopAt}
-use Rattle.cool_driver.specs.Tasks.{fault_note, IsTaskOf, IsTaskOfFile, IsTaskOfChecked, IsTaskOfBuilt, IsTaskOfRun, IsLine, IsDue, IsFileTask}
+use Rattle.cool_driver.specs.Tasks.{fault_note, IsTaskOf, IsTaskOfFile, IsTaskOfChecked, IsTaskOfBuilt, IsTaskOfRun, IsLine, HasLimits, IsDue, IsFileTask}
 use Rattle.cool_driver.specs.declared.command_line.Command.{Command}
 use Rattle.cool_driver.specs.declared.command_line.Command.TheVariants as command
 use Rattle.cool_driver.specs.declared.status.Status.TheVariants as statuses
 use Rattle.cool_driver.specs.declared.task.Task.{Task}
 use Rattle.cool_driver.specs.declared.task.Task.TheVariants.{Tell, Write, Run, Execute}
 use Rattle.cool_driver.proofs.NoteLines.{line_due}
-use Rattle.cool_driver.proofs.Plans.{plan_parts}
 
 -- for files that `check` names
 checked_due : (r : Request) (names contents : List (List ℕ)) (task : Task) → IsRead r command.Check names contents → IsTaskOfChecked names contents task → IsDue r task
 checked_due r names contents (Tell status lines) read (are, inl h) = rw (h.0, h.1) (checked names contents h.2.0 read h.2.1, are, λ e. omega (arith, e))
 checked_due r names contents (Tell status lines) read (are, inr h) = rw (h.0, h.1.2) (refused command.Check names contents h.1.0 read tt h.1.1, are, λ e. omega (arith, e))
 checked_due r names contents (Write made) read h = absurd h
-checked_due r names contents (Run image) read h = absurd h
-checked_due r names contents (Execute image) read h = absurd h
+checked_due r names contents (Run within image) read h = absurd h
+checked_due r names contents (Execute within image) read h = absurd h
 
 -- for files that `build` names
 built_due : (r : Request) (names contents : List (List ℕ)) (task : Task) → IsRead r command.Build names contents
@@ -35,38 +36,47 @@ built_due : (r : Request) (names contents : List (List ℕ)) (task : Task) → I
 built_due r names contents (Tell status lines) read (are, one, h) =
     rw (one, h.2) (refused command.Build names contents h.0 read tt h.1, are, λ e. omega (arith, e))
 built_due r names contents (Write made) read h = (names, contents, h.0, read, h.1, h.2)
-built_due r names contents (Run image) read h = absurd h
-built_due r names contents (Execute image) read h = absurd h
+built_due r names contents (Run within image) read h = absurd h
+built_due r names contents (Execute within image) read h = absurd h
 
 -- for files that `run` names
-run_due : (r : Request) (names contents : List (List ℕ)) (task : Task) → IsRead r command.Run names contents → IsTaskOfRun names contents task → IsDue r task
-run_due r names contents (Tell status lines) read (are, other, one, h) = rw (one, h.2) (refused command.Run names contents h.0 read other h.1, are, λ e. omega (arith, e))
-run_due r names contents (Write made) read h = absurd h
-run_due r names contents (Run image) read h = (names, contents, h.0, read, h.1, h.2)
-run_due r names contents (Execute image) read h = of_program names contents h.0 read h.1 h.2 h.3
+run_due : (r : Request) (limits : RunLimits) (names contents : List (List ℕ)) (task : Task) → IsBounded limits → IsRead r (command.Run limits) names contents
+    → IsTaskOfRun limits names contents task → IsDue r task
+run_due r limits names contents (Tell status lines) bounded read (are, other, one, h) =
+    rw (one, h.2) (refused (command.Run limits) names contents h.0 read other h.1, are, λ e. omega (arith, e))
+run_due r limits names contents (Write made) bounded read h = absurd h
+run_due r limits names contents (Run within image) bounded read (same, h) =
+    rw same (bounded, (names, contents, h.0, read, h.1, h.2))
+run_due r limits names contents (Execute within image) bounded read (same, h) =
+    rw same (bounded, of_program names contents h.0 read h.1 h.2 h.3)
 
 -- for the file that `exec` names
-file_due : (r : Request) (name bytes : List ℕ) (task : Task) → IsRead r command.Exec (name ∷ []) (bytes ∷ []) → IsTaskOfFile name bytes task → IsDue r task
-file_due r name bytes (Tell status lines) read (twelve, are, inl h) = rw (twelve, h.1) (unfit name bytes h.0 read h.2 h.3, are, λ e. omega (arith, e))
-file_due r name bytes (Tell status lines) read (twelve, are, inr h) = rw (twelve, h.1) (misread name bytes h.0 read h.2, are, λ e. omega (arith, e))
-file_due r name bytes (Write made) read h = absurd h
-file_due r name bytes (Run image) read h = absurd h
-file_due r name bytes (Execute image) read h = of_file name bytes read h
+file_due : (r : Request) (limits : RunLimits) (name bytes : List ℕ) (task : Task) → IsBounded limits → IsRead r (command.Exec limits) (name ∷ []) (bytes ∷ [])
+    → IsTaskOfFile limits name bytes task → IsDue r task
+file_due r limits name bytes (Tell status lines) bounded read (twelve, are, inl h) =
+    rw (twelve, h.1) (unfit limits name bytes h.0 read h.2 h.3, are, λ e. omega (arith, e))
+file_due r limits name bytes (Tell status lines) bounded read (twelve, are, inr h) =
+    rw (twelve, h.1) (misread limits name bytes h.0 read h.2, are, λ e. omega (arith, e))
+file_due r limits name bytes (Write made) bounded read h = absurd h
+file_due r limits name bytes (Run within image) bounded read h = absurd h
+file_due r limits name bytes (Execute within image) bounded read (same, h) = rw same (bounded, of_file name bytes read h)
 
 -- `exec` names one file
-exec_due : (r : Request) (names contents : List (List ℕ)) (task : Task) → IsRead r command.Exec names contents → length names ≡ 1 → AreHeld r.files names contents → IsTaskOf command.Exec names contents task → IsDue r task
-exec_due r [] contents task read one held h = absurd (omega arith)
-exec_due r (name ∷ []) [] task read one held h = absurd held
-exec_due r (name ∷ []) (bytes ∷ []) task read one held h = file_due r name bytes task read h
-exec_due r (name ∷ []) (bytes ∷ more ∷ contents) task read one held h = absurd held.1
-exec_due r (name ∷ more ∷ names) contents task read one held h = absurd (omega arith)
+exec_due : (r : Request) (limits : RunLimits) (names contents : List (List ℕ)) (task : Task) → IsBounded limits → IsRead r (command.Exec limits) names contents → length names ≡ 1
+    → AreHeld r.files names contents → IsTaskOf (command.Exec limits) names contents task → IsDue r task
+exec_due r limits [] contents task bounded read one held h = absurd (omega arith)
+exec_due r limits (name ∷ []) [] task bounded read one held h = absurd held
+exec_due r limits (name ∷ []) (bytes ∷ []) task bounded read one held h = file_due r limits name bytes task bounded read h
+exec_due r limits (name ∷ []) (bytes ∷ more ∷ contents) task bounded read one held h = absurd held.1
+exec_due r limits (name ∷ more ∷ names) contents task bounded read one held h = absurd (omega arith)
 
 -- for files that were read
-task_due : (r : Request) (asked : Command) (names contents : List (List ℕ)) (task : Task) → IsRead r asked names contents → is_number_of_files asked (length names) ≡ true → IsTaskOf asked names contents task → IsDue r task
-task_due r command.Check names contents task read number h = checked_due r names contents task read h
-task_due r command.Build names contents task read number h = built_due r names contents task read h
-task_due r command.Run names contents task read number h = run_due r names contents task read h
-task_due r command.Exec names contents task read number h = exec_due r names contents task read (eqb-true (length names) 1 number) read.held h
+task_due : (r : Request) (asked : Command) (names contents : List (List ℕ)) (task : Task) → HasLimits asked → IsRead r asked names contents
+    → is_number_of_files asked (length names) ≡ true → IsTaskOf asked names contents task → IsDue r task
+task_due r command.Check names contents task bounded read number h = checked_due r names contents task read h
+task_due r command.Build names contents task bounded read number h = built_due r names contents task read h
+task_due r (command.Run limits) names contents task bounded read number h = run_due r limits names contents task bounded read h
+task_due r (command.Exec limits) names contents task bounded read number h = exec_due r limits names contents task bounded read (eqb-true (length names) 1 number) read.held h
 
 -- what follows for each task follows for one that was made
 pub for_task : {E : Type 0} (P Q : Task → Type 0) (result : Result Task E) → ((task : Task) → P task → Q task) → IfOk result P → IfOk result Q
@@ -75,11 +85,12 @@ for_task P Q (Ok task) f h = f task h
 
 -- for files that were read, for any words that ask for them and over any input
 pub file_task : (files : Option FileMap) (before after : ℕ) (asked : Command) (names contents : List (List ℕ)) (task : Task)
+    → HasLimits asked → is_number_of_files asked (length names) ≡ true
     → AreHeld files names contents → length names ≤ MOST_FILES → total contents ≤ most_bytes asked → after ≡ before → IsTaskOf asked names contents task → IsFileTask files before after asked names task
-file_task files before after asked names contents task held few within calm h words input plan =
+file_task files before after asked names contents task bounded number held few within calm h words input plan =
     let r : Request = record { words = words; files = files; faults_before = before; faults_after = after; input = input } in
     let read : IsRead r asked names contents = record { plan = plan; few = few; held = held; within = within; calm = calm } in
-    task_due r asked names contents task read (plan_parts words names asked plan).0 h
+    task_due r asked names contents task bounded read number h
 
 -- for too many files
 pub many_task : (files : Option FileMap) (faults : ℕ) (asked : Command) (names : List (List ℕ)) (task : Task) → MOST_FILES < length names → IsLine statuses.FileFault too_many_note task → IsFileTask files faults faults asked names task

@@ -6,10 +6,12 @@ use Rattle.mips_isa.specs.ImageBounds.{ImageParts, IsImage, text_start}
 use Rattle.mips_isa.specs.Calls.{State, Exited}
 use Rattle.mips_isa.specs.Run.{run, start}
 use Rattle.cool_driver.specs.Emitted.{HasNoZero, exit_words, prints, data_of, text_of}
-use Rattle.cool_driver.specs.Execution.{run_of, segments_by_default}
+use Rattle.cool_driver.specs.Execution.{heap_of, run_of, segments_within, stack_of}
 use Rattle.cool_driver.specs.Tasks.{Prints}
-use Rattle.cool_driver.specs.declared.TheConstants.{DEFAULT_HEAP, DEFAULT_STACK, DEFAULT_STEPS}
+use Rattle.cool_words.specs.declared.plan.RunLimits.{RunLimits}
+use Rattle.cool_driver.specs.declared.TheConstants.{SIMPLE_STEPS}
 use Rattle.cool_driver.proofs.RunningPrints.{text_prints}
+use Rattle.cool_driver.proofs.RunsWithinLimits.{run_of-is}
 
 -- a print has five words
 length-prints : (address : ℕ) (strings : List (List ℕ)) → length (prints address strings) ≡ 5 * length strings
@@ -35,22 +37,18 @@ made_is_image image strings entry text bytes few small =
       to = omega (arith, entry, words);
     }
 
--- the run of an image, with its number of instructions
-run_is : (image : ImageParts) (input : List ℕ) → run_of image input ≡ run image.text (segments_by_default image) DEFAULT_STEPS (start image (segments_by_default image) input)
-unfolding run_of
-run_is image input = refl
-
 -- an image prints and exits where some number of instructions, with which it runs, is enough
-prints_within : (image : ImageParts) (strings : List (List ℕ)) (n : ℕ) (input : List ℕ) → image.entry ≡ text_start → image.text ≡ text_of strings → image.bytes ≡ data_of strings
+prints_within : (limits : RunLimits) (image : ImageParts) (strings : List (List ℕ)) (n : ℕ) (input : List ℕ) → image.entry ≡ text_start → image.text ≡ text_of strings → image.bytes ≡ data_of strings
     → IsImage image → AllByRecursion HasNoZero strings → 5 * length strings + 3 ≤ n
-    → run_of image input ≡ run image.text (segments_by_default image) n (start image (segments_by_default image) input)
-    → (end : State) × (run_of image input ≡ Exited 0 end) × (end.output ≡ concat strings) × (end.input ≡ input)
-prints_within image strings n input entry text bytes bounds plain enough is =
-    let printed = text_prints strings image DEFAULT_HEAP DEFAULT_STACK n input entry text bytes bounds.text bounds.bytes plain enough in
+    → run_of limits image input ≡ run image.text (segments_within limits image) n (start image (segments_within limits image) input)
+    → (end : State) × (run_of limits image input ≡ Exited 0 end) × (end.output ≡ concat strings) × (end.input ≡ input)
+prints_within limits image strings n input entry text bytes bounds plain enough is =
+    let printed = text_prints strings image (heap_of limits) (stack_of limits) n input entry text bytes bounds.text bounds.bytes plain enough in
     (printed.0, is ∙ printed.1, printed.2, printed.3)
 
 -- the words and the data of strings print them
 pub made_prints : (image : ImageParts) (strings : List (List ℕ)) → image.entry ≡ text_start → image.text ≡ text_of strings → image.bytes ≡ data_of strings
-    → IsImage image → length strings ≤ 801 → AllByRecursion HasNoZero strings → Prints image (concat strings)
-made_prints image strings entry text bytes bounds few plain input =
-    prints_within image strings DEFAULT_STEPS input entry text bytes bounds plain (omega (arith, few)) (run_is image input)
+    → IsImage image → length strings ≤ 801 → AllByRecursion HasNoZero strings
+    → (limits : RunLimits) → SIMPLE_STEPS ≤ limits.steps → Prints limits image (concat strings)
+made_prints image strings entry text bytes bounds few plain limits enough input =
+    prints_within limits image strings limits.steps input entry text bytes bounds plain (omega (arith, few, enough)) (run_of-is limits image input)

@@ -75,10 +75,10 @@ ends_found c status found calm written =
       refused_exactly = λ files command names contents faults told read may list some _ _.
           let a = answer command names contents faults files told read may list in
           ((a.refused some).0, subst (Got c.notes) (a.refused some).1 written.4);
-      ran_exactly = λ files names contents strings told read simple _ _. findings.ran_exactly r status files names contents strings found told read simple;
-      compiled_exactly = λ files names contents p told read other is _ _. findings.compiled_exactly r status files names contents p found told read other is;
-      unfit_exactly = λ files name bytes told read binary none _ _. findings.unfit_exactly r status files name bytes found told read binary none;
-      executed_exactly = λ files name bytes image told read is _ _. findings.executed_exactly r status files name bytes image found told read is;
+      ran_exactly = λ files limits names contents strings told read simple _ _. findings.ran_exactly r status files limits names contents strings found told read simple;
+      compiled_exactly = λ files limits names contents p told read other is _ _. findings.compiled_exactly r status files limits names contents p found told read other is;
+      unfit_exactly = λ files limits name bytes told read binary none _ _. findings.unfit_exactly r status files limits name bytes found told read binary none;
+      executed_exactly = λ files limits name bytes image told read is _ _. findings.executed_exactly r status files limits name bytes image found told read is;
       no_less = record {
         files = findings.shelf_no_less r status found;
         input = input_no_less status c.input_before c.input_after calm.input calm.read_fault;
@@ -101,8 +101,8 @@ ends_written c status output note due out notes calm rose =
 -- what was read before a write failed
 read_of : (r : Request) (bytes more left : List ℕ) → Writing r bytes more left → r.faults_after ≡ r.faults_before
 read_of r _ _ _ (by_build names contents p read is) = read.calm
-read_of r _ _ _ (by_run names contents strings read is) = read.calm
-read_of r _ _ _ (by_image image at printed is comes prints) = (read_for_run r image is).3.calm
+read_of r _ _ _ (by_run limits names contents strings read is) = read.calm
+read_of r _ _ _ (by_image limits image at printed is comes prints) = (read_for_run r limits image is).3.calm
 
 -- no count fell where a write failed
 no_less_of : (c : Call) → FailedOutput c ⊎ FailedNote c → c.input_before ≤ c.input_after → NoLess c
@@ -138,10 +138,10 @@ ends_write_fault c rose part input = record {
   checked_exactly = λ files names contents faults told read list other _. absurd (other refl);
   built_exactly = λ files names contents p told read is other _. absurd (other refl);
   refused_exactly = λ files command names contents faults told read may list some other _. absurd (other refl);
-  ran_exactly = λ files names contents strings told read form other _. absurd (other refl);
-  compiled_exactly = λ files names contents p told read form is other _. absurd (other refl);
-  unfit_exactly = λ files name bytes told read binary none other _. absurd (other refl);
-  executed_exactly = λ files name bytes image told read is other _. absurd (other refl);
+  ran_exactly = λ files limits names contents strings told read form other _. absurd (other refl);
+  compiled_exactly = λ files limits names contents p told read form is other _. absurd (other refl);
+  unfit_exactly = λ files limits name bytes told read binary none other _. absurd (other refl);
+  executed_exactly = λ files limits name bytes image told read is other _. absurd (other refl);
   out_fault = λ _. refl;
   notes_fault = λ _. refl;
   input_fault = λ _. inr refl;
@@ -166,10 +166,10 @@ ends_without_memory c files out notes left calm = record {
   checked_exactly = λ files names contents faults told read list _ other. absurd (other refl);
   built_exactly = λ files names contents p told read is _ other. absurd (other refl);
   refused_exactly = λ files command names contents faults told read may list some _ other. absurd (other refl);
-  ran_exactly = λ files names contents strings told read form _ other. absurd (other refl);
-  compiled_exactly = λ files names contents p told read form is _ other. absurd (other refl);
-  unfit_exactly = λ files name bytes told read binary none _ other. absurd (other refl);
-  executed_exactly = λ files name bytes image told read is _ other. absurd (other refl);
+  ran_exactly = λ files limits names contents strings told read form _ other. absurd (other refl);
+  compiled_exactly = λ files limits names contents p told read form is _ other. absurd (other refl);
+  unfit_exactly = λ files limits name bytes told read binary none _ other. absurd (other refl);
+  executed_exactly = λ files limits name bytes image told read is _ other. absurd (other refl);
   out_fault = λ more. absurd (omega (arith, out.1, more));
   notes_fault = λ more. absurd (omega (arith, notes.1, more));
   input_fault = λ more. absurd (omega (arith, calm, more));

@@ -16,38 +16,40 @@ use Rattle.spim_machine.specs.declared.halt.Halt.TheVariants as halts
 use Rattle.spim_machine.specs.Input.{Took}
 use Rattle.spim_machine.specs.Machine.{MachineParts, state_of, IsIn}
 use Rattle.spim_machine.specs.Ends.{Counted, FailsReading, Ran}
-use Rattle.cool_driver.specs.declared.TheConstants.{DEFAULT_HEAP, DEFAULT_STACK, DEFAULT_STEPS}
+use Rattle.cool_words.specs.declared.plan.RunLimits.{RunLimits}
 use Rattle.cool_driver.specs.declared.status.Status.{Status}
 use Rattle.cool_driver.specs.Notes.{read_fault_note, step_limit_note, heap_limit_note, stack_limit_note, trap_note}
-use Rattle.cool_driver.specs.Execution.{segments_by_default, run_of, left_by, status_of, note_of}
+use Rattle.cool_driver.specs.Execution.{heap_of, segments_within, stack_of, run_of, left_by, status_of, note_of}
 use Rattle.cool_driver.specs.Ends.{Request, Due, IsRunOf, Writing, Got, GotPart, Call, Ends}
 use Rattle.cool_driver.specs.Ends.Due.{executed, unread_input}
 use Rattle.cool_driver.specs.Ends.Writing.{by_image}
 use Rattle.cool_driver.specs.Tasks.{code_of, Noted}
-use Rattle.cool_driver.proofs.RunsByDefault.{run_of-is, ran_by_default}
+use Rattle.cool_driver.proofs.RunsWithinLimits.{run_of-is, ran_within}
 use Rattle.cool_driver.proofs.EndsOfDue.{ends_written, ends_write_fault, input_no_less}
 
 -- The run of an image in a call: how it ended, and the counts of faults.
 pub record IsRun (c : Call) (halt : Halt) : Type 0 where
+  pub limits : RunLimits
   pub image : ImageParts
-  pub is : IsRunOf c.request image
+  pub is : IsRunOf c.request limits image
   pub last : MachineParts
-  pub ran : Ran image.text (segments_by_default image) DEFAULT_STEPS (start image (segments_by_default image) c.request.input) c.out.held_before halt last (Some c.left) c.out.held_after
+  pub ran : Ran image.text (segments_within limits image) limits.steps (start image (segments_within limits image) c.request.input) c.out.held_before halt last (Some c.left) c.out.held_after
   pub counted : Counted halt c.input_before c.input_after c.out.faults_before c.out.faults_after
 
 -- of a machine that was loaded with it
-pub is_run : (c : Call) (image : ImageParts) (heap stack : ℕ) (loaded last : MachineParts) (halt halt' : Halt)
-    → heap ≡ DEFAULT_HEAP → stack ≡ DEFAULT_STACK
+pub is_run : (c : Call) (limits : RunLimits) (image : ImageParts) (heap stack : ℕ) (loaded last : MachineParts) (halt halt' : Halt)
+    → heap ≡ heap_of limits → stack ≡ stack_of limits
     → ((input : List ℕ) → state_of loaded input [] ≡ start image (segments_of image heap stack) input) → loaded.cpu.memory.text ≡ image.text → segments loaded.cpu.memory ≡ segments_of image heap stack
-    → ((first : Option (List ℕ)) (s : State) → IsIn first s loaded (Some c.request.input) c.out.held_before → Ran loaded.cpu.memory.text (segments loaded.cpu.memory) DEFAULT_STEPS s first halt last (Some c.left) c.out.held_after)
+    → ((first : Option (List ℕ)) (s : State) → IsIn first s loaded (Some c.request.input) c.out.held_before → Ran loaded.cpu.memory.text (segments loaded.cpu.memory) limits.steps s first halt last (Some c.left) c.out.held_after)
     → Counted halt c.input_before c.input_after c.out.faults_before c.out.faults_after
-    → halt ≡ halt' → IsRunOf c.request image → IsRun c halt'
-is_run c image heap stack loaded last halt halt' least most state text same ran counted ends is =
+    → halt ≡ halt' → IsRunOf c.request limits image → IsRun c halt'
+is_run c limits image heap stack loaded last halt halt' least most state text same ran counted ends is =
     subst (λ (h : Halt). IsRun c h) ends (record {
+      limits = limits;
       image = image;
       is = is;
       last = last;
-      ran = ran_by_default image heap stack loaded last DEFAULT_STEPS c.request.input halt (Some c.request.input) c.out.held_before (Some c.left) c.out.held_after least most (state c.request.input) text same refl ran;
+      ran = ran_within limits image heap stack loaded last limits.steps c.request.input halt (Some c.request.input) c.out.held_before (Some c.left) c.out.held_after least most (state c.request.input) text same refl ran;
       counted = counted;
     })
 
@@ -79,10 +81,10 @@ noted_ends c status answered note f (inr (is, part)) =
     subst (λ (s : Status). Ends c (code_of s)) (sym is) (note_failed c (code_of status) note f part)
 
 -- what is due for a run that ended so
-executed_so : (r : Request) (image : ImageParts) (o : Outcome) → IsRunOf r image → run_of image r.input ≡ o
+executed_so : (r : Request) (limits : RunLimits) (image : ImageParts) (o : Outcome) → IsRunOf r limits image → run_of limits image r.input ≡ o
     → Due r (status_of o) (left_by o).output (note_of o) (left_by o).input
-executed_so r image o is ends =
-    subst (λ (o : Outcome). Due r (status_of o) (left_by o).output (note_of o) (left_by o).input) ends (executed image is)
+executed_so r limits image o is ends =
+    subst (λ (o : Outcome). Due r (status_of o) (left_by o).output (note_of o) (left_by o).input) ends (executed limits image is)
 
 -- a kind of end, with its status and its note whatever state is left
 record IsKind (build : State → Outcome) (status : ℕ) (note : List ℕ) : Type 0 where
@@ -103,10 +105,10 @@ some_same a b e = cc
 
 -- an end of that kind
 finished_so : (c : Call) (halt : Halt) (h : IsRun c halt) (build : State → Outcome) (status : ℕ) (note : List ℕ) → IsKind build status note
-    → (end : State) × (run_of h.image c.request.input ≡ build end) × IsIn c.out.held_before end h.last (Some c.left) c.out.held_after
+    → (end : State) × (run_of h.limits h.image c.request.input ≡ build end) × IsIn c.out.held_before end h.last (Some c.left) c.out.held_after
     → c.input_after ≡ c.input_before → c.out.faults_after ≡ c.out.faults_before → status ≢ 7 → IsFinished c status note
 finished_so c halt h build status note kind (end, ran, stands) input out other =
-    let due = executed_so c.request h.image (build end) h.is ran in
+    let due = executed_so c.request h.limits h.image (build end) h.is ran in
     let left : (left_by (build end)).input ≡ c.left = ap (λ (s : State). s.input) (kind.left_is end) ∙ some_same end.input c.left (sym stands.input) in
     record {
       output = end.output;
@@ -119,7 +121,7 @@ finished_so c halt h build status note kind (end, ran, stands) input out other =
 -- an exit
 exited : (c : Call) (code status : ℕ) (note : List ℕ) → IsRun c (halts.Exit code) → IsKind (Exited code) status note → status ≢ 7 → IsFinished c status note
 exited c code status note h kind other =
-    finished_so c (halts.Exit code) h (Exited code) status note kind (let (end, ran, stands) = h.ran in (end, run_of-is h.image c.request.input ∙ ran, stands)) h.counted.0 h.counted.1 other
+    finished_so c (halts.Exit code) h (Exited code) status note kind (let (end, ran, stands) = h.ran in (end, run_of-is h.limits h.image c.request.input ∙ ran, stands)) h.counted.0 h.counted.1 other
 
 -- the codes 0, 4 and 5, and every other one
 pub exited_done : (c : Call) → IsRun c (halts.Exit 0) → IsFinished c 0 []
@@ -145,13 +147,13 @@ pub trapped : (c : Call) (trap : Trap) (note : List ℕ) → note ≡ trap_note 
 trapped c trap note is h =
     subst (λ (n : List ℕ). IsFinished c 11 n) (sym is)
     (finished_so c (halts.Trap trap) h (Trapped trap) 11 (trap_note trap) (record { left_is = λ _. refl; status_is = λ _. refl; note_is = λ _. refl })
-    (let (end, ran, stands) = h.ran in (end, run_of-is h.image c.request.input ∙ ran, stands)) h.counted.0 h.counted.1 (λ e. absurd (omega (arith, e))))
+    (let (end, ran, stands) = h.ran in (end, run_of-is h.limits h.image c.request.input ∙ ran, stands)) h.counted.0 h.counted.1 (λ e. absurd (omega (arith, e))))
 
 -- no end within the steps
 pub at_step_limit : (c : Call) → IsRun c halts.StepLimit → IsFinished c 6 step_limit_note
 at_step_limit c h =
     finished_so c halts.StepLimit h Running 6 step_limit_note (record { left_is = λ _. refl; status_is = λ _. refl; note_is = λ _. refl })
-    (let (end, ran, stands) = h.ran in (end, run_of-is h.image c.request.input ∙ ran, stands)) h.counted.0 h.counted.1 (λ e. absurd (omega (arith, e)))
+    (let (end, ran, stands) = h.ran in (end, run_of-is h.limits h.image c.request.input ∙ ran, stands)) h.counted.0 h.counted.1 (λ e. absurd (omega (arith, e)))
 
 -- a sink that held nothing holds just what it got
 got_alone : (bytes : List ℕ) → Some bytes ≡ appended (Some []) bytes
@@ -176,7 +178,7 @@ read_failed c h =
     let (at, comes, fails) = h.ran in
     record {
       output = at.output;
-      due = unread_input h.image at at.output c.left h.is comes (fails_alone _ at _ _ _ fails);
+      due = unread_input h.limits h.image at at.output c.left h.is comes (fails_alone _ at _ _ _ fails);
       out = (fails.held_is, h.counted.1);
       calm = λ other. absurd (other refl);
       rose = λ _. h.counted.0;
@@ -186,7 +188,7 @@ read_failed c h =
 pub write_failed : (c : Call) → Got c.notes [] → IsRun c halts.WriteFault → Ends c 8
 write_failed c notes h =
     let (at, comes, fails) = h.ran in
-    let writing = by_image h.image at fails.bytes h.is comes fails.prints in
+    let writing = by_image h.limits h.image at fails.bytes h.is comes fails.prints in
     let left : at.input ≡ c.left = some_same at.input c.left (sym fails.left_is) in
     ends_write_fault c (inl h.counted.1) (inl (at.output, fails.bytes, subst (λ (l : List ℕ). Writing c.request at.output fails.bytes l) left writing, (fails.held_is, h.counted.1), notes)) (omega (arith, h.counted.0))
 

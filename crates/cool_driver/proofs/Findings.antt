@@ -17,14 +17,15 @@ use Rattle.mips_image.specs.declared.image_error.ImageError.{ImageError}
 use Rattle.cool_emit.specs.Programs.{program_lines}
 use Rattle.cool_driver.specs.CommandLine.{plan_of, most_bytes}
 use Rattle.cool_driver.specs.Execution.{IsImageOf, is_text_file, run_of, status_of}
-use Rattle.cool_driver.specs.SimpleFiles.{AreSimple, AreNotSimple}
+use Rattle.cool_words.specs.declared.plan.RunLimits.{RunLimits}
+use Rattle.cool_driver.specs.SimpleFiles.{RunSimply, RunOtherwise}
 use Rattle.cool_driver.specs.Ends.{Request, Due, IsRead, IsRunOf, AreHeld, MayRefuse, Told}
 use Rattle.cool_driver.specs.Ends.Due.{checked, built, refused, ran, executed, unread_input, unfit, misread, usage, too_many, missing, unread, too_large}
 use Rattle.cool_driver.specs.declared.command_line.Command.{Command}
 use Rattle.cool_driver.specs.declared.command_line.Command.TheVariants.{Check, Build, Run, Exec}
 use Rattle.cool_driver.proofs.HeldFiles.{held_same, held_behind, none_missing}
 use Rattle.cool_driver.proofs.ReadTwice.{same_plan, no_run_exec, RunsNothing, runs_nothing, no_plan_and_plan, held_told, files_read, same_read, same_file, may_refuse}
-use Rattle.cool_driver.proofs.ImagesOfCalls.{image_without_fault, no_text, not_runnable, same_runnable, read_for_run, run_of_file, run_of_program, simple_not_run}
+use Rattle.cool_driver.proofs.ImagesOfCalls.{simple_again, image_without_fault, no_text, not_runnable, same_runnable, read_for_run, run_of_file, run_of_program, simple_not_run}
 
 -- a file that is missing or too large, behind those that were read
 pub record IsRefusedFile (r : Request) (command : Command) (names : List (List ℕ)) : Type 0 where
@@ -51,10 +52,10 @@ IsRunStatus status = ((end : Outcome) × (status ≡ status_of end)) ⊎ (status
 pub data Finding (r : Request) (status : ℕ) : Type 0 where
   accepted : (command : Command) (names contents : List (List ℕ)) → RunsNothing command → IsRead r command names contents → status ≡ 0 → Finding r status
   faulty : (command : Command) (names contents : List (List ℕ)) (faults : List Fault) → IsRead r command names contents → MayRefuse command contents → IsRefused contents faults → status ≡ 1 → Finding r status
-  simple : (names contents strings : List (List ℕ)) → IsRead r Run names contents → AreSimple contents strings → status ≡ 0 → Finding r status
-  image : (found : ImageParts) → IsRunOf r found → IsRunStatus status → (status ≡ 7) ⊎ (status ≡ status_of (run_of found r.input)) → Finding r status
-  no_image : (name bytes : List ℕ) (fault : ImageError) → IsRead r Exec (name ∷ []) (bytes ∷ []) → first_fault bytes ≡ Some fault → status ≡ 12 → Finding r status
-  bad_text : (name bytes : List ℕ) → IsRead r Exec (name ∷ []) (bytes ∷ []) → is_text_file bytes ≡ true → status ≡ 12 → Finding r status
+  simple : (limits : RunLimits) (names contents strings : List (List ℕ)) → IsRead r (Run limits) names contents → RunSimply limits contents strings → status ≡ 0 → Finding r status
+  image : (limits : RunLimits) (found : ImageParts) → IsRunOf r limits found → IsRunStatus status → (status ≡ 7) ⊎ (status ≡ status_of (run_of limits found r.input)) → Finding r status
+  no_image : (limits : RunLimits) (name bytes : List ℕ) (fault : ImageError) → IsRead r (Exec limits) (name ∷ []) (bytes ∷ []) → first_fault bytes ≡ Some fault → status ≡ 12 → Finding r status
+  bad_text : (limits : RunLimits) (name bytes : List ℕ) → IsRead r (Exec limits) (name ∷ []) (bytes ∷ []) → is_text_file bytes ≡ true → status ≡ 12 → Finding r status
   no_plan : plan_of r.words ≡ None → r.faults_after ≡ r.faults_before → status ≡ 2 → Finding r status
   no_file : (command : Command) (names : List (List ℕ)) → plan_of r.words ≡ Some (command, names) → IsFileFault r command names → status ≡ 10 → Finding r status
 
@@ -63,11 +64,11 @@ pub finding_of_due : (r : Request) (status : ℕ) (output note left : List ℕ) 
 finding_of_due r _ _ _ _ (checked names contents p read is) = accepted Check names contents tt read refl
 finding_of_due r _ _ _ _ (built names contents p read is) = accepted Build names contents tt read refl
 finding_of_due r _ _ _ _ (refused command names contents faults read may is) = faulty command names contents faults read may is refl
-finding_of_due r _ _ _ _ (ran names contents strings read is) = simple names contents strings read is refl
-finding_of_due r _ _ _ _ (executed found run) = image found run (inl (run_of found r.input, refl)) (inr refl)
-finding_of_due r _ _ _ _ (unread_input found at output left run comes fails) = image found run (inr refl) (inl refl)
-finding_of_due r _ _ _ _ (unfit name bytes fault read binary is) = no_image name bytes fault read is refl
-finding_of_due r _ _ _ _ (misread name bytes fault read text) = bad_text name bytes read text refl
+finding_of_due r _ _ _ _ (ran limits names contents strings read is) = simple limits names contents strings read is refl
+finding_of_due r _ _ _ _ (executed limits found run) = image limits found run (inl (run_of limits found r.input, refl)) (inr refl)
+finding_of_due r _ _ _ _ (unread_input limits found at output left run comes fails) = image limits found run (inr refl) (inl refl)
+finding_of_due r _ _ _ _ (unfit limits name bytes fault read binary is) = no_image limits name bytes fault read is refl
+finding_of_due r _ _ _ _ (misread limits name bytes fault read text) = bad_text limits name bytes read text refl
 finding_of_due r _ _ _ _ (usage plan calm) = no_plan plan calm refl
 finding_of_due r _ _ _ _ (too_many command names plan many calm) = no_file command names plan (inl (many, calm)) refl
 finding_of_due r _ _ _ _ (missing command name contents u gone) =
@@ -110,12 +111,12 @@ below status is = omega (arith, is)
 pub finding_below : (r : Request) (status : ℕ) → Finding r status → (status ≤ 12) × (status ≢ 8) × (status ≢ 9)
 finding_below r status (accepted command names contents quiet read e) = (omega (arith, e), λ q. omega (arith, e, q), λ q. omega (arith, e, q))
 finding_below r status (faulty command names contents faults read may is e) = (omega (arith, e), λ q. omega (arith, e, q), λ q. omega (arith, e, q))
-finding_below r status (simple names contents strings read is e) = (omega (arith, e), λ q. omega (arith, e, q), λ q. omega (arith, e, q))
-finding_below r status (image found run ends e) =
+finding_below r status (simple limits names contents strings read is e) = (omega (arith, e), λ q. omega (arith, e, q), λ q. omega (arith, e, q))
+finding_below r status (image limits' found run ends e) =
     let one = run_status status ends in
     (below status one, λ q. not_of_run status 8 one q (inr (inr (inl refl))), λ q. not_of_run status 9 one q (inr (inr (inr (inl refl)))))
-finding_below r status (no_image name bytes fault read is e) = (omega (arith, e), λ q. omega (arith, e, q), λ q. omega (arith, e, q))
-finding_below r status (bad_text name bytes read text e) = (omega (arith, e), λ q. omega (arith, e, q), λ q. omega (arith, e, q))
+finding_below r status (no_image limits name bytes fault read is e) = (omega (arith, e), λ q. omega (arith, e, q), λ q. omega (arith, e, q))
+finding_below r status (bad_text limits name bytes read text e) = (omega (arith, e), λ q. omega (arith, e, q), λ q. omega (arith, e, q))
 finding_below r status (no_plan plan calm e) = (omega (arith, e), λ q. omega (arith, e, q), λ q. omega (arith, e, q))
 finding_below r status (no_file command names plan fault e) = (omega (arith, e), λ q. omega (arith, e, q), λ q. omega (arith, e, q))
 
@@ -163,10 +164,10 @@ no_file_fault r files a b names others contents told read plan (inr (inr refusal
 pub usage_only : (r : Request) (status : ℕ) → Finding r status → status ≡ 2 → plan_of r.words ≡ None
 usage_only r status (accepted command' names' contents' quiet read' e) q = absurd (omega (arith, e, q))
 usage_only r status (faulty command' names' contents' faults' read' may is e) q = absurd (omega (arith, e, q))
-usage_only r status (simple names' contents' strings' read' is e) q = absurd (omega (arith, e, q))
-usage_only r status (image found run ends e) q = absurd (not_of_run status 2 (run_status status ends) q (inr (inl refl)))
-usage_only r status (no_image name' bytes' fault read' is e) q = absurd (omega (arith, e, q))
-usage_only r status (bad_text name' bytes' read' text e) q = absurd (omega (arith, e, q))
+usage_only r status (simple limits' names' contents' strings' read' is e) q = absurd (omega (arith, e, q))
+usage_only r status (image limits' found run ends e) q = absurd (not_of_run status 2 (run_status status ends) q (inr (inl refl)))
+usage_only r status (no_image limits' name' bytes' fault read' is e) q = absurd (omega (arith, e, q))
+usage_only r status (bad_text limits' name' bytes' read' text e) q = absurd (omega (arith, e, q))
 usage_only r status (no_plan none calm e) q = none
 usage_only r status (no_file command' names' plan' fault e) q = absurd (omega (arith, e, q))
 
@@ -174,10 +175,10 @@ usage_only r status (no_file command' names' plan' fault e) q = absurd (omega (a
 pub usage_exactly : (r : Request) (status : ℕ) → Finding r status → plan_of r.words ≡ None → status ≡ 2
 usage_exactly r status (accepted command' names' contents' quiet read' e) gone = absurd (no_plan_and_plan _ _ _ gone read'.plan)
 usage_exactly r status (faulty command' names' contents' faults' read' may is e) gone = absurd (no_plan_and_plan _ _ _ gone read'.plan)
-usage_exactly r status (simple names' contents' strings' read' is e) gone = absurd (no_plan_and_plan _ _ _ gone read'.plan)
-usage_exactly r status (image found run ends e) gone = absurd (no_plan_and_plan _ _ _ gone (read_for_run r found run).3.plan)
-usage_exactly r status (no_image name' bytes' fault read' is e) gone = absurd (no_plan_and_plan _ _ _ gone read'.plan)
-usage_exactly r status (bad_text name' bytes' read' text e) gone = absurd (no_plan_and_plan _ _ _ gone read'.plan)
+usage_exactly r status (simple limits' names' contents' strings' read' is e) gone = absurd (no_plan_and_plan _ _ _ gone read'.plan)
+usage_exactly r status (image limits' found run ends e) gone = absurd (no_plan_and_plan _ _ _ gone (read_for_run r limits' found run).3.plan)
+usage_exactly r status (no_image limits' name' bytes' fault read' is e) gone = absurd (no_plan_and_plan _ _ _ gone read'.plan)
+usage_exactly r status (bad_text limits' name' bytes' read' text e) gone = absurd (no_plan_and_plan _ _ _ gone read'.plan)
 usage_exactly r status (no_plan none calm e) gone = e
 usage_exactly r status (no_file command' names' plan' fault e) gone = absurd (no_plan_and_plan _ _ _ gone plan')
 
@@ -191,10 +192,10 @@ read_are_few r a b names others contents read plan many =
 pub too_many_exactly : (r : Request) (status : ℕ) (command : Command) (names : List (List ℕ)) → Finding r status → plan_of r.words ≡ Some (command, names) → MOST_FILES < length names → status ≡ 10
 too_many_exactly r status command names (accepted command' names' contents' quiet read' e) plan many = absurd (read_are_few r _ _ _ _ _ read' plan many)
 too_many_exactly r status command names (faulty command' names' contents' faults' read' may is e) plan many = absurd (read_are_few r _ _ _ _ _ read' plan many)
-too_many_exactly r status command names (simple names' contents' strings' read' is e) plan many = absurd (read_are_few r _ _ _ _ _ read' plan many)
-too_many_exactly r status command names (image found run ends e) plan many = absurd (read_are_few r _ _ _ _ _ (read_for_run r found run).3 plan many)
-too_many_exactly r status command names (no_image name' bytes' fault read' is e) plan many = absurd (read_are_few r _ _ _ _ _ read' plan many)
-too_many_exactly r status command names (bad_text name' bytes' read' text e) plan many = absurd (read_are_few r _ _ _ _ _ read' plan many)
+too_many_exactly r status command names (simple limits' names' contents' strings' read' is e) plan many = absurd (read_are_few r _ _ _ _ _ read' plan many)
+too_many_exactly r status command names (image limits' found run ends e) plan many = absurd (read_are_few r _ _ _ _ _ (read_for_run r limits' found run).3 plan many)
+too_many_exactly r status command names (no_image limits' name' bytes' fault read' is e) plan many = absurd (read_are_few r _ _ _ _ _ read' plan many)
+too_many_exactly r status command names (bad_text limits' name' bytes' read' text e) plan many = absurd (read_are_few r _ _ _ _ _ read' plan many)
 too_many_exactly r status command names (no_plan none calm e) plan many = absurd (no_plan_and_plan _ _ _ none plan)
 too_many_exactly r status command names (no_file command' names' plan' fault e) plan many = e
 
@@ -206,10 +207,10 @@ read_are_there r files a b names others contents name told read plan named gone 
 pub missing_exactly : (r : Request) (status : ℕ) (files : FileMap) (command : Command) (names : List (List ℕ)) (name : List ℕ) → Finding r status → Told r files → plan_of r.words ≡ Some (command, names) → Contains names name → files name ≡ None → status ≡ 10
 missing_exactly r status files command names name (accepted command' names' contents' quiet read' e) told plan named gone = absurd (read_are_there r files _ _ _ _ _ _ told read' plan named gone)
 missing_exactly r status files command names name (faulty command' names' contents' faults' read' may is e) told plan named gone = absurd (read_are_there r files _ _ _ _ _ _ told read' plan named gone)
-missing_exactly r status files command names name (simple names' contents' strings' read' is e) told plan named gone = absurd (read_are_there r files _ _ _ _ _ _ told read' plan named gone)
-missing_exactly r status files command names name (image found run ends e) told plan named gone = absurd (read_are_there r files _ _ _ _ _ _ told (read_for_run r found run).3 plan named gone)
-missing_exactly r status files command names name (no_image name' bytes' fault read' is e) told plan named gone = absurd (read_are_there r files _ _ _ _ _ _ told read' plan named gone)
-missing_exactly r status files command names name (bad_text name' bytes' read' text e) told plan named gone = absurd (read_are_there r files _ _ _ _ _ _ told read' plan named gone)
+missing_exactly r status files command names name (simple limits' names' contents' strings' read' is e) told plan named gone = absurd (read_are_there r files _ _ _ _ _ _ told read' plan named gone)
+missing_exactly r status files command names name (image limits' found run ends e) told plan named gone = absurd (read_are_there r files _ _ _ _ _ _ told (read_for_run r limits' found run).3 plan named gone)
+missing_exactly r status files command names name (no_image limits' name' bytes' fault read' is e) told plan named gone = absurd (read_are_there r files _ _ _ _ _ _ told read' plan named gone)
+missing_exactly r status files command names name (bad_text limits' name' bytes' read' text e) told plan named gone = absurd (read_are_there r files _ _ _ _ _ _ told read' plan named gone)
 missing_exactly r status files command names name (no_plan none calm e) told plan named gone = absurd (no_plan_and_plan _ _ _ none plan)
 missing_exactly r status files command names name (no_file command' names' plan' fault e) told plan named gone = e
 
@@ -224,73 +225,79 @@ read_are_small r files a b names others contents large told read plan held more 
 pub too_large_exactly : (r : Request) (status : ℕ) (files : FileMap) (command : Command) (names large : List (List ℕ)) → Finding r status → Told r files → plan_of r.words ≡ Some (command, names) → AreHeld (Some files) names large → most_bytes command < total large → status ≡ 10
 too_large_exactly r status files command names large (accepted command' names' contents' quiet read' e) told plan held more = absurd (read_are_small r files _ _ _ _ _ _ told read' plan held more)
 too_large_exactly r status files command names large (faulty command' names' contents' faults' read' may is e) told plan held more = absurd (read_are_small r files _ _ _ _ _ _ told read' plan held more)
-too_large_exactly r status files command names large (simple names' contents' strings' read' is e) told plan held more = absurd (read_are_small r files _ _ _ _ _ _ told read' plan held more)
-too_large_exactly r status files command names large (image found run ends e) told plan held more = absurd (read_are_small r files _ _ _ _ _ _ told (read_for_run r found run).3 plan held more)
-too_large_exactly r status files command names large (no_image name' bytes' fault read' is e) told plan held more = absurd (read_are_small r files _ _ _ _ _ _ told read' plan held more)
-too_large_exactly r status files command names large (bad_text name' bytes' read' text e) told plan held more = absurd (read_are_small r files _ _ _ _ _ _ told read' plan held more)
+too_large_exactly r status files command names large (simple limits' names' contents' strings' read' is e) told plan held more = absurd (read_are_small r files _ _ _ _ _ _ told read' plan held more)
+too_large_exactly r status files command names large (image limits' found run ends e) told plan held more = absurd (read_are_small r files _ _ _ _ _ _ told (read_for_run r limits' found run).3 plan held more)
+too_large_exactly r status files command names large (no_image limits' name' bytes' fault read' is e) told plan held more = absurd (read_are_small r files _ _ _ _ _ _ told read' plan held more)
+too_large_exactly r status files command names large (bad_text limits' name' bytes' read' text e) told plan held more = absurd (read_are_small r files _ _ _ _ _ _ told read' plan held more)
 too_large_exactly r status files command names large (no_plan none calm e) told plan held more = absurd (no_plan_and_plan _ _ _ none plan)
 too_large_exactly r status files command names large (no_file command' names' plan' fault e) told plan held more = e
 
 -- status 0 is left where `run` read files that are a program of the simple form
-pub ran_exactly : (r : Request) (status : ℕ) (files : FileMap) (names contents strings : List (List ℕ)) → Finding r status → Told r files → IsRead r Run names contents → AreSimple contents strings → status ≡ 0
-ran_exactly r status files names contents strings (accepted command' names' contents' quiet read' e) told read form = absurd (runs_nothing _ _ Run _ _ quiet read'.plan read.plan)
-ran_exactly r status files names contents strings (faulty command' names' contents' faults' read' may is e) told read form = absurd (may_refuse r files command' Run names' names contents' contents told read' read may strings form)
-ran_exactly r status files names contents strings (simple names' contents' strings' read' is e) told read form = e
-ran_exactly r status files names contents strings (image found run ends e) told read form = absurd (simple_not_run r files found names contents strings run told read form)
-ran_exactly r status files names contents strings (no_image name' bytes' fault read' is e) told read form = absurd (no_run_exec _ _ _ read.plan read'.plan)
-ran_exactly r status files names contents strings (bad_text name' bytes' read' text e) told read form = absurd (no_run_exec _ _ _ read.plan read'.plan)
-ran_exactly r status files names contents strings (no_plan none calm e) told read form = absurd (no_plan_and_plan _ _ _ none read.plan)
-ran_exactly r status files names contents strings (no_file command' names' plan' fault e) told read form = absurd (no_file_fault r files _ _ _ _ _ told read plan' fault)
+pub ran_exactly : (r : Request) (status : ℕ) (files : FileMap) (limits : RunLimits) (names contents strings : List (List ℕ)) → Finding r status → Told r files
+    → IsRead r (Run limits) names contents → RunSimply limits contents strings → status ≡ 0
+ran_exactly r status files limits names contents strings (accepted command' names' contents' quiet read' e) told read form = absurd (runs_nothing _ _ (Run limits) _ _ quiet read'.plan read.plan)
+ran_exactly r status files limits names contents strings (faulty command' names' contents' faults' read' may is e) told read form = absurd (may_refuse r files command' (Run limits) names' names contents' contents told read' read may strings form)
+ran_exactly r status files limits names contents strings (simple limits' names' contents' strings' read' is e) told read form = e
+ran_exactly r status files limits names contents strings (image limits' found run ends e) told read form = absurd (simple_not_run r files limits' limits found names contents strings run told read form)
+ran_exactly r status files limits names contents strings (no_image limits' name' bytes' fault read' is e) told read form = absurd (no_run_exec _ _ _ _ _ read.plan read'.plan)
+ran_exactly r status files limits names contents strings (bad_text limits' name' bytes' read' text e) told read form = absurd (no_run_exec _ _ _ _ _ read.plan read'.plan)
+ran_exactly r status files limits names contents strings (no_plan none calm e) told read form = absurd (no_plan_and_plan _ _ _ none read.plan)
+ran_exactly r status files limits names contents strings (no_file command' names' plan' fault e) told read form = absurd (no_file_fault r files _ _ _ _ _ told read plan' fault)
 
 -- and the status of the run's end, or 7, where they are another program
-pub compiled_exactly : (r : Request) (status : ℕ) (files : FileMap) (names contents : List (List ℕ)) (p : List Class) → Finding r status → Told r files → IsRead r Run names contents → AreNotSimple contents → IsAccepted contents p
-    → (status ≡ 7) ⊎ (status ≡ status_of (run_of (image_of (program_lines p names)) r.input))
-compiled_exactly r status files names contents p (accepted command' names' contents' quiet read' e) told read other form = absurd (runs_nothing _ _ Run _ _ quiet read'.plan read.plan)
-compiled_exactly r status files names contents p (faulty command' names' contents' faults' read' may is e) told read other form =
+pub compiled_exactly : (r : Request) (status : ℕ) (files : FileMap) (limits : RunLimits) (names contents : List (List ℕ)) (p : List Class) → Finding r status → Told r files
+    → IsRead r (Run limits) names contents → RunOtherwise limits contents → IsAccepted contents p
+    → (status ≡ 7) ⊎ (status ≡ status_of (run_of limits (image_of (program_lines p names)) r.input))
+compiled_exactly r status files limits names contents p (accepted command' names' contents' quiet read' e) told read other form = absurd (runs_nothing _ _ (Run limits) _ _ quiet read'.plan read.plan)
+compiled_exactly r status files limits names contents p (faulty command' names' contents' faults' read' may is e) told read other form =
     absurd (never_both_verdicts contents p faults' form (subst (λ (cs : List (List ℕ)). IsRefused cs faults') (same_read r files _ _ _ _ _ _ told read' read) is))
-compiled_exactly r status files names contents p (simple names' contents' strings' read' is e) told read other form =
-    absurd (other strings' (subst (λ (cs : List (List ℕ)). AreSimple cs strings') (same_read r files _ _ _ _ _ _ told read' read) is))
-compiled_exactly r status files names contents p (image found run ends e) told read other form =
-    subst (λ i. (status ≡ 7) ⊎ (status ≡ status_of (run_of i r.input))) (run_of_program r files found names contents p run told read form) e
-compiled_exactly r status files names contents p (no_image name' bytes' fault read' is e) told read other form = absurd (no_run_exec _ _ _ read.plan read'.plan)
-compiled_exactly r status files names contents p (bad_text name' bytes' read' text e) told read other form = absurd (no_run_exec _ _ _ read.plan read'.plan)
-compiled_exactly r status files names contents p (no_plan none calm e) told read other form = absurd (no_plan_and_plan _ _ _ none read.plan)
-compiled_exactly r status files names contents p (no_file command' names' plan' fault e) told read other form = absurd (no_file_fault r files _ _ _ _ _ told read plan' fault)
+compiled_exactly r status files limits names contents p (simple limits' names' contents' strings' read' is e) told read other form =
+    absurd (other strings' (simple_again r files limits' limits names' names contents' contents strings' told read' read is))
+compiled_exactly r status files limits names contents p (image limits' found run ends e) told read other form =
+    let (within, same) = run_of_program r files limits' limits found names contents p run told read form in
+    subst (λ w. (status ≡ 7) ⊎ (status ≡ status_of (run_of w (image_of (program_lines p names)) r.input))) within
+    (subst (λ i. (status ≡ 7) ⊎ (status ≡ status_of (run_of limits' i r.input))) same e)
+compiled_exactly r status files limits names contents p (no_image limits' name' bytes' fault read' is e) told read other form = absurd (no_run_exec _ _ _ _ _ read.plan read'.plan)
+compiled_exactly r status files limits names contents p (bad_text limits' name' bytes' read' text e) told read other form = absurd (no_run_exec _ _ _ _ _ read.plan read'.plan)
+compiled_exactly r status files limits names contents p (no_plan none calm e) told read other form = absurd (no_plan_and_plan _ _ _ none read.plan)
+compiled_exactly r status files limits names contents p (no_file command' names' plan' fault e) told read other form = absurd (no_file_fault r files _ _ _ _ _ told read plan' fault)
 
 -- status 12 is left where `exec` read a file that is no text and no image
-pub unfit_exactly : (r : Request) (status : ℕ) (files : FileMap) (name bytes : List ℕ) → Finding r status → Told r files → IsRead r Exec (name ∷ []) (bytes ∷ []) → is_text_file bytes ≡ false → ((found : ImageParts) → IsImageOf found bytes → ⊥) → status ≡ 12
-unfit_exactly r status files name bytes (accepted command' names' contents' quiet read' e) told read binary other = absurd (runs_nothing _ _ Exec _ _ quiet read'.plan read.plan)
-unfit_exactly r status files name bytes (faulty command' names' contents' faults' read' may is e) told read binary other = absurd (may_refuse r files command' Exec names' (name ∷ []) contents' (bytes ∷ []) told read' read may)
-unfit_exactly r status files name bytes (simple names' contents' strings' read' is e) told read binary other = absurd (no_run_exec _ _ _ read'.plan read.plan)
-unfit_exactly r status files name bytes (image found run ends e) told read binary other = absurd (not_runnable found bytes (run_of_file r files found name bytes run told read) binary other)
-unfit_exactly r status files name bytes (no_image name' bytes' fault read' is e) told read binary other = e
-unfit_exactly r status files name bytes (bad_text name' bytes' read' text e) told read binary other = e
-unfit_exactly r status files name bytes (no_plan none calm e) told read binary other = absurd (no_plan_and_plan _ _ _ none read.plan)
-unfit_exactly r status files name bytes (no_file command' names' plan' fault e) told read binary other = absurd (no_file_fault r files _ _ _ _ _ told read plan' fault)
+pub unfit_exactly : (r : Request) (status : ℕ) (files : FileMap) (limits : RunLimits) (name bytes : List ℕ) → Finding r status → Told r files → IsRead r (Exec limits) (name ∷ []) (bytes ∷ []) → is_text_file bytes ≡ false → ((found : ImageParts) → IsImageOf found bytes → ⊥) → status ≡ 12
+unfit_exactly r status files limits name bytes (accepted command' names' contents' quiet read' e) told read binary other = absurd (runs_nothing _ _ (Exec limits) _ _ quiet read'.plan read.plan)
+unfit_exactly r status files limits name bytes (faulty command' names' contents' faults' read' may is e) told read binary other = absurd (may_refuse r files command' (Exec limits) names' (name ∷ []) contents' (bytes ∷ []) told read' read may)
+unfit_exactly r status files limits name bytes (simple limits' names' contents' strings' read' is e) told read binary other = absurd (no_run_exec _ _ _ _ _ read'.plan read.plan)
+unfit_exactly r status files limits name bytes (image limits' found run ends e) told read binary other = absurd (not_runnable found bytes (run_of_file r files limits' limits found name bytes run told read).1 binary other)
+unfit_exactly r status files limits name bytes (no_image limits' name' bytes' fault read' is e) told read binary other = e
+unfit_exactly r status files limits name bytes (bad_text limits' name' bytes' read' text e) told read binary other = e
+unfit_exactly r status files limits name bytes (no_plan none calm e) told read binary other = absurd (no_plan_and_plan _ _ _ none read.plan)
+unfit_exactly r status files limits name bytes (no_file command' names' plan' fault e) told read binary other = absurd (no_file_fault r files _ _ _ _ _ told read plan' fault)
 
 -- and the status of the run's end, or 7, where it is an image
-pub executed_exactly : (r : Request) (status : ℕ) (files : FileMap) (name bytes : List ℕ) (image' : ImageParts) → Finding r status → Told r files → IsRead r Exec (name ∷ []) (bytes ∷ []) → IsImageOf image' bytes
-    → (status ≡ 7) ⊎ (status ≡ status_of (run_of image' r.input))
-executed_exactly r status files name bytes image' (accepted command' names' contents' quiet read' e) told read form = absurd (runs_nothing _ _ Exec _ _ quiet read'.plan read.plan)
-executed_exactly r status files name bytes image' (faulty command' names' contents' faults' read' may is e) told read form = absurd (may_refuse r files command' Exec names' (name ∷ []) contents' (bytes ∷ []) told read' read may)
-executed_exactly r status files name bytes image' (simple names' contents' strings' read' is e) told read form = absurd (no_run_exec _ _ _ read'.plan read.plan)
-executed_exactly r status files name bytes image' (image found run ends e) told read form =
-    let same = same_runnable found image' bytes (run_of_file r files found name bytes run told read) form in
-    subst (λ i. (status ≡ 7) ⊎ (status ≡ status_of (run_of i r.input))) same e
-executed_exactly r status files name bytes image' (no_image name' bytes' fault read' is e) told read form =
+pub executed_exactly : (r : Request) (status : ℕ) (files : FileMap) (limits : RunLimits) (name bytes : List ℕ) (image' : ImageParts) → Finding r status → Told r files
+    → IsRead r (Exec limits) (name ∷ []) (bytes ∷ []) → IsImageOf image' bytes → (status ≡ 7) ⊎ (status ≡ status_of (run_of limits image' r.input))
+executed_exactly r status files limits name bytes image' (accepted command' names' contents' quiet read' e) told read form = absurd (runs_nothing _ _ (Exec limits) _ _ quiet read'.plan read.plan)
+executed_exactly r status files limits name bytes image' (faulty command' names' contents' faults' read' may is e) told read form = absurd (may_refuse r files command' (Exec limits) names' (name ∷ []) contents' (bytes ∷ []) told read' read may)
+executed_exactly r status files limits name bytes image' (simple limits' names' contents' strings' read' is e) told read form = absurd (no_run_exec _ _ _ _ _ read'.plan read.plan)
+executed_exactly r status files limits name bytes image' (image limits' found run ends e) told read form =
+    let (within, runnable) = run_of_file r files limits' limits found name bytes run told read in
+    let same = same_runnable found image' bytes runnable form in
+    subst (λ w. (status ≡ 7) ⊎ (status ≡ status_of (run_of w image' r.input))) within
+    (subst (λ i. (status ≡ 7) ⊎ (status ≡ status_of (run_of limits' i r.input))) same e)
+executed_exactly r status files limits name bytes image' (no_image limits' name' bytes' fault read' is e) told read form =
     absurd (image_without_fault image' bytes' fault (subst (λ (b : List ℕ). IsImageOf image' b) (same_file r files _ _ _ _ _ _ told read read') form) is)
-executed_exactly r status files name bytes image' (bad_text name' bytes' read' text e) told read form = absurd (no_text image' bytes' (subst (λ (b : List ℕ). IsImageOf image' b) (same_file r files _ _ _ _ _ _ told read read') form) text)
-executed_exactly r status files name bytes image' (no_plan none calm e) told read form = absurd (no_plan_and_plan _ _ _ none read.plan)
-executed_exactly r status files name bytes image' (no_file command' names' plan' fault e) told read form = absurd (no_file_fault r files _ _ _ _ _ told read plan' fault)
+executed_exactly r status files limits name bytes image' (bad_text limits' name' bytes' read' text e) told read form = absurd (no_text image' bytes' (subst (λ (b : List ℕ). IsImageOf image' b) (same_file r files _ _ _ _ _ _ told read read') form) text)
+executed_exactly r status files limits name bytes image' (no_plan none calm e) told read form = absurd (no_plan_and_plan _ _ _ none read.plan)
+executed_exactly r status files limits name bytes image' (no_file command' names' plan' fault e) told read form = absurd (no_file_fault r files _ _ _ _ _ told read plan' fault)
 
 -- where the shelf failed, a file fault is found
 pub shelf_fault : (r : Request) (status : ℕ) → Finding r status → r.faults_before < r.faults_after → status ≡ 10
 shelf_fault r status (accepted command' names' contents' quiet read' e) more = absurd (omega (arith, read'.calm, more))
 shelf_fault r status (faulty command' names' contents' faults' read' may is e) more = absurd (omega (arith, read'.calm, more))
-shelf_fault r status (simple names' contents' strings' read' is e) more = absurd (omega (arith, read'.calm, more))
-shelf_fault r status (image found run ends e) more = absurd (omega (arith, (read_for_run r found run).3.calm, more))
-shelf_fault r status (no_image name' bytes' fault read' is e) more = absurd (omega (arith, read'.calm, more))
-shelf_fault r status (bad_text name' bytes' read' text e) more = absurd (omega (arith, read'.calm, more))
+shelf_fault r status (simple limits' names' contents' strings' read' is e) more = absurd (omega (arith, read'.calm, more))
+shelf_fault r status (image limits' found run ends e) more = absurd (omega (arith, (read_for_run r limits' found run).3.calm, more))
+shelf_fault r status (no_image limits' name' bytes' fault read' is e) more = absurd (omega (arith, read'.calm, more))
+shelf_fault r status (bad_text limits' name' bytes' read' text e) more = absurd (omega (arith, read'.calm, more))
 shelf_fault r status (no_plan none calm e) more = absurd (omega (arith, calm, more))
 shelf_fault r status (no_file command' names' plan' fault e) more = e
 
@@ -305,10 +312,10 @@ cause_no_less (Some files) name most before after (inr long) = omega (arith, lon
 pub shelf_no_less : (r : Request) (status : ℕ) → Finding r status → r.faults_before ≤ r.faults_after
 shelf_no_less r status (accepted command' names' contents' quiet read' e) = omega (arith, read'.calm)
 shelf_no_less r status (faulty command' names' contents' faults' read' may is e) = omega (arith, read'.calm)
-shelf_no_less r status (simple names' contents' strings' read' is e) = omega (arith, read'.calm)
-shelf_no_less r status (image found run ends e) = omega (arith, (read_for_run r found run).3.calm)
-shelf_no_less r status (no_image name' bytes' fault read' is e) = omega (arith, read'.calm)
-shelf_no_less r status (bad_text name' bytes' read' text e) = omega (arith, read'.calm)
+shelf_no_less r status (simple limits' names' contents' strings' read' is e) = omega (arith, read'.calm)
+shelf_no_less r status (image limits' found run ends e) = omega (arith, (read_for_run r limits' found run).3.calm)
+shelf_no_less r status (no_image limits' name' bytes' fault read' is e) = omega (arith, read'.calm)
+shelf_no_less r status (bad_text limits' name' bytes' read' text e) = omega (arith, read'.calm)
 shelf_no_less r status (no_plan none calm e) = omega (arith, calm)
 shelf_no_less r status (no_file command' names' plan' (inl many) e) = omega (arith, many.1)
 shelf_no_less r status (no_file command' names' plan' (inr (inl rose)) e) = rose.no_less

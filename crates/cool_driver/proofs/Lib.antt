@@ -16,7 +16,7 @@ pub mod Findings
 pub mod AnsweredFaults
 pub mod EndsOfDue
 pub mod EndsOfTasks
-pub mod RunsByDefault
+pub mod RunsWithinLimits
 pub mod SimpleRuns
 pub mod EndsOfRuns
 pub mod HexDigits

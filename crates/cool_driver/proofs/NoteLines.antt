@@ -10,7 +10,8 @@ use Rattle.cool_faults.specs.declared.fault.Fault.{Fault}
 use Rattle.cool_faults.specs.Texts.{fault_words, fault_line}
 use Rattle.cool_faults.specs.Verdicts.{place_of, IsRefused}
 use Rattle.cool_driver.specs.Notes.{image_fault, image_note, asm_words, asm_note}
-use Rattle.cool_driver.specs.SimpleFiles.{AreNotSimple}
+use Rattle.cool_words.specs.declared.plan.RunLimits.{RunLimits}
+use Rattle.cool_driver.specs.SimpleFiles.{RunOtherwise}
 use Rattle.cool_driver.specs.SimpleReading.{texts}
 use Rattle.cool_driver.specs.Ends.{Request, Due}
 use Rattle.cool_driver.specs.Tasks.{code_of, AreLines, note_of, IsUnfit, IsMisread, IsTaskOfFile, IsTaskOfChecked, IsTaskOfBuilt, IsTaskOfRun, IsLine, AreLinesOf, IsDue}
@@ -56,15 +57,15 @@ one_line lines line e = ap concat e ∙ append-nil line
 pub line_due : (r : Request) (status : Status) (line : List ℕ) (task : Task) → IsLine status line task → 0 < length line → code_of status ≢ 7 → Due r (code_of status) [] line r.input → IsDue r task
 line_due r status line (Tell told lines) h some other due = rw (h.0, one_line lines.items line h.1) (due, are_lines lines.items (line ∷ []) h.1 (some, tt), other)
 line_due r status line (Write made) h some other due = absurd h
-line_due r status line (Run image) h some other due = absurd h
-line_due r status line (Execute image) h some other due = absurd h
+line_due r status line (Run within image) h some other due = absurd h
+line_due r status line (Execute within image) h some other due = absurd h
 
 -- the faults of files that `check` names
 pub checked_lines : (names contents : List (List ℕ)) (faults : List Fault) (task : Task) → IsRefused contents faults → AreLinesOf names faults task → IsTaskOfChecked names contents task
 checked_lines names contents faults (Tell status lines) is h = (are_lines lines.items _ h.1 (some_lines names faults), inr (h.0, (faults, is, ap concat h.1)))
 checked_lines names contents faults (Write made) is h = absurd h
-checked_lines names contents faults (Run image) is h = absurd h
-checked_lines names contents faults (Execute image) is h = absurd h
+checked_lines names contents faults (Run within image) is h = absurd h
+checked_lines names contents faults (Execute within image) is h = absurd h
 
 -- the faults of files that `build` names
 pub built_lines : (names contents : List (List ℕ)) (faults : List Fault) (task : Task)
@@ -72,35 +73,36 @@ pub built_lines : (names contents : List (List ℕ)) (faults : List Fault) (task
 built_lines names contents faults (Tell status lines) is h =
     (are_lines lines.items _ h.1 (some_lines names faults), h.0, (faults, is, ap concat h.1))
 built_lines names contents faults (Write made) is h = absurd h
-built_lines names contents faults (Run image) is h = absurd h
-built_lines names contents faults (Execute image) is h = absurd h
+built_lines names contents faults (Run within image) is h = absurd h
+built_lines names contents faults (Execute within image) is h = absurd h
 
 -- the faults of files that `run` names
-pub run_lines : (names contents : List (List ℕ)) (faults : List Fault) (task : Task) → AreNotSimple contents → IsRefused contents faults → AreLinesOf names faults task → IsTaskOfRun names contents task
-run_lines names contents faults (Tell status lines) other is h = (are_lines lines.items _ h.1 (some_lines names faults), other, h.0, (faults, is, ap concat h.1))
-run_lines names contents faults (Write made) other is h = absurd h
-run_lines names contents faults (Run image) other is h = absurd h
-run_lines names contents faults (Execute image) other is h = absurd h
+pub run_lines : (limits : RunLimits) (names contents : List (List ℕ)) (faults : List Fault) (task : Task) → RunOtherwise limits contents → IsRefused contents faults → AreLinesOf names faults task
+    → IsTaskOfRun limits names contents task
+run_lines limits names contents faults (Tell status lines) other is h = (are_lines lines.items _ h.1 (some_lines names faults), other, h.0, (faults, is, ap concat h.1))
+run_lines limits names contents faults (Write made) other is h = absurd h
+run_lines limits names contents faults (Run within image) other is h = absurd h
+run_lines limits names contents faults (Execute within image) other is h = absurd h
 
 -- a file that is no image
-pub unfit_line : (name bytes line : List ℕ) (task : Task) → IsUnfit name bytes line → IsLine statuses.Unfit line task → IsTaskOfFile name bytes task
-unfit_line name bytes line (Tell status lines) is h =
+pub unfit_line : (limits : RunLimits) (name bytes line : List ℕ) (task : Task) → IsUnfit name bytes line → IsLine statuses.Unfit line task → IsTaskOfFile limits name bytes task
+unfit_line limits name bytes line (Tell status lines) is h =
     let some : 0 < length line = rw is.1 (some_unfit name is.0) in
     let same : note_of lines.items ≡ image_note name is.0 = one_line lines.items line h.1 ∙ is.1 in
     (ap code_of h.0, are_lines lines.items (line ∷ []) h.1 (some, tt), inl (is.0, same, is.2, is.3))
-unfit_line name bytes line (Write made) is h = absurd h
-unfit_line name bytes line (Run image) is h = absurd h
-unfit_line name bytes line (Execute image) is h = absurd h
+unfit_line limits name bytes line (Write made) is h = absurd h
+unfit_line limits name bytes line (Run within image) is h = absurd h
+unfit_line limits name bytes line (Execute within image) is h = absurd h
 
 -- a text with a fault
-pub misread_line : (name bytes line : List ℕ) (task : Task) → IsMisread name bytes line → IsLine statuses.Unfit line task → IsTaskOfFile name bytes task
-misread_line name bytes line (Tell status lines) is h =
+pub misread_line : (limits : RunLimits) (name bytes line : List ℕ) (task : Task) → IsMisread name bytes line → IsLine statuses.Unfit line task → IsTaskOfFile limits name bytes task
+misread_line limits name bytes line (Tell status lines) is h =
     let some : 0 < length line = rw is.1 (some_misread name is.0) in
     let same : note_of lines.items ≡ asm_note name is.0 = one_line lines.items line h.1 ∙ is.1 in
     (ap code_of h.0, are_lines lines.items (line ∷ []) h.1 (some, tt), inr (is.0, same, is.2))
-misread_line name bytes line (Write made) is h = absurd h
-misread_line name bytes line (Run image) is h = absurd h
-misread_line name bytes line (Execute image) is h = absurd h
+misread_line limits name bytes line (Write made) is h = absurd h
+misread_line limits name bytes line (Run within image) is h = absurd h
+misread_line limits name bytes line (Execute within image) is h = absurd h
 
 -- the line at a number, in front of those behind it
 pub note_at : (lines : List (Vec ℕ)) (i : ℕ) (line : Vec ℕ) → i < length lines → line ≡ get_or lines i line → line.items ++ note_of (drop (i + 1) lines) ≡ note_of (drop i lines)

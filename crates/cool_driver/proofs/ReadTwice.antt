@@ -2,6 +2,7 @@
 use Rattle.std.proofs.Common.{◌≡◌, ℕ, List, [], ◌∷◌, Some, None, sym, ◌∙◌, ap, subst}
 use Rattle.std.specs.Prelude.{Option}
 use Rattle.cool_ports.specs.ShelfFiles.{FileMap}
+use Rattle.cool_words.specs.declared.plan.RunLimits.{RunLimits}
 use Rattle.cool_driver.specs.CommandLine.{plan_of}
 use Rattle.cool_driver.specs.Ends.{Request, IsRead, AreHeld, MayRefuse, Told}
 use Rattle.cool_driver.specs.declared.command_line.Command.{Command}
@@ -21,15 +22,22 @@ same_plan plan a b names others p q =
     (ap (λ (x : Command × List (List ℕ)). x.0) both, ap (λ (x : Command × List (List ℕ)). x.1) both)
 
 -- a plan is not both one of `run` and one of `exec`
-pub no_run_exec : (plan : Option (Command × List (List ℕ))) (names others : List (List ℕ)) → plan ≡ Some (Run, names) → plan ≡ Some (Exec, others) → ⊥
-no_run_exec plan names others p q = cc (same_plan plan Run Exec names others p q).0
+pub no_run_exec : (plan : Option (Command × List (List ℕ))) (a b : RunLimits) (names others : List (List ℕ)) → plan ≡ Some (Run a, names) → plan ≡ Some (Exec b, others) → ⊥
+no_run_exec plan a b names others p q = cc (same_plan plan (Run a) (Exec b) names others p q).0
+
+-- a command has one pair of limits
+pub same_run : (a b : RunLimits) → Run a ≡ Run b → a ≡ b
+same_run a b e = cc
+
+pub same_exec : (a b : RunLimits) → Exec a ≡ Exec b → a ≡ b
+same_exec a b e = cc
 
 -- a command that runs no image
 abbrev pub RunsNothing : Command → Type 0
 RunsNothing Check = Unit {0}
 RunsNothing Build = Unit {0}
-RunsNothing Run = ⊥
-RunsNothing Exec = ⊥
+RunsNothing (Run limits) = ⊥
+RunsNothing (Exec limits) = ⊥
 
 -- where a plan is one of such a command, every plan is
 pub runs_nothing : (plan : Option (Command × List (List ℕ))) (a b : Command) (names others : List (List ℕ))

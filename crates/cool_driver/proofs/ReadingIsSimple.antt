@@ -7,7 +7,8 @@ use Rattle.std.proofs.lemmas.Bool.{and_parts, cond_both}
 use Rattle.std.proofs.lemmas.Option.{cond_some, option_and_then_some}
 use Rattle.cool_syntax.specs.declared.TheConstants.{MOST_CALLS}
 use Rattle.cool_syntax.specs.SimpleForm.{Simple, is_blank, AreBlanks, call, head, tail}
-use Rattle.cool_driver.specs.SimpleFiles.{IsBlankFile, AreSimple, AreNotSimple}
+use Rattle.cool_words.specs.declared.plan.RunLimits.{RunLimits}
+use Rattle.cool_driver.specs.SimpleFiles.{IsBlankFile, AreSimple, RunOtherwise}
 use Rattle.cool_driver.specs.SimpleReading.{lexemes_at, calls_at, program_at, is_blank_file, programs_at}
 use Rattle.cool_driver.proofs.ReadingStrings.{cond_found}
 use Rattle.cool_driver.proofs.ReadingLexemes.{front_ends, lexemes_found, lexemes_read, AreBlanks-from_len, prefix_len-blanks}
@@ -103,9 +104,9 @@ simple_are_programs (bytes ∷ files) strings (inr h) = rw (file_is_blank bytes 
 none_is_some : {X : Type 0} (read : Option X) (x : X) → read ≡ None → read ≡ Some x → ⊥
 none_is_some read x e f = cc
 
--- where no strings are read, the files are no program of the simple form
-pub not_simple : (files : List (List ℕ)) → programs_at files ≡ None → AreNotSimple files
-not_simple files e strings h = none_is_some (programs_at files) strings e (simple_are_programs files strings h)
+-- where no strings are read, the files are not run as a program of the simple form
+pub not_simple : (limits : RunLimits) (files : List (List ℕ)) → programs_at files ≡ None → RunOtherwise limits files
+not_simple limits files e strings h = none_is_some (programs_at files) strings e (simple_are_programs files strings h.0)
 
 -- one of the files is the program
 pub simple_file : (files strings : List (List ℕ)) → AreSimple files strings → (bytes : List ℕ) × Simple bytes strings

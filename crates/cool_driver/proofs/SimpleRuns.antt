@@ -15,12 +15,12 @@ use Rattle.spim_machine.specs.declared.halt.Halt.{Halt}
 use Rattle.spim_machine.specs.declared.halt.Halt.TheVariants as halts
 use Rattle.spim_machine.specs.Machine.{MachineParts, state_of, IsIn}
 use Rattle.spim_machine.specs.Ends.{Counted, Ran}
-use Rattle.cool_driver.specs.declared.TheConstants.{DEFAULT_HEAP, DEFAULT_STACK, DEFAULT_STEPS}
-use Rattle.cool_driver.specs.Execution.{segments_by_default}
+use Rattle.cool_words.specs.declared.plan.RunLimits.{RunLimits}
+use Rattle.cool_driver.specs.Execution.{heap_of, segments_within, stack_of}
 use Rattle.cool_driver.specs.Ends.{SinkUse, Got, GotPart}
 use Rattle.cool_driver.specs.Tasks.{Prints, RunsSimple}
 use Rattle.cool_driver.specs.declared.status.Status.TheVariants as statuses
-use Rattle.cool_driver.proofs.RunsByDefault.{run_of-is, ran_by_default, output_behind, got_part}
+use Rattle.cool_driver.proofs.RunsWithinLimits.{run_of-is, ran_within, output_behind, got_part}
 
 -- how a run ends that prints some bytes and then exits with 0: so, or a write of these bytes failed
 abbrev pub EndsSimply : Halt → SinkUse → List ℕ → Type 0
@@ -63,21 +63,21 @@ ends_simply text b n s end output out halts.WriteFault m left exits prints (at, 
     inr (refl, (subst (λ (held : Option (List ℕ)). GotPrefix held output out.held_after) (sym (appended-nil out.held_before)) got, counted.1))
 
 -- of the run of an image that prints it
-simple_run_ends : (image : ImageParts) (output input : List ℕ) (out : SinkUse) (halt : Halt) (m : MachineParts) (left : Option (List ℕ)) → Prints image output
-    → Ran image.text (segments_by_default image) DEFAULT_STEPS (start image (segments_by_default image) input) out.held_before halt m left out.held_after
+simple_run_ends : (limits : RunLimits) (image : ImageParts) (output input : List ℕ) (out : SinkUse) (halt : Halt) (m : MachineParts) (left : Option (List ℕ)) → Prints limits image output
+    → Ran image.text (segments_within limits image) limits.steps (start image (segments_within limits image) input) out.held_before halt m left out.held_after
     → Counted halt 0 0 out.faults_before out.faults_after → EndsSimply halt out output
-simple_run_ends image output input out halt m left prints ran counted =
+simple_run_ends limits image output input out halt m left prints ran counted =
     let p = prints input in
-    ends_simply image.text (segments_by_default image) DEFAULT_STEPS (start image (segments_by_default image) input) p.0 output out halt m left (sym (run_of-is image input) ∙ p.1) p.2 ran counted
+    ends_simply image.text (segments_within limits image) limits.steps (start image (segments_within limits image) input) p.0 output out halt m left (sym (run_of-is limits image input) ∙ p.1) p.2 ran counted
 
 -- of the run of a machine that was loaded with it
-pub loaded_ends : (image : ImageParts) (heap stack : ℕ) (loaded m : MachineParts) (out : SinkUse) (halt : Halt) (input : List ℕ) (left : Option (List ℕ))
-    → heap ≡ DEFAULT_HEAP → stack ≡ DEFAULT_STACK
+pub loaded_ends : (limits : RunLimits) (image : ImageParts) (heap stack : ℕ) (loaded m : MachineParts) (out : SinkUse) (halt : Halt) (input : List ℕ) (left : Option (List ℕ))
+    → heap ≡ heap_of limits → stack ≡ stack_of limits
     → ((given : List ℕ) → state_of loaded given [] ≡ start image (segments_of image heap stack) given) → loaded.cpu.memory.text ≡ image.text → segments loaded.cpu.memory ≡ segments_of image heap stack
-    → ((first : Option (List ℕ)) (s : State) → IsIn first s loaded (Some input) out.held_before → Ran loaded.cpu.memory.text (segments loaded.cpu.memory) DEFAULT_STEPS s first halt m left out.held_after)
-    → Counted halt 0 0 out.faults_before out.faults_after → (output : List ℕ) → Prints image output → EndsSimply halt out output
-loaded_ends image heap stack loaded m out halt input left least most state text same ran counted output prints =
-    simple_run_ends image output input out halt m left prints (ran_by_default image heap stack loaded m DEFAULT_STEPS input halt (Some input) out.held_before left out.held_after least most (state input) text same refl ran) counted
+    → ((first : Option (List ℕ)) (s : State) → IsIn first s loaded (Some input) out.held_before → Ran loaded.cpu.memory.text (segments loaded.cpu.memory) limits.steps s first halt m left out.held_after)
+    → Counted halt 0 0 out.faults_before out.faults_after → (output : List ℕ) → Prints limits image output → EndsSimply halt out output
+loaded_ends limits image heap stack loaded m out halt input left least most state text same ran counted output prints =
+    simple_run_ends limits image output input out halt m left prints (ran_within limits image heap stack loaded m limits.steps input halt (Some input) out.held_before left out.held_after least most (state input) text same refl ran) counted
 
 -- an exit is no fault
 not_both : (halt : Halt) (code : ℕ) → halt ≡ halts.Exit code → halt ≡ halts.WriteFault → ⊥

@@ -19,10 +19,11 @@ use Rattle.mips_image.specs.declared.image_error.ImageError.{ImageError}
 use Rattle.mips_image.specs.declared.stored_image.TheConstants.{CHECKED_VERSION}
 use Rattle.spim_machine.specs.Ends.{FailsReading, call_with}
 use Rattle.cool_emit.specs.Programs.{program_lines}
+use Rattle.cool_words.specs.declared.plan.RunLimits.{RunLimits}
 use Rattle.cool_driver.specs.CommandLine.{plan_of, most_bytes}
 use Rattle.cool_driver.specs.Notes.{end_text, refused_note, usage_note, missing_note, unread_note, too_many_note, too_large_note, read_fault_note, image_note, asm_note}
-use Rattle.cool_driver.specs.SimpleFiles.{AreSimple, AreNotSimple}
-use Rattle.cool_driver.specs.Execution.{IsImageOf, IsRunnable, is_text_file, segments_by_default, run_of, ComesTo, left_by, status_of, note_of}
+use Rattle.cool_driver.specs.SimpleFiles.{RunSimply, RunOtherwise}
+use Rattle.cool_driver.specs.Execution.{IsImageOf, IsRunnable, is_text_file, segments_within, run_of, ComesTo, left_by, status_of, note_of}
 use Rattle.cool_driver.specs.declared.command_line.Command.{Command}
 use Rattle.cool_driver.specs.declared.command_line.Command.TheVariants.{Check, Build, Run, Exec}
 
@@ -60,18 +61,19 @@ pub record IsReadUpTo (r : Request) (command : Command) (name : List ℕ) (conte
   pub held : AreHeld r.files front contents
   pub within : total contents ≤ most_bytes command
 
--- the command refuses such files for their faults: `run` looks for a program of the simple form first, and `exec` never does
+-- the command refuses such files for their faults: `run` looks first whether they are run as the simple form, and `exec` never does
 abbrev pub MayRefuse : Command → List (List ℕ) → Type 0
 MayRefuse Check contents = Unit {0}
 MayRefuse Build contents = Unit {0}
-MayRefuse Run contents = AreNotSimple contents
-MayRefuse Exec contents = ⊥
+MayRefuse (Run limits) contents = RunOtherwise limits contents
+MayRefuse (Exec limits) contents = ⊥
 
 -- The image that a call runs over its input: that of the file of `exec`, or the one of the lines of the program that the files of `run` are,
 -- unless they are one of the simple form.
-pub data IsRunOf (r : Request) (image : ImageParts) : Type 0 where
-  of_file : (name bytes : List ℕ) → IsRead r Exec (name ∷ []) (bytes ∷ []) → IsRunnable image bytes → IsRunOf r image
-  of_program : (names contents : List (List ℕ)) (p : List Class) → IsRead r Run names contents → AreNotSimple contents → IsAccepted contents p → image ≡ image_of (program_lines p names) → IsRunOf r image
+pub data IsRunOf (r : Request) (limits : RunLimits) (image : ImageParts) : Type 0 where
+  of_file : (name bytes : List ℕ) → IsRead r (Exec limits) (name ∷ []) (bytes ∷ []) → IsRunnable image bytes → IsRunOf r limits image
+  of_program : (names contents : List (List ℕ)) (p : List Class) → IsRead r (Run limits) names contents → RunOtherwise limits contents → IsAccepted contents p
+      → image ≡ image_of (program_lines p names) → IsRunOf r limits image
 
 -- what `build` writes for a program whose files have these names: the image of its lines, in the version of checked arithmetic
 abbrev pub built_bytes : List Class → List (List ℕ) → List ℕ
@@ -88,17 +90,18 @@ pub data Due (r : Request) : ℕ → List ℕ → List ℕ → List ℕ → Type
   refused : (command : Command) (names contents : List (List ℕ)) (faults : List Fault) → IsRead r command names contents → MayRefuse command contents → IsRefused contents faults
       → Due r 1 [] (refused_note names faults) r.input
   -- `run` of a program of the simple form: its strings in order, and the end text
-  ran : (names contents strings : List (List ℕ)) → IsRead r Run names contents → AreSimple contents strings → Due r 0 (concat strings ++ end_text) [] r.input
+  ran : (limits : RunLimits) (names contents strings : List (List ℕ)) → IsRead r (Run limits) names contents → RunSimply limits contents strings → Due r 0 (concat strings ++ end_text) [] r.input
   -- `run` and `exec`: as the run of the image ends
-  executed : (image : ImageParts) → IsRunOf r image
-      → Due r (status_of (run_of image r.input)) (left_by (run_of image r.input)).output (note_of (run_of image r.input)) (left_by (run_of image r.input)).input
+  executed : (limits : RunLimits) (image : ImageParts) → IsRunOf r limits image
+      → Due r (status_of (run_of limits image r.input)) (left_by (run_of limits image r.input)).output (note_of (run_of limits image r.input))
+      (left_by (run_of limits image r.input)).input
   -- `run` and `exec`: the run comes to a call that fails to read, over what is left
-  unread_input : (image : ImageParts) (at : State) (output left : List ℕ) → IsRunOf r image
-      → ComesTo image r.input at → FailsReading (call_with (segments_by_default image) at) at (Some []) (Some left) (Some output)
+  unread_input : (limits : RunLimits) (image : ImageParts) (at : State) (output left : List ℕ) → IsRunOf r limits image
+      → ComesTo limits image r.input at → FailsReading (call_with (segments_within limits image) at) at (Some []) (Some left) (Some output)
       → Due r 7 output read_fault_note left
   -- `exec`: the file has a fault
-  unfit : (name bytes : List ℕ) (fault : ImageError) → IsRead r Exec (name ∷ []) (bytes ∷ []) → is_text_file bytes ≡ false → first_fault bytes ≡ Some fault → Due r 12 [] (image_note name fault) r.input
-  misread : (name bytes : List ℕ) (fault : AsmFault) → IsRead r Exec (name ∷ []) (bytes ∷ []) → is_text_file bytes ≡ true → Due r 12 [] (asm_note name fault) r.input
+  unfit : (limits : RunLimits) (name bytes : List ℕ) (fault : ImageError) → IsRead r (Exec limits) (name ∷ []) (bytes ∷ []) → is_text_file bytes ≡ false → first_fault bytes ≡ Some fault → Due r 12 [] (image_note name fault) r.input
+  misread : (limits : RunLimits) (name bytes : List ℕ) (fault : AsmFault) → IsRead r (Exec limits) (name ∷ []) (bytes ∷ []) → is_text_file bytes ≡ true → Due r 12 [] (asm_note name fault) r.input
   -- all
   usage : plan_of r.words ≡ None → r.faults_after ≡ r.faults_before → Due r 2 [] usage_note r.input
   too_many : (command : Command) (names : List (List ℕ)) → plan_of r.words ≡ Some (command, names) → MOST_FILES < length names → r.faults_after ≡ r.faults_before → Due r 10 [] too_many_note r.input
@@ -112,10 +115,10 @@ pub data Writing (r : Request) : List ℕ → List ℕ → List ℕ → Type 0 w
   -- the image that `build` writes
   by_build : (names contents : List (List ℕ)) (p : List Class) → IsRead r Build names contents → IsAccepted contents p
       → Writing r [] (built_bytes p names) r.input
-  by_run : (names contents strings : List (List ℕ)) → IsRead r Run names contents → AreSimple contents strings → Writing r [] (concat strings ++ end_text) r.input
+  by_run : (limits : RunLimits) (names contents strings : List (List ℕ)) → IsRead r (Run limits) names contents → RunSimply limits contents strings → Writing r [] (concat strings ++ end_text) r.input
   -- the run of the image comes to a call that prints these bytes
-  by_image : (image : ImageParts) (at : State) (printed : List ℕ) → IsRunOf r image
-      → ComesTo image r.input at → call (segments_by_default image) at ≡ print at printed → Writing r at.output printed at.input
+  by_image : (limits : RunLimits) (image : ImageParts) (at : State) (printed : List ℕ) → IsRunOf r limits image
+      → ComesTo limits image r.input at → call (segments_within limits image) at ≡ print at printed → Writing r at.output printed at.input
 
 -- What a sink held, and its count of faults, before a call and after it.
 pub record SinkUse : Type 0 where
@@ -199,14 +202,14 @@ pub record Ends (c : Call) (status : ℕ) : Type 0 where
       → IsFaultList contents faults → faults ≢ [] → Unless status ((status ≡ 1) × Got c.notes (refused_note names faults))
   -- `run`: status 0 comes where the files were read and are a program of the simple form, and the status of its run's end where they are
   -- another program
-  pub ran_exactly : (files : FileMap) (names contents strings : List (List ℕ)) → Told c.request files → IsRead c.request Run names contents → AreSimple contents strings → Unless status (status ≡ 0)
-  pub compiled_exactly : (files : FileMap) (names contents : List (List ℕ)) (p : List Class) → Told c.request files → IsRead c.request Run names contents → AreNotSimple contents → IsAccepted contents p
-      → Unless status ((status ≡ 7) ⊎ (status ≡ status_of (run_of (image_of (program_lines p names)) c.request.input)))
+  pub ran_exactly : (files : FileMap) (limits : RunLimits) (names contents strings : List (List ℕ)) → Told c.request files → IsRead c.request (Run limits) names contents → RunSimply limits contents strings → Unless status (status ≡ 0)
+  pub compiled_exactly : (files : FileMap) (limits : RunLimits) (names contents : List (List ℕ)) (p : List Class) → Told c.request files → IsRead c.request (Run limits) names contents → RunOtherwise limits contents → IsAccepted contents p
+      → Unless status ((status ≡ 7) ⊎ (status ≡ status_of (run_of limits (image_of (program_lines p names)) c.request.input)))
   -- `exec`: status 12 comes where the file was read, is no text and no image, and the status of the run's end where it is an image
-  pub unfit_exactly : (files : FileMap) (name bytes : List ℕ) → Told c.request files → IsRead c.request Exec (name ∷ []) (bytes ∷ []) → is_text_file bytes ≡ false → ((image : ImageParts) → IsImageOf image bytes → ⊥)
+  pub unfit_exactly : (files : FileMap) (limits : RunLimits) (name bytes : List ℕ) → Told c.request files → IsRead c.request (Exec limits) (name ∷ []) (bytes ∷ []) → is_text_file bytes ≡ false → ((image : ImageParts) → IsImageOf image bytes → ⊥)
       → Unless status (status ≡ 12)
-  pub executed_exactly : (files : FileMap) (name bytes : List ℕ) (image : ImageParts) → Told c.request files → IsRead c.request Exec (name ∷ []) (bytes ∷ []) → IsImageOf image bytes
-      → Unless status ((status ≡ 7) ⊎ (status ≡ status_of (run_of image c.request.input)))
+  pub executed_exactly : (files : FileMap) (limits : RunLimits) (name bytes : List ℕ) (image : ImageParts) → Told c.request files → IsRead c.request (Exec limits) (name ∷ []) (bytes ∷ []) → IsImageOf image bytes
+      → Unless status ((status ≡ 7) ⊎ (status ≡ status_of (run_of limits image c.request.input)))
   -- no fault is passed over, and none is taken back
   pub no_less : NoLess c
   pub out_fault : c.out.faults_before < c.out.faults_after → status ≡ 8

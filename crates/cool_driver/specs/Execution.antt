@@ -1,5 +1,5 @@
 -- What `exec` does with the bytes of a file: the image that they are, its run, and how that ends.
-use Rattle.std.specs.Prelude.{◌≡◌, ℕ, ◌==◌, ◌⊎◌, not, if◌then◌else◌, Bool, true, List, [], ◌∷◌, None}
+use Rattle.std.specs.Prelude.{◌≡◌, ℕ, ◌*◌, ◌==◌, ◌⊎◌, not, if◌then◌else◌, Bool, true, List, [], ◌∷◌, None}
 use Rattle.mips_isa.specs.ImageBounds.{ImageParts, IsImage}
 use Rattle.mips_isa.specs.Bytes.{Segments, segments_of}
 use Rattle.mips_isa.specs.Lines.{Line}
@@ -8,7 +8,7 @@ use Rattle.mips_isa.specs.Calls.{State, Outcome, Running, Exited, Trapped}
 use Rattle.mips_isa.specs.Run.{start, run_image}
 use Rattle.mips_image.specs.ImageBytes.{IsVersion, image_bytes, HasWords}
 use Rattle.spim_machine.specs.Ends.{ComesToCall}
-use Rattle.cool_driver.specs.declared.TheConstants.{DEFAULT_HEAP, DEFAULT_STACK, DEFAULT_STEPS}
+use Rattle.cool_words.specs.declared.plan.RunLimits.{RunLimits}
 use Rattle.cool_driver.specs.Notes.{heap_limit_note, stack_limit_note, step_limit_note, trap_note}
 
 -- The bytes are those of this image, in version 1 or 2.
@@ -35,17 +35,25 @@ pub record IsAssembled (image : ImageParts) (bytes : List ℕ) : Type 0 where
 abbrev pub IsRunnable : ImageParts → List ℕ → Type 0
 IsRunnable image bytes = IsImageOf image bytes ⊎ IsAssembled image bytes
 
--- the segments with the default limits
-abbrev pub segments_by_default : ImageParts → Segments
-segments_by_default image = segments_of image DEFAULT_HEAP DEFAULT_STACK
+-- the bytes of heap and stack
+abbrev pub heap_of : RunLimits → ℕ
+heap_of limits = limits.heap_kib * 1024
 
--- the run of an image over an input, within the default limits
-unfoldable pub run_of : ImageParts → List ℕ → Outcome
-run_of image input = run_image image DEFAULT_HEAP DEFAULT_STACK input DEFAULT_STEPS
+abbrev pub stack_of : RunLimits → ℕ
+stack_of limits = limits.stack_kib * 1024
+
+-- the segments within limits
+abbrev pub segments_within : RunLimits → ImageParts → Segments
+segments_within limits image = segments_of image (heap_of limits) (stack_of limits)
+
+-- the run of an image over an input, within limits
+unfoldable pub run_of : RunLimits → ImageParts → List ℕ → Outcome
+run_of limits image input = run_image image (heap_of limits) (stack_of limits) input limits.steps
 
 -- this run comes to a system call in this state
-abbrev pub ComesTo : ImageParts → List ℕ → State → Type 0
-ComesTo image input at = ComesToCall image.text (segments_by_default image) DEFAULT_STEPS (start image (segments_by_default image) input) at
+abbrev pub ComesTo : RunLimits → ImageParts → List ℕ → State → Type 0
+ComesTo limits image input at =
+    ComesToCall image.text (segments_within limits image) limits.steps (start image (segments_within limits image) input) at
 
 -- the state that a run left
 abbrev pub left_by : Outcome → State

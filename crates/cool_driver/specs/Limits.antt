@@ -1,10 +1,8 @@
--- The limits of a call, each by its value: the bytes of a file for `exec`, the bytes of heap and stack, and the instructions of a
--- run.
+-- The limits of a call, each by its value: the bytes of a file for `exec`, and the instructions with which each program of the simple
+-- form ends.
 use Rattle.std.specs.Prelude.{◌≡◌}
-use Rattle.cool_driver.specs.declared.TheConstants.{MOST_IMAGE_BYTES, DEFAULT_HEAP, DEFAULT_STACK, DEFAULT_STEPS}
+use Rattle.cool_driver.specs.declared.TheConstants.{MOST_IMAGE_BYTES, SIMPLE_STEPS}
 
 pub record AreLimits : Type 0 where
   pub image_bytes : MOST_IMAGE_BYTES ≡ 532676628
-  pub heap : DEFAULT_HEAP ≡ 33554432
-  pub stack : DEFAULT_STACK ≡ 8388608
-  pub steps : DEFAULT_STEPS ≡ 1000000000
+  pub simple_steps : SIMPLE_STEPS ≡ 4008

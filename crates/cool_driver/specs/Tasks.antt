@@ -16,11 +16,13 @@ use Rattle.mips_isa.specs.declared.line.AsmFault.{AsmFault}
 use Rattle.mips_image.specs.ImageReading.{first_fault}
 use Rattle.mips_image.specs.declared.image_error.ImageError.{ImageError}
 use Rattle.cool_emit.specs.Programs.{program_lines}
+use Rattle.cool_words.specs.declared.plan.RunLimits.{RunLimits}
+use Rattle.cool_words.specs.Plans.{IsBounded}
 use Rattle.cool_driver.specs.CommandLine.{plan_of}
 use Rattle.cool_driver.specs.Notes.{end_text, refused_note, missing_note, unread_note, too_large_note, image_note, asm_note}
 use Rattle.cool_driver.specs.Execution.{IsRunnable, is_text_file, run_of}
 use Rattle.cool_driver.specs.Ends.{Request, Due, IsRead, IsRunOf, built_bytes, SinkUse, Got, GotPart}
-use Rattle.cool_driver.specs.SimpleFiles.{AreSimple, AreNotSimple}
+use Rattle.cool_driver.specs.SimpleFiles.{RunSimply, RunOtherwise}
 use Rattle.cool_driver.specs.SimpleReading.{texts}
 use Rattle.cool_driver.specs.declared.command_line.Command.{Command}
 use Rattle.cool_driver.specs.declared.command_line.Command.TheVariants as command
@@ -58,10 +60,10 @@ fault_note name faults.Failed = Some (unread_note name)
 fault_note name faults.TooLarge = Some too_large_note
 fault_note name faults.Memory = None
 
--- within the default limits the image prints this and exits, and takes nothing of any input
-abbrev pub Prints : ImageParts → List ℕ → Type 0
-Prints image output =
-    (input : List ℕ) → (end : State) × (run_of image input ≡ Exited 0 end) × (end.output ≡ output) × (end.input ≡ input)
+-- within the limits the image prints this and exits, and takes nothing of any input
+abbrev pub Prints : RunLimits → ImageParts → List ℕ → Type 0
+Prints limits image output =
+    (input : List ℕ) → (end : State) × (run_of limits image input ≡ Exited 0 end) × (end.output ≡ output) × (end.input ≡ input)
 
 -- this note is due for an image with a fault, and for a text with one
 abbrev pub IsUnfit : List ℕ → List ℕ → List ℕ → Type 0
@@ -70,12 +72,12 @@ IsUnfit name bytes note = (fault : ImageError) × (note ≡ image_note name faul
 abbrev pub IsMisread : List ℕ → List ℕ → List ℕ → Type 0
 IsMisread name bytes note = (fault : AsmFault) × (note ≡ asm_note name fault) × (is_text_file bytes ≡ true)
 
--- what is left to do for a file of this name that `exec` names and that has these bytes
-abbrev pub IsTaskOfFile : List ℕ → List ℕ → Task → Type 0
-IsTaskOfFile name bytes (Tell status lines) = (code_of status ≡ 12) × AreLines lines.items × (IsUnfit name bytes (note_of lines.items) ⊎ IsMisread name bytes (note_of lines.items))
-IsTaskOfFile name bytes (Write made) = ⊥
-IsTaskOfFile name bytes (Run image) = ⊥
-IsTaskOfFile name bytes (Execute image) = IsRunnable image bytes
+-- what is left to do for a file of this name that `exec` names, within these limits, and that has these bytes
+abbrev pub IsTaskOfFile : RunLimits → List ℕ → List ℕ → Task → Type 0
+IsTaskOfFile limits name bytes (Tell status lines) = (code_of status ≡ 12) × AreLines lines.items × (IsUnfit name bytes (note_of lines.items) ⊎ IsMisread name bytes (note_of lines.items))
+IsTaskOfFile limits name bytes (Write made) = ⊥
+IsTaskOfFile limits name bytes (Run within image) = ⊥
+IsTaskOfFile limits name bytes (Execute within image) = (within ≡ limits) × IsRunnable image bytes
 
 -- what is left to do for files of these names that `check` names and that have these bytes
 abbrev pub IsTaskOfChecked : List (List ℕ) → List (List ℕ) → Task → Type 0
@@ -84,8 +86,8 @@ IsTaskOfChecked names contents (Tell status lines) =
     × (((code_of status ≡ 0) × (note_of lines.items ≡ []) × ((p : List Class) × IsAccepted contents p))
     ⊎ ((code_of status ≡ 1) × ((faults : List Fault) × IsRefused contents faults × (note_of lines.items ≡ refused_note names faults))))
 IsTaskOfChecked names contents (Write made) = ⊥
-IsTaskOfChecked names contents (Run image) = ⊥
-IsTaskOfChecked names contents (Execute image) = ⊥
+IsTaskOfChecked names contents (Run within image) = ⊥
+IsTaskOfChecked names contents (Execute within image) = ⊥
 
 -- what is left to do for files of these names that `build` names and that have these bytes
 abbrev pub IsTaskOfBuilt : List (List ℕ) → List (List ℕ) → Task → Type 0
@@ -93,37 +95,46 @@ IsTaskOfBuilt names contents (Tell status lines) =
     AreLines lines.items × (code_of status ≡ 1)
     × ((faults : List Fault) × IsRefused contents faults × (note_of lines.items ≡ refused_note names faults))
 IsTaskOfBuilt names contents (Write made) = (p : List Class) × IsAccepted contents p × (made.items ≡ built_bytes p names)
-IsTaskOfBuilt names contents (Run image) = ⊥
-IsTaskOfBuilt names contents (Execute image) = ⊥
+IsTaskOfBuilt names contents (Run within image) = ⊥
+IsTaskOfBuilt names contents (Execute within image) = ⊥
 
--- what is left to do for files of these names that `run` names and that have these bytes
-abbrev pub IsTaskOfRun : List (List ℕ) → List (List ℕ) → Task → Type 0
-IsTaskOfRun names contents (Tell status lines) =
-    AreLines lines.items × AreNotSimple contents × (code_of status ≡ 1)
+-- what is left to do for files of these names that `run` names, within these limits, and that have these bytes
+abbrev pub IsTaskOfRun : RunLimits → List (List ℕ) → List (List ℕ) → Task → Type 0
+IsTaskOfRun limits names contents (Tell status lines) =
+    AreLines lines.items × RunOtherwise limits contents × (code_of status ≡ 1)
     × ((faults : List Fault) × IsRefused contents faults × (note_of lines.items ≡ refused_note names faults))
-IsTaskOfRun names contents (Write made) = ⊥
-IsTaskOfRun names contents (Run image) = (strings : List (List ℕ)) × AreSimple contents strings × Prints image (concat strings ++ end_text)
-IsTaskOfRun names contents (Execute image) = (p : List Class) × AreNotSimple contents × IsAccepted contents p × (image ≡ image_of (program_lines p names))
+IsTaskOfRun limits names contents (Write made) = ⊥
+IsTaskOfRun limits names contents (Run within image) =
+    (within ≡ limits) × ((strings : List (List ℕ)) × RunSimply limits contents strings × Prints limits image (concat strings ++ end_text))
+IsTaskOfRun limits names contents (Execute within image) =
+    (within ≡ limits) × ((p : List Class) × RunOtherwise limits contents × IsAccepted contents p × (image ≡ image_of (program_lines p names)))
 
 abbrev pub IsTaskOf : Command → List (List ℕ) → List (List ℕ) → Task → Type 0
 IsTaskOf command.Check names contents task = IsTaskOfChecked names contents task
 IsTaskOf command.Build names contents task = IsTaskOfBuilt names contents task
-IsTaskOf command.Run names contents task = IsTaskOfRun names contents task
-IsTaskOf command.Exec names contents task = IsTaskOfFile (get_or names 0 []) (get_or contents 0 []) task
+IsTaskOf (command.Run limits) names contents task = IsTaskOfRun limits names contents task
+IsTaskOf (command.Exec limits) names contents task = IsTaskOfFile limits (get_or names 0 []) (get_or contents 0 []) task
 
 -- one line
 abbrev pub IsLine : Status → List ℕ → Task → Type 0
 IsLine status line (Tell told lines) = (told ≡ status) × (texts lines.items ≡ line ∷ [])
 IsLine status line (Write made) = ⊥
-IsLine status line (Run image) = ⊥
-IsLine status line (Execute image) = ⊥
+IsLine status line (Run within image) = ⊥
+IsLine status line (Execute within image) = ⊥
 
 -- a line for each fault of files of these names
 abbrev pub AreLinesOf : List (List ℕ) → List Fault → Task → Type 0
 AreLinesOf names faults (Tell status lines) = (code_of status ≡ 1) × (texts lines.items ≡ map (fault_line names) faults)
 AreLinesOf names faults (Write made) = ⊥
-AreLinesOf names faults (Run image) = ⊥
-AreLinesOf names faults (Execute image) = ⊥
+AreLinesOf names faults (Run within image) = ⊥
+AreLinesOf names faults (Execute within image) = ⊥
+
+-- the limits of a command are those that words may set
+abbrev pub HasLimits : Command → Type 0
+HasLimits command.Check = Unit {0}
+HasLimits command.Build = Unit {0}
+HasLimits (command.Run limits) = IsBounded limits
+HasLimits (command.Exec limits) = IsBounded limits
 
 -- what is left to do is what is due
 abbrev pub IsDue : Request → Task → Type 0
@@ -131,9 +142,10 @@ IsDue r (Tell status lines) = Due r (code_of status) [] (note_of lines.items) r.
 IsDue r (Write made) =
     (names : List (List ℕ)) × (contents : List (List ℕ)) × (p : List Class) × IsRead r command.Build names contents × IsAccepted contents p
     × (made.items ≡ built_bytes p names)
-IsDue r (Run image) =
-    (names : List (List ℕ)) × (contents : List (List ℕ)) × (strings : List (List ℕ)) × IsRead r command.Run names contents × AreSimple contents strings × Prints image (concat strings ++ end_text)
-IsDue r (Execute image) = IsRunOf r image
+IsDue r (Run limits image) =
+    IsBounded limits × ((names : List (List ℕ)) × (contents : List (List ℕ)) × (strings : List (List ℕ)) × IsRead r (command.Run limits) names contents
+    × RunSimply limits contents strings × Prints limits image (concat strings ++ end_text))
+IsDue r (Execute limits image) = IsBounded limits × IsRunOf r limits image
 
 -- what is left to do for any words that name these files for this command, over a shelf of these files, and for any input
 abbrev pub IsFileTask : Option FileMap → ℕ → ℕ → Command → List (List ℕ) → Task → Type 0

@@ -1,46 +1,52 @@
-//! Runs of images within the default limits.
+//! Runs of images within limits.
 
 ghost use Rattle.std.specs.Prelude.{◌≡◌, List, ℕ, Bool, false};
 ghost use Rattle.cool_ports.specs.Answers.{Leaves};
 ghost use Rattle.spim_machine.specs.Input.{Took};
 ghost use Rattle.cool_driver.specs.Ends.{Request, IsRunOf, Ends};
+ghost use Rattle.cool_driver.specs.Execution.{heap_of, stack_of};
+ghost use Rattle.cool_words.specs.Plans.{IsBounded};
+ghost use Rattle.spim_memory.specs.Memory.{IsLimits};
 ghost use Rattle.cool_driver.specs.Tasks.{code_of, Prints, RunsSimple};
 
 use crate::notes::{tell, trap_note};
 use crate::status::Status;
-use crate::{DEFAULT_HEAP, DEFAULT_STACK, DEFAULT_STEPS};
 use cool_ports::{Sink, Source, SureSource};
+use cool_words::RunLimits;
 use mips_isa::Image;
 use spim_machine::{Halt, Machine};
 use spim_memory::Limits;
 use std::alloc::{AllocError, Global};
 
-/// The default limits.
-fn default_limits() -> Limits
-    ensures heap { result.heap ≡ DEFAULT_HEAP }
-    ensures stack { result.stack ≡ DEFAULT_STACK }
+/// The limits of a machine, in bytes.
+fn machine_limits(limits: RunLimits) -> Limits
+    requires { IsBounded limits }
+    ensures heap { result.heap ≡ heap_of limits }
+    ensures stack { result.stack ≡ stack_of limits }
+    ensures fit { IsLimits result.heap result.stack }
 {
     Limits {
-        heap: DEFAULT_HEAP,
-        stack: DEFAULT_STACK,
+        heap: limits.heap_kib * 1_024,
+        stack: limits.stack_kib * 1_024,
     }
 }
 
 /// Runs the image of a program of the simple form, which takes no input.
-pub fn run_simple<O: Sink>(alloc: Global, image: &Image, out: &mut O) -> Status
-    requires { (output : List ℕ) × Prints image.now output }
-    ensures { (output : List ℕ) → Prints image.now output → RunsSimple (record {
+pub fn run_simple<O: Sink>(alloc: Global, limits: RunLimits, image: &Image, out: &mut O) -> Status
+    requires limits { IsBounded limits }
+    requires prints { (output : List ℕ) × Prints limits image.now output }
+    ensures { (output : List ℕ) → Prints limits image.now output → RunsSimple (record {
       held_before = O.held out.old;
       held_after = O.held out.new;
       faults_before = O.faults out.old;
       faults_after = O.faults out.new;
     }) output result }
 {
-    let Ok(mut machine) = Machine::load(alloc, image, default_limits()) else {
+    let Ok(mut machine) = Machine::load(alloc, image, machine_limits(limits)) else {
         return Status::Memory;
     };
     let mut nothing = SureSource::new(Vec::new(alloc));
-    match machine.run(DEFAULT_STEPS, &mut nothing, out) {
+    match machine.run(limits.steps, &mut nothing, out) {
         Halt::Exit(_) => Status::Done,
         Halt::WriteFault => Status::WriteFault,
         _ => unreachable!(),
@@ -50,13 +56,15 @@ pub fn run_simple<O: Sink>(alloc: Global, image: &Image, out: &mut O) -> Status
 /// Runs an image over the input, and writes how its run ended.
 pub fn execute<I: Source, O: Sink, E: Sink>(
     alloc: Global,
+    limits: RunLimits,
     image: &Image,
     input: &mut I,
     out: &mut O,
     notes: &mut E,
 ) -> Status
+    requires { IsBounded limits }
     ensures taken { (ended : Bool) × Took false ended (I.past input.old) (I.past input.new) (I.left input.old) (I.left input.new) }
-    ensures ends { (r : Request) (rest : List ℕ) → IsRunOf r image.now → Leaves (I.past input.old) (I.past input.new) r.input rest → Ends (record {
+    ensures ends { (r : Request) (rest : List ℕ) → IsRunOf r limits image.now → Leaves (I.past input.old) (I.past input.new) r.input rest → Ends (record {
       request = r;
       out = record {
         held_before = O.held out.old;
@@ -75,10 +83,10 @@ pub fn execute<I: Source, O: Sink, E: Sink>(
       input_after = I.faults input.new;
     }) (code_of result) }
 {
-    let Ok(mut machine) = Machine::load(alloc, image, default_limits()) else {
+    let Ok(mut machine) = Machine::load(alloc, image, machine_limits(limits)) else {
         return Status::Memory;
     };
-    match machine.run(DEFAULT_STEPS, input, out) {
+    match machine.run(limits.steps, input, out) {
         Halt::Exit(0) => Status::Done,
         Halt::Exit(4) => tell(notes, Status::HeapLimit, b"cool: heap limit\n"),
         Halt::Exit(5) => tell(notes, Status::StackLimit, b"cool: stack limit\n"),

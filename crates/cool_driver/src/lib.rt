@@ -34,14 +34,8 @@ use writing::write_pieces;
 /// The most bytes of a file for `exec`: those of the greatest image.
 pub const MOST_IMAGE_BYTES: u64 = 532_676_628;
 
-/// The bytes of the heap of a run: 32,768 KiB.
-pub const DEFAULT_HEAP: u32 = 33_554_432;
-
-/// The bytes of the stack of a run: 8,192 KiB.
-pub const DEFAULT_STACK: u32 = 8_388_608;
-
-/// The most instructions of a run.
-pub const DEFAULT_STEPS: u64 = 1_000_000_000;
+/// The instructions with which each program of the simple form ends: five for each of 800 strings and for the end text, and three.
+pub const SIMPLE_STEPS: u64 = 4_008;
 
 /// Does what the words ask, and answers the exit status. The words are those after the program's own name.
 pub fn cool<F: Shelf, I: Source, O: Sink, E: Sink>(
@@ -95,8 +89,8 @@ pub fn cool<F: Shelf, I: Source, O: Sink, E: Sink>(
         Err(AllocError) => Status::Memory,
         Ok(Task::Tell(status, lines)) => tell_lines(notes, status, &lines),
         Ok(Task::Write(bytes)) => write_pieces(out, &bytes),
-        Ok(Task::Run(image)) => run_simple(alloc, &image, out),
-        Ok(Task::Execute(image)) => execute(alloc, &image, input, out, notes),
+        Ok(Task::Run(limits, image)) => run_simple(alloc, limits, &image, out),
+        Ok(Task::Execute(limits, image)) => execute(alloc, limits, &image, input, out, notes),
     };
     status.code()
 }

@@ -3,6 +3,8 @@
 ghost use Rattle.std.specs.Prelude.{◌≡◌, ◌<◌, ◌≤◌, ◌^◌, [], ◌∷◌, ◌++◌, length, IfOk, OnOk};
 ghost use Rattle.std.specs.List.{concat, AllByRecursion};
 ghost use Rattle.mips_isa.specs.ImageBounds.{text_start};
+ghost use Rattle.cool_words.specs.declared.plan.RunLimits.{RunLimits};
+ghost use Rattle.cool_driver.specs.declared.TheConstants.{SIMPLE_STEPS};
 ghost use Rattle.cool_driver.specs.Tasks.{Prints};
 ghost use Rattle.cool_driver.specs.SimpleReading.{texts};
 ghost use Rattle.cool_driver.specs.Emitted.{HasNoZero, print_words, text_of, data_of};
@@ -45,7 +47,7 @@ pub fn compile(alloc: Global, strings: &[Vec<u8>]) -> Result<Image, AllocError>
     requires few { length strings.now ≤ MOST_STRINGS }
     requires plain { AllByRecursion HasNoZero (texts strings.now) }
     requires small { length (data_of (texts strings.now)) < 2 ^ 28 }
-    ensures prints { IfOk result (λ image. Prints image (concat (texts strings.now))) }
+    ensures prints { IfOk result (λ image. (limits : RunLimits) → SIMPLE_STEPS ≤ limits.steps → Prints limits image (concat (texts strings.now))) }
     ensures entry { IfOk result (λ image. image.entry ≡ text_start) }
     ensures text { IfOk result (λ image. image.text ≡ text_of (texts strings.now)) }
     ensures bytes { IfOk result (λ image. image.bytes ≡ data_of (texts strings.now)) }

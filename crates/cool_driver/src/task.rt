@@ -2,21 +2,24 @@
 
 ghost use Rattle.std.specs.Prelude.{◌≡◌, ◌≢◌, ◌+◌, ◌<◌, ◌≤◌, ◌^◌, ◌++◌, length, IfOk, List, ℕ, Option, Some, None, true, false, string_bytes};
 ghost use Rattle.std.specs.List.{concat, list_all, AllByRecursion};
+ghost use Rattle.cool_words.specs.Plans.{is_file_name};
 ghost use Rattle.cool_driver.specs.CommandLine.{words_of};
+ghost use Rattle.cool_driver.specs.SimpleFiles.{RunOtherwise};
 ghost use Rattle.cool_driver.specs.SimpleReading.{texts};
 ghost use Rattle.cool_driver.specs.Emitted.{HasNoZero, data_of};
 ghost use Rattle.cool_syntax.specs.declared.TheConstants.{MOST_CALLS, MOST_FILES, MOST_SOURCE_BYTES};
-ghost use Rattle.cool_driver.specs.declared.TheConstants.{MOST_IMAGE_BYTES};
-ghost use Rattle.cool_driver.specs.Notes.{end_text, image_note, asm_words, asm_note};
+ghost use Rattle.cool_driver.specs.declared.TheConstants.{MOST_IMAGE_BYTES, SIMPLE_STEPS};
+ghost use Rattle.cool_driver.specs.Notes.{end_text, usage_note, image_note, asm_words, asm_note};
 ghost use Rattle.cool_driver.specs.Execution.{is_text_file};
 ghost use Rattle.mips_isa.specs.Lines.{Line};
 ghost use Rattle.mips_isa.specs.Assembly.{fault_of, image_of};
 ghost use Rattle.cool_faults.specs.Files.{total};
 ghost use Rattle.cool_faults.specs.Verdicts.{place_of};
-ghost use Rattle.cool_driver.specs.CommandLine.{is_name, is_number_of_files, most_bytes};
-ghost use Rattle.cool_driver.specs.Tasks.{fault_note, Prints, IsLine, AreLinesOf, IsTaskOf, IsTaskOfFile, IsTaskOfChecked, IsTaskOfBuilt, IsTaskOfRun, IsDue, IsFileTask};
+ghost use Rattle.cool_driver.specs.CommandLine.{is_number_of_files, most_bytes};
+ghost use Rattle.cool_driver.specs.Tasks.{fault_note, Prints, IsLine, AreLinesOf, IsTaskOf, IsTaskOfFile, IsTaskOfChecked, IsTaskOfBuilt, IsTaskOfRun, IsDue, IsFileTask, HasLimits};
 
-use crate::command_line::{Command, read_words};
+use crate::SIMPLE_STEPS;
+use crate::command_line::Command;
 use crate::program::compile;
 use crate::reading::{ReadError, read_files};
 use crate::simple_form::{SimpleError, read_programs};
@@ -25,6 +28,7 @@ use cool_emit::build;
 use cool_faults::{Fault, Verdict, accept, fault_text};
 use cool_ports::{Shelf, ShelfFault};
 use cool_syntax::MOST_FILES;
+use cool_words::{Plan, RunLimits, WordsError, read_words};
 use mips_asm::assemble;
 use mips_image::{CHECKED_VERSION, ImageError, read_image, write_image};
 use mips_isa::{AsmError, AsmFault, AsmKind, Image};
@@ -41,10 +45,10 @@ pub enum Task {
     Tell(Status, Vec<Vec<u8>>),
     /// To write these bytes, which are an image, to the output.
     Write(Vec<u8>),
-    /// To run the image of a program of the simple form.
-    Run(Image),
-    /// To run this image over the input.
-    Execute(Image),
+    /// To run the image of a program of the simple form within these limits.
+    Run(RunLimits, Image),
+    /// To run this image over the input within these limits.
+    Execute(RunLimits, Image),
 }
 
 /// What is left to do for a command line. `Err` comes only for want of memory.
@@ -63,10 +67,31 @@ pub fn find_task<F: Shelf>(
       input = input;
     }) task) }
 {
-    match read_words(words) {
-        Some(plan) => find_file_task(alloc, plan.command, plan.names, files),
-        None => tell_line(alloc, Status::Usage, b"cool: bad command line\n"),
+    match read_words(alloc, words) {
+        Ok(Plan::Check { files: names }) => find_file_task(alloc, Command::Check, &names, files),
+        Ok(Plan::Build { files: names }) => find_file_task(alloc, Command::Build, &names, files),
+        Ok(
+            Plan::Run {
+                files: names,
+                limits,
+            },
+        ) => { find_file_task(alloc, Command::Run(limits), &names, files) }
+        Ok(Plan::Exec { file, limits }) => {
+            let names = vec![in alloc; file]?;
+            find_file_task(alloc, Command::Exec(limits), &names, files)
+        }
+        Ok(Plan::Asm { .. }) => tell_usage(alloc),
+        Ok(Plan::Big { .. }) => tell_usage(alloc),
+        Err(WordsError::Usage) => tell_usage(alloc),
+        Err(WordsError::Memory) => Err(AllocError),
     }
+}
+
+/// To write that the words are no command line. `Err` comes only for want of memory.
+fn tell_usage(alloc: Global) -> Result<Task, AllocError>
+    ensures { IfOk result (IsLine Status.Usage usage_note) }
+{
+    tell_line(alloc, Status::Usage, b"cool: bad command line\n")
 }
 
 /// To write this one line. `Err` comes only for want of memory.
@@ -86,7 +111,8 @@ fn find_file_task<F: Shelf>(
     files: &mut F,
 ) -> Result<Task, AllocError>
     requires number { is_number_of_files command (length names.now) ≡ true }
-    requires names { list_all is_name (words_of names.now) ≡ true }
+    requires names { list_all is_file_name (words_of names.now) ≡ true }
+    requires limits { HasLimits command }
     ensures kept { F.files files.new ≡ F.files files.old }
     ensures count { F.faults files.old ≤ F.faults files.new }
     ensures due { IfOk result (IsFileTask (F.files files.old) (F.faults files.old) (F.faults files.new) command (words_of names.now)) }
@@ -112,7 +138,7 @@ fn find_content_task(
     contents: &[Vec<u8>],
 ) -> Result<Task, AllocError>
     requires each { length names.now ≡ length contents.now }
-    requires names { list_all is_name (words_of names.now) ≡ true }
+    requires names { list_all is_file_name (words_of names.now) ≡ true }
     requires number { is_number_of_files command (length names.now) ≡ true }
     requires few { length contents.now ≤ MOST_FILES }
     requires small { total (texts contents.now) ≤ most_bytes command }
@@ -121,8 +147,8 @@ fn find_content_task(
     match command {
         Command::Check => check_files(alloc, names, contents),
         Command::Build => build_files(alloc, names, contents),
-        Command::Run => compile_files(alloc, names, contents),
-        Command::Exec => load(alloc, names[0].as_str(), &contents[0]),
+        Command::Run(limits) => compile_files(alloc, limits, names, contents),
+        Command::Exec(limits) => load(alloc, limits, names[0].as_str(), &contents[0]),
     }
 }
 
@@ -143,7 +169,7 @@ fn check_files(alloc: Global, names: &[String], contents: &[Vec<u8>]) -> Result<
 /// What is left to do to write the image of files of these names that have these bytes.
 fn build_files(alloc: Global, names: &[String], contents: &[Vec<u8>]) -> Result<Task, AllocError>
     requires each { length names.now ≡ length contents.now }
-    requires names { list_all is_name (words_of names.now) ≡ true }
+    requires names { list_all is_file_name (words_of names.now) ≡ true }
     requires some { 0 < length names.now }
     requires few { length contents.now ≤ MOST_FILES }
     requires small { total (texts contents.now) ≤ MOST_SOURCE_BYTES }
@@ -170,44 +196,75 @@ fn refuse(alloc: Global, names: &[String], faults: &[Fault]) -> Result<Task, All
     Ok(Task::Tell(Status::Refused, lines))
 }
 
-/// What is left to do to run files of these names that have these bytes.
-fn compile_files(alloc: Global, names: &[String], contents: &[Vec<u8>]) -> Result<Task, AllocError>
+/// What is left to do to run files of these names that have these bytes, within limits.
+fn compile_files(
+    alloc: Global,
+    limits: RunLimits,
+    names: &[String],
+    contents: &[Vec<u8>],
+) -> Result<Task, AllocError>
     requires each { length names.now ≡ length contents.now }
-    requires names { list_all is_name (words_of names.now) ≡ true }
+    requires names { list_all is_file_name (words_of names.now) ≡ true }
     requires some { 0 < length names.now }
     requires few { length contents.now ≤ MOST_FILES }
     requires small { total (texts contents.now) ≤ MOST_SOURCE_BYTES }
-    ensures { IfOk result (IsTaskOfRun (words_of names.now) (texts contents.now)) }
+    ensures { IfOk result (IsTaskOfRun limits (words_of names.now) (texts contents.now)) }
 {
+    if limits.steps < SIMPLE_STEPS {
+        return compile_program(alloc, limits, names, contents);
+    }
     match read_programs(alloc, contents) {
-        Ok(strings) => Ok(Task::Run(compile_with_end(alloc, strings)?)),
-        Err(SimpleError::NotSimple) => match accept(alloc, contents)? {
-            Verdict::Accepted(program) => Ok(Task::Execute(build(alloc, &program, names)?)),
-            Verdict::Refused(faults) => refuse(alloc, names, faults.as_slice()),
-        },
+        Ok(strings) => Ok(Task::Run(limits, compile_with_end(alloc, strings)?)),
+        Err(SimpleError::NotSimple) => compile_program(alloc, limits, names, contents),
         Err(SimpleError::Memory) => Err(AllocError),
     }
 }
 
+/// The same, for files that are not run as a program of the simple form.
+fn compile_program(
+    alloc: Global,
+    limits: RunLimits,
+    names: &[String],
+    contents: &[Vec<u8>],
+) -> Result<Task, AllocError>
+    requires each { length names.now ≡ length contents.now }
+    requires names { list_all is_file_name (words_of names.now) ≡ true }
+    requires some { 0 < length names.now }
+    requires few { length contents.now ≤ MOST_FILES }
+    requires small { total (texts contents.now) ≤ MOST_SOURCE_BYTES }
+    requires other { RunOtherwise limits (texts contents.now) }
+    ensures { IfOk result (IsTaskOfRun limits (words_of names.now) (texts contents.now)) }
+{
+    match accept(alloc, contents)? {
+        Verdict::Accepted(program) => Ok(Task::Execute(limits, build(alloc, &program, names)?)),
+        Verdict::Refused(faults) => refuse(alloc, names, faults.as_slice()),
+    }
+}
+
 /// What is left to do to execute a file of this name that has these bytes.
-fn load(alloc: Global, name: &str, bytes: &[u8]) -> Result<Task, AllocError>
+fn load(alloc: Global, limits: RunLimits, name: &str, bytes: &[u8]) -> Result<Task, AllocError>
     requires { length bytes.now ≤ MOST_IMAGE_BYTES }
-    ensures { IfOk result (IsTaskOfFile name.now bytes.now) }
+    ensures { IfOk result (IsTaskOfFile limits name.now bytes.now) }
 {
     if bytes.first() == Some(&IMAGE_START) {
-        load_image(alloc, name, bytes)
+        load_image(alloc, limits, name, bytes)
     } else {
-        load_text(alloc, name, bytes)
+        load_text(alloc, limits, name, bytes)
     }
 }
 
 /// What is left to do to execute an image.
-fn load_image(alloc: Global, name: &str, bytes: &[u8]) -> Result<Task, AllocError>
+fn load_image(
+    alloc: Global,
+    limits: RunLimits,
+    name: &str,
+    bytes: &[u8],
+) -> Result<Task, AllocError>
     requires { is_text_file bytes.now ≡ false }
-    ensures { IfOk result (IsTaskOfFile name.now bytes.now) }
+    ensures { IfOk result (IsTaskOfFile limits name.now bytes.now) }
 {
     match read_image(alloc, bytes) {
-        Ok(stored) => Ok(Task::Execute(stored.image)),
+        Ok(stored) => Ok(Task::Execute(limits, stored.image)),
         Err(fault) => {
             let note = image_note(alloc, name, fault)?;
             tell_line(alloc, Status::Unfit, note.as_bytes())
@@ -216,13 +273,13 @@ fn load_image(alloc: Global, name: &str, bytes: &[u8]) -> Result<Task, AllocErro
 }
 
 /// What is left to do to execute a text of assembly.
-fn load_text(alloc: Global, name: &str, bytes: &[u8]) -> Result<Task, AllocError>
+fn load_text(alloc: Global, limits: RunLimits, name: &str, bytes: &[u8]) -> Result<Task, AllocError>
     requires text { is_text_file bytes.now ≡ true }
     requires small { length bytes.now ≤ MOST_IMAGE_BYTES }
-    ensures { IfOk result (IsTaskOfFile name.now bytes.now) }
+    ensures { IfOk result (IsTaskOfFile limits name.now bytes.now) }
 {
     match assemble_text(alloc, bytes) {
-        Ok(image) => Ok(Task::Execute(image)),
+        Ok(image) => Ok(Task::Execute(limits, image)),
         Err(AsmError::Fault(fault)) => {
             let note = asm_note(alloc, name, fault)?;
             tell_line(alloc, Status::Unfit, note.as_bytes())
@@ -286,7 +343,7 @@ fn compile_with_end(alloc: Global, strings: Vec<Vec<u8>>) -> Result<Image, Alloc
     requires few { length strings.items ≤ MOST_CALLS }
     requires plain { AllByRecursion HasNoZero (texts strings.items) }
     requires small { length (data_of (texts strings.items)) + 36 < 2 ^ 28 }
-    ensures { IfOk result (λ image. Prints image (concat (texts strings.items) ++ end_text)) }
+    ensures { IfOk result (λ image. (limits : RunLimits) → SIMPLE_STEPS ≤ limits.steps → Prints limits image (concat (texts strings.items) ++ end_text)) }
 {
     let mut strings = strings;
     let end = Vec::from_slice(alloc, b"COOL program successfully executed\n")?;

@@ -19,7 +19,13 @@ tell_lines-status-requires g c =
 pub run_simple-status-requires : goal.run_simple-status-requires
 run_simple-status-requires g c =
     let due = rw c.in-Ok-Run.field-0-is at (c.in-Ok-Run.ensures.due []) in
-    (concat due.2 ++ end_text, due.5)
+    record { limits = due.0; prints = (concat due.1.2 ++ end_text, due.1.5) }
+
+-- the limits of a run are in bounds
+pub execute-status-requires : goal.execute-status-requires
+execute-status-requires g c =
+    let due = rw c.in-Ok-Execute.field-0-is at (c.in-Ok-Execute.ensures.due []) in
+    due.0
 
 pub returns-clause-input : goal.returns-clause-input
 returns-clause-input g c none =
@@ -30,7 +36,7 @@ returns-clause-input g c none =
       | in-Ok-Run w ↦ w.input-is
       | in-Ok-Execute w ↦
           let due = rw w.in-Ok-Execute.field-0-is at (w.in-Ok-Execute.ensures.due []) in
-          absurd (run_takes_input _ _ due none)
+          absurd (run_takes_input _ _ _ due.1 none)
     ]
 
 pub returns-clause-ends : goal.returns-clause-ends
@@ -53,11 +59,11 @@ returns-clause-ends g c given rest leaves =
       | in-Ok-Run w ↦
           let here = rw w.input-is at leaves in
           let due = rw w.in-Ok-Run.field-0-is at (w.in-Ok-Run.ensures.due given) in
-          rw (c.code.ensures, w.status-is, w.out-is, w.notes-is, w.input-is) (simple_ends _ due.0 due.1 due.2 _ due.3 due.4 (sym (appended-nil _), refl) (record { left = leaves_same _ given rest here; calm = refl }) (w.run_simple-status.ensures _ due.5))
+          rw (c.code.ensures, w.status-is, w.out-is, w.notes-is, w.input-is) (simple_ends _ _ due.1.0 due.1.1 due.1.2 _ due.1.3 due.1.4 (sym (appended-nil _), refl) (record { left = leaves_same _ given rest here; calm = refl }) (w.run_simple-status.ensures _ due.1.5))
       | in-Ok-Execute w ↦
           let here = rw w.input-is at leaves in
           let due = rw w.in-Ok-Execute.field-0-is at (w.in-Ok-Execute.ensures.due given) in
-          rw (c.code.ensures, w.status-is, w.out-is, w.notes-is, w.input-is) (w.execute-status.ensures.ends _ rest due here)
+          rw (c.code.ensures, w.status-is, w.out-is, w.notes-is, w.input-is) (w.execute-status.ensures.ends _ rest due.1 here)
     ]
 
 pub returns-clause-taken : goal.returns-clause-taken
@@ -71,4 +77,4 @@ returns-clause-taken g c =
     ]
 
 pub returns-clause-limits : goal.returns-clause-limits
-returns-clause-limits g c = record { image_bytes = refl; heap = refl; stack = refl; steps = refl }
+returns-clause-limits g c = record { image_bytes = refl; simple_steps = refl }

@@ -3,7 +3,7 @@ use Rattle.std.specs.Prelude.{string_bytes}
 use Rattle.std.proofs.lemmas.List.{length-map}
 use Rattle.cool_syntax.specs.declared.TheConstants.{MOST_FILES}
 use Rattle.cool_faults.specs.Files.{total}
-use Rattle.cool_driver.specs.CommandLine.{words_of, most_bytes}
+use Rattle.cool_driver.specs.CommandLine.{words_of, is_number_of_files, most_bytes}
 use Rattle.cool_driver.specs.SimpleReading.{texts}
 use Rattle.cool_driver.specs.Reading.{IsStopAt}
 use Rattle.cool_driver.specs.Tasks.{IsTaskOf, fault_note}
@@ -36,7 +36,8 @@ returns-in-Ok-clause-due g c =
     let few : length (words_of c.args.names.now) ≤ MOST_FILES = omega (arith, length-map c.args.names.now string_bytes, c.if-names-gt-MOST_FILES.false) in
     let within : total (texts c.in-Ok.contents.items) ≤ most_bytes c.args.command = omega (arith, read.within, c.most_bytes.ensures) in
     for_task _ _ c.find_content_task.result
-    (λ task h. file_task _ _ _ c.args.command (words_of c.args.names.now) (texts c.in-Ok.contents.items) task read.held few within read.calm
+    (λ task h. file_task _ _ _ c.args.command (words_of c.args.names.now) (texts c.in-Ok.contents.items) task c.requires.limits
+    (ap (is_number_of_files c.args.command) (length-map c.args.names.now string_bytes) ∙ c.requires.number) read.held few within read.calm
     (subst (λ (files : List (Vec ℕ)). IsTaskOf c.args.command (words_of c.args.names.now) (texts files) task) c.deref.ensures.value h))
     c.find_content_task.ensures
 

@@ -1,4 +1,4 @@
-use Rattle.std.proofs.Common.{inr, ◌∙◌}
+use Rattle.std.proofs.Common.{refl, inr, ◌∙◌}
 use Rattle.cool_driver.proofs.NoteLines.{misread_line}
 use Rattle.cool_driver.proofs.DueTasks.{for_task}
 use Rattle.cool_driver.proofs.task.load_text.Goals as goal
@@ -7,11 +7,12 @@ use Rattle.cool_driver.proofs.task.load_text.Goals as goal
 pub returns-in-Ok : goal.returns-in-Ok
 returns-in-Ok c =
     let lines = c.in-Ok.ensures in
-    inr (record { text = c.requires.text; lines = lines.0; no_fault = lines.1; image_is = lines.2 })
+    (refl, inr (record { text = c.requires.text; lines = lines.0; no_fault = lines.1; image_is = lines.2 }))
 
 -- it has a fault
 pub returns-in_ok-note-in-Err-Fault : goal.returns-in_ok-note-in-Err-Fault
 returns-in_ok-note-in-Err-Fault c =
+    let note = rw c.in-Err-Fault.field-0-is at c.in_ok-note-in-Err-Fault.ensures in
     for_task _ _ c.tell_line.result
-    (λ task h. misread_line c.args.name.now c.args.bytes.now c.as_bytes.result.now task (c.in-Err-Fault.fault, c.as_bytes.ensures.value ∙ c.in_ok-note-in-Err-Fault.ensures, c.requires.text) h)
+    (λ task h. misread_line c.args.limits c.args.name.now c.args.bytes.now c.as_bytes.result.now task (c.in-Err-Fault.fault, c.as_bytes.ensures.value ∙ note, c.requires.text) h)
     c.tell_line.ensures

@@ -1,4 +1,4 @@
--- The run of a loaded machine within the default limits.
+-- The run of a loaded machine within limits.
 use Rattle.std.proofs.Common.{◌≡◌, ◌∙◌, refl, sym, ap, subst, ℕ, ◌+◌, ◌-◌, suc, List, [], ◌++◌, append_assoc, arith}
 use Rattle.std.specs.Prelude.{Option, Some}
 use Rattle.cool_ports.specs.SinkBytes.{appended, GotPrefix}
@@ -14,13 +14,14 @@ use Rattle.spim_memory.specs.Memory.{segments}
 use Rattle.spim_machine.specs.declared.halt.Halt.{Halt}
 use Rattle.spim_machine.specs.Machine.{MachineParts, state_of, IsIn}
 use Rattle.spim_machine.specs.Ends.{ComesToCall, Ran}
-use Rattle.cool_driver.specs.declared.TheConstants.{DEFAULT_HEAP, DEFAULT_STACK, DEFAULT_STEPS}
-use Rattle.cool_driver.specs.Execution.{run_of, segments_by_default}
+use Rattle.cool_words.specs.declared.plan.RunLimits.{RunLimits}
+use Rattle.cool_driver.specs.Execution.{heap_of, run_of, segments_within, stack_of}
 
--- the run of an image within the default limits
-pub run_of-is : (image : ImageParts) (input : List ℕ) → run_of image input ≡ run image.text (segments_by_default image) DEFAULT_STEPS (start image (segments_by_default image) input)
+-- the run of an image within limits
+pub run_of-is : (limits : RunLimits) (image : ImageParts) (input : List ℕ)
+    → run_of limits image input ≡ run image.text (segments_within limits image) limits.steps (start image (segments_within limits image) input)
 unfolding run_of
-run_of-is image input = refl
+run_of-is limits image input = refl
 
 -- a machine is in the state without output that has its parts, where its sink got nothing yet
 in_own_state : (m : MachineParts) (input : List ℕ) (left held : Option (List ℕ)) → left ≡ Some input → IsIn held (state_of m input []) m left held
@@ -37,15 +38,15 @@ ran_loaded image b loaded m n input halt left held left' held' state text same g
     (subst (λ (t : List ℕ). Ran t (segments loaded.cpu.memory) n (state_of loaded input []) held halt m left' held') text
     (ran held (state_of loaded input []) (in_own_state loaded input left held given))))
 
--- so it is for an image that was loaded with the default limits
-pub ran_by_default : (image : ImageParts) (heap stack : ℕ) (loaded m : MachineParts) (n : ℕ) (input : List ℕ) (halt : Halt) (left held left' held' : Option (List ℕ))
-    → heap ≡ DEFAULT_HEAP → stack ≡ DEFAULT_STACK
+-- so it is for an image that was loaded with the limits
+pub ran_within : (limits : RunLimits) (image : ImageParts) (heap stack : ℕ) (loaded m : MachineParts) (n : ℕ) (input : List ℕ) (halt : Halt) (left held left' held' : Option (List ℕ))
+    → heap ≡ heap_of limits → stack ≡ stack_of limits
     → state_of loaded input [] ≡ start image (segments_of image heap stack) input → loaded.cpu.memory.text ≡ image.text → segments loaded.cpu.memory ≡ segments_of image heap stack
     → left ≡ Some input
     → ((first : Option (List ℕ)) (s : State) → IsIn first s loaded left held → Ran loaded.cpu.memory.text (segments loaded.cpu.memory) n s first halt m left' held')
-    → Ran image.text (segments_by_default image) n (start image (segments_by_default image) input) held halt m left' held'
-ran_by_default image heap stack loaded m n input halt left held left' held' least most state text same given ran =
-    subst (λ (h : ℕ). Ran image.text (segments_of image h DEFAULT_STACK) n (start image (segments_of image h DEFAULT_STACK) input) held halt m left' held') least
+    → Ran image.text (segments_within limits image) n (start image (segments_within limits image) input) held halt m left' held'
+ran_within limits image heap stack loaded m n input halt left held left' held' least most state text same given ran =
+    subst (λ (h : ℕ). Ran image.text (segments_of image h (stack_of limits)) n (start image (segments_of image h (stack_of limits)) input) held halt m left' held') least
     (subst (λ (k : ℕ). Ran image.text (segments_of image heap k) n (start image (segments_of image heap k) input) held halt m left' held') most
     (ran_loaded image (segments_of image heap stack) loaded m n input halt left held left' held' state text same given ran))
 
