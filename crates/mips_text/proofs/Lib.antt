@@ -1,2 +1,3 @@
+pub mod PrintedParts
 pub mod ReadingTables
 pub mod SpellingRows

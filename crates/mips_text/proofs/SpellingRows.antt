@@ -8,22 +8,22 @@ use Rattle.mips_text.specs.Spelling.{gap_text, operands_text, register_operand}
 regroup : (a b c d : List ℕ) → ((a ++ b) ++ c) ++ d ≡ a ++ (b ++ (c ++ d))
 regroup a b c d = simp append_assoc
 
--- what the registers from an index on are printed as
-abbrev pub registers_left : ℕ → List ℕ → List ℕ
-registers_left index registers = operands_text index (map register_operand (drop index registers))
+-- what the operands from an index on are printed as
+abbrev pub operands_left : {A : Type 0} → (A → List ℕ) → ℕ → List A → List ℕ
+operands_left text index xs = operands_text index (map text (drop index xs))
 
--- one more register was written
-pub register_written : (out total registers : List ℕ) (index register : ℕ) → index < length registers → register ≡ get_or registers index register → out ++ registers_left index registers ≡ total → ((out ++ gap_text index) ++ register_operand register) ++ registers_left (index + 1) registers ≡ total
-register_written out total registers index register h e inv =
-    let cut = drop-cons registers index register h ∙ ap (λ (r : ℕ). r ∷ drop (suc index) registers) (sym e) in
-    let split = ap (λ (rs : List ℕ). out ++ operands_text index (map register_operand rs)) cut in
-    rw add-one (regroup out (gap_text index) (register_operand register) (registers_left (suc index) registers) ∙ (sym split ∙ inv))
+-- one more operand was written
+pub operand_written : {A : Type 0} → (text : A → List ℕ) (out total : List ℕ) (xs : List A) (index : ℕ) (x : A) → index < length xs → x ≡ get_or xs index x → out ++ operands_left text index xs ≡ total → ((out ++ gap_text index) ++ text x) ++ operands_left text (index + 1) xs ≡ total
+operand_written {A} text out total xs index x h e inv =
+    let cut = drop-cons xs index x h ∙ ap (λ (y : A). y ∷ drop (suc index) xs) (sym e) in
+    let split = ap (λ (ys : List A). out ++ operands_text index (map text ys)) cut in
+    rw add-one (regroup out (gap_text index) (text x) (operands_left text (suc index) xs) ∙ (sym split ∙ inv))
 
--- all registers were written
-pub registers_written : (out old start name registers : List ℕ) (index : ℕ) → length registers ≤ index → start ≡ old ++ name → out ++ registers_left index registers ≡ start ++ registers_left 0 registers → out ≡ old ++ (name ++ registers_left 0 registers)
-registers_written out old start name registers index h e inv =
-    let done = ap (λ (rs : List ℕ). out ++ operands_text index (map register_operand rs)) (drop_all index registers h) in
-    sym (append-nil out) ∙ (sym done ∙ (inv ∙ (ap (λ (s : List ℕ). s ++ registers_left 0 registers) e ∙ append_assoc old name (registers_left 0 registers))))
+-- all operands were written
+pub operands_written : {A : Type 0} → (text : A → List ℕ) (out old start name : List ℕ) (xs : List A) (index : ℕ) → length xs ≤ index → start ≡ old ++ name → out ++ operands_left text index xs ≡ start ++ operands_left text 0 xs → out ≡ old ++ (name ++ operands_left text 0 xs)
+operands_written {A} text out old start name xs index h e inv =
+    let done = ap (λ (ys : List A). out ++ operands_text index (map text ys)) (drop_all index xs h) in
+    sym (append-nil out) ∙ (sym done ∙ (inv ∙ (ap (λ (s : List ℕ). s ++ operands_left text 0 xs) e ∙ append_assoc old name (operands_left text 0 xs))))
 
 -- the same bytes, grouped from the right
 regroup_behind : (a b c d : List ℕ) → (a ++ (b ++ c)) ++ d ≡ a ++ (b ++ (c ++ d))

@@ -1,19 +1,25 @@
 //! The text of lines.
 
+ghost use Rattle.std.specs.Prelude.{◌≡◌, ◌++◌, IfOk, OnOk, flat_map};
+ghost use Rattle.mips_isa.specs.Lines.{line_of, lines_of, statement_of};
+ghost use Rattle.mips_text.specs.Printing.{instruction_text, label_text, line_text, printed, statement_text};
+
 use crate::directives::Directive;
 use crate::mnemonics::Mnemonic;
 use crate::rows::{
     put_bytes, put_directive, put_directive_named, put_directive_numbered, put_in_memory,
     put_named, put_numbered, put_registers, put_text, put_words,
 };
-use mips_isa::{Instr, Line, Statement};
+use mips_isa::{Instr, Label, Line, Statement};
 use std::alloc::{AllocError, Global};
 
-/// The text of lines, in the one spelling.
+/// The text of lines, in the one spelling, which `docs/assembly.md` has under Printing.
 ///
-/// A line is each label as its name, `:` and a space, then the mnemonic and, where there are operands, a space and the operands
-/// with `, ` between, then a newline. `Err` comes only for want of memory.
-pub fn print_asm(alloc: Global, lines: &[Line]) -> Result<Vec<u8>, AllocError> {
+/// A line is each label as its name, `:` and a space, then the mnemonic or directive and, where there are operands, a space and
+/// the operands with `, ` between, then a newline. Numbers stand in decimal. `Err` comes only for want of memory.
+pub fn print_asm(alloc: Global, lines: &[Line]) -> Result<Vec<u8>, AllocError>
+    ensures text { IfOk result (λ text. text.items ≡ printed (lines_of lines.now)) }
+{
     let mut out = Vec::new(alloc);
     for line in lines {
         put_line(&mut out, line)?;
@@ -22,17 +28,29 @@ pub fn print_asm(alloc: Global, lines: &[Line]) -> Result<Vec<u8>, AllocError> {
 }
 
 /// Writes a line.
-fn put_line(out: &mut Vec<u8>, line: &Line) -> Result<(), AllocError> {
-    for label in &line.labels {
-        out.extend_from_slice(label.as_slice())?;
-        out.extend_from_slice(b": ")?;
-    }
+fn put_line(out: &mut Vec<u8>, line: &Line) -> Result<(), AllocError>
+    ensures { OnOk result (out.new.items ≡ out.old.items ++ line_text (line_of line.now)) }
+{
+    put_labels(out, &line.labels)?;
     put_statement(out, &line.statement)?;
     out.extend_from_slice(b"\n")
 }
 
+/// Writes each label as its name, `:` and a space.
+fn put_labels(out: &mut Vec<u8>, labels: &[Label]) -> Result<(), AllocError>
+    ensures { OnOk result (out.new.items ≡ out.old.items ++ flat_map label_text labels.now) }
+{
+    for label in labels {
+        out.extend_from_slice(label.as_slice())?;
+        out.extend_from_slice(b": ")?;
+    }
+    Ok(())
+}
+
 /// Writes a statement, or nothing for none.
-fn put_statement(out: &mut Vec<u8>, statement: &Statement) -> Result<(), AllocError> {
+fn put_statement(out: &mut Vec<u8>, statement: &Statement) -> Result<(), AllocError>
+    ensures { OnOk result (out.new.items ≡ out.old.items ++ statement_text (statement_of statement.now)) }
+{
     match statement {
         Statement::Empty => Ok(()),
         Statement::Plain(instruction) => put_instruction(out, *instruction),
@@ -69,7 +87,9 @@ fn put_statement(out: &mut Vec<u8>, statement: &Statement) -> Result<(), AllocEr
 }
 
 /// Writes an instruction.
-fn put_instruction(out: &mut Vec<u8>, instruction: Instr) -> Result<(), AllocError> {
+fn put_instruction(out: &mut Vec<u8>, instruction: Instr) -> Result<(), AllocError>
+    ensures { OnOk result (out.new.items ≡ out.old.items ++ instruction_text instruction) }
+{
     match instruction {
         Instr::Three { op, rd, rs, rt } => put_registers(out, Mnemonic::Three(op), &[rd, rs, rt]),
         Instr::Shift { op, rd, rt, sh } => {

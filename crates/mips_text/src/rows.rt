@@ -2,8 +2,11 @@
 
 ghost use Rattle.std.specs.Prelude.{◌≡◌, ◌++◌, ◌∷◌, [], OnOk, map};
 ghost use Rattle.std.specs.Fmt.{signed_decimal};
-ghost use Rattle.mips_text.specs.Names.{directive_text, mnemonic_text};
-ghost use Rattle.mips_text.specs.Spelling.{gap_text, letter_text, operands_text, register_operand};
+ghost use Rattle.mips_isa.specs.Lines.{item_of};
+ghost use Rattle.mips_text.specs.declared.directives.Directive.TheVariants.{Byte, Word};
+ghost use Rattle.mips_text.specs.Names.{directive_text};
+ghost use Rattle.mips_text.specs.Printing.{directed_text, ended_text, item_operand, memory_operand, registers_text, string_operand};
+ghost use Rattle.mips_text.specs.Spelling.{gap_text, letter_text, register_operand};
 
 use crate::directives::Directive;
 use crate::mnemonics::Mnemonic;
@@ -17,7 +20,7 @@ pub(crate) fn put_registers(
     mnemonic: Mnemonic,
     registers: &[Reg],
 ) -> Result<(), AllocError>
-    ensures { OnOk result (out.new.items ≡ out.old.items ++ (mnemonic_text mnemonic ++ operands_text 0 (map register_operand registers.now))) }
+    ensures { OnOk result (out.new.items ≡ out.old.items ++ registers_text mnemonic registers.now) }
 {
     out.extend_from_slice(mnemonic.name().as_bytes())?;
     for (index, register) in registers.iter().enumerate() {
@@ -34,7 +37,7 @@ pub(crate) fn put_numbered(
     registers: &[Reg],
     value: i64,
 ) -> Result<(), AllocError>
-    ensures { OnOk result (out.new.items ≡ out.old.items ++ (mnemonic_text mnemonic ++ operands_text 0 (map register_operand registers.now ++ signed_decimal value ∷ []))) }
+    ensures { OnOk result (out.new.items ≡ out.old.items ++ ended_text mnemonic registers.now (signed_decimal value)) }
 {
     put_registers(out, mnemonic, registers)?;
     put_gap(out, registers.len())?;
@@ -48,7 +51,7 @@ pub(crate) fn put_named(
     registers: &[Reg],
     label: &Label,
 ) -> Result<(), AllocError>
-    ensures { OnOk result (out.new.items ≡ out.old.items ++ (mnemonic_text mnemonic ++ operands_text 0 (map register_operand registers.now ++ label.now ∷ []))) }
+    ensures { OnOk result (out.new.items ≡ out.old.items ++ ended_text mnemonic registers.now label.now) }
 {
     put_registers(out, mnemonic, registers)?;
     put_gap(out, registers.len())?;
@@ -62,7 +65,9 @@ pub(crate) fn put_in_memory(
     register: Reg,
     offset: i32,
     base: Reg,
-) -> Result<(), AllocError> {
+) -> Result<(), AllocError>
+    ensures { OnOk result (out.new.items ≡ out.old.items ++ ended_text mnemonic (register ∷ []) (memory_operand offset base)) }
+{
     put_numbered(out, mnemonic, &[register], i64::from(offset))?;
     out.extend_from_slice(b"(")?;
     put_register(out, base)?;
@@ -81,7 +86,9 @@ pub(crate) fn put_directive_named(
     out: &mut Vec<u8>,
     directive: Directive,
     label: &Label,
-) -> Result<(), AllocError> {
+) -> Result<(), AllocError>
+    ensures { OnOk result (out.new.items ≡ out.old.items ++ directed_text directive (label.now ∷ [])) }
+{
     put_directive(out, directive)?;
     put_gap(out, 0)?;
     out.extend_from_slice(label.as_slice())
@@ -92,27 +99,40 @@ pub(crate) fn put_directive_numbered(
     out: &mut Vec<u8>,
     directive: Directive,
     value: i64,
-) -> Result<(), AllocError> {
+) -> Result<(), AllocError>
+    ensures { OnOk result (out.new.items ≡ out.old.items ++ directed_text directive (signed_decimal value ∷ [])) }
+{
     put_directive(out, directive)?;
     put_gap(out, 0)?;
     put_number(out, value)
 }
 
 /// Writes `.word` and its operands.
-pub(crate) fn put_words(out: &mut Vec<u8>, items: &[WordItem]) -> Result<(), AllocError> {
+pub(crate) fn put_words(out: &mut Vec<u8>, items: &[WordItem]) -> Result<(), AllocError>
+    ensures { OnOk result (out.new.items ≡ out.old.items ++ directed_text Word (map item_operand (map item_of items.now))) }
+{
     put_directive(out, Directive::Word)?;
     for (index, item) in items.iter().enumerate() {
         put_gap(out, index)?;
-        match item {
-            WordItem::Number(value) => put_number(out, *value)?,
-            WordItem::Address(label) => out.extend_from_slice(label.as_slice())?,
-        }
+        put_item(out, item)?;
     }
     Ok(())
 }
 
+/// Writes an operand of `.word`.
+fn put_item(out: &mut Vec<u8>, item: &WordItem) -> Result<(), AllocError>
+    ensures { OnOk result (out.new.items ≡ out.old.items ++ item_operand (item_of item.now)) }
+{
+    match item {
+        WordItem::Number(value) => put_number(out, *value),
+        WordItem::Address(label) => out.extend_from_slice(label.as_slice()),
+    }
+}
+
 /// Writes `.byte` and its operands.
-pub(crate) fn put_bytes(out: &mut Vec<u8>, values: &[i32]) -> Result<(), AllocError> {
+pub(crate) fn put_bytes(out: &mut Vec<u8>, values: &[i32]) -> Result<(), AllocError>
+    ensures { OnOk result (out.new.items ≡ out.old.items ++ directed_text Byte (map signed_decimal values.now)) }
+{
     put_directive(out, Directive::Byte)?;
     for (index, value) in values.iter().enumerate() {
         put_gap(out, index)?;
@@ -126,7 +146,9 @@ pub(crate) fn put_text(
     out: &mut Vec<u8>,
     directive: Directive,
     bytes: &[u8],
-) -> Result<(), AllocError> {
+) -> Result<(), AllocError>
+    ensures { OnOk result (out.new.items ≡ out.old.items ++ directed_text directive (string_operand bytes.now ∷ [])) }
+{
     put_directive(out, directive)?;
     put_gap(out, 0)?;
     out.extend_from_slice(b"\"")?;
