@@ -14,6 +14,7 @@ use Rattle.cool_driver.specs.Ends.IsRunOf.{of_file, of_program}
 use Rattle.cool_driver.specs.Ends.Due.{checked, built, refused, ran, executed, unread_input, unfit, misread, usage, too_many, missing, unread, too_large}
 use Rattle.cool_driver.specs.declared.command_line.Command.{Command}
 use Rattle.cool_driver.specs.declared.command_line.Command.TheVariants.{Check, Build, Run, Exec}
+use Rattle.cool_driver.specs.declared.command_line.Form.{Form}
 use Rattle.cool_driver.proofs.ReadTwice.{same_plan, no_plan_and_plan, same_read, may_refuse}
 use Rattle.cool_driver.proofs.Findings.{no_file_fault}
 
@@ -21,18 +22,22 @@ use Rattle.cool_driver.proofs.Findings.{no_file_fault}
 pub record Answers (command : Command) (names contents : List (List ℕ)) (faults : List Fault) (status : ℕ) (output note : List ℕ) : Type 0 where
   pub refused : faults ≢ [] → (status ≡ 1) × (note ≡ refused_note names faults)
   pub checked : command ≡ Check → faults ≡ [] → status ≡ 0
-  pub built : (p : List Class) → command ≡ Build → IsAccepted contents p → (status ≡ 0) × (output ≡ built_bytes p names)
+  pub built : (form : Form) (p : List Class) → command ≡ Build form → IsAccepted contents p → (status ≡ 0) × (output ≡ built_bytes form p names)
 
 -- `run` is not `check`
 run_or_check : (limits : RunLimits) (command : Command) → Run limits ≡ command → command ≡ Check → ⊥
 run_or_check limits command a b = let same = a ∙ b in cc
 
 -- neither of the two is `build`
-run_or_build : (limits : RunLimits) (command : Command) → Run limits ≡ command → command ≡ Build → ⊥
-run_or_build limits command a b = let same = a ∙ b in cc
+run_or_build : (limits : RunLimits) (form : Form) (command : Command) → Run limits ≡ command → command ≡ Build form → ⊥
+run_or_build limits form command a b = let same = a ∙ b in cc
 
-check_or_build : (command : Command) → Check ≡ command → command ≡ Build → ⊥
-check_or_build command a b = let same = a ∙ b in cc
+check_or_build : (form : Form) (command : Command) → Check ≡ command → command ≡ Build form → ⊥
+check_or_build form command a b = let same = a ∙ b in cc
+
+-- a command has one form
+same_form : (a b : Form) → Build a ≡ Build b → a ≡ b
+same_form a b e = cc
 
 -- the run of an image answers the empty list of `run`
 answered_by_run : (r : Request) (files : FileMap) (limits : RunLimits) (found : ImageParts) (command : Command) (names contents : List (List ℕ)) (faults : List Fault) (status : ℕ) (output note : List ℕ) → IsRunOf r limits found
@@ -46,7 +51,7 @@ answered_by_run r files limits found command names contents faults status output
     record {
       refused = λ some. absurd (some none);
       checked = λ check _. absurd (run_or_check limits command asked check);
-      built = λ q build _. absurd (run_or_build limits command asked build);
+      built = λ form q build _. absurd (run_or_build limits form command asked build);
     }
 
 -- what is due answers the fault list
@@ -59,19 +64,23 @@ answered r _ _ _ _ files command names contents faults (checked names' contents'
     record {
       refused = λ some. absurd (some none);
       checked = λ _ _. refl;
-      built = λ q build _. absurd (check_or_build command asked build);
+      built = λ form q build _. absurd (check_or_build form command asked build);
     }
-answered r _ _ _ _ files command names contents faults (built names' contents' p read' is) told read may list =
-    let same = same_read r files Build command names' names contents' contents told read' read in
+answered r _ _ _ _ files command names contents faults (built form names' contents' p read' is) told read may list =
+    let same = same_read r files (Build form) command names' names contents' contents told read' read in
     let here : IsAccepted contents p = subst (λ (cs : List (List ℕ)). IsAccepted cs p) same is in
     let none : faults ≡ [] = one_list contents faults [] list here.list in
-    let named = (same_plan (plan_of r.words) Build command names' names read'.plan read.plan).1 in
+    let asked = same_plan (plan_of r.words) (Build form) command names' names read'.plan read.plan in
     record {
       refused = λ some. absurd (some none);
       checked = λ _ _. refl;
-      built = λ q _ accepted.
+      built = λ other q build accepted.
           let one = one_program contents p q here accepted in
-          (refl, ap (λ (x : List Class). built_bytes x names') one ∙ ap (λ (ns : List (List ℕ)). built_bytes q ns) named);
+          let formed = same_form form other (asked.0 ∙ build) in (
+            refl,
+            ap (λ (f : Form). built_bytes f p names') formed ∙ ap (λ (x : List Class). built_bytes other x names') one
+                ∙ ap (λ (ns : List (List ℕ)). built_bytes other q ns) asked.1,
+          );
     }
 answered r _ _ _ _ files command names contents faults (refused command' names' contents' faults' read' may' is) told read may list =
     let same = same_read r files command' command names' names contents' contents told read' read in
@@ -80,7 +89,7 @@ answered r _ _ _ _ files command names contents faults (refused command' names' 
     record {
       refused = λ _. (refl, ap (λ (ns : List (List ℕ)). refused_note ns faults') named ∙ ap (λ (fs : List Fault). refused_note names fs) one);
       checked = λ _ none. absurd (is.some (one ∙ none));
-      built = λ q _ accepted. absurd (is.some (one ∙ one_list contents faults [] list accepted.list));
+      built = λ form q _ accepted. absurd (is.some (one ∙ one_list contents faults [] list accepted.list));
     }
 answered r _ _ _ _ files command names contents faults (ran limits names' contents' strings' read' is) told read may list =
     absurd (may_refuse r files command (Run limits) names names' contents contents' told read read' may strings' is)

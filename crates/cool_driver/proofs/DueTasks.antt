@@ -17,6 +17,7 @@ use Rattle.cool_driver.specs.Reading.{IsStopAt}
 use Rattle.cool_driver.specs.Tasks.{fault_note, IsTaskOf, IsTaskOfFile, IsTaskOfChecked, IsTaskOfBuilt, IsTaskOfRun, IsLine, HasLimits, IsDue, IsFileTask}
 use Rattle.cool_driver.specs.declared.command_line.Command.{Command}
 use Rattle.cool_driver.specs.declared.command_line.Command.TheVariants as command
+use Rattle.cool_driver.specs.declared.command_line.Form.{Form}
 use Rattle.cool_driver.specs.declared.status.Status.TheVariants as statuses
 use Rattle.cool_driver.specs.declared.task.Task.{Task}
 use Rattle.cool_driver.specs.declared.task.Task.TheVariants.{Tell, Write, Run, Execute}
@@ -30,14 +31,14 @@ checked_due r names contents (Write made) read h = absurd h
 checked_due r names contents (Run within image) read h = absurd h
 checked_due r names contents (Execute within image) read h = absurd h
 
--- for files that `build` names
-built_due : (r : Request) (names contents : List (List ℕ)) (task : Task) → IsRead r command.Build names contents
-    → IsTaskOfBuilt names contents task → IsDue r task
-built_due r names contents (Tell status lines) read (are, one, h) =
-    rw (one, h.2) (refused command.Build names contents h.0 read tt h.1, are, λ e. omega (arith, e))
-built_due r names contents (Write made) read h = (names, contents, h.0, read, h.1, h.2)
-built_due r names contents (Run within image) read h = absurd h
-built_due r names contents (Execute within image) read h = absurd h
+-- for files that `asm` or `build` names
+built_due : (r : Request) (form : Form) (names contents : List (List ℕ)) (task : Task) → IsRead r (command.Build form) names contents
+    → IsTaskOfBuilt form names contents task → IsDue r task
+built_due r form names contents (Tell status lines) read (are, one, h) =
+    rw (one, h.2) (refused (command.Build form) names contents h.0 read tt h.1, are, λ e. omega (arith, e))
+built_due r form names contents (Write made) read h = (form, (names, contents, h.0, read, h.1, h.2))
+built_due r form names contents (Run within image) read h = absurd h
+built_due r form names contents (Execute within image) read h = absurd h
 
 -- for files that `run` names
 run_due : (r : Request) (limits : RunLimits) (names contents : List (List ℕ)) (task : Task) → IsBounded limits → IsRead r (command.Run limits) names contents
@@ -74,7 +75,7 @@ exec_due r limits (name ∷ more ∷ names) contents task bounded read one held 
 task_due : (r : Request) (asked : Command) (names contents : List (List ℕ)) (task : Task) → HasLimits asked → IsRead r asked names contents
     → is_number_of_files asked (length names) ≡ true → IsTaskOf asked names contents task → IsDue r task
 task_due r command.Check names contents task bounded read number h = checked_due r names contents task read h
-task_due r command.Build names contents task bounded read number h = built_due r names contents task read h
+task_due r (command.Build form) names contents task bounded read number h = built_due r form names contents task read h
 task_due r (command.Run limits) names contents task bounded read number h = run_due r limits names contents task bounded read h
 task_due r (command.Exec limits) names contents task bounded read number h = exec_due r limits names contents task bounded read (eqb-true (length names) 1 number) read.held h
 

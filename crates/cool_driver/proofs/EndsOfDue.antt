@@ -69,8 +69,8 @@ ends_found c status found calm written =
       checked_exactly = λ files names contents faults told read list _ _.
           let a = answer Check names contents faults files told read tt list in
           (a.checked refl, λ some. (a.refused some).0);
-      built_exactly = λ files names contents p told read is _ _.
-          let made = (answer Build names contents [] files told read tt is.list).built p refl is in
+      built_exactly = λ files form names contents p told read is _ _.
+          let made = (answer (Build form) names contents [] files told read tt is.list).built form p refl is in
           (made.0, subst (Got c.out) made.1 written.3);
       refused_exactly = λ files command names contents faults told read may list some _ _.
           let a = answer command names contents faults files told read may list in
@@ -100,7 +100,7 @@ ends_written c status output note due out notes calm rose =
 
 -- what was read before a write failed
 read_of : (r : Request) (bytes more left : List ℕ) → Writing r bytes more left → r.faults_after ≡ r.faults_before
-read_of r _ _ _ (by_build names contents p read is) = read.calm
+read_of r _ _ _ (by_build form names contents p read is) = read.calm
 read_of r _ _ _ (by_run limits names contents strings read is) = read.calm
 read_of r _ _ _ (by_image limits image at printed is comes prints) = (read_for_run r limits image is).3.calm
 
@@ -136,7 +136,7 @@ ends_write_fault c rose part input = record {
   missing_exactly = λ files command names name told plan named gone other _. absurd (other refl);
   too_large_exactly = λ files command names contents told plan held large other _. absurd (other refl);
   checked_exactly = λ files names contents faults told read list other _. absurd (other refl);
-  built_exactly = λ files names contents p told read is other _. absurd (other refl);
+  built_exactly = λ files form names contents p told read is other _. absurd (other refl);
   refused_exactly = λ files command names contents faults told read may list some other _. absurd (other refl);
   ran_exactly = λ files limits names contents strings told read form other _. absurd (other refl);
   compiled_exactly = λ files limits names contents p told read form is other _. absurd (other refl);
@@ -164,7 +164,7 @@ ends_without_memory c files out notes left calm = record {
   missing_exactly = λ files command names name told plan named gone _ other. absurd (other refl);
   too_large_exactly = λ files command names contents told plan held large _ other. absurd (other refl);
   checked_exactly = λ files names contents faults told read list _ other. absurd (other refl);
-  built_exactly = λ files names contents p told read is _ other. absurd (other refl);
+  built_exactly = λ files form names contents p told read is _ other. absurd (other refl);
   refused_exactly = λ files command names contents faults told read may list some _ other. absurd (other refl);
   ran_exactly = λ files limits names contents strings told read form _ other. absurd (other refl);
   compiled_exactly = λ files limits names contents p told read form is _ other. absurd (other refl);

@@ -62,7 +62,7 @@ pub data Finding (r : Request) (status : ℕ) : Type 0 where
 -- what is due is a finding
 pub finding_of_due : (r : Request) (status : ℕ) (output note left : List ℕ) → Due r status output note left → Finding r status
 finding_of_due r _ _ _ _ (checked names contents p read is) = accepted Check names contents tt read refl
-finding_of_due r _ _ _ _ (built names contents p read is) = accepted Build names contents tt read refl
+finding_of_due r _ _ _ _ (built form names contents p read is) = accepted (Build form) names contents tt read refl
 finding_of_due r _ _ _ _ (refused command names contents faults read may is) = faulty command names contents faults read may is refl
 finding_of_due r _ _ _ _ (ran limits names contents strings read is) = simple limits names contents strings read is refl
 finding_of_due r _ _ _ _ (executed limits found run) = image limits found run (inl (run_of limits found r.input, refl)) (inr refl)

@@ -15,6 +15,7 @@ use Rattle.cool_driver.specs.SimpleFiles.{RunOtherwise}
 use Rattle.cool_driver.specs.SimpleReading.{texts}
 use Rattle.cool_driver.specs.Ends.{Request, Due}
 use Rattle.cool_driver.specs.Tasks.{code_of, AreLines, note_of, IsUnfit, IsMisread, IsTaskOfFile, IsTaskOfChecked, IsTaskOfBuilt, IsTaskOfRun, IsLine, AreLinesOf, IsDue}
+use Rattle.cool_driver.specs.declared.command_line.Form.{Form}
 use Rattle.cool_driver.specs.declared.status.Status.{Status}
 use Rattle.cool_driver.specs.declared.status.Status.TheVariants as statuses
 use Rattle.cool_driver.specs.declared.task.Task.{Task}
@@ -67,14 +68,14 @@ checked_lines names contents faults (Write made) is h = absurd h
 checked_lines names contents faults (Run within image) is h = absurd h
 checked_lines names contents faults (Execute within image) is h = absurd h
 
--- the faults of files that `build` names
-pub built_lines : (names contents : List (List ℕ)) (faults : List Fault) (task : Task)
-    → IsRefused contents faults → AreLinesOf names faults task → IsTaskOfBuilt names contents task
-built_lines names contents faults (Tell status lines) is h =
+-- the faults of files that `asm` or `build` names
+pub built_lines : (form : Form) (names contents : List (List ℕ)) (faults : List Fault) (task : Task)
+    → IsRefused contents faults → AreLinesOf names faults task → IsTaskOfBuilt form names contents task
+built_lines form names contents faults (Tell status lines) is h =
     (are_lines lines.items _ h.1 (some_lines names faults), h.0, (faults, is, ap concat h.1))
-built_lines names contents faults (Write made) is h = absurd h
-built_lines names contents faults (Run within image) is h = absurd h
-built_lines names contents faults (Execute within image) is h = absurd h
+built_lines form names contents faults (Write made) is h = absurd h
+built_lines form names contents faults (Run within image) is h = absurd h
+built_lines form names contents faults (Execute within image) is h = absurd h
 
 -- the faults of files that `run` names
 pub run_lines : (limits : RunLimits) (names contents : List (List ℕ)) (faults : List Fault) (task : Task) → RunOtherwise limits contents → IsRefused contents faults → AreLinesOf names faults task

@@ -35,7 +35,7 @@ same_exec a b e = cc
 -- a command that runs no image
 abbrev pub RunsNothing : Command → Type 0
 RunsNothing Check = Unit {0}
-RunsNothing Build = Unit {0}
+RunsNothing (Build form) = Unit {0}
 RunsNothing (Run limits) = ⊥
 RunsNothing (Exec limits) = ⊥
 

@@ -1,4 +1,4 @@
--- What a command line asks to do with files: `check FILES`, `build FILES`, `run FILES` or `exec FILE`, the last two within limits.
+-- What a command line asks to do with files: `check FILES`, `asm FILES`, `build FILES`, `run FILES` or `exec FILE`, the last two within limits.
 use Rattle.std.specs.Prelude.{◌≢◌, ℕ, Bool, ◌==◌, nat_le, List, [], ◌∷◌, Option, Some, None, option_and_then}
 use Rattle.cool_syntax.specs.declared.TheConstants.{MOST_SOURCE_BYTES}
 pub use Rattle.cool_words.specs.Plans.{words_of}
@@ -9,16 +9,17 @@ use Rattle.cool_words.specs.declared.plan.RunLimits.{RunLimits}
 use Rattle.cool_driver.specs.declared.TheConstants.{MOST_IMAGE_BYTES}
 use Rattle.cool_driver.specs.declared.command_line.Command.{Command}
 use Rattle.cool_driver.specs.declared.command_line.Command.TheVariants.{Check, Build, Run, Exec}
+use Rattle.cool_driver.specs.declared.command_line.Form.TheVariants.{Text, Image}
 
 -- what the words ask for
 unfoldable pub asked_for : List (List ℕ) → Option Asked
 asked_for given = words.plan_of given
 
--- the command that is asked for, and the files that it is about; `asm` and `big` are no commands yet
+-- the command that is asked for, and the files that it is about; `big` is no command yet
 abbrev pub files_asked : Asked → Option (Command × List (List ℕ))
 files_asked (check names) = Some (Check, names)
-files_asked (asm names) = None
-files_asked (build names) = Some (Build, names)
+files_asked (asm names) = Some (Build Text, names)
+files_asked (build names) = Some (Build Image, names)
 files_asked (run names limits) = Some (Run limits, names)
 files_asked (exec name limits) = Some (Exec limits, name ∷ [])
 files_asked (big n) = None
@@ -29,14 +30,14 @@ plan_of given = option_and_then files_asked (asked_for given)
 -- `exec` takes one file, each other command one or more
 abbrev pub is_number_of_files : Command → ℕ → Bool
 is_number_of_files Check n = nat_le 1 n
-is_number_of_files Build n = nat_le 1 n
+is_number_of_files (Build form) n = nat_le 1 n
 is_number_of_files (Run limits) n = nat_le 1 n
 is_number_of_files (Exec limits) n = n == 1
 
 -- the most bytes of all files together
 abbrev pub most_bytes : Command → ℕ
 most_bytes Check = MOST_SOURCE_BYTES
-most_bytes Build = MOST_SOURCE_BYTES
+most_bytes (Build form) = MOST_SOURCE_BYTES
 most_bytes (Run limits) = MOST_SOURCE_BYTES
 most_bytes (Exec limits) = MOST_IMAGE_BYTES
 

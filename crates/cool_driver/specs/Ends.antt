@@ -13,6 +13,7 @@ use Rattle.mips_isa.specs.Assembly.{image_of}
 use Rattle.mips_isa.specs.ImageBounds.{ImageParts}
 use Rattle.mips_isa.specs.Calls.{State, call, print}
 use Rattle.mips_isa.specs.declared.line.AsmFault.{AsmFault}
+use Rattle.mips_text.specs.Printing.{printed}
 use Rattle.mips_image.specs.ImageBytes.{image_bytes}
 use Rattle.mips_image.specs.ImageReading.{first_fault}
 use Rattle.mips_image.specs.declared.image_error.ImageError.{ImageError}
@@ -26,6 +27,8 @@ use Rattle.cool_driver.specs.SimpleFiles.{RunSimply, RunOtherwise}
 use Rattle.cool_driver.specs.Execution.{IsImageOf, IsRunnable, is_text_file, segments_within, run_of, ComesTo, left_by, status_of, note_of}
 use Rattle.cool_driver.specs.declared.command_line.Command.{Command}
 use Rattle.cool_driver.specs.declared.command_line.Command.TheVariants.{Check, Build, Run, Exec}
+use Rattle.cool_driver.specs.declared.command_line.Form.{Form}
+use Rattle.cool_driver.specs.declared.command_line.Form.TheVariants.{Text, Image}
 
 -- What a call was asked: its words, the files that the shelf tells, the shelf's count of faults before and after, and an input
 -- that the source may have had left at first.
@@ -64,7 +67,7 @@ pub record IsReadUpTo (r : Request) (command : Command) (name : List ℕ) (conte
 -- the command refuses such files for their faults: `run` looks first whether they are run as the simple form, and `exec` never does
 abbrev pub MayRefuse : Command → List (List ℕ) → Type 0
 MayRefuse Check contents = Unit {0}
-MayRefuse Build contents = Unit {0}
+MayRefuse (Build form) contents = Unit {0}
 MayRefuse (Run limits) contents = RunOtherwise limits contents
 MayRefuse (Exec limits) contents = ⊥
 
@@ -75,18 +78,20 @@ pub data IsRunOf (r : Request) (limits : RunLimits) (image : ImageParts) : Type 
   of_program : (names contents : List (List ℕ)) (p : List Class) → IsRead r (Run limits) names contents → RunOtherwise limits contents → IsAccepted contents p
       → image ≡ image_of (program_lines p names) → IsRunOf r limits image
 
--- what `build` writes for a program whose files have these names: the image of its lines, in the version of checked arithmetic
-abbrev pub built_bytes : List Class → List (List ℕ) → List ℕ
-built_bytes p names = image_bytes CHECKED_VERSION (image_of (program_lines p names))
+-- what `asm` and `build` write for a program whose files have these names: its lines, and the image of its lines in the version of checked
+-- arithmetic
+abbrev pub built_bytes : Form → List Class → List (List ℕ) → List ℕ
+built_bytes Text p names = printed (program_lines p names)
+built_bytes Image p names = image_bytes CHECKED_VERSION (image_of (program_lines p names))
 
 -- What is due: the status, the output, the note, and what is left of the input.
 pub data Due (r : Request) : ℕ → List ℕ → List ℕ → List ℕ → Type 0 where
   -- `check`: nothing, where the files are accepted
   checked : (names contents : List (List ℕ)) (p : List Class) → IsRead r Check names contents → IsAccepted contents p → Due r 0 [] [] r.input
-  -- `build`: the image, where the files are accepted
-  built : (names contents : List (List ℕ)) (p : List Class) → IsRead r Build names contents → IsAccepted contents p
-      → Due r 0 (built_bytes p names) [] r.input
-  -- `check`, `build` and `run`: a line for each fault
+  -- `asm` and `build`: the lines or the image, where the files are accepted
+  built : (form : Form) (names contents : List (List ℕ)) (p : List Class) → IsRead r (Build form) names contents → IsAccepted contents p
+      → Due r 0 (built_bytes form p names) [] r.input
+  -- `check`, `asm`, `build` and `run`: a line for each fault
   refused : (command : Command) (names contents : List (List ℕ)) (faults : List Fault) → IsRead r command names contents → MayRefuse command contents → IsRefused contents faults
       → Due r 1 [] (refused_note names faults) r.input
   -- `run` of a program of the simple form: its strings in order, and the end text
@@ -112,9 +117,9 @@ pub data Due (r : Request) : ℕ → List ℕ → List ℕ → List ℕ → Type
 
 -- What is written when a write of the output fails: what was written before, what is being written, and what is left of the input.
 pub data Writing (r : Request) : List ℕ → List ℕ → List ℕ → Type 0 where
-  -- the image that `build` writes
-  by_build : (names contents : List (List ℕ)) (p : List Class) → IsRead r Build names contents → IsAccepted contents p
-      → Writing r [] (built_bytes p names) r.input
+  -- what `asm` and `build` write
+  by_build : (form : Form) (names contents : List (List ℕ)) (p : List Class) → IsRead r (Build form) names contents → IsAccepted contents p
+      → Writing r [] (built_bytes form p names) r.input
   by_run : (limits : RunLimits) (names contents strings : List (List ℕ)) → IsRead r (Run limits) names contents → RunSimply limits contents strings → Writing r [] (concat strings ++ end_text) r.input
   -- the run of the image comes to a call that prints these bytes
   by_image : (limits : RunLimits) (image : ImageParts) (at : State) (printed : List ℕ) → IsRunOf r limits image
@@ -193,10 +198,10 @@ pub record Ends (c : Call) (status : ℕ) : Type 0 where
   -- `check`: status 0 comes where the files were read and their fault list is empty, and status 1 where it is not
   pub checked_exactly : (files : FileMap) (names contents : List (List ℕ)) (faults : List Fault) → Told c.request files → IsRead c.request Check names contents → IsFaultList contents faults
       → Unless status ((faults ≡ [] → status ≡ 0) × (faults ≢ [] → status ≡ 1))
-  -- `build`: status 0 and the image come where the files were read and are accepted
-  pub built_exactly : (files : FileMap) (names contents : List (List ℕ)) (p : List Class) → Told c.request files
-      → IsRead c.request Build names contents → IsAccepted contents p → Unless status ((status ≡ 0) × Got c.out (built_bytes p names))
-  -- `check`, `build` and `run`: status 1 comes where the files were read and their fault list is not empty, with a line for each fault
+  -- `asm` and `build`: status 0, and the lines or the image, come where the files were read and are accepted
+  pub built_exactly : (files : FileMap) (form : Form) (names contents : List (List ℕ)) (p : List Class) → Told c.request files
+      → IsRead c.request (Build form) names contents → IsAccepted contents p → Unless status ((status ≡ 0) × Got c.out (built_bytes form p names))
+  -- `check`, `asm`, `build` and `run`: status 1 comes where the files were read and their fault list is not empty, with a line for each fault
   -- of it
   pub refused_exactly : (files : FileMap) (command : Command) (names contents : List (List ℕ)) (faults : List Fault) → Told c.request files → IsRead c.request command names contents → MayRefuse command contents
       → IsFaultList contents faults → faults ≢ [] → Unless status ((status ≡ 1) × Got c.notes (refused_note names faults))

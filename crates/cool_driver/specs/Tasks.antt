@@ -1,4 +1,4 @@
--- What is left to do once the words and the files were read: a note or an image to write, or an image to run.
+-- What is left to do once the words and the files were read: a note, lines or an image to write, or an image to run.
 use Rattle.std.specs.Prelude.{◌≡◌, ◌≢◌, ℕ, ◌<◌, ◌⊎◌, true, false, List, [], ◌∷◌, ◌++◌, Option, Some, None, get_or, map, length}
 use Rattle.std.specs.List.{concat, AllByRecursion}
 use Rattle.std.specs.Global.{Vec}
@@ -26,6 +26,7 @@ use Rattle.cool_driver.specs.SimpleFiles.{RunSimply, RunOtherwise}
 use Rattle.cool_driver.specs.SimpleReading.{texts}
 use Rattle.cool_driver.specs.declared.command_line.Command.{Command}
 use Rattle.cool_driver.specs.declared.command_line.Command.TheVariants as command
+use Rattle.cool_driver.specs.declared.command_line.Form.{Form}
 use Rattle.cool_driver.specs.declared.status.Status.{Status}
 use Rattle.cool_driver.specs.declared.status.Status.TheVariants as statuses
 use Rattle.cool_driver.specs.declared.task.Task.{Task}
@@ -89,14 +90,14 @@ IsTaskOfChecked names contents (Write made) = ⊥
 IsTaskOfChecked names contents (Run within image) = ⊥
 IsTaskOfChecked names contents (Execute within image) = ⊥
 
--- what is left to do for files of these names that `build` names and that have these bytes
-abbrev pub IsTaskOfBuilt : List (List ℕ) → List (List ℕ) → Task → Type 0
-IsTaskOfBuilt names contents (Tell status lines) =
+-- what is left to do to write the program of files of these names that have these bytes, in a form
+abbrev pub IsTaskOfBuilt : Form → List (List ℕ) → List (List ℕ) → Task → Type 0
+IsTaskOfBuilt form names contents (Tell status lines) =
     AreLines lines.items × (code_of status ≡ 1)
     × ((faults : List Fault) × IsRefused contents faults × (note_of lines.items ≡ refused_note names faults))
-IsTaskOfBuilt names contents (Write made) = (p : List Class) × IsAccepted contents p × (made.items ≡ built_bytes p names)
-IsTaskOfBuilt names contents (Run within image) = ⊥
-IsTaskOfBuilt names contents (Execute within image) = ⊥
+IsTaskOfBuilt form names contents (Write made) = (p : List Class) × IsAccepted contents p × (made.items ≡ built_bytes form p names)
+IsTaskOfBuilt form names contents (Run within image) = ⊥
+IsTaskOfBuilt form names contents (Execute within image) = ⊥
 
 -- what is left to do for files of these names that `run` names, within these limits, and that have these bytes
 abbrev pub IsTaskOfRun : RunLimits → List (List ℕ) → List (List ℕ) → Task → Type 0
@@ -111,7 +112,7 @@ IsTaskOfRun limits names contents (Execute within image) =
 
 abbrev pub IsTaskOf : Command → List (List ℕ) → List (List ℕ) → Task → Type 0
 IsTaskOf command.Check names contents task = IsTaskOfChecked names contents task
-IsTaskOf command.Build names contents task = IsTaskOfBuilt names contents task
+IsTaskOf (command.Build form) names contents task = IsTaskOfBuilt form names contents task
 IsTaskOf (command.Run limits) names contents task = IsTaskOfRun limits names contents task
 IsTaskOf (command.Exec limits) names contents task = IsTaskOfFile limits (get_or names 0 []) (get_or contents 0 []) task
 
@@ -132,7 +133,7 @@ AreLinesOf names faults (Execute within image) = ⊥
 -- the limits of a command are those that words may set
 abbrev pub HasLimits : Command → Type 0
 HasLimits command.Check = Unit {0}
-HasLimits command.Build = Unit {0}
+HasLimits (command.Build form) = Unit {0}
 HasLimits (command.Run limits) = IsBounded limits
 HasLimits (command.Exec limits) = IsBounded limits
 
@@ -140,8 +141,8 @@ HasLimits (command.Exec limits) = IsBounded limits
 abbrev pub IsDue : Request → Task → Type 0
 IsDue r (Tell status lines) = Due r (code_of status) [] (note_of lines.items) r.input × AreLines lines.items × (code_of status ≢ 7)
 IsDue r (Write made) =
-    (names : List (List ℕ)) × (contents : List (List ℕ)) × (p : List Class) × IsRead r command.Build names contents × IsAccepted contents p
-    × (made.items ≡ built_bytes p names)
+    (form : Form) × ((names : List (List ℕ)) × (contents : List (List ℕ)) × (p : List Class) × IsRead r (command.Build form) names contents × IsAccepted contents p
+    × (made.items ≡ built_bytes form p names))
 IsDue r (Run limits image) =
     IsBounded limits × ((names : List (List ℕ)) × (contents : List (List ℕ)) × (strings : List (List ℕ)) × IsRead r (command.Run limits) names contents
     × RunSimply limits contents strings × Prints limits image (concat strings ++ end_text))

@@ -7,13 +7,22 @@ use crate::MOST_IMAGE_BYTES;
 use cool_syntax::MOST_SOURCE_BYTES;
 use cool_words::RunLimits;
 
+/// The form in which a compiled program is written.
+#[derive(Clone, Copy, Debug, PartialEq, Eq)]
+pub enum Form {
+    /// Assembly text.
+    Text,
+    /// An image.
+    Image,
+}
+
 /// What the words ask to do with files.
 #[derive(Clone, Copy, Debug, PartialEq, Eq)]
 pub enum Command {
     /// To say whether they are a program.
     Check,
-    /// To compile them to an image, and write that.
-    Build,
+    /// To compile them, and write that in a form.
+    Build(Form),
     /// To compile them, and run that within the limits.
     Run(RunLimits),
     /// To run the image that the one file is within the limits.
@@ -26,7 +35,7 @@ impl Command {
         ensures { result ≡ most_bytes self }
     {
         match self {
-            Command::Check | Command::Build | Command::Run(_) => MOST_SOURCE_BYTES,
+            Command::Check | Command::Build(_) | Command::Run(_) => MOST_SOURCE_BYTES,
             Command::Exec(_) => MOST_IMAGE_BYTES,
         }
     }

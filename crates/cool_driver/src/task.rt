@@ -13,26 +13,29 @@ ghost use Rattle.cool_driver.specs.Notes.{end_text, usage_note, image_note, asm_
 ghost use Rattle.cool_driver.specs.Execution.{is_text_file};
 ghost use Rattle.mips_isa.specs.Lines.{Line};
 ghost use Rattle.mips_isa.specs.Assembly.{fault_of, image_of};
+ghost use Rattle.cool_rules.specs.Fits.{Fits};
 ghost use Rattle.cool_faults.specs.Files.{total};
+ghost use Rattle.cool_driver.specs.Ends.{built_bytes};
 ghost use Rattle.cool_faults.specs.Verdicts.{place_of};
 ghost use Rattle.cool_driver.specs.CommandLine.{is_number_of_files, most_bytes};
 ghost use Rattle.cool_driver.specs.Tasks.{fault_note, Prints, IsLine, AreLinesOf, IsTaskOf, IsTaskOfFile, IsTaskOfChecked, IsTaskOfBuilt, IsTaskOfRun, IsDue, IsFileTask, HasLimits};
 
 use crate::SIMPLE_STEPS;
-use crate::command_line::Command;
+use crate::command_line::{Command, Form};
 use crate::program::compile;
 use crate::reading::{ReadError, read_files};
 use crate::simple_form::{SimpleError, read_programs};
 use crate::status::Status;
-use cool_emit::build;
+use cool_emit::{build, lines};
 use cool_faults::{Fault, Verdict, accept, fault_text};
 use cool_ports::{Shelf, ShelfFault};
+use cool_rules::TypedProgram;
 use cool_syntax::MOST_FILES;
 use cool_words::{Plan, RunLimits, WordsError, read_words};
 use mips_asm::assemble;
 use mips_image::{CHECKED_VERSION, ImageError, read_image, write_image};
 use mips_isa::{AsmError, AsmFault, AsmKind, Image};
-use mips_text::read_asm;
+use mips_text::{print_asm, read_asm};
 use std::alloc::{AllocError, Global};
 
 /// The first byte of an image. No text of assembly begins with it.
@@ -43,7 +46,7 @@ const IMAGE_START: u8 = 127;
 pub enum Task {
     /// To write these lines as notes, and end with this status.
     Tell(Status, Vec<Vec<u8>>),
-    /// To write these bytes, which are an image, to the output.
+    /// To write these bytes, which are assembly or an image, to the output.
     Write(Vec<u8>),
     /// To run the image of a program of the simple form within these limits.
     Run(RunLimits, Image),
@@ -69,7 +72,12 @@ pub fn find_task<F: Shelf>(
 {
     match read_words(alloc, words) {
         Ok(Plan::Check { files: names }) => find_file_task(alloc, Command::Check, &names, files),
-        Ok(Plan::Build { files: names }) => find_file_task(alloc, Command::Build, &names, files),
+        Ok(Plan::Asm { files: names }) => {
+            find_file_task(alloc, Command::Build(Form::Text), &names, files)
+        }
+        Ok(Plan::Build { files: names }) => {
+            find_file_task(alloc, Command::Build(Form::Image), &names, files)
+        }
         Ok(
             Plan::Run {
                 files: names,
@@ -80,7 +88,6 @@ pub fn find_task<F: Shelf>(
             let names = vec![in alloc; file]?;
             find_file_task(alloc, Command::Exec(limits), &names, files)
         }
-        Ok(Plan::Asm { .. }) => tell_usage(alloc),
         Ok(Plan::Big { .. }) => tell_usage(alloc),
         Err(WordsError::Usage) => tell_usage(alloc),
         Err(WordsError::Memory) => Err(AllocError),
@@ -146,7 +153,7 @@ fn find_content_task(
 {
     match command {
         Command::Check => check_files(alloc, names, contents),
-        Command::Build => build_files(alloc, names, contents),
+        Command::Build(form) => build_files(alloc, form, names, contents),
         Command::Run(limits) => compile_files(alloc, limits, names, contents),
         Command::Exec(limits) => load(alloc, limits, names[0].as_str(), &contents[0]),
     }
@@ -166,21 +173,42 @@ fn check_files(alloc: Global, names: &[String], contents: &[Vec<u8>]) -> Result<
     }
 }
 
-/// What is left to do to write the image of files of these names that have these bytes.
-fn build_files(alloc: Global, names: &[String], contents: &[Vec<u8>]) -> Result<Task, AllocError>
+/// What is left to do to write the program of files of these names that have these bytes, in a form.
+fn build_files(
+    alloc: Global,
+    form: Form,
+    names: &[String],
+    contents: &[Vec<u8>],
+) -> Result<Task, AllocError>
     requires each { length names.now ≡ length contents.now }
     requires names { list_all is_file_name (words_of names.now) ≡ true }
     requires some { 0 < length names.now }
     requires few { length contents.now ≤ MOST_FILES }
     requires small { total (texts contents.now) ≤ MOST_SOURCE_BYTES }
-    ensures { IfOk result (IsTaskOfBuilt (words_of names.now) (texts contents.now)) }
+    ensures { IfOk result (IsTaskOfBuilt form (words_of names.now) (texts contents.now)) }
 {
     match accept(alloc, contents)? {
         Verdict::Accepted(program) => {
-            let image = build(alloc, &program, names)?;
-            Ok(Task::Write(write_image(alloc, &image, CHECKED_VERSION)?))
+            Ok(Task::Write(written_program(alloc, form, &program, names)?))
         }
         Verdict::Refused(faults) => refuse(alloc, names, faults.as_slice()),
+    }
+}
+
+/// The bytes of a program whose files have these names, in a form. `Err` comes only for want of memory.
+fn written_program(
+    alloc: Global,
+    form: Form,
+    program: &TypedProgram,
+    names: &[String],
+) -> Result<Vec<u8>, AllocError>
+    requires fits { Fits program.now (length names.now) }
+    requires names { list_all is_file_name (words_of names.now) ≡ true }
+    ensures { IfOk result (λ bytes. bytes.items ≡ built_bytes form program.now (words_of names.now)) }
+{
+    match form {
+        Form::Text => print_asm(alloc, &lines(alloc, program, names)?),
+        Form::Image => write_image(alloc, &build(alloc, program, names)?, CHECKED_VERSION),
     }
 }
 

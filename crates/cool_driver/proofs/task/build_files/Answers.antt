@@ -1,27 +1,19 @@
-use Rattle.std.proofs.Common.{List, length, sym, ◌∙◌, ap, subst}
+use Rattle.std.proofs.Common.{List, length, sym, ◌∙◌, subst}
 use Rattle.std.proofs.lemmas.List.{length-map}
 use Rattle.cool_faults.specs.declared.fault.Fault.{Fault}
 use Rattle.cool_faults.specs.Verdicts.{IsAccepted, IsRefused}
-use Rattle.mips_image.specs.ImageBytes.{image_bytes}
-use Rattle.mips_image.specs.declared.stored_image.TheConstants.{CHECKED_VERSION}
 use Rattle.cool_driver.specs.CommandLine.{words_of}
 use Rattle.cool_driver.specs.SimpleReading.{texts}
 use Rattle.cool_driver.specs.Tasks.{AreLinesOf}
 use Rattle.cool_driver.proofs.NoteLines.{have_names, built_lines}
-use Rattle.cool_driver.proofs.Plans.{short_names}
 use Rattle.cool_driver.proofs.DueTasks.{for_task}
 use Rattle.cool_driver.proofs.task.build_files.Goals as goal
 
--- the names are short
-pub build-requires-clause-names : goal.build-requires-clause-names
-build-requires-clause-names c = short_names (words_of c.args.names.now) c.requires.names
-
--- the bytes are those of the program's image
-pub returns-in_ok-write_image-in-Accepted : goal.returns-in_ok-write_image-in-Accepted
-returns-in_ok-write_image-in-Accepted c =
+-- the bytes are those of the program
+pub returns-in_ok-written_program-in-Accepted : goal.returns-in_ok-written_program-in-Accepted
+returns-in_ok-written_program-in-Accepted c =
     let accepted : IsAccepted (texts c.args.contents.now) c.in-Accepted.program = rw c.in-Accepted.is at c.in_ok-program.ensures.verdict in
-    let made = c.in_ok-write_image-in-Accepted.ensures.bytes ∙ ap (image_bytes CHECKED_VERSION) c.in_ok-image-in-Accepted.ensures.image in
-    (c.in-Accepted.program, accepted, made)
+    (c.in-Accepted.program, accepted, c.in_ok-written_program-in-Accepted.ensures)
 
 -- each fault stands in a file that has a name
 pub refuse-requires : goal.refuse-requires
@@ -35,6 +27,6 @@ pub returns-in-Refused : goal.returns-in-Refused
 returns-in-Refused c =
     let refused : IsRefused (texts c.args.contents.now) c.in-Refused.faults = rw c.in-Refused.is at c.in_ok-program.ensures.verdict in
     for_task _ _ c.refuse.result
-    (λ task h. built_lines (words_of c.args.names.now) (texts c.args.contents.now) c.in-Refused.faults task refused
+    (λ task h. built_lines c.args.form (words_of c.args.names.now) (texts c.args.contents.now) c.in-Refused.faults task refused
     (subst (λ (fs : List Fault). AreLinesOf (words_of c.args.names.now) fs task) c.as_slice.ensures h))
     c.refuse.ensures
