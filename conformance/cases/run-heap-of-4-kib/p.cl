@@ -1,0 +1,1 @@
+class Main { main() : Object { while true loop new Object pool }; };

@@ -1,0 +1,1 @@
+class A inherits IO { hi() : Object { out_string("hi\n") }; };

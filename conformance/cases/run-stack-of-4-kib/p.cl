@@ -1,0 +1,1 @@
+class A { next : A <- new A; }; class Main { main() : Object { new A }; };
