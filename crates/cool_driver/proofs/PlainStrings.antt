@@ -3,6 +3,7 @@ use Rattle.std.proofs.Common.{◌≡◌, ℕ, suc, zero, ◌+◌, ◌*◌, ◌�
 use Rattle.std.specs.Prelude.{◌==◌, IsTrue}
 use Rattle.std.specs.List.{AllByRecursion, concat}
 use Rattle.std.proofs.Math.ListN.{length-append}
+use Rattle.cool_syntax.specs.declared.TheConstants.{MOST_BYTES}
 use Rattle.cool_syntax.specs.SimpleForm.{is_plain, IsPlainString}
 use Rattle.cool_driver.specs.Emitted.{HasNoZero, data_of}
 
@@ -36,6 +37,6 @@ plain_have_no_zero [] h = tt
 plain_have_no_zero (string ∷ strings) h = (plain_has_no_zero string h.0.0, plain_have_no_zero strings h.1)
 
 -- not too many bytes
-pub plain_are_small : (strings : List (List ℕ)) → AllByRecursion IsPlainString strings → length (data_of strings) ≤ length strings * 1025
+pub plain_are_small : (strings : List (List ℕ)) → AllByRecursion IsPlainString strings → length (data_of strings) ≤ length strings * (MOST_BYTES + 1)
 plain_are_small [] h = omega arith
 plain_are_small (string ∷ strings) h = simp length-append (omega (arith, plain_are_small strings h.1, h.0.1))

@@ -2,6 +2,7 @@
 use Rattle.std.proofs.Common.{ℕ, zero, suc, ◌+◌, ◌≤◌, ◌<◌, List, [], ◌∷◌, ◌++◌, length, get_or, flat_map, Option, Some, None, Bool, true, false, arith}
 use Rattle.std.specs.Prelude.{nat_eq, bytes_eq, if◌then◌else◌, IfSome}
 use Rattle.std.specs.List.{AllByRecursion, list_any}
+use Rattle.cool_syntax.specs.declared.TheConstants.{MOST_BYTES}
 use Rattle.cool_syntax.specs.declared.place.Place.{Place}
 use Rattle.cool_syntax.specs.declared.operator.ArithOp.{ArithOp}
 use Rattle.cool_syntax.specs.declared.operator.ArithOp.TheVariants as arith_op
@@ -49,7 +50,7 @@ IsInt n = n ≤ 2147483647
 
 -- a string of the source, or the name of a file
 abbrev pub IsShort : List ℕ → Type 0
-IsShort bytes = length bytes ≤ 4096
+IsShort bytes = length bytes ≤ MOST_BYTES
 
 -- the integers of a tree
 mutual
@@ -91,14 +92,14 @@ mutual
   cases_low n (CaseOf at name declared t cs) h =
       all_append IsInt (integers_in t) (integers_in_cases cs) (integers_low n t h.3) (cases_low n cs h.4)
 
-module _ (files : List (List ℕ)) (named : AllByRecursion IsShort files) where
+module _ (files : List (List ℕ)) (named : AllByRecursion (λ name. length name ≤ 4096) files) where
   -- the name of a file is short
   file_short : (at : Place) → AllByRecursion IsShort (file_of files at)
   file_short at = (by files named at.file, tt)
     where
-      by : (names : List (List ℕ)) → AllByRecursion IsShort names → (k : ℕ) → length (get_or names k []) ≤ 4096
+      by : (names : List (List ℕ)) → AllByRecursion (λ name. length name ≤ 4096) names → (k : ℕ) → length (get_or names k []) ≤ MOST_BYTES
       by [] all k = omega arith
-      by (name ∷ names) all zero = all.0
+      by (name ∷ names) all zero = let few : length name ≤ 4096 = all.0 in omega arith
       by (name ∷ names) all (suc k) = by names all.1 k
 
   files_short : (op : ArithOp) (at : Place) → AllByRecursion IsShort (files_of files op at)
@@ -139,7 +140,7 @@ module _ (files : List (List ℕ)) (named : AllByRecursion IsShort files) where
     strings_short n (trees.Not at t) h = strings_short n t h.1
     strings_short n (trees.Id at name) h = tt
     strings_short n (trees.Int at value) h = tt
-    strings_short n (trees.Str at bytes) h = ((let few = h.1.0 in omega arith), tt)
+    strings_short n (trees.Str at bytes) h = (h.1.0, tt)
     strings_short n (trees.Bool at value) h = tt
 
     all_short : (n : ℕ) (ts : Trees) → AreTreesWithin n ts → AllByRecursion IsShort (strings_in_all files ts)

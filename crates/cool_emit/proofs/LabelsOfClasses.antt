@@ -32,12 +32,12 @@ each_both P Q k (f ∷ fs) a b = ((a.0, b.0), each_both P Q (k + 1) fs a.1 b.1)
 
 -- features within the limits are small, and have small places
 small : (f : Feature) → IsBoundedFeature f → IsSmallFeature f
-small (Method m) h = let most : MOST_TOKENS ≡ 4096 = refl in omega arith
+small (Method m) h = omega arith
 small (Attribute a) h = by a.init h
   where
     by : (o : Option Tree) → value_size o ≤ MOST_TOKENS → IfSome o (λ t. tree_size t ≤ 2 ^ 64)
     by None h = tt
-    by (Some t) h = let most : MOST_TOKENS ≡ 4096 = refl in omega arith
+    by (Some t) h = omega arith
 
 each_small : (k : ℕ) (fs : List Feature) → k + length fs ≤ 2 ^ 64 → AllByRecursion IsBoundedFeature fs → EachInPlace (λ j f. (j < 2 ^ 64) × IsSmallFeature f) k fs
 each_small k [] l h = tt

@@ -2,6 +2,7 @@
 use Rattle.std.proofs.Common.{ℕ, ◌+◌, ◌<◌, ◌≤◌, List, [], ◌∷◌, ◌++◌, length, Bool, true, false, arith}
 use Rattle.std.specs.Prelude.{codes, nat_lt, if◌then◌else◌}
 use Rattle.std.specs.List.{AllByRecursion}
+use Rattle.cool_syntax.specs.declared.TheConstants.{MOST_TOKENS}
 use Rattle.cool_syntax.specs.Tree.{Tree, Trees, MaybeTree, Cases, Last, More, Without, With, NoCase, CaseOf, tree_size, trees_size, maybe_size, cases_size}
 use Rattle.cool_syntax.specs.Tree as trees
 use Rattle.cool_syntax.specs.Falls.{one_le_size}
@@ -99,7 +100,7 @@ module _ (target known : Name → Type 0) (s : Context) (g : Constants) (u : Ser
 
   mutual
     -- an expression, at a depth at which its variables on the stack can be reached
-    pub text_of_code : (t : Tree) (vs : List Named) (d k : ℕ) → AreReached vs → d + tree_size t ≤ 8000 → IsTreeWithin files t
+    pub text_of_code : (t : Tree) (vs : List Named) (d k : ℕ) → AreReached vs → d + tree_size t ≤ MOST_TOKENS → IsTreeWithin files t
         → AreNumbers known g (integers_in t) → AreStrings known g (strings_in s.files t)
         → AreTargets target (code s g vs d k t) → AreText target known (code s g vs d k t)
     text_of_code (trees.Id at name) vs d k r low w i j m = parts.text_of_name target known s u within vs name r
@@ -248,7 +249,7 @@ module _ (target known : Name → Type 0) (s : Context) (g : Constants) (u : Ser
     text_of_code (trees.Bool at value) vs d k r low w i j m = parts.text_of_truth target known s u within value
 
     -- arguments, each a word deeper
-    text_of_arguments : (ts : Trees) (vs : List Named) (d k : ℕ) → AreReached vs → d + trees_size ts ≤ 8000 → AreTreesWithin files ts
+    text_of_arguments : (ts : Trees) (vs : List Named) (d k : ℕ) → AreReached vs → d + trees_size ts ≤ MOST_TOKENS → AreTreesWithin files ts
         → AreNumbers known g (integers_in_all ts) → AreStrings known g (strings_in_all s.files ts)
         → AreTargets target (arguments_code s g vs d k ts) → AreText target known (arguments_code s g vs d k ts)
     text_of_arguments Last vs d k r low w i j m = tt
@@ -263,7 +264,7 @@ module _ (target known : Name → Type 0) (s : Context) (g : Constants) (u : Ser
         (strings_right (strings_in s.files t) _ j) (right push_lines _ rest)))
 
     -- the items of a block
-    text_of_items : (ts : Trees) (vs : List Named) (d k : ℕ) → AreReached vs → d + trees_size ts ≤ 8000 → AreTreesWithin files ts
+    text_of_items : (ts : Trees) (vs : List Named) (d k : ℕ) → AreReached vs → d + trees_size ts ≤ MOST_TOKENS → AreTreesWithin files ts
         → AreNumbers known g (integers_in_all ts) → AreStrings known g (strings_in_all s.files ts)
         → AreTargets target (items_code s g vs d k ts) → AreText target known (items_code s g vs d k ts)
     text_of_items Last vs d k r low w i j m = tt
@@ -275,14 +276,14 @@ module _ (target known : Name → Type 0) (s : Context) (g : Constants) (u : Ser
         (right (code s g vs d k t) _ m))
 
     -- an initial value, or none
-    text_of_initial : (o : MaybeTree) (type : Ty) (vs : List Named) (d k : ℕ) → AreReached vs → d + maybe_size o ≤ 8000 → IsMaybeWithin files o
+    text_of_initial : (o : MaybeTree) (type : Ty) (vs : List Named) (d k : ℕ) → AreReached vs → d + maybe_size o ≤ MOST_TOKENS → IsMaybeWithin files o
         → AreNumbers known g (integers_in_maybe o) → AreStrings known g (strings_in_maybe s.files o)
         → AreTargets target (initial_code s g vs d k type o) → AreText target known (initial_code s g vs d k type o)
     text_of_initial Without type vs d k r low w i j m = parts.text_of_default target known s u within type
     text_of_initial (With t) type vs d k r low w i j m = text_of_code t vs d k r low w i j m
 
     -- the branches of a case, put among those before them
-    text_of_arms : (cs : Cases) (vs : List Named) (d k : ℕ) (end : Name) (before : List Arm) → AreReached vs → d + 1 + cases_size cs ≤ 8000
+    text_of_arms : (cs : Cases) (vs : List Named) (d k : ℕ) (end : Name) (before : List Arm) → AreReached vs → d + 1 + cases_size cs ≤ MOST_TOKENS
         → AreCasesWithin files cs
         → AreNumbers known g (integers_in_cases cs) → AreStrings known g (strings_in_cases s.files cs) → target end
         → AllByRecursion IsTextArm before

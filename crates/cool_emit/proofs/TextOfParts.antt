@@ -3,6 +3,7 @@
 use Rattle.std.proofs.Common.{ℕ, zero, suc, ◌+◌, ◌-◌, ◌*◌, ◌<◌, List, [], ◌∷◌, ◌++◌, length, Some, None, Bool, true, false, arith}
 use Rattle.std.specs.Prelude.{bytes_eq, nat_eq, if◌then◌else◌, unwrap_or, Option, IfSome}
 use Rattle.std.specs.List.{AllByRecursion}
+use Rattle.cool_syntax.specs.declared.TheConstants.{MOST_TOKENS}
 use Rattle.cool_syntax.specs.declared.place.Place.{Place}
 use Rattle.cool_syntax.specs.declared.node.NodeId.{NodeId}
 use Rattle.cool_syntax.specs.declared.operator.ArithOp.{ArithOp}
@@ -85,7 +86,7 @@ found_reached [] name h = tt
 found_reached (v ∷ vs) name h = found_here (bytes_eq v.name name) v.variable (found vs name) h.0 (found_reached vs name h.1)
 
 -- a variable on the stack is reached while few words are pushed
-pub bound_reached : (d : ℕ) (name : List ℕ) (type : Ty) (vs : List Named) → d < 8000 → AreReached vs → AreReached (bind d name type vs)
+pub bound_reached : (d : ℕ) (name : List ℕ) (type : Ty) (vs : List Named) → d < MOST_TOKENS → AreReached vs → AreReached (bind d name type vs)
 bound_reached d name type vs low h = ((omega arith, omega arith), h)
 
 -- a line's number is a word

@@ -9,10 +9,10 @@ most_files = refl
 most_source_bytes : MOST_SOURCE_BYTES ≡ 1048576
 most_source_bytes = refl
 
-most_bytes : MOST_BYTES ≡ 1024
+most_bytes : MOST_BYTES ≡ 65535
 most_bytes = refl
 
-most_tokens : MOST_TOKENS ≡ 4096
+most_tokens : MOST_TOKENS ≡ 8000
 most_tokens = refl
 
 most_calls : MOST_CALLS ≡ 800

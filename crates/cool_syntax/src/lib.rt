@@ -45,10 +45,10 @@ pub const MOST_FILES: usize = 64;
 pub const MOST_SOURCE_BYTES: u64 = 1_048_576;
 
 /// The most bytes that a string constant denotes.
-pub const MOST_BYTES: usize = 1_024;
+pub const MOST_BYTES: usize = 65_535;
 
 /// The most tokens in a run.
-pub const MOST_TOKENS: usize = 4_096;
+pub const MOST_TOKENS: usize = 8_000;
 
 /// The most calls in a program of the simple form.
 pub const MOST_CALLS: usize = 800;
