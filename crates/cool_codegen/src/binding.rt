@@ -29,9 +29,9 @@ use cool_classes::{ClassId, OBJECT, Ty};
 use cool_consts::Consts;
 use cool_rules::class_of;
 use cool_runtime::piece::push;
-use cool_runtime::register::FP;
 use cool_syntax::{Name, Node, NodeBranch, NodeId, Place};
 use mips_isa::Line;
+use mips_isa::register::FP;
 use std::alloc::AllocError;
 
 /// Adds the code of a `let` or a `case`, whose parts have numbers below this one.

@@ -29,9 +29,9 @@ use cool_consts::Consts;
 use cool_layout::Layout;
 use cool_rules::TypedProgram;
 use cool_runtime::piece::enter;
-use cool_runtime::register::{FP, S0};
 use cool_syntax::{Feature, Formal};
 use mips_isa::Line;
+use mips_isa::register::{FP, S0};
 use std::alloc::{AllocError, Global};
 
 /// The code of a feature of a class, by its number among the features of the class: a method under its label, or the part of an initializer

@@ -8,8 +8,8 @@ use cool_runtime::draft::{
     addiu, addu, beq, bne, copied, div, j, jal, jalr, jr, la, label, li, lui, lw, mfhi, mflo, mult,
     sll, slt, sltiu, sltu, subu, sw, write,
 };
-use cool_runtime::register::{A0, FP, RA, S0, SP, T0, T1, T2, T3, T4, T5, T6, T8, T9, ZERO};
 use mips_isa::Line;
+use mips_isa::register::{A0, FP, RA, S0, SP, T0, T1, T2, T3, T4, T5, T6, T8, T9, ZERO};
 use std::alloc::{AllocError, Global};
 
 /// Takes the last word from the stack.

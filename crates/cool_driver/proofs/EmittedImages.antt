@@ -2,7 +2,8 @@
 use Rattle.std.proofs.Common.{◌≡◌, ◌∙◌, ap, arith, refl, ℕ, ◌+◌, ◌*◌, ◌%◌, ◌^◌, ◌<◌, ◌≤◌, List, [], ◌∷◌, length}
 use Rattle.std.specs.List.{AllByRecursion, concat}
 use Rattle.std.proofs.Math.ListN.{length-append}
-use Rattle.mips_isa.specs.ImageBounds.{ImageParts, IsImage, text_start}
+use Rattle.mips_isa.specs.declared.address_map.TheConstants.{TEXT_START}
+use Rattle.mips_isa.specs.ImageBounds.{ImageParts, IsImage}
 use Rattle.mips_isa.specs.Calls.{State, Exited}
 use Rattle.mips_isa.specs.Run.{run, start}
 use Rattle.cool_driver.specs.Emitted.{HasNoZero, exit_words, prints, data_of, text_of}
@@ -23,7 +24,7 @@ pub length-text_of : (strings : List (List ℕ)) → length (text_of strings) �
 length-text_of strings = omega (arith, length-append (prints 0x10000000 strings) exit_words, length-prints 0x10000000 strings)
 
 -- the words and the data of strings that are not too many have an image's bounds
-pub made_is_image : (image : ImageParts) (strings : List (List ℕ)) → image.entry ≡ text_start → image.text ≡ text_of strings → image.bytes ≡ data_of strings
+pub made_is_image : (image : ImageParts) (strings : List (List ℕ)) → image.entry ≡ TEXT_START → image.text ≡ text_of strings → image.bytes ≡ data_of strings
     → length strings ≤ 801 → length (data_of strings) < 2 ^ 28 → IsImage image
 made_is_image image strings entry text bytes few small =
     let words : length image.text ≡ 5 * length strings + 3 = ap length text ∙ length-text_of strings in
@@ -38,7 +39,7 @@ made_is_image image strings entry text bytes few small =
     }
 
 -- an image prints and exits where some number of instructions, with which it runs, is enough
-prints_within : (limits : RunLimits) (image : ImageParts) (strings : List (List ℕ)) (n : ℕ) (input : List ℕ) → image.entry ≡ text_start → image.text ≡ text_of strings → image.bytes ≡ data_of strings
+prints_within : (limits : RunLimits) (image : ImageParts) (strings : List (List ℕ)) (n : ℕ) (input : List ℕ) → image.entry ≡ TEXT_START → image.text ≡ text_of strings → image.bytes ≡ data_of strings
     → IsImage image → AllByRecursion HasNoZero strings → 5 * length strings + 3 ≤ n
     → run_of limits image input ≡ run image.text (segments_within limits image) n (start image (segments_within limits image) input)
     → (end : State) × (run_of limits image input ≡ Exited 0 end) × (end.output ≡ concat strings) × (end.input ≡ input)
@@ -47,7 +48,7 @@ prints_within limits image strings n input entry text bytes bounds plain enough 
     (printed.0, is ∙ printed.1, printed.2, printed.3)
 
 -- the words and the data of strings print them
-pub made_prints : (image : ImageParts) (strings : List (List ℕ)) → image.entry ≡ text_start → image.text ≡ text_of strings → image.bytes ≡ data_of strings
+pub made_prints : (image : ImageParts) (strings : List (List ℕ)) → image.entry ≡ TEXT_START → image.text ≡ text_of strings → image.bytes ≡ data_of strings
     → IsImage image → length strings ≤ 801 → AllByRecursion HasNoZero strings
     → (limits : RunLimits) → SIMPLE_STEPS ≤ limits.steps → Prints limits image (concat strings)
 made_prints image strings entry text bytes bounds few plain limits enough input =

@@ -6,8 +6,9 @@ use Rattle.std.proofs.Math.ListN.{length-append}
 use Rattle.std.proofs.Math.Seq.{get_or-append_seam}
 use Rattle.std.proofs.lemmas.List.{get_or-append-add, get_or_append_left}
 use Rattle.std.proofs.lemmas.Nat.{or_shifted}
-use Rattle.mips_isa.specs.ImageBounds.{ImageParts, text_start}
-use Rattle.mips_isa.specs.Bytes.{Bytes, Segments, lies, data_start, heap_start, segments_of, bytes_of_image}
+use Rattle.mips_isa.specs.declared.address_map.TheConstants.{TEXT_START, DATA_START, HEAP_START}
+use Rattle.mips_isa.specs.ImageBounds.{ImageParts}
+use Rattle.mips_isa.specs.Bytes.{Bytes, Segments, lies, segments_of, bytes_of_image}
 use Rattle.mips_isa.specs.Decoding.{decoded}
 use Rattle.mips_isa.specs.Words.{fields, InRange}
 use Rattle.mips_isa.specs.declared.instr.Instr.TheVariants.{Imm, Lui, Syscall}
@@ -53,8 +54,8 @@ abbrev with_register : ℕ → ℕ → State → State
 with_register i v s = record s { core = record s.core { registers = set_register s.core.registers i v; pc = s.core.pc + 4 } }
 
 number_loaded : (text rest : List ℕ) (b : Segments) (n k i lower : ℕ) (s : State) → 0 < i → i < 32 → n < 4294967296
-    → b.text_end ≡ text_start + 4 * length text → drop k text ≡ (1006632960 + i * 65536 + n / 65536) ∷ (872415232 + i * 2097152 + i * 65536 + n % 65536) ∷ rest
-    → s.core.pc ≡ text_start + 4 * k → run text b (suc (suc lower)) s ≡ run text b lower (with_number i n s)
+    → b.text_end ≡ TEXT_START + 4 * length text → drop k text ≡ (1006632960 + i * 65536 + n / 65536) ∷ (872415232 + i * 2097152 + i * 65536 + n % 65536) ∷ rest
+    → s.core.pc ≡ TEXT_START + 4 * k → run text b (suc (suc lower)) s ≡ run text b lower (with_number i n s)
 number_loaded text rest b n k i lower s some low small end there at =
     let upper = n / 65536 * 65536 % 4294967296 in
     let half = with_register i upper s in
@@ -74,8 +75,8 @@ printed address string s =
       output = s.output ++ string;
     }
 
-print_run : (text rest : List ℕ) (b : Segments) (k n address : ℕ) (string : List ℕ) (s : State) → address < 4294967296 → b.text_end ≡ text_start + 4 * length text
-    → drop k text ≡ print_words address ++ rest → s.core.pc ≡ text_start + 4 * k → string_at b s.core.memory address ≡ Some string
+print_run : (text rest : List ℕ) (b : Segments) (k n address : ℕ) (string : List ℕ) (s : State) → address < 4294967296 → b.text_end ≡ TEXT_START + 4 * length text
+    → drop k text ≡ print_words address ++ rest → s.core.pc ≡ TEXT_START + 4 * k → string_at b s.core.memory address ≡ Some string
     → run text b (suc (suc (suc (suc (suc n))))) s ≡ run text b n (printed address string s)
 print_run text rest b k n address string s small end there at found =
     let behind_two = drop_one_more (suc k) text _ _ (drop_one_more k text _ _ there) in
@@ -89,8 +90,8 @@ print_run text rest b k n address string s small end there at found =
     ∙ run_call text b n s2 core _ call_it (ap (print_string (record s2 { core = core })) found)
 
 -- the words of an exit
-exit_run : (text rest : List ℕ) (b : Segments) (k n : ℕ) (s : State) → b.text_end ≡ text_start + 4 * length text
-    → drop k text ≡ exit_words ++ rest → s.core.pc ≡ text_start + 4 * k
+exit_run : (text rest : List ℕ) (b : Segments) (k n : ℕ) (s : State) → b.text_end ≡ TEXT_START + 4 * length text
+    → drop k text ≡ exit_words ++ rest → s.core.pc ≡ TEXT_START + 4 * k
     → (end : State) × (run text b (suc (suc (suc n))) s ≡ Exited 0 end) × (end.output ≡ s.output) × (end.input ≡ s.input)
 exit_run text rest b k n s end there at =
     let behind_two = drop_one_more (suc k) text _ _ (drop_one_more k text _ _ there) in
@@ -119,25 +120,25 @@ string_here m (c ∷ string) a (suc n) plain room each ends =
     rw (here, some, rest) refl
 
 -- a byte of the data, in the memory of an image
-data_byte : (image : ImageParts) (i : ℕ) → i < 268435456 → bytes_of_image image (data_start + i) ≡ get_or image.bytes i 0
+data_byte : (image : ImageParts) (i : ℕ) → i < 268435456 → bytes_of_image image (DATA_START + i) ≡ get_or image.bytes i 0
 data_byte image i small =
-    let behind_text : nat_lt (data_start + i) data_start ≡ false = grind arith in
-    let before_heap : nat_lt (data_start + i) heap_start ≡ true = grind (arith, small) in
-    let offset : data_start + i - data_start ≡ i = omega arith in
+    let behind_text : nat_lt (DATA_START + i) DATA_START ≡ false = grind arith in
+    let before_heap : nat_lt (DATA_START + i) HEAP_START ≡ true = grind (arith, small) in
+    let offset : DATA_START + i - DATA_START ≡ i = omega arith in
     rw (behind_text, before_heap, offset) refl
 
 -- the string behind other data is found at its address
 string_found : (image : ImageParts) (heap stack : ℕ) (front string rest : List ℕ) → length image.text ≤ 66060288 → length image.bytes ≤ 268435456
     → image.bytes ≡ front ++ (string ++ 0 ∷ rest) → HasNoZero string
-    → string_at (segments_of image heap stack) (bytes_of_image image) (data_start + length front) ≡ Some string
+    → string_at (segments_of image heap stack) (bytes_of_image image) (DATA_START + length front) ≡ Some string
 string_found image heap stack front string rest few small split plain =
     let b = segments_of image heap stack in
-    let a = data_start + length front in
+    let a = DATA_START + length front in
     let size : length image.bytes ≡ length front + (length string + suc (length rest)) = ap length split ∙ length-append front (string ++ 0 ∷ rest) ∙ ap (λ n. length front + n) (length-append string (0 ∷ rest)) in
-    let not_text : lies text_start b.text_end a 1 ≡ false = grind (arith, few) in
-    let in_data : lies data_start b.data_end a 1 ≡ true = grind (arith, size) in
+    let not_text : lies TEXT_START b.text_end a 1 ≡ false = grind (arith, few) in
+    let in_data : lies DATA_START b.data_end a 1 ≡ true = grind (arith, size) in
     let room : length string < b.data_end - a = omega (arith, size) in
-    let place : (i : ℕ) → a + i ≡ data_start + (length front + i) = λ i. omega arith in
+    let place : (i : ℕ) → a + i ≡ DATA_START + (length front + i) = λ i. omega arith in
     let each : (i : ℕ) → i < length string → bytes_of_image image (a + i) ≡ get_or string i 0
     = λ i within. ap (bytes_of_image image) (place i) ∙ data_byte image (length front + i) (omega (arith, size, small, within)) ∙ ap (λ l. get_or l (length front + i) 0) split ∙ get_or-append-add front (string ++ 0 ∷ rest) i 0 ∙ get_or_append_left string (0 ∷ rest) 0 i within in
     let ends : bytes_of_image image (a + length string) ≡ 0
@@ -151,7 +152,7 @@ Printed s output o = (end : State) × (o ≡ Exited 0 end) × (end.output ≡ s.
 -- the run of the words that are left, behind those of other strings, whose data stands in front
 runs_behind : (strings : List (List ℕ)) (image : ImageParts) (heap stack : ℕ) (front : List ℕ) (k n : ℕ) (s : State)
     → length image.text ≤ 66060288 → length image.bytes ≤ 268435456 → image.bytes ≡ front ++ data_of strings
-    → drop k image.text ≡ prints (data_start + length front) strings ++ exit_words → s.core.pc ≡ text_start + 4 * k → s.core.memory ≡ bytes_of_image image
+    → drop k image.text ≡ prints (DATA_START + length front) strings ++ exit_words → s.core.pc ≡ TEXT_START + 4 * k → s.core.memory ≡ bytes_of_image image
     → AllByRecursion HasNoZero strings → 5 * length strings + 3 ≤ n
     → Printed s (concat strings) (run image.text (segments_of image heap stack) n s)
 runs_behind [] image heap stack front k n s few small split there at same plain enough =
@@ -161,7 +162,7 @@ runs_behind [] image heap stack front k n s few small split there at same plain 
     (exit.0, ap (λ m. run image.text b m s) three ∙ exit.1, exit.2 ∙ sym (append-nil s.output), exit.3)
 runs_behind (string ∷ strings) image heap stack front k n s few small split there at same plain enough =
     let b = segments_of image heap stack in
-    let address = data_start + length front in
+    let address = DATA_START + length front in
     let five : n ≡ suc (suc (suc (suc (suc (n - 5))))) = omega (arith, enough) in
     let whole : image.bytes ≡ front ++ (string ++ 0 ∷ data_of strings) = split ∙ ap (λ l. front ++ l) (append_assoc string (0 ∷ []) (data_of strings)) in
     let next = front ++ (string ++ 0 ∷ []) in
@@ -169,8 +170,8 @@ runs_behind (string ∷ strings) image heap stack front k n s few small split th
     let sizes : length image.bytes ≡ length front + (length string + suc (length (data_of strings))) = ap length whole ∙ length-append front (string ++ 0 ∷ data_of strings) ∙ ap (λ m. length front + m) (length-append string (0 ∷ data_of strings)) in
     let again : image.bytes ≡ next ++ data_of strings = split ∙ sym (append_assoc front (string ++ 0 ∷ []) (data_of strings)) in
     let grouped : drop k image.text ≡ print_words address ++ (prints (address + (length string + 1)) strings ++ exit_words) = there in
-    let address_next : address + (length string + 1) ≡ data_start + length next = omega (arith, size) in
-    let there_next : drop (suc (suc (suc (suc (suc k))))) image.text ≡ prints (data_start + length next) strings ++ exit_words
+    let address_next : address + (length string + 1) ≡ DATA_START + length next = omega (arith, size) in
+    let there_next : drop (suc (suc (suc (suc (suc k))))) image.text ≡ prints (DATA_START + length next) strings ++ exit_words
     = drop_one_more (suc (suc (suc (suc k)))) image.text _ _ (drop_one_more (suc (suc (suc k))) image.text _ _ (drop_one_more (suc (suc k)) image.text _ _ (drop_one_more (suc k) image.text _ _ (drop_one_more k image.text _ _ grouped)))) ∙ ap (λ q. prints q strings ++ exit_words) address_next in
     let found : string_at b s.core.memory address ≡ Some string = ap (λ m. string_at b m address) same ∙ string_found image heap stack front string (data_of strings) few small whole plain.0 in
     let one = print_run image.text _ b k (n - 5) address string s (omega (arith, sizes, small)) refl grouped at found in
@@ -179,7 +180,7 @@ runs_behind (string ∷ strings) image heap stack front k n s few small split th
 
 -- the words that print strings print them, and exit
 pub text_prints : (strings : List (List ℕ)) (image : ImageParts) (heap stack n : ℕ) (input : List ℕ)
-    → image.entry ≡ text_start → image.text ≡ text_of strings → image.bytes ≡ data_of strings
+    → image.entry ≡ TEXT_START → image.text ≡ text_of strings → image.bytes ≡ data_of strings
     → length image.text ≤ 66060288 → length image.bytes ≤ 268435456 → AllByRecursion HasNoZero strings → 5 * length strings + 3 ≤ n
     → (end : State) × (run image.text (segments_of image heap stack) n (start image (segments_of image heap stack) input) ≡ Exited 0 end) × (end.output ≡ concat strings) × (end.input ≡ input)
 text_prints strings image heap stack n input entry text bytes few small plain enough =

@@ -2,7 +2,6 @@
 
 ghost use Rattle.std.specs.Prelude.{◌≡◌, ◌<◌, ◌≤◌, ◌^◌, [], ◌∷◌, ◌++◌, length, IfOk, OnOk};
 ghost use Rattle.std.specs.List.{concat, AllByRecursion};
-ghost use Rattle.mips_isa.specs.ImageBounds.{text_start};
 ghost use Rattle.cool_words.specs.declared.plan.RunLimits.{RunLimits};
 ghost use Rattle.cool_driver.specs.declared.TheConstants.{SIMPLE_STEPS};
 ghost use Rattle.cool_driver.specs.Tasks.{Prints};
@@ -10,17 +9,11 @@ ghost use Rattle.cool_driver.specs.SimpleReading.{texts};
 ghost use Rattle.cool_driver.specs.Emitted.{HasNoZero, print_words, text_of, data_of};
 
 use cool_syntax::MOST_CALLS;
-use mips_isa::Image;
+use mips_isa::{DATA_START, Image, TEXT_START};
 use std::alloc::{AllocError, Global};
 
 /// The most strings of a program: those of its calls, and the end text.
 const MOST_STRINGS: usize = MOST_CALLS + 1;
-
-/// Where the text begins.
-const TEXT_START: u32 = 0x0040_0000;
-
-/// Where the data begins.
-const DATA_START: u32 = 0x1000_0000;
 
 /// `lui $a0, 0`
 const LUI_A0: u32 = 0x3c04_0000;
@@ -48,7 +41,7 @@ pub fn compile(alloc: Global, strings: &[Vec<u8>]) -> Result<Image, AllocError>
     requires plain { AllByRecursion HasNoZero (texts strings.now) }
     requires small { length (data_of (texts strings.now)) < 2 ^ 28 }
     ensures prints { IfOk result (λ image. (limits : RunLimits) → SIMPLE_STEPS ≤ limits.steps → Prints limits image (concat (texts strings.now))) }
-    ensures entry { IfOk result (λ image. image.entry ≡ text_start) }
+    ensures entry { IfOk result (λ image. image.entry ≡ TEXT_START) }
     ensures text { IfOk result (λ image. image.text ≡ text_of (texts strings.now)) }
     ensures bytes { IfOk result (λ image. image.bytes ≡ data_of (texts strings.now)) }
 {

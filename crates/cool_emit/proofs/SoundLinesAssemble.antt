@@ -10,7 +10,7 @@ use Rattle.mips_isa.specs.declared.line.AsmFault.{AsmFault}
 use Rattle.mips_isa.specs.declared.place.Place.{Place}
 use Rattle.mips_isa.specs.declared.place.Segment.{Segment}
 use Rattle.mips_isa.specs.declared.place.Segment.TheVariants.{Text, Data}
-use Rattle.mips_isa.specs.ImageBounds.{text_start}
+use Rattle.mips_isa.specs.declared.address_map.TheConstants.{TEXT_START}
 use Rattle.mips_isa.specs.Lines.{Name, WordItem, Number, Address, Statement, Empty, Plain, ToJump, La, Li, Move, ToData, Word, Asciiz, Align, Line, IsItem, IsInRange, AreInRange}
 use Rattle.mips_isa.specs.Assembly.{Need, Nothing, Words, Item, Switch, Padding, need, Position, start_position, behind_line, place_in, place_from, place_of, has, in_text, start_name, main_name, unlabelled, added_lines, completed, is_wrong, any_twice, is_too_large, fault_or, first_pass, names_of_items, used, jump_reaches, reaches, any_without_place, start_fault, second_pass, first_or, fault_of_all, fault_of}
 use Rattle.cool_runtime.specs.Images.{behind_lines}
@@ -75,7 +75,7 @@ has_target target known p (line ∷ text) back bytes name all room there =
   where
     by : (b : Bool) (g : Segment) → g ≡ Text → (b ≡ false → jump_reaches (place_from (behind_line line p) (text ++ back) name) ≡ true)
         → jump_reaches (if b then Some (place_in g p (line ∷ (text ++ back))) else place_from (behind_line line p) (text ++ back) name) ≡ true
-    by true Text e more = let w = room.words_left in lt-ltb (text_start + 4 * p.words) 268435456 (omega arith)
+    by true Text e more = let w = room.words_left in lt-ltb (TEXT_START + 4 * p.words) 268435456 (omega arith)
     by true Data e more = cc
     by false g e more = more refl
 
@@ -98,8 +98,8 @@ second_passes : (place : Name → Option Place) (p : Position) (number : ℕ) (l
 second_passes place p number [] all start = ap (λ (o : Option AsmKind). fault_or number o None) start
 second_passes place p number (line ∷ rest) all start =
     ap (λ (o : Option AsmKind). fault_or number o (second_pass place (behind_line line p) (suc number) rest))
-    (no_second_fault (any_without_place place (used line.statement)) (reaches place (text_start + 4 * p.words) line.statement)
-    all.0.placed (all.0.reached (text_start + 4 * p.words)))
+    (no_second_fault (any_without_place place (used line.statement)) (reaches place (TEXT_START + 4 * p.words) line.statement)
+    all.0.placed (all.0.reached (TEXT_START + 4 * p.words)))
     ∙ second_passes place (behind_line line p) (suc number) rest all.1 start
 
 -- Names that are known have places, and targets are reached by jumps.
@@ -151,7 +151,7 @@ module _ (place : Name → Option Place) (target known : Name → Type 0) (place
 
 -- the label at which a run starts is at the beginning of the text
 start_found : (text items : List Line) (main : Name) (behind : List Line) → text ≡ label start_name ∷ la 4 main ∷ behind
-    → place_of (joined_lines text items) start_name ≡ Some (record { segment = Text; address = text_start })
+    → place_of (joined_lines text items) start_name ≡ Some (record { segment = Text; address = TEXT_START })
 start_found text items main behind e = ap (λ (lines : List Line). place_of (joined_lines lines items) start_name) e
 
 -- there is an instruction behind it
@@ -162,10 +162,10 @@ some_words text items main behind e =
     (words_grow (record { words = 2; bytes = 0; segment = Text }) (behind ++ unlabelled ToData ∷ items))
 
 -- a run can start there
-starts_at : (place : Option Place) (p : Position) → place ≡ Some (record { segment = Text; address = text_start }) → 2 ≤ p.words → start_fault place p ≡ None
+starts_at : (place : Option Place) (p : Position) → place ≡ Some (record { segment = Text; address = TEXT_START }) → 2 ≤ p.words → start_fault place p ≡ None
 starts_at place p e some =
     ap (λ (o : Option Place). start_fault o p) e
-    ∙ ap (λ (b : Bool). if b then None else Some A6) (lt-ltb text_start (text_start + 4 * p.words) (omega arith))
+    ∙ ap (λ (b : Bool). if b then None else Some A6) (lt-ltb TEXT_START (TEXT_START + 4 * p.words) (omega arith))
 
 -- lines that have a start are complete
 complete : (lines : List Line) → is_some (place_of lines start_name) ≡ true → completed lines ≡ lines

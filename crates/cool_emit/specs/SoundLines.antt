@@ -2,6 +2,7 @@
 -- lines that are joined can be looked at one part after the other.
 use Rattle.std.specs.Prelude.{◌≡◌, ℕ, suc, zero, ◌+◌, ◌<◌, ◌≤◌, List, [], ◌∷◌, ◌++◌, flat_map, Contains}
 use Rattle.std.specs.List.{AllByRecursion}
+use Rattle.mips_isa.specs.declared.address_map.TheConstants.{MOST_DATA_BYTES}
 use Rattle.mips_isa.specs.Words.{InRange}
 use Rattle.mips_isa.specs.Lines.{Name, WordItem, Number, Address, Statement, Empty, Plain, ToTwo, ToOne, ToJump, La, Li, Move, Neg, Nop, B, BranchZero, BranchOrder, Mul, ToText, ToData, Globl, Word, Byte, Ascii, Asciiz, Space, Align, Line, IsWord}
 use Rattle.mips_isa.specs.Assembly.{Need, Nothing, Words, Item, Switch, Padding, need, unlabelled, start_name}
@@ -112,7 +113,7 @@ pub record AreSound (text items : List Line) : Type 0 where
   pub data_lines : AreData (Contains (labels_of (joined_lines text items))) items
   pub different : AreDifferent (labels_of (joined_lines text items))
   pub text_fits : text_room text ≤ 66000000
-  pub data_fits : data_room items ≤ 268435456
+  pub data_fits : data_room items ≤ MOST_DATA_BYTES
   pub main : Name
   pub behind : List Line
   pub starts : text ≡ label start_name ∷ la 4 main ∷ behind

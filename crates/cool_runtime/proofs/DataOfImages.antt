@@ -5,7 +5,8 @@ use Rattle.std.proofs.lemmas.List.{length-replicate, get_or-append-add, get_or_a
 use Rattle.mips_isa.specs.declared.place.Segment.{Segment}
 use Rattle.mips_isa.specs.declared.place.Segment.TheVariants.{Text, Data}
 use Rattle.mips_isa.specs.ImageBounds.{ImageParts}
-use Rattle.mips_isa.specs.Bytes.{Bytes, word, data_start, heap_start, bytes_of_image}
+use Rattle.mips_isa.specs.declared.address_map.TheConstants.{DATA_START, HEAP_START}
+use Rattle.mips_isa.specs.Bytes.{Bytes, word, bytes_of_image}
 use Rattle.mips_isa.specs.Lines.{Name, Line, WordItem, Statement, Word}
 use Rattle.mips_isa.specs.Assembly.{Need, Nothing, Words, Item, Switch, Padding, need, Position, start_position, behind, behind_line, padded, padding, padding_to, up, first_pass, second_pass, image_of_all, place_from, place_in, place_of, next_item, item_or, address_or_zero, bytes_from, item_bytes, item_value}
 use Rattle.mips_asm.proofs.Assembled.{length_of_item, bytes_needed, HasUnit, unit_of, up_from}
@@ -53,23 +54,23 @@ bytes_length address p (line ∷ front) =
     omega arith
 
 place_in_data : (g : Segment) (p : Position) (line : Line) (rest : List Line) (unit size : ℕ) → g ≡ Data → need line.statement ≡ Item unit size
-    → address_or_zero (Some (place_in g p (line ∷ rest))) ≡ data_start + up unit p.bytes
+    → address_or_zero (Some (place_in g p (line ∷ rest))) ≡ DATA_START + up unit p.bytes
 place_in_data Text p line rest unit size segment is = cc
-place_in_data Data p line rest unit size segment is = ap (λ n. data_start + item_or n p (next_item (behind_line line p) rest)) is
+place_in_data Data p line rest unit size segment is = ap (λ n. DATA_START + item_or n p (next_item (behind_line line p) rest)) is
 
 -- the data of an image in memory
-pub data_byte : (image : ImageParts) (k : ℕ) → k < 268435456 → bytes_of_image image (data_start + k) ≡ get_or image.bytes k 0
+pub data_byte : (image : ImageParts) (k : ℕ) → k < 268435456 → bytes_of_image image (DATA_START + k) ≡ get_or image.bytes k 0
 data_byte image k low =
-    let text : nat_lt (data_start + k) data_start ≡ false = grind arith in
-    let data' : nat_lt (data_start + k) heap_start ≡ true = grind arith in
-    let at : data_start + k - data_start ≡ k = omega arith in
+    let text : nat_lt (DATA_START + k) DATA_START ≡ false = grind arith in
+    let data' : nat_lt (DATA_START + k) HEAP_START ≡ true = grind arith in
+    let at : DATA_START + k - DATA_START ≡ k = omega arith in
     rw (text, data', at) refl
 
 module _ (w : World) (all : List Line) (image : IsImageOf w all) where
   -- an item of data stands at its place, under its labels
   pub has_item : (front : List Line) (line : Line) (rest : List Line) (unit size : ℕ) → all ≡ front ++ line ∷ rest → (behind_lines start_position front).segment ≡ Data
       → need line.statement ≡ Item unit size
-      → PlacedAt w (data_start + up unit (behind_lines start_position front).bytes) line.labels
+      → PlacedAt w (DATA_START + up unit (behind_lines start_position front).bytes) line.labels
       × ((i : ℕ) → i < length (item_bytes w.place line.statement)
       → get_or (image_of_all all).bytes (up unit (behind_lines start_position front).bytes + i) 0 ≡ get_or (item_bytes w.place line.statement) i 0)
   has_item front line rest unit size split segment is =
@@ -93,7 +94,7 @@ module _ (w : World) (all : List Line) (image : IsImageOf w all) where
       let at : up unit q.bytes + i ≡ length before + (length zeros + i) = omega arith in
       ap (λ l. get_or l (up unit q.bytes + i) 0) bytes ∙ ap (λ k. get_or (before ++ (zeros ++ (item ++ after))) k 0) at
       ∙ get_or-append-add before (zeros ++ (item ++ after)) (length zeros + i) 0 ∙ get_or-append-add zeros (item ++ after) i 0 ∙ get_or_append_left item after 0 i h in (
-        placed_all w (data_start + up unit q.bytes) line.labels
+        placed_all w (DATA_START + up unit q.bytes) line.labels
             (λ l h. place_at l ∙ ap (λ lines. address_or_zero (place_from start_position lines l)) split ∙ ap address_or_zero (placed_there [] start_position 1 front line rest l fine h)
             ∙ place_in_data q.segment q line rest unit size segment is),
         subst (λ f. (i : ℕ) → i < length (item_bytes f s) → get_or (image_of_all all).bytes (up unit q.bytes + i) 0 ≡ get_or (item_bytes f s) i 0) (sym image.place_is) read,

@@ -15,7 +15,7 @@ use Rattle.mips_isa.specs.declared.place.Segment.TheVariants.{Text, Data}
 use Rattle.mips_isa.specs.Words.{word_of, InRange}
 use Rattle.mips_isa.specs.Decoding.{decoded}
 use Rattle.mips_isa.specs.Machine.{word_of_text}
-use Rattle.mips_isa.specs.ImageBounds.{text_start}
+use Rattle.mips_isa.specs.declared.address_map.TheConstants.{TEXT_START}
 use Rattle.mips_isa.specs.Lines.{Name, Line, AreInRange, IsInRange, Statement, Empty, Plain, ToTwo, ToOne, ToJump, La, Li, Move, Neg, Nop, B, BranchZero, BranchOrder, Mul, ToText, ToData, Globl, Word, Byte, Ascii, Asciiz, Space, Align}
 use Rattle.mips_isa.specs.Assembly.{Need, Nothing, Words, Item, Switch, Padding, need, Position, start_position, behind, behind_line, first_pass, second_pass, first_or, using_fault, has, place_from, place_in, place_of, address_or_zero, in_text, instructions, text_from, any_without_place, used, reaches}
 use Rattle.mips_isa.proofs.WordsAreDecoded.{decoded-word_of}
@@ -30,13 +30,13 @@ use Rattle.cool_runtime.proofs.PlacesOfLabels.{none_here, placed_there, words_be
 
 -- the words of a text
 
-words_at : (w : World) (before after : List ℕ) (list : List Instr) (pc : ℕ) → w.text ≡ before ++ (map word_of list ++ after) → pc ≡ text_start + 4 * length before
-    → w.segments.text_end ≡ text_start + 4 * length w.text → length w.text < 66060288 → AllByRecursion InRange list → InstructionsAt w pc list
+words_at : (w : World) (before after : List ℕ) (list : List Instr) (pc : ℕ) → w.text ≡ before ++ (map word_of list ++ after) → pc ≡ TEXT_START + 4 * length before
+    → w.segments.text_end ≡ TEXT_START + 4 * length w.text → length w.text < 66060288 → AllByRecursion InRange list → InstructionsAt w pc list
 words_at w before after [] pc text at end room ranges = tt
 words_at w before after (i ∷ list) pc text at end room ranges =
     let rest = map word_of list ++ after in
     let long : length w.text ≡ length before + suc (length rest) = ap length text ∙ length-append before (word_of i ∷ rest) in
-    let index : (pc - text_start) / 4 ≡ length before = omega arith in
+    let index : (pc - TEXT_START) / 4 ≡ length before = omega arith in
     let word : word_of_text w.text pc ≡ word_of i = ap (λ k. get_or w.text k 0) index ∙ ap (λ l. get_or l (length before) 0) text ∙ get_or-append_seam before (word_of i) rest 0 in
     let next : w.text ≡ (before ++ word_of i ∷ []) ++ rest = text ∙ sym (append_assoc before (word_of i ∷ []) rest) in
     let longer : length (before ++ word_of i ∷ []) ≡ length before + 1 = length-append before (word_of i ∷ []) in (
@@ -49,16 +49,16 @@ words_at w before after (i ∷ list) pc text at end room ranges =
 text_split : (address : Name → ℕ) (p : Position) (front back : List Line) → text_from address p (front ++ back) ≡ text_from address p front ++ text_from address (behind_lines p front) back
 text_split address p [] back = refl
 text_split address p (line ∷ front) back =
-    let words = map word_of (instructions address (text_start + 4 * p.words) line.statement) in
+    let words = map word_of (instructions address (TEXT_START + 4 * p.words) line.statement) in
     ap (λ l. words ++ l) (text_split address (behind_line line p) front back) ∙ sym (append_assoc words (text_from address (behind_line line p) front) _)
 
 text_length : (address : Name → ℕ) (p : Position) (front : List Line) → p.words + length (text_from address p front) ≡ (behind_lines p front).words
 text_length address p [] = omega arith
 text_length address p (line ∷ front) =
-    let list = instructions address (text_start + 4 * p.words) line.statement in
+    let list = instructions address (TEXT_START + 4 * p.words) line.statement in
     let more : text_from address p (line ∷ front) ≡ map word_of list ++ text_from address (behind_line line p) front = refl in
     let a : length (text_from address p (line ∷ front)) ≡ length (map word_of list) + length (text_from address (behind_line line p) front) = length-append (map word_of list) _ in
-    let b : length (map word_of list) ≡ words_of_need (need line.statement) = length-map list word_of ∙ length_of_instructions address (text_start + 4 * p.words) line.statement in
+    let b : length (map word_of list) ≡ words_of_need (need line.statement) = length-map list word_of ∙ length_of_instructions address (TEXT_START + 4 * p.words) line.statement in
     let c : (behind_line line p).words ≡ p.words + words_of_need (need line.statement) = words_behind (need line.statement) p in
     let d : (behind_line line p).words + length (text_from address (behind_line line p) front) ≡ (behind_lines p (line ∷ front)).words = text_length address (behind_line line p) front in
     omega arith
@@ -89,7 +89,7 @@ first_of true b h = refl
 first_of false b h = cc
 
 -- a target in text
-target_of : (w : World) (l : Name) (o : Option Place) (words : ℕ) → w.place l ≡ address_or_zero o → IsWordPlace o → InTextBelow words o → text_start + 4 * words < 268435456 → in_text o ≡ true → IsTarget w l
+target_of : (w : World) (l : Name) (o : Option Place) (words : ℕ) → w.place l ≡ address_or_zero o → IsWordPlace o → InTextBelow words o → TEXT_START + 4 * words < 268435456 → in_text o ≡ true → IsTarget w l
 target_of w l None words at even below room there = absurd (true≢false (sym there))
 target_of w l (Some place) words at even below room there =
     let a = even there in
@@ -98,7 +98,7 @@ target_of w l (Some place) words at even below room there =
 
 -- the names of a statement without a fault can be held
 held : (w : World) (place : Name → Option Place) (words at : ℕ) (s : Statement) → ((l : Name) → w.place l ≡ address_or_zero (place l)) → ((l : Name) → IsWordPlace (place l)) → ((l : Name) → InTextBelow words (place l))
-    → text_start + 4 * words < 268435456 → ((l : Name) → address_or_zero (place l) < 4294967296) → reaches place at s ≡ true → Holds w s
+    → TEXT_START + 4 * words < 268435456 → ((l : Name) → address_or_zero (place l) < 4294967296) → reaches place at s ≡ true → Holds w s
 held w place words at (ToTwo op rs rt l) is even below room fits there = target_of w l (place l) words (is l) (even l) (below l) room (first_of (in_text (place l)) _ there)
 held w place words at (ToOne op rs l) is even below room fits there = target_of w l (place l) words (is l) (even l) (below l) room (first_of (in_text (place l)) _ there)
 held w place words at (ToJump op l) is even below room fits there = target_of w l (place l) words (is l) (even l) (below l) room (first_of (in_text (place l)) _ there)
@@ -161,7 +161,7 @@ text_goes_on (Item unit size) p need text = absurd need
 text_goes_on (Switch segment) p need text = absurd need
 text_goes_on (Padding unit) p need text = absurd need
 
-place_in_text : (g : Segment) (p : Position) (lines : List Line) → g ≡ Text → address_or_zero (Some (place_in g p lines)) ≡ text_start + 4 * p.words
+place_in_text : (g : Segment) (p : Position) (lines : List Line) → g ≡ Text → address_or_zero (Some (place_in g p lines)) ≡ TEXT_START + 4 * p.words
 place_in_text Text p lines text = refl
 place_in_text Data p lines text = cc
 
@@ -186,11 +186,11 @@ module _ (w : World) (all : List Line) (image : IsImageOf w all) where
       omega arith
 
   line_at : (front : List Line) (line : Line) (rest : List Line) → all ≡ front ++ line ∷ rest → (behind_lines start_position front).segment ≡ Text
-      → LineAt w (text_start + 4 * (behind_lines start_position front).words) line
+      → LineAt w (TEXT_START + 4 * (behind_lines start_position front).words) line
   line_at front line rest split text =
       let address : Name → ℕ = λ name. address_or_zero (place_of all name) in
       let q : Position = behind_lines start_position front in
-      let pc : ℕ = text_start + 4 * q.words in
+      let pc : ℕ = TEXT_START + 4 * q.words in
       let s : Statement = line.statement in
       let fine : first_pass [] start_position 1 (front ++ line ∷ rest) ≡ None = ap (first_pass [] start_position 1) (sym split) ∙ first in
       let fits : (l : Name) → address_or_zero (place_of all l) < 4294967296 = λ l. address_fits [] start_position 1 all l (record { words_fit = omega arith; bytes_fit = omega arith }) first in
@@ -212,14 +212,14 @@ module _ (w : World) (all : List Line) (image : IsImageOf w all) where
 
   -- lines of text stand at their place
   pub has_lines : (front part back : List Line) → all ≡ front ++ (part ++ back) → AreText part → (behind_lines start_position front).segment ≡ Text
-      → HasLines w (text_start + 4 * (behind_lines start_position front).words) part
+      → HasLines w (TEXT_START + 4 * (behind_lines start_position front).words) part
   has_lines front [] back split are text = tt
   has_lines front (line ∷ part) back split are text =
       let q : Position = behind_lines start_position front in
       let next : behind_lines start_position (front ++ line ∷ []) ≡ behind_line line q = behind_append start_position front (line ∷ []) in
       let grown : (behind_line line q).words ≡ q.words + words_of_need (need line.statement) = words_behind (need line.statement) q in
-      let at : text_start + 4 * (behind_lines start_position (front ++ line ∷ [])).words ≡ text_start + 4 * q.words + size line =
-      ap (λ (p : Position). text_start + 4 * p.words) next ∙ omega arith in (
+      let at : TEXT_START + 4 * (behind_lines start_position (front ++ line ∷ [])).words ≡ TEXT_START + 4 * q.words + size line =
+      ap (λ (p : Position). TEXT_START + 4 * p.words) next ∙ omega arith in (
         line_at front line (part ++ back) split text,
         subst (λ pc. HasLines w pc part) at
             (has_lines (front ++ line ∷ []) part back (split ∙ sym (append_assoc front (line ∷ []) (part ++ back))) are.1

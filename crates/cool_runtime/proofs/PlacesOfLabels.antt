@@ -10,7 +10,7 @@ use Rattle.mips_isa.specs.declared.place.Place.{Place}
 use Rattle.mips_isa.specs.declared.place.Segment.{Segment}
 use Rattle.mips_isa.specs.declared.place.Segment.TheVariants.{Text, Data}
 use Rattle.mips_isa.specs.Lines.{Name, Line}
-use Rattle.mips_isa.specs.ImageBounds.{text_start}
+use Rattle.mips_isa.specs.declared.address_map.TheConstants.{TEXT_START}
 use Rattle.mips_isa.specs.Assembly.{Need, Nothing, Words, Item, Switch, Padding, need, Position, behind, behind_line, padded, first_pass, fault_or, defining_fault, is_wrong, any_twice, is_too_large, has, place_from, place_in, next_item, item_or, address_or_zero, is_text}
 use Rattle.mips_asm.specs.Passes.{Fits}
 use Rattle.mips_asm.proofs.LinePlaces.{position_fits}
@@ -105,7 +105,7 @@ behind_append p (line ∷ front) back = behind_append (behind_line line p) front
 
 abbrev pub InTextBelow : ℕ → Option Place → Type 0
 InTextBelow words None = Unit {0}
-InTextBelow words (Some place) = is_text place.segment ≡ true → place.address ≤ text_start + 4 * words
+InTextBelow words (Some place) = is_text place.segment ≡ true → place.address ≤ TEXT_START + 4 * words
 
 pub below_end : (p : Position) (lines : List Line) (name : Name) → InTextBelow (behind_lines p lines).words (place_from p lines name)
 below_end p [] name = tt

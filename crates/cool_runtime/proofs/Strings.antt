@@ -1,8 +1,8 @@
 -- The bytes of a String, as the machine prints them.
 use Rattle.std.proofs.Common.{◌≡◌, ℕ, zero, suc, ◌+◌, ◌-◌, ◌*◌, ◌<◌, ◌≤◌, ◌⊎◌, inl, inr, List, [], ◌∷◌, length, get_or, refl, sym, ap, ◌∙◌, arith, true, false, Some}
 use Rattle.std.specs.Prelude.{◌==◌, option_map}
-use Rattle.mips_isa.specs.Bytes.{Bytes, Segments, lies, data_start, heap_start}
-use Rattle.mips_isa.specs.ImageBounds.{text_start}
+use Rattle.mips_isa.specs.declared.address_map.TheConstants.{TEXT_START, DATA_START, HEAP_START}
+use Rattle.mips_isa.specs.Bytes.{Bytes, Segments, lies}
 use Rattle.mips_isa.specs.Calls.{up_to_zero, string_at, string_in, segment_end}
 use Rattle.cool_runtime.specs.Reaches.{World, AreLaid}
 use Rattle.cool_runtime.specs.Contents.{StringAt, TextAt, IsText, words_of_bytes}
@@ -25,15 +25,15 @@ up_to m a (b ∷ rest) (suc n) holds zeroed text room =
 -- the end of the segment of a place
 in_data : (b : Segments) (a : ℕ) → AreLaid b → 268435456 ≤ a → a < b.data_end → segment_end b a ≡ Some b.data_end
 in_data b a laid from to =
-    let text : lies text_start b.text_end a 1 ≡ false = grind (arith, laid.text) in
-    let data' : lies data_start b.data_end a 1 ≡ true = grind arith in
+    let text : lies TEXT_START b.text_end a 1 ≡ false = grind (arith, laid.text) in
+    let data' : lies DATA_START b.data_end a 1 ≡ true = grind arith in
     rw (text, data') refl
 
 in_heap : (b : Segments) (a : ℕ) → AreLaid b → 536870912 ≤ a → a < b.heap_end → segment_end b a ≡ Some b.heap_end
 in_heap b a laid from to =
-    let text : lies text_start b.text_end a 1 ≡ false = grind (arith, laid.text) in
-    let data' : lies data_start b.data_end a 1 ≡ false = grind (arith, laid.data_to) in
-    let heap : lies heap_start b.heap_end a 1 ≡ true = grind arith in
+    let text : lies TEXT_START b.text_end a 1 ≡ false = grind (arith, laid.text) in
+    let data' : lies DATA_START b.data_end a 1 ≡ false = grind (arith, laid.data_to) in
+    let heap : lies HEAP_START b.heap_end a 1 ≡ true = grind arith in
     rw (text, data', heap) refl
 
 module _ (w : World) where

@@ -15,7 +15,7 @@ use Rattle.mips_isa.specs.declared.instr.MemOp.TheVariants.{Lb, Lh, Lw, Lbu, Lhu
 use Rattle.mips_isa.specs.declared.instr.JumpOp.{JumpOp}
 use Rattle.mips_isa.specs.declared.instr.JumpOp.TheVariants.{J, Jal}
 use Rattle.mips_isa.specs.Words.{bits_of}
-use Rattle.mips_isa.specs.ImageBounds.{text_start}
+use Rattle.mips_isa.specs.declared.address_map.TheConstants.{TEXT_START}
 use Rattle.mips_isa.specs.Bytes.{Bytes, Segments, writable, readable, lies}
 use Rattle.mips_isa.specs.Machine as machine
 use Rattle.mips_isa.specs.Machine.{Core, Registers, set_register, wrap, three_result, imm_result, two_result, one_result, put, put_or_overflow, mem, mul_div, step, act, access, word_of_text, On, Call}
@@ -37,7 +37,7 @@ ok_byte : (b : Segments) (a : ℕ) → OkByte b a → writable b a 1 ≡ true
 ok_byte b a h = grind arith
 
 may_read : (b : Segments) (a n : ℕ) → writable b a n ≡ true → readable b a n ≡ true
-may_read b a n h = rw h (either (lies text_start b.text_end a n))
+may_read b a n h = rw h (either (lies TEXT_START b.text_end a n))
   where
     either : (t : Bool) → (t || true) ≡ true
     either true = refl
@@ -63,7 +63,7 @@ module _ (w : World) where
   stepped : (i : Instr) (s : Core) → InstructionAt w s.pc i → step w.text w.segments s ≡ act w.segments i s
   stepped i s at =
       let even : (s.pc % 4 == 0) ≡ true = grind (arith, at.even) in
-      let lying : lies text_start w.segments.text_end s.pc 4 ≡ true = grind (arith, at.from, at.to) in
+      let lying : lies TEXT_START w.segments.text_end s.pc 4 ≡ true = grind (arith, at.from, at.to) in
       rw (even, lying, at.is) refl
 
   cycled : (i : Instr) (s : State) → InstructionAt w s.core.pc i → cycle w.text w.segments s ≡ after w.segments s (act w.segments i s.core)

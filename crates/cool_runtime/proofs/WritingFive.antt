@@ -1,7 +1,8 @@
 -- A worked example, which no contract cites: a whole image. Its first lines push an Int of the data and call the routine that writes it. The machine writes 5 and exits with 0.
 use Rattle.std.proofs.Common.{◌≡◌, ℕ, ◌+◌, ◌-◌, ◌<◌, ◌≤◌, inl, inr, List, [], ◌∷◌, ◌++◌, length, refl, sym, subst, arith, false, None}
 use Rattle.std.specs.Prelude.{pos, negsuc, codes}
-use Rattle.mips_isa.specs.ImageBounds.{ImageParts, text_start}
+use Rattle.mips_isa.specs.declared.address_map.TheConstants.{TEXT_START}
+use Rattle.mips_isa.specs.ImageBounds.{ImageParts}
 use Rattle.mips_isa.specs.Bytes.{Bytes, word, set_word, Segments, segments_of, bytes_of_image}
 use Rattle.mips_isa.specs.Calls.{State, Exited, signed}
 use Rattle.mips_isa.specs.Run.{run_image, start}
@@ -89,7 +90,7 @@ held input = record { faultless = faultless; ranges = ranged; text_is = refl; pl
 abbrev text_lines : List Line
 text_lines = stub_lines ++ (out_int_lines ++ (stack_limit_lines ++ heap_limit_lines))
 
-has : (input : List ℕ) → HasLines (w input) text_start text_lines
+has : (input : List ℕ) → HasLines (w input) TEXT_START text_lines
 has input = has_lines (w input) all_lines (held input) data_lines text_lines [] refl (search (arith) depth 12) refl
 
 -- the Int of the data, as loaded
@@ -176,9 +177,9 @@ module _ (input : List ℕ) where
       let l1 = push_lines ++ l2 in
       let l0 = label start_name ∷ la 4 five ∷ [] in
       let whole = has input in
-      let begins : v.place start_name ≡ text_start = whole.0.labels.0 in
+      let begins : v.place start_name ≡ TEXT_START = whole.0.labels.0 in
       let pc = begun.pc in
-      let h : HasLines v pc text_lines = has_at v text_lines text_start pc (sym begins) whole in
+      let h : HasLines v pc text_lines = has_at v text_lines TEXT_START pc (sym begins) whole in
       let h0 : HasLines v pc (l0 ++ l1) = has_front v (l0 ++ l1) l3 pc h in
       let h1 : HasLines v (pc + 8) l1 = has_back v l0 l1 pc (pc + 8) (omega arith) h0 in
       let h2 : HasLines v (pc + 8 + 20) l2 = has_back v push_lines l2 (pc + 8) (pc + 8 + 20) (omega arith) h1 in

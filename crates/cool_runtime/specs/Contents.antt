@@ -2,6 +2,7 @@
 -- address of the dispatch table, from 12 on the attributes.
 use Rattle.std.specs.Prelude.{ℕ, ◌+◌, ◌-◌, ◌*◌, ◌/◌, ◌%◌, ◌<◌, ◌≤◌, ◌≡◌, ◌≢◌, List, length, get_or}
 use Rattle.std.specs.List.{AllByRecursion}
+use Rattle.mips_isa.specs.declared.address_map.TheConstants.{DATA_START, HEAP_START}
 use Rattle.mips_isa.specs.Bytes.{Bytes, word}
 use Rattle.cool_runtime.specs.Reaches.{World}
 use Rattle.cool_runtime.specs.Labels.{int_table, bool_table, string_table, int_prototype, bool_prototype, string_prototype, name_table}
@@ -11,8 +12,8 @@ pub record Lies (w : World) (gp a size : ℕ) : Type 0 where
   pub even : a % 4 ≡ 0
   pub from : 268435460 ≤ a
   pub to : a + size ≤ gp
-  pub in_data : a < 536870912 → a + size ≤ w.segments.data_end
-  pub in_heap : 536870912 ≤ a → 536870916 ≤ a
+  pub in_data : a < HEAP_START → a + size ≤ w.segments.data_end
+  pub in_heap : HEAP_START ≤ a → HEAP_START + 4 ≤ a
 
 -- the four words of an object's head
 pub record HeadAt (m : Bytes) (a tag size table : ℕ) : Type 0 where
@@ -65,7 +66,7 @@ pub record Same (m m' : Bytes) (gp sp : ℕ) : Type 0 where
 
 -- bytes of data, and a zero behind them
 pub record TextAt (w : World) (m : Bytes) (a : ℕ) (bytes : List ℕ) : Type 0 where
-  pub from : 268435456 ≤ a
+  pub from : DATA_START ≤ a
   pub to : a + length bytes < w.segments.data_end
   pub holds : (i : ℕ) → i < length bytes → m (a + i) ≡ get_or bytes i 0
   pub ends : m (a + length bytes) ≡ 0
@@ -95,7 +96,7 @@ pub record Prototypes (w : World) (m : Bytes) (gp : ℕ) : Type 0 where
 -- the table of names has the String of a class's name at its tag
 pub record NameAt (w : World) (m : Bytes) (gp tag : ℕ) (name : List ℕ) : Type 0 where
   pub even : w.place name_table % 4 ≡ 0
-  pub from : 268435456 ≤ w.place name_table
+  pub from : DATA_START ≤ w.place name_table
   pub to : w.place name_table + 4 * tag + 4 ≤ w.segments.data_end
   pub string : StringAt w m gp (word m (w.place name_table + 4 * tag)) name
 

@@ -1,6 +1,6 @@
 -- The image of lines, and a machine that holds it.
 use Rattle.std.specs.Prelude.{◌≡◌, ◌+◌, ◌*◌, ◌<◌, List, [], ◌∷◌, length, None}
-use Rattle.mips_isa.specs.ImageBounds.{text_start}
+use Rattle.mips_isa.specs.declared.address_map.TheConstants.{TEXT_START, MOST_TEXT_WORDS}
 use Rattle.mips_isa.specs.Lines.{Line, AreInRange}
 use Rattle.mips_isa.specs.Assembly.{Need, Nothing, Words, Item, Switch, Padding, need, Position, behind_line, fault_of_all, image_of_all, place_of, address_or_zero}
 use Rattle.cool_runtime.specs.Reaches.{World}
@@ -11,8 +11,8 @@ pub record IsImageOf (w : World) (all : List Line) : Type 0 where
   pub ranges : AreInRange all
   pub text_is : w.text ≡ (image_of_all all).text
   pub place_is : w.place ≡ (λ name. address_or_zero (place_of all name))
-  pub end_is : w.segments.text_end ≡ text_start + 4 * length w.text
-  pub room : length w.text < 66060288
+  pub end_is : w.segments.text_end ≡ TEXT_START + 4 * length w.text
+  pub room : length w.text < MOST_TEXT_WORDS
 
 -- the position behind lines
 abbrev pub behind_lines : Position → List Line → Position

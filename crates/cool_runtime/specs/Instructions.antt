@@ -10,6 +10,7 @@ use Rattle.mips_isa.specs.declared.instr.TwoOp.TheVariants as two
 use Rattle.mips_isa.specs.declared.instr.OneOp.TheVariants as one
 use Rattle.mips_isa.specs.declared.instr.JumpOp.TheVariants as jump
 use Rattle.mips_isa.specs.declared.instr.MemOp.TheVariants as memory
+use Rattle.mips_isa.specs.declared.register.TheConstants.{ZERO, V0, RA}
 use Rattle.mips_isa.specs.Lines.{Name, Empty, Plain, ToJump, La, Li, Move, Line}
 use Rattle.mips_isa.specs.Assembly.{unlabelled}
 
@@ -38,6 +39,10 @@ srl rd rt k = unlabelled (Plain (Shift shift.Srl rd rt k))
 abbrev pub addiu : ℕ → ℕ → ℤ → Line
 addiu rt rs n = unlabelled (Plain (Imm imm.Addiu rt rs n))
 
+-- the number of a system call to $v0
+abbrev pub call_number : ℕ → Line
+call_number number = addiu V0 ZERO (pos number)
+
 abbrev pub lw : ℕ → ℤ → ℕ → Line
 lw rt n rs = unlabelled (Plain (Mem memory.Lw rt rs n))
 
@@ -60,7 +65,7 @@ abbrev pub jr : ℕ → Line
 jr rs = unlabelled (Plain (Jr rs))
 
 abbrev pub jalr : ℕ → Line
-jalr rs = unlabelled (Plain (Jalr 31 rs))
+jalr rs = unlabelled (Plain (Jalr RA rs))
 
 abbrev pub j : Name → Line
 j name = unlabelled (ToJump jump.J name)

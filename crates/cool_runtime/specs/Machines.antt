@@ -1,5 +1,7 @@
 -- Where a machine stands between pieces of compiled code.
 use Rattle.std.specs.Prelude.{ℕ, zero, suc, ◌*◌, ◌/◌, ◌+◌, ◌%◌, ◌<◌, ◌≤◌, ◌≡◌, List, [], ◌∷◌, ◌++◌, Bool, true, false, ◌==◌, if◌then◌else◌}
+use Rattle.mips_isa.specs.declared.address_map.TheConstants.{HEAP_START, STACK_END}
+use Rattle.mips_isa.specs.declared.register.TheConstants.{ZERO, A0, T1, T2, T3, T4, T5, T6, T7, S0, S6, S7, GP, SP, FP, RA}
 use Rattle.mips_isa.specs.Bytes.{Bytes, word, set_byte, set_word}
 use Rattle.mips_isa.specs.Calls.{State, Taken}
 use Rattle.cool_runtime.specs.Reaches.{World}
@@ -26,21 +28,21 @@ pub record Pointers : Type 0 where
 -- the registers have these numbers, which keep the limits
 pub record Numbers (w : World) (p : Pointers) (s : State) : Type 0 where
   pub pc_is : s.core.pc ≡ p.pc
-  pub zero_is : s.core.registers 0 ≡ 0
-  pub acc_is : s.core.registers 4 ≡ p.acc
-  pub self_is : s.core.registers 16 ≡ p.self
-  pub low_is : s.core.registers 22 ≡ w.segments.stack_low
-  pub end_is : s.core.registers 23 ≡ w.segments.heap_end
-  pub gp_is : s.core.registers 28 ≡ p.gp
-  pub sp_is : s.core.registers 29 ≡ p.sp
-  pub fp_is : s.core.registers 30 ≡ p.fp
-  pub ra_is : s.core.registers 31 ≡ p.ra
+  pub zero_is : s.core.registers ZERO ≡ 0
+  pub acc_is : s.core.registers A0 ≡ p.acc
+  pub self_is : s.core.registers S0 ≡ p.self
+  pub low_is : s.core.registers S6 ≡ w.segments.stack_low
+  pub end_is : s.core.registers S7 ≡ w.segments.heap_end
+  pub gp_is : s.core.registers GP ≡ p.gp
+  pub sp_is : s.core.registers SP ≡ p.sp
+  pub fp_is : s.core.registers FP ≡ p.fp
+  pub ra_is : s.core.registers RA ≡ p.ra
   pub acc_fits : p.acc < 4294967296
-  pub gp_from : 536870912 ≤ p.gp
+  pub gp_from : HEAP_START ≤ p.gp
   pub gp_to : p.gp ≤ w.segments.heap_end
   pub gp_even : p.gp % 4 ≡ 0
   pub sp_from : w.segments.stack_low ≤ p.sp
-  pub sp_to : p.sp ≤ 2147483648
+  pub sp_to : p.sp ≤ STACK_END
   pub sp_even : p.sp % 4 ≡ 0
 
 -- the machine stands so, with this memory and console
@@ -64,13 +66,13 @@ pub record Temporaries : Type 0 where
 -- the machine stands so, and these are in the registers from $t1 to $t7
 pub record Holding (w : World) (p : Pointers) (m : Bytes) (c : Console) (t : Temporaries) (s : State) : Type 0 where
   pub at : At w p m c s
-  pub t1_is : s.core.registers 9 ≡ t.t1
-  pub t2_is : s.core.registers 10 ≡ t.t2
-  pub t3_is : s.core.registers 11 ≡ t.t3
-  pub t4_is : s.core.registers 12 ≡ t.t4
-  pub t5_is : s.core.registers 13 ≡ t.t5
-  pub t6_is : s.core.registers 14 ≡ t.t6
-  pub t7_is : s.core.registers 15 ≡ t.t7
+  pub t1_is : s.core.registers T1 ≡ t.t1
+  pub t2_is : s.core.registers T2 ≡ t.t2
+  pub t3_is : s.core.registers T3 ≡ t.t3
+  pub t4_is : s.core.registers T4 ≡ t.t4
+  pub t5_is : s.core.registers T5 ≡ t.t5
+  pub t6_is : s.core.registers T6 ≡ t.t6
+  pub t7_is : s.core.registers T7 ≡ t.t7
 
 -- the console after bytes were written
 abbrev pub wrote : Console → List ℕ → Console

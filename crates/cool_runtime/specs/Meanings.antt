@@ -11,6 +11,7 @@ use Rattle.cool_runtime.specs.RoutineLines.{routine_lines}
 use Rattle.cool_runtime.specs.declared.catalogue.Routine.{Routine}
 use Rattle.cool_runtime.specs.declared.catalogue.Routine.TheVariants as routines
 use Rattle.cool_runtime.specs.Standing.{HasLines}
+use Rattle.mips_isa.specs.declared.address_map.TheConstants.{STACK_END}
 use Rattle.mips_isa.specs.Assembly.{start_name}
 use Rattle.mips_isa.specs.Bytes.{Bytes, word}
 use Rattle.mips_isa.specs.Calls.{State, Taken, signed, asked_line, number_of}
@@ -21,13 +22,13 @@ use Rattle.std.specs.Prelude.{◌≡◌, ℕ, ◌+◌, ◌*◌, ◌/◌, ◌<◌
 -- the Int at the top of the stack is written
 abbrev pub WritesInt : World → Type 0
 WritesInt w = (p : Pointers) (m : Bytes) (c : Console) (s : State) (v : ℕ)
-    → HasLines w (w.place out_int) (routine_lines routines.OutInt) → At w p m c s → p.pc ≡ w.place out_int → p.sp + 4 ≤ 2147483648 → IntAt w m p.gp (word m p.sp) v
+    → HasLines w (w.place out_int) (routine_lines routines.OutInt) → At w p m c s → p.pc ≡ w.place out_int → p.sp + 4 ≤ STACK_END → IntAt w m p.gp (word m p.sp) v
     → Reaches w s 0 8 (stands (At w (record p { pc = p.ra; sp = p.sp + 4 }) m (wrote c (signed_decimal (signed v)))))
 
 -- the String at the top of the stack is written
 abbrev pub WritesString : World → Type 0
 WritesString w = (p : Pointers) (m : Bytes) (c : Console) (s : State) (bytes : List ℕ)
-    → HasLines w (w.place out_string) (routine_lines routines.OutString) → At w p m c s → p.pc ≡ w.place out_string → p.sp + 4 ≤ 2147483648 → StringAt w m p.gp (word m p.sp) bytes
+    → HasLines w (w.place out_string) (routine_lines routines.OutString) → At w p m c s → p.pc ≡ w.place out_string → p.sp + 4 ≤ STACK_END → StringAt w m p.gp (word m p.sp) bytes
     → Reaches w s 0 8 (stands (At w (record p { pc = p.ra; sp = p.sp + 4 }) m (wrote c bytes)))
 
 -- a line is taken, and its number is the result
@@ -57,7 +58,7 @@ Copies w = (p : Pointers) (m : Bytes) (c : Console) (s : State) (size : ℕ) →
 -- two Strings are joined
 abbrev pub Joins : World → Type 0
 Joins w = (p : Pointers) (m : Bytes) (c : Console) (s : State) (xs ys other : List ℕ) → Limits w → HasLines w (w.place string_concat) (routine_lines routines.Concat) → At w p m c s
-    → p.pc ≡ w.place string_concat → p.sp + 4 ≤ 2147483648 → StringAt w m p.gp p.acc xs → StringAt w m p.gp (word m p.sp) ys
+    → p.pc ≡ w.place string_concat → p.sp + 4 ≤ STACK_END → StringAt w m p.gp p.acc xs → StringAt w m p.gp (word m p.sp) ys
     → IntAt w m p.gp (w.place int_prototype) 0 → StringAt w m p.gp (w.place string_prototype) other
     → let n = length xs + length ys in p.gp + 44 + 4 * (n / 4) ≤ w.top → OnTheWay w c.output c.input
     → Reaches w s 0 (8 * n + 65) (stands (At w (record p { pc = p.ra; gp = p.gp + 44 + 4 * (n / 4); sp = p.sp + 4; acc = p.gp + 24 })
@@ -66,13 +67,13 @@ Joins w = (p : Pointers) (m : Bytes) (c : Console) (s : State) (xs ys other : Li
 -- a part of a String is copied
 abbrev pub Cuts : World → Type 0
 Cuts w = (p : Pointers) (m : Bytes) (c : Console) (s : State) (xs other : List ℕ) (i l : ℕ) → Limits w → HasLines w (w.place string_substr) (routine_lines routines.Substr) → At w p m c s
-    → p.pc ≡ w.place string_substr → p.sp + 8 ≤ 2147483648 → StringAt w m p.gp p.acc xs → IntAt w m p.gp (word m (p.sp + 4)) i → IntAt w m p.gp (word m p.sp) l → i + l ≤ length xs
+    → p.pc ≡ w.place string_substr → p.sp + 8 ≤ STACK_END → StringAt w m p.gp p.acc xs → IntAt w m p.gp (word m (p.sp + 4)) i → IntAt w m p.gp (word m p.sp) l → i + l ≤ length xs
     → IntAt w m p.gp (w.place int_prototype) 0 → StringAt w m p.gp (w.place string_prototype) other → p.gp + 44 + 4 * (l / 4) ≤ w.top → OnTheWay w c.output c.input
     → Reaches w s 0 (8 * l + 64) (stands (At w (record p { pc = p.ra; gp = p.gp + 44 + 4 * (l / 4); sp = p.sp + 8; acc = p.gp + 24 }) (with_cut w m p.gp p.acc i l) c))
 
 -- a part that does not lie within the String is refused
 abbrev pub RefusesToCut : World → Type 0
-RefusesToCut w = (p : Pointers) (m : Bytes) (c : Console) (s : State) (xs : List ℕ) (i l : ℕ) → HasLines w (w.place string_substr) (routine_lines routines.Substr) → At w p m c s → p.pc ≡ w.place string_substr → p.sp + 8 ≤ 2147483648
+RefusesToCut w = (p : Pointers) (m : Bytes) (c : Console) (s : State) (xs : List ℕ) (i l : ℕ) → HasLines w (w.place string_substr) (routine_lines routines.Substr) → At w p m c s → p.pc ≡ w.place string_substr → p.sp + 8 ≤ STACK_END
     → StringAt w m p.gp p.acc xs → IntAt w m p.gp (word m (p.sp + 4)) i → IntAt w m p.gp (word m p.sp) l → length xs < i + l
     → Reaches w s 0 13 (stands (λ t. At w (record p { pc = w.place substr_abort }) m c t × (t.core.registers 24 ≡ s.core.registers 24) × (t.core.registers 25 ≡ s.core.registers 25)))
 

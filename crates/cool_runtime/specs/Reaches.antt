@@ -1,6 +1,7 @@
 -- A run from one state of the machine to another, with the number of its instructions, how far heap and stack may reach, and
 -- what the console holds at an early end.
 use Rattle.std.specs.Prelude.{ℕ, ◌+◌, ◌%◌, ◌<◌, ◌≤◌, ◌≡◌, ◌⊎◌, List, ◌++◌}
+use Rattle.mips_isa.specs.declared.address_map.TheConstants.{DATA_START, HEAP_START, STACK_END}
 use Rattle.mips_isa.specs.Bytes.{Segments}
 use Rattle.mips_isa.specs.Calls.{State, Outcome, Running, Exited, Trapped}
 use Rattle.mips_isa.specs.Run.{run}
@@ -8,12 +9,12 @@ use Rattle.mips_isa.specs.Lines.{Name}
 
 -- Where the segments may end: data at 0x20000000, the heap has at most 256 MiB, and the stack 4 KiB to 64 MiB.
 pub record AreLaid (b : Segments) : Type 0 where
-  pub text : b.text_end ≤ 268435456
-  pub data_to : b.data_end ≤ 536870912
-  pub heap_from : 536870912 ≤ b.heap_end
+  pub text : b.text_end ≤ DATA_START
+  pub data_to : b.data_end ≤ HEAP_START
+  pub heap_from : HEAP_START ≤ b.heap_end
   pub heap_to : b.heap_end ≤ 805306368
   pub stack_from : 2080374784 ≤ b.stack_low
-  pub stack_to : b.stack_low + 4096 ≤ 2147483648
+  pub stack_to : b.stack_low + 4096 ≤ STACK_END
   pub heap_even : b.heap_end % 4 ≡ 0
   pub stack_even : b.stack_low % 4 ≡ 0
 

@@ -1,10 +1,11 @@
 -- The run-time routines, line by line. Registers: 2 $v0, 4 $a0, 8 to 15 $t0 to $t7, 22 $s6, 23 $s7, 24 $t8, 25 $t9, 28 $gp, 29 $sp,
 -- 31 $ra. The last argument is at $sp, and the routine takes the arguments from the stack.
 use Rattle.std.specs.Prelude.{ℕ, pos, negsuc, List, [], ◌∷◌, ◌++◌}
+use Rattle.mips_isa.specs.declared.system_call.TheConstants.{PRINT_INT, PRINT_STRING, READ_INT, EXIT, READ_CHAR, EXIT2}
 use Rattle.mips_isa.specs.Lines.{Name, Line}
 use Rattle.mips_isa.specs.Assembly.{start_name}
 use Rattle.cool_runtime.specs.Labels.{heap_limit, stack_limit, int_prototype, string_prototype, out_string, out_int, in_int, string_length, copy, copy_words, copy_end, string_concat, concat_first, concat_second, concat_third, concat_end, in_string, in_string_bytes, in_string_end, string_substr, substr_bytes, substr_end, substr_abort, colon_text, equality, equal_values, equal_strings, equal_bytes, equal_true, equal_false, bool_prototype, true_constant, false_constant, main_prototype, main_init, main_main, end_text, name_table, type_name, abort, case_abort, abort_text, newline_text, no_branch_text, stop_text}
-use Rattle.cool_runtime.specs.Instructions.{label, addu, subu, sltu, sll, srl, addiu, lw, sw, lbu, sb, move, la, jr, j, jal, syscall, beq, bne, bgez}
+use Rattle.cool_runtime.specs.Instructions.{label, addu, subu, sltu, sll, srl, addiu, call_number, lw, sw, lbu, sb, move, la, jr, j, jal, syscall, beq, bne, bgez}
 
 -- pushes $a0
 abbrev pub push_lines : List Line
@@ -29,7 +30,7 @@ out_int_lines =
     ∷ move 8 4
     ∷ lw 4 (pos 0) 29
     ∷ lw 4 (pos 12) 4
-    ∷ addiu 2 0 (pos 1)
+    ∷ call_number PRINT_INT
     ∷ syscall
     ∷ move 4 8
     ∷ addiu 29 29 (pos 4)
@@ -43,7 +44,7 @@ out_string_lines =
     ∷ move 8 4
     ∷ lw 4 (pos 0) 29
     ∷ addiu 4 4 (pos 16)
-    ∷ addiu 2 0 (pos 4)
+    ∷ call_number PRINT_STRING
     ∷ syscall
     ∷ move 4 8
     ∷ addiu 29 29 (pos 4)
@@ -52,7 +53,7 @@ out_string_lines =
 
 -- reads an Int
 abbrev pub read_number_lines : List Line
-read_number_lines = label in_int ∷ addiu 2 0 (pos 5) ∷ syscall ∷ move 10 2 ∷ []
+read_number_lines = label in_int ∷ call_number READ_INT ∷ syscall ∷ move 10 2 ∷ []
 
 abbrev pub return_lines : List Line
 return_lines = jr 31 ∷ []
@@ -171,7 +172,7 @@ in_string_begin_lines =
 abbrev pub in_string_byte_lines : List Line
 in_string_byte_lines =
     label in_string_bytes
-    ∷ addiu 2 0 (pos 12) ∷ syscall
+    ∷ call_number READ_CHAR ∷ syscall
     ∷ bgez 2 ∷ j in_string_end
     ∷ bne 2 11 ∷ j in_string_end
     ∷ sb 2 (pos 0) 12 ∷ addiu 12 12 (pos 1) ∷ []
@@ -203,11 +204,11 @@ in_string_lines =
 abbrev pub error_lines : Name → Name → List Line
 error_lines name text =
     label name
-    ∷ addiu 4 24 (pos 16) ∷ addiu 2 0 (pos 4) ∷ syscall
+    ∷ addiu 4 24 (pos 16) ∷ call_number PRINT_STRING ∷ syscall
     ∷ la 4 colon_text ∷ syscall
-    ∷ move 4 25 ∷ addiu 2 0 (pos 1) ∷ syscall
-    ∷ la 4 text ∷ addiu 2 0 (pos 4) ∷ syscall
-    ∷ addiu 4 0 (pos 3) ∷ addiu 2 0 (pos 17) ∷ syscall ∷ []
+    ∷ move 4 25 ∷ call_number PRINT_INT ∷ syscall
+    ∷ la 4 text ∷ call_number PRINT_STRING ∷ syscall
+    ∷ addiu 4 0 (pos 3) ∷ call_number EXIT2 ∷ syscall ∷ []
 
 -- Compares the objects in $t1 and $t2: the same address is equal, void and other tags are not, and then Ints and Bools are compared
 -- by value, Strings by their bytes.
@@ -252,7 +253,7 @@ abbrev pub start_copy_lines : List Line
 start_copy_lines = label start_name ∷ la 4 main_prototype ∷ jal copy ∷ []
 
 abbrev pub start_end_lines : List Line
-start_end_lines = la 4 end_text ∷ addiu 2 0 (pos 4) ∷ syscall ∷ addiu 2 0 (pos 10) ∷ syscall ∷ []
+start_end_lines = la 4 end_text ∷ call_number PRINT_STRING ∷ syscall ∷ call_number EXIT ∷ syscall ∷ []
 
 abbrev pub start_lines : List Line
 start_lines = start_copy_lines ++ (jal main_init ∷ jal main_main ∷ start_end_lines)
@@ -267,8 +268,8 @@ type_name_lines = label type_name ∷ (name_lines ++ (move 4 8 ∷ jr 31 ∷ [])
 -- Writes a text of data, the String in $t0 and another text, and exits with 3.
 abbrev pub named_end_lines : Name → Name → List Line
 named_end_lines before behind =
-    la 4 before ∷ addiu 2 0 (pos 4) ∷ syscall ∷ addiu 4 8 (pos 16) ∷ syscall ∷ la 4 behind ∷ syscall
-    ∷ addiu 4 0 (pos 3) ∷ addiu 2 0 (pos 17) ∷ syscall ∷ []
+    la 4 before ∷ call_number PRINT_STRING ∷ syscall ∷ addiu 4 8 (pos 16) ∷ syscall ∷ la 4 behind ∷ syscall
+    ∷ addiu 4 0 (pos 3) ∷ call_number EXIT2 ∷ syscall ∷ []
 
 abbrev pub abort_lines : List Line
 abort_lines = label abort ∷ (name_lines ++ named_end_lines abort_text newline_text)
@@ -276,14 +277,14 @@ abort_lines = label abort ∷ (name_lines ++ named_end_lines abort_text newline_
 -- Writes the String in $t8, a colon and the number in $t9.
 abbrev pub place_lines : List Line
 place_lines =
-    addiu 4 24 (pos 16) ∷ addiu 2 0 (pos 4) ∷ syscall ∷ la 4 colon_text ∷ syscall ∷ move 4 25 ∷ addiu 2 0 (pos 1) ∷ syscall ∷ []
+    addiu 4 24 (pos 16) ∷ call_number PRINT_STRING ∷ syscall ∷ la 4 colon_text ∷ syscall ∷ move 4 25 ∷ call_number PRINT_INT ∷ syscall ∷ []
 
 abbrev pub no_branch_lines : List Line
 no_branch_lines = label case_abort ∷ (name_lines ++ (place_lines ++ named_end_lines no_branch_text stop_text))
 
 -- exits with a code
 abbrev pub limit_lines : Name → ℕ → List Line
-limit_lines name code = label name ∷ addiu 4 0 (pos code) ∷ addiu 2 0 (pos 17) ∷ syscall ∷ []
+limit_lines name code = label name ∷ addiu 4 0 (pos code) ∷ call_number EXIT2 ∷ syscall ∷ []
 
 abbrev pub heap_limit_lines : List Line
 heap_limit_lines = limit_lines heap_limit 4

@@ -1,7 +1,7 @@
 -- That lines of assembly stand in the text of a machine.
 use Rattle.std.specs.Prelude.{ℕ, ◌+◌, ◌*◌, ◌%◌, ◌<◌, ◌≤◌, ◌≡◌, List, [], ◌∷◌, Some}
+use Rattle.mips_isa.specs.declared.address_map.TheConstants.{TEXT_START, DATA_START}
 use Rattle.mips_isa.specs.declared.instr.Instr.{Instr}
-use Rattle.mips_isa.specs.ImageBounds.{text_start}
 use Rattle.mips_isa.specs.Decoding.{decoded}
 use Rattle.mips_isa.specs.Machine.{word_of_text}
 use Rattle.mips_isa.specs.Lines.{Name, Statement, Empty, Plain, ToTwo, ToOne, ToJump, La, Li, Move, Neg, Nop, B, BranchZero, BranchOrder, Mul, ToText, ToData, Globl, Word, Byte, Ascii, Asciiz, Space, Align, Line}
@@ -11,9 +11,9 @@ use Rattle.cool_runtime.specs.Reaches.{World}
 -- an instruction stands at an address
 pub record InstructionAt (w : World) (pc : ℕ) (i : Instr) : Type 0 where
   pub even : pc % 4 ≡ 0
-  pub from : text_start ≤ pc
+  pub from : TEXT_START ≤ pc
   pub to : pc + 4 ≤ w.segments.text_end
-  pub low : pc + 4 < 268435456
+  pub low : pc + 4 < DATA_START
   pub is : decoded (word_of_text w.text pc) ≡ Some i
 
 abbrev pub InstructionsAt : World → ℕ → List Instr → Type 0
@@ -23,7 +23,7 @@ InstructionsAt w pc (i ∷ rest) = InstructionAt w pc i × InstructionsAt w (pc 
 -- a label to which jumps and branches may go
 pub record IsTarget (w : World) (label : Name) : Type 0 where
   pub even : w.place label % 4 ≡ 0
-  pub low : w.place label < 268435456
+  pub low : w.place label < DATA_START
 
 -- the names of a statement have addresses that it can hold
 abbrev pub Holds : World → Statement → Type 0

@@ -1,6 +1,7 @@
 -- What is to be shown of a list of lines, so that a run from the first one comes to its goal: it is computed from the lines.
 use Rattle.std.specs.Prelude.{ℕ, zero, suc, ◌+◌, ◌*◌, ◌/◌, ◌%◌, ◌<◌, ◌≤◌, ◌≡◌, ◌==◌, ℤ, pos, negsuc, Bool, true, false, List, [], ◌∷◌, ◌++◌, Option, Some, None}
 use Rattle.std.specs.Fmt.{signed_decimal}
+use Rattle.mips_isa.specs.declared.address_map.TheConstants.{DATA_START, HEAP_START, STACK_END}
 use Rattle.mips_isa.specs.declared.instr.Instr.{Instr}
 use Rattle.mips_isa.specs.declared.instr.Instr.TheVariants.{Three, Shift, ShiftReg, Jr, Jalr, Syscall, MoveFrom, MoveTo, MulDiv, Imm, Lui, BranchTwo, BranchOne, Jump, Mem}
 use Rattle.mips_isa.specs.declared.instr.FromOp.{FromOp}
@@ -62,17 +63,17 @@ Next = ℕ → Parts
 -- a word at an address may be loaded and stored
 pub record OkWord (b : Segments) (a : ℕ) : Type 0 where
   pub even : a % 4 ≡ 0
-  pub above_text : 268435456 ≤ a
-  pub below_top : a + 4 ≤ 2147483648
-  pub in_data : a < 536870912 → a + 4 ≤ b.data_end
-  pub in_heap : 536870912 ≤ a → a < b.stack_low → a + 4 ≤ b.heap_end
+  pub above_text : DATA_START ≤ a
+  pub below_top : a + 4 ≤ STACK_END
+  pub in_data : a < HEAP_START → a + 4 ≤ b.data_end
+  pub in_heap : HEAP_START ≤ a → a < b.stack_low → a + 4 ≤ b.heap_end
 
 -- a byte at an address may be loaded and stored
 pub record OkByte (b : Segments) (a : ℕ) : Type 0 where
-  pub above_text : 268435456 ≤ a
-  pub below_top : a < 2147483648
-  pub in_data : a < 536870912 → a < b.data_end
-  pub in_heap : 536870912 ≤ a → a < b.stack_low → a < b.heap_end
+  pub above_text : DATA_START ≤ a
+  pub below_top : a < STACK_END
+  pub in_data : a < HEAP_START → a < b.data_end
+  pub in_heap : HEAP_START ≤ a → a < b.stack_low → a < b.heap_end
 
 -- What a system call is taken to do.
 pub data Service : Type 0 where

@@ -6,6 +6,7 @@ ghost use Rattle.mips_isa.specs.Assembly.{unlabelled};
 ghost use Rattle.cool_runtime.specs.Drafts.{drafted};
 ghost use Rattle.cool_runtime.specs.Instructions as written;
 
+use mips_isa::register::{RA, V0, ZERO};
 use mips_isa::{
     FromOp, ImmOp, Instr, JumpOp, Label, Line, MemOp, MulDivOp, OneOp, Reg, ShiftOp, Statement,
     ThreeOp, TwoOp,
@@ -179,6 +180,14 @@ pub fn addiu(rt: u32, rs: u32, imm: i32) -> Draft<'static>
         rs: Reg::new(rs),
         imm,
     })
+}
+
+/// The number of a system call to `$v0`.
+pub fn call_number(number: u32) -> Draft<'static>
+    requires { number < 32768 }
+    ensures { drafted result ≡ written.call_number number }
+{
+    addiu(V0, ZERO, number as i32)
 }
 
 /// Whether a number is less than a given one, without signs.
@@ -389,7 +398,7 @@ pub fn jalr(rs: u32) -> Draft<'static>
     ensures { drafted result ≡ written.jalr rs }
 {
     Draft::Plain(Instr::Jalr {
-        rd: Reg::new(31),
+        rd: Reg::new(RA),
         rs: Reg::new(rs),
     })
 }

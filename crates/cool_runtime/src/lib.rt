@@ -9,7 +9,6 @@ mod data;
 pub mod draft;
 mod lines;
 pub mod piece;
-pub mod register;
 mod routine_part;
 
 pub use catalogue::Routine;

@@ -10,7 +10,6 @@ ghost use Rattle.cool_runtime.specs.RoutineLines.{all_routine_lines, error_routi
 use crate::catalogue::Routine;
 use crate::draft::{addiu, copied, jr, label, write};
 use crate::piece::{bytes, error, int_head, new_int, string_head, string_return, string_zeros};
-use crate::register::{A0, GP, RA, SP, T1};
 use crate::routine_part::{
     abort, concat_begin, concat_turn, copy_end, copy_first, copy_words, equal_begin, equal_bytes,
     equal_false, equal_strings, equal_true, equal_values, in_string_begin, in_string_bytes,
@@ -18,6 +17,7 @@ use crate::routine_part::{
     substr_begin, substr_size, type_name,
 };
 use mips_isa::Line;
+use mips_isa::register::{A0, GP, RA, SP, T1};
 use std::alloc::{AllocError, Global};
 
 /// The lines of a routine, which do what it is to do wherever they stand in a text. `Err` comes only for want of memory.

@@ -6,12 +6,14 @@ ghost use Rattle.cool_runtime.specs.CodeOfCalls.{enter_lines};
 ghost use Rattle.cool_runtime.specs.Routines.{bytes_lines, error_lines, int_head_lines, new_int_lines, push_lines, string_head_lines, string_return_lines, string_zeros_lines};
 
 use crate::draft::{
-    addiu, beq, bne, copied, j, jr, la, label, lbu, lw, sb, sltu, srl, sw, syscall, write,
-};
-use crate::register::{
-    A0, A1, FP, GP, RA, S0, S6, S7, SP, T0, T1, T2, T3, T4, T5, T6, T8, T9, V0, V1, ZERO,
+    addiu, beq, bne, call_number, copied, j, jr, la, label, lbu, lw, sb, sltu, srl, sw, syscall,
+    write,
 };
 use mips_isa::Line;
+use mips_isa::register::{
+    A0, A1, FP, GP, RA, S0, S6, S7, SP, T0, T1, T2, T3, T4, T5, T6, T8, T9, V0, V1, ZERO,
+};
+use mips_isa::system_call::{EXIT2, PRINT_INT, PRINT_STRING};
 use std::alloc::{AllocError, Global};
 
 /// Pushes the value in `$a0`.
@@ -181,18 +183,18 @@ pub(crate) fn error(
         &[
             label(name),
             addiu(A0, T8, 16),
-            addiu(V0, ZERO, 4),
+            call_number(PRINT_STRING),
             syscall(),
             la(A0, b"__colon"),
             syscall(),
             copied(A0, T9),
-            addiu(V0, ZERO, 1),
+            call_number(PRINT_INT),
             syscall(),
             la(A0, text),
-            addiu(V0, ZERO, 4),
+            call_number(PRINT_STRING),
             syscall(),
             addiu(A0, ZERO, 3),
-            addiu(V0, ZERO, 17),
+            call_number(EXIT2),
             syscall(),
         ],
     )

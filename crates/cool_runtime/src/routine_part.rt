@@ -5,11 +5,12 @@ ghost use Rattle.mips_isa.specs.Lines.{lines_of};
 ghost use Rattle.cool_runtime.specs.Routines.{abort_lines, concat_begin_lines, concat_turn_lines, copy_end_lines, copy_first_lines, copy_words_lines, equal_begin_lines, equal_bytes_lines, equal_false_lines, equal_strings_lines, equal_true_lines, equal_values_lines, in_string_begin_lines, in_string_bytes_lines, in_string_end_lines, length_lines, limit_lines, no_branch_lines, out_int_lines, out_string_lines, read_number_lines, return_lines, start_lines, substr_begin_lines, substr_size_lines, type_name_lines};
 
 use crate::draft::{
-    addiu, addu, beq, bgez, bne, copied, j, jal, jr, la, label, lbu, lw, sb, sll, sltu, srl, subu,
-    sw, syscall, write,
+    addiu, addu, beq, bgez, bne, call_number, copied, j, jal, jr, la, label, lbu, lw, sb, sll,
+    sltu, srl, subu, sw, syscall, write,
 };
-use crate::register::{A0, GP, RA, S7, SP, T0, T1, T2, T3, T4, T5, T6, T7, T8, T9, V0, ZERO};
 use mips_isa::Line;
+use mips_isa::register::{A0, GP, RA, S7, SP, T0, T1, T2, T3, T4, T5, T6, T7, T8, T9, V0, ZERO};
+use mips_isa::system_call::{EXIT, EXIT2, PRINT_INT, PRINT_STRING, READ_CHAR, READ_INT};
 use std::alloc::{AllocError, Global};
 
 /// Begins a copy.
@@ -79,7 +80,7 @@ pub(crate) fn out_string(alloc: Global, lines: &mut Vec<Line>) -> Result<(), All
             copied(T0, A0),
             lw(A0, 0, SP),
             addiu(A0, A0, 16),
-            addiu(V0, ZERO, 4),
+            call_number(PRINT_STRING),
             syscall(),
             copied(A0, T0),
             addiu(SP, SP, 4),
@@ -100,7 +101,7 @@ pub(crate) fn out_int(alloc: Global, lines: &mut Vec<Line>) -> Result<(), AllocE
             copied(T0, A0),
             lw(A0, 0, SP),
             lw(A0, 12, A0),
-            addiu(V0, ZERO, 1),
+            call_number(PRINT_INT),
             syscall(),
             copied(A0, T0),
             addiu(SP, SP, 4),
@@ -118,7 +119,7 @@ pub(crate) fn read_number(alloc: Global, lines: &mut Vec<Line>) -> Result<(), Al
         lines,
         &[
             label(b"IO.in_int"),
-            addiu(V0, ZERO, 5),
+            call_number(READ_INT),
             syscall(),
             copied(T2, V0),
         ],
@@ -358,7 +359,7 @@ pub(crate) fn limit(
         &[
             label(name),
             addiu(A0, ZERO, code as i32),
-            addiu(V0, ZERO, 17),
+            call_number(EXIT2),
             syscall(),
         ],
     )
@@ -378,9 +379,9 @@ pub(crate) fn start(alloc: Global, lines: &mut Vec<Line>) -> Result<(), AllocErr
             jal(b"Main_init"),
             jal(b"Main.main"),
             la(A0, b"__end"),
-            addiu(V0, ZERO, 4),
+            call_number(PRINT_STRING),
             syscall(),
-            addiu(V0, ZERO, 10),
+            call_number(EXIT),
             syscall(),
         ],
     )
@@ -421,14 +422,14 @@ pub(crate) fn abort(alloc: Global, lines: &mut Vec<Line>) -> Result<(), AllocErr
             addu(T0, T1, T0),
             lw(T0, 0, T0),
             la(A0, b"__abort"),
-            addiu(V0, ZERO, 4),
+            call_number(PRINT_STRING),
             syscall(),
             addiu(A0, T0, 16),
             syscall(),
             la(A0, b"__newline"),
             syscall(),
             addiu(A0, ZERO, 3),
-            addiu(V0, ZERO, 17),
+            call_number(EXIT2),
             syscall(),
         ],
     )
@@ -449,22 +450,22 @@ pub(crate) fn no_branch(alloc: Global, lines: &mut Vec<Line>) -> Result<(), Allo
             addu(T0, T1, T0),
             lw(T0, 0, T0),
             addiu(A0, T8, 16),
-            addiu(V0, ZERO, 4),
+            call_number(PRINT_STRING),
             syscall(),
             la(A0, b"__colon"),
             syscall(),
             copied(A0, T9),
-            addiu(V0, ZERO, 1),
+            call_number(PRINT_INT),
             syscall(),
             la(A0, b"__no_branch"),
-            addiu(V0, ZERO, 4),
+            call_number(PRINT_STRING),
             syscall(),
             addiu(A0, T0, 16),
             syscall(),
             la(A0, b"__stop"),
             syscall(),
             addiu(A0, ZERO, 3),
-            addiu(V0, ZERO, 17),
+            call_number(EXIT2),
             syscall(),
         ],
     )
@@ -506,7 +507,7 @@ pub(crate) fn in_string_bytes(alloc: Global, lines: &mut Vec<Line>) -> Result<()
         lines,
         &[
             label(b"in_string_bytes"),
-            addiu(V0, ZERO, 12),
+            call_number(READ_CHAR),
             syscall(),
             bgez(V0),
             j(b"in_string_end"),

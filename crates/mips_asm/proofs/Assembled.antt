@@ -11,7 +11,7 @@ use Rattle.mips_isa.specs.declared.line.OrderOp.TheVariants.{Bgt, Bge, Blt, Ble}
 use Rattle.mips_isa.specs.declared.line.AsmKind.{AsmKind}
 use Rattle.mips_isa.specs.declared.line.AsmKind.TheVariants.{A5, A6, A7, A8, A9}
 use Rattle.mips_isa.specs.declared.line.AsmFault.{AsmFault}
-use Rattle.mips_isa.specs.ImageBounds.{text_start}
+use Rattle.mips_isa.specs.declared.address_map.TheConstants.{TEXT_START}
 use Rattle.mips_isa.specs.Words.{word_of, bits_of}
 use Rattle.mips_isa.specs.Lines.{Name, WordItem, Line, AreInRange, Statement, Empty, Plain, ToTwo, ToOne, ToJump, La, Li, Move, Neg, Nop, B, BranchZero, BranchOrder, Mul, ToText, ToData, Globl, Word, Byte, Ascii, Asciiz, Space, Align}
 use Rattle.mips_isa.specs.Assembly as assembly
@@ -165,7 +165,7 @@ padding_is (assembly.Padding unit) w b g = refl
 statement_behind : (place : Name → Option Place) (s : Statement) (text bytes : List ℕ) (g : Segment) → filled (length (text ++ words_of_statement place (length text) s)) (length (bytes ++ bytes_of_statement place g (length bytes) s)) (segment_behind (need s) g) ≡ behind (need s) (filled (length text) (length bytes) g)
 statement_behind place s text bytes g =
     let address : Name → ℕ = λ name. address_or_zero (place name) in
-    let at : ℕ = text_start + 4 * length text in
+    let at : ℕ = TEXT_START + 4 * length text in
     let words : length (text ++ words_of_statement place (length text) s) ≡ length text + words_needed (need s) =
     length-append text (words_of_statement place (length text) s)
     ∙ ap (λ n. length text + n) (length-map (instructions address at s) word_of ∙ length_of_instructions address at s) in
@@ -281,7 +281,7 @@ line_further place all line rest number text bytes g left none =
     let defined : defining_fault left.seen p line ≡ None = no_kind left.from (defining_fault left.seen p line) _ left.first in
     let fits : is_too_large (behind_line line p) ≡ false = last_test (is_wrong (need s) g) (any_twice left.seen line.labels) (is_too_large (behind_line line p)) defined in
     let sizes = small q (ap is_too_large here ∙ fits) in
-    let using : using_fault place p line ≡ None = using_is place (text_start + 4 * length text) s ∙ none in
+    let using : using_fault place p line ≡ None = using_is place (TEXT_START + 4 * length text) s ∙ none in
     record {
       ranges = left.ranges.1;
       seen = left.seen ++ line.labels;

@@ -11,7 +11,8 @@ use Rattle.mips_isa.specs.declared.place.Segment.{Segment}
 use Rattle.mips_isa.specs.declared.place.Segment.TheVariants.{Text, Data}
 use Rattle.mips_isa.specs.Lines.{Name, Line, WordItem, Number, Address, Statement, Empty, Plain, ToTwo, ToOne, ToJump, La, Li, Move, Neg, Nop, B, BranchZero, BranchOrder, Mul, ToText, ToData, Globl, Word, Byte, Ascii, Asciiz, Space, Align}
 use Rattle.mips_isa.specs.Assembly as assembly
-use Rattle.mips_isa.specs.ImageBounds.{ImageParts, text_start}
+use Rattle.mips_isa.specs.declared.address_map.TheConstants.{TEXT_START}
+use Rattle.mips_isa.specs.ImageBounds.{ImageParts}
 use Rattle.mips_isa.specs.Assembly.{Need, need, padding_to, instructions, item_bytes, address_or_zero, is_text, reaches, any_without_place, names_of_items, fault_or, start_fault, start_name, start_position, second_pass, place_of, image_of_all}
 use Rattle.mips_asm.specs.declared.target.Target.{Target}
 use Rattle.mips_asm.specs.declared.target.Target.TheVariants.{Unused, Missing, Found}
@@ -131,12 +132,12 @@ kind_or None other = other
 kind_or (Some kind) other = Some kind
 
 abbrev pub statement_fault : (Name → Option Place) → ℕ → Statement → Option AsmKind
-statement_fault place words statement = kind_or (instruction_fault place (text_start + 4 * words) statement) (item_fault place statement)
+statement_fault place words statement = kind_or (instruction_fault place (TEXT_START + 4 * words) statement) (item_fault place statement)
 
 -- what a statement is assembled to behind so many words, and behind so many bytes
 
 abbrev pub words_of_statement : (Name → Option Place) → ℕ → Statement → List ℕ
-words_of_statement place words statement = map word_of (instructions (λ name. address_or_zero (place name)) (text_start + 4 * words) statement)
+words_of_statement place words statement = map word_of (instructions (λ name. address_or_zero (place name)) (TEXT_START + 4 * words) statement)
 
 abbrev pub bytes_of_statement : (Name → Option Place) → Segment → ℕ → Statement → List ℕ
 bytes_of_statement place segment n statement =
@@ -149,7 +150,7 @@ last_fault place words = start_fault (place start_name) (record { words = words;
 -- A place in text is the address of a word.
 abbrev pub IsWordPlace : Option Place → Type 0
 IsWordPlace None = Unit {0}
-IsWordPlace (Some place) = is_text place.segment ≡ true → (place.address % 4 ≡ 0) × (text_start ≤ place.address)
+IsWordPlace (Some place) = is_text place.segment ≡ true → (place.address % 4 ≡ 0) × (TEXT_START ≤ place.address)
 
 -- What the second pass answers for lines with no fault in the first.
 abbrev pub IsImageOrFault : List Line → Result ImageParts AsmError → Type 0

@@ -9,8 +9,8 @@ use Rattle.mips_isa.specs.declared.line.AsmKind.TheVariants.{A5}
 use Rattle.mips_isa.specs.declared.place.Place.{Place}
 use Rattle.mips_isa.specs.declared.place.Segment.{Segment}
 use Rattle.mips_isa.specs.declared.place.Segment.TheVariants.{Text, Data}
-use Rattle.mips_isa.specs.ImageBounds.{ImageParts, text_start}
-use Rattle.mips_isa.specs.Bytes.{data_start}
+use Rattle.mips_isa.specs.declared.address_map.TheConstants.{TEXT_START, DATA_START, MOST_TEXT_WORDS, MOST_DATA_BYTES}
+use Rattle.mips_isa.specs.ImageBounds.{ImageParts}
 use Rattle.mips_isa.specs.Lines.{Name, Line, line_of}
 use Rattle.mips_isa.specs.Assembly.{Position, Need, Nothing, Words, Item, Switch, Padding, start_position, behind_line, place_in, first_pass, place_of, image_of_all, fault_of_all, defining_fault, is_too_large, any_twice, behind}
 use Rattle.mips_asm.specs.Places.{LabelParts, places_of}
@@ -44,8 +44,8 @@ IsSmall (needs.Padding unit) = (0 < unit) × (unit ≤ 4096)
 
 -- no segment is too large
 pub record Fits (words bytes : ℕ) : Type 0 where
-  pub words_fit : words ≤ 66060288
-  pub bytes_fit : bytes ≤ 268435456
+  pub words_fit : words ≤ MOST_TEXT_WORDS
+  pub bytes_fit : bytes ≤ MOST_DATA_BYTES
 
 -- a position is the one behind a need, or none where a segment is then too large
 abbrev pub IsBehind : declared_need.Need → declared_position.Position → Option declared_position.Position → Type 0
@@ -65,8 +65,8 @@ position_at p (suc k) (line ∷ rest) = position_at (behind_line line p) k rest
 
 -- the place of a label before an item
 abbrev pub placed : Segment → ℕ → ℕ → Place
-placed Text words item = record { segment = Text; address = text_start + 4 * words }
-placed Data words item = record { segment = Data; address = data_start + item }
+placed Text words item = record { segment = Text; address = TEXT_START + 4 * words }
+placed Data words item = record { segment = Data; address = DATA_START + item }
 
 -- the place of a label of each line
 abbrev pub places_from : Position → List Line → List Place

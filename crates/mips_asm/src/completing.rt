@@ -8,6 +8,8 @@ ghost use Rattle.mips_isa.specs.declared.instr.ImmOp.TheVariants.{Ori};
 ghost use Rattle.mips_isa.specs.declared.place.Segment.TheVariants.{Text};
 ghost use Rattle.mips_asm.specs.Completing.{segment_behind, segment_of_name, is_text_segment as in_text_segment};
 
+use mips_isa::register::{V0, ZERO};
+use mips_isa::system_call::EXIT;
 use mips_isa::{ImmOp, Instr, JumpOp, Label, Line, Reg, Segment, Statement};
 use std::alloc::{AllocError, Global};
 
@@ -83,13 +85,13 @@ fn without_label(alloc: Global, statement: Statement) -> Line
 
 /// The instruction that puts the number of the exit into `$v0`.
 fn exit_number() -> Instr
-    ensures { result ≡ Imm Ori 2 0 (pos 10) }
+    ensures { result ≡ Imm Ori V0 ZERO (pos EXIT) }
 {
     Instr::Imm {
         op: ImmOp::Ori,
-        rt: Reg::new(2),
-        rs: Reg::new(0),
-        imm: 10,
+        rt: Reg::new(V0),
+        rs: Reg::new(ZERO),
+        imm: EXIT as i32,
     }
 }
 

@@ -11,9 +11,10 @@ ghost use Rattle.mips_isa.specs.Assembly.{instructions, load_address, zero_branc
 ghost use Rattle.mips_asm.specs.Parts.{expanded};
 
 use crate::target::words_to;
+use mips_isa::register::{AT, ZERO};
 use mips_isa::{
-    FromOp, ImmOp, Instr, JumpOp, MulDivOp, OneOp, OrderOp, Reg, ShiftOp, Statement, ThreeOp,
-    TwoOp, ZeroOp,
+    DATA_START, FromOp, ImmOp, Instr, JumpOp, MulDivOp, OneOp, OrderOp, Reg, ShiftOp, Statement,
+    ThreeOp, TwoOp, ZeroOp,
 };
 
 /// The instructions of a statement.
@@ -29,11 +30,11 @@ pub enum Expansion {
 
 /// The instructions of a statement that stands at an address and whose label has an address.
 pub fn expand(statement: &Statement, at: u32, address: u32) -> Expansion
-    requires early { at ≤ 268435456 }
+    requires early { at ≤ DATA_START }
     requires ranges { IsInRange (statement_of statement.now) }
     ensures { expanded result ≡ instructions (λ _. address) at (statement_of statement.now) }
 {
-    let zero = Reg::new(0);
+    let zero = Reg::new(ZERO);
     let words = words_to(at, address);
     match statement {
         Statement::Plain(i) => Expansion::One(*i),
@@ -96,9 +97,9 @@ fn three(op: ThreeOp, rd: Reg, rs: Reg, rt: Reg) -> Instr
 }
 
 fn no_operation() -> Instr
-    ensures { result ≡ instr.Shift Sll 0 0 0 }
+    ensures { result ≡ instr.Shift Sll ZERO ZERO 0 }
 {
-    let zero = Reg::new(0);
+    let zero = Reg::new(ZERO);
     Instr::Shift {
         op: ShiftOp::Sll,
         rd: zero,
@@ -145,8 +146,8 @@ fn multiply(rd: Reg, rs: Reg, rt: Reg) -> Expansion
 fn compare(op: OrderOp, rs: Reg, rt: Reg, imm: i32) -> Expansion
     ensures { expanded result ≡ order_branch op rs rt imm }
 {
-    let at = Reg::new(1);
-    let zero = Reg::new(0);
+    let at = Reg::new(AT);
+    let zero = Reg::new(ZERO);
     match op {
         OrderOp::Bgt => Expansion::Two(
             three(ThreeOp::Slt, at, rt, rs),
@@ -169,9 +170,9 @@ fn compare(op: OrderOp, rs: Reg, rt: Reg, imm: i32) -> Expansion
 
 /// The branch on a comparison with zero.
 fn zero_test(op: ZeroOp, rs: Reg, imm: i32) -> Expansion
-    ensures { expanded result ≡ instr.BranchTwo (zero_branch op) rs 0 imm ∷ [] }
+    ensures { expanded result ≡ instr.BranchTwo (zero_branch op) rs ZERO imm ∷ [] }
 {
-    let zero = Reg::new(0);
+    let zero = Reg::new(ZERO);
     match op {
         ZeroOp::Beqz => Expansion::One(branch(TwoOp::Beq, rs, zero, imm)),
         ZeroOp::Bnez => Expansion::One(branch(TwoOp::Bne, rs, zero, imm)),

@@ -11,7 +11,7 @@ ghost use Rattle.mips_asm.specs.Parts.{IsError, word_in, items_fault, item_fault
 
 use crate::expansion::word_bits;
 use crate::labels::Labels;
-use mips_isa::{AsmError, AsmFault, AsmKind, Segment, Statement, WordItem};
+use mips_isa::{AsmError, AsmFault, AsmKind, MOST_DATA_BYTES, Segment, Statement, WordItem};
 use std::alloc::AllocError;
 
 /// Adds the bytes of a statement, and the zeros before them.
@@ -22,7 +22,7 @@ pub fn add_item(
     statement: &Statement,
     number: usize,
 ) -> Result<(), AsmError>
-    requires small { length bytes.old.items ≤ 268435456 }
+    requires small { length bytes.old.items ≤ MOST_DATA_BYTES }
     requires ranges { IsInRange (statement_of statement.now) }
     ensures checked { OnOk result (item_fault (places_of labels.now) (statement_of statement.now) ≡ None) }
     ensures added { OnOk result (bytes.new.items ≡ bytes.old.items ++ (replicate (zeros (need (statement_of statement.now)) segment (length bytes.old.items)) 0 ++ item_bytes (λ name. address_or_zero (places_of labels.now name)) (statement_of statement.now))) }
@@ -68,7 +68,7 @@ fn add_terminated(bytes: &mut Vec<u8>, text: &[u8]) -> Result<(), AsmError>
 
 /// Adds zeros up to a multiple of a unit.
 fn pad(bytes: &mut Vec<u8>, unit: usize) -> Result<(), AllocError>
-    requires small { length bytes.old.items ≤ 268435456 }
+    requires small { length bytes.old.items ≤ MOST_DATA_BYTES }
     requires some { 1 ≤ unit }
     requires low { unit ≤ 4096 }
     ensures { OnOk result (bytes.new.items ≡ bytes.old.items ++ replicate (up unit (length bytes.old.items) - length bytes.old.items) 0) }
@@ -79,7 +79,7 @@ fn pad(bytes: &mut Vec<u8>, unit: usize) -> Result<(), AllocError>
 
 /// Fills the data up to a multiple of a power of 2; in text it has no effect.
 fn align(bytes: &mut Vec<u8>, segment: Segment, power: u32) -> Result<(), AllocError>
-    requires small { length bytes.old.items ≤ 268435456 }
+    requires small { length bytes.old.items ≤ MOST_DATA_BYTES }
     requires low { power ≤ 12 }
     ensures { OnOk result (bytes.new.items ≡ bytes.old.items ++ replicate (padding_to segment (2 ^ power) (length bytes.old.items)) 0) }
 {
@@ -112,7 +112,7 @@ fn add_aligned_words(
     items: &[WordItem],
     number: usize,
 ) -> Result<(), AsmError>
-    requires small { length bytes.old.items ≤ 268435456 }
+    requires small { length bytes.old.items ≤ MOST_DATA_BYTES }
     requires ranges { AllByRecursion IsItem (map item_of items.now) }
     ensures checked { OnOk result (items_fault (places_of labels.now) (map item_of items.now) ≡ None) }
     ensures added { OnOk result (bytes.new.items ≡ bytes.old.items ++ (replicate (up 4 (length bytes.old.items) - length bytes.old.items) 0 ++ flat_map (λ item. four_bytes (item_value (λ name. address_or_zero (places_of labels.now name)) item)) (map item_of items.now))) }

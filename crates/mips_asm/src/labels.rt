@@ -9,7 +9,9 @@ ghost use Rattle.mips_asm.specs.Places.{places_of};
 use crate::first_pass::find_positions;
 use crate::position::{Position, need_of_statement, place_of_item};
 use crate::table::Table;
-use mips_isa::{AsmError, Line, Place, Segment};
+use mips_isa::{
+    AsmError, DATA_START, Line, MOST_DATA_BYTES, MOST_TEXT_WORDS, Place, Segment, TEXT_START,
+};
 use std::alloc::{AllocError, Global};
 use std::marker::Model;
 
@@ -53,18 +55,18 @@ impl<'a> Labels<'a> {
 
 /// The place of a label before the next item of data, which begins at a place of the data.
 fn place_before(position: Position, item: u32) -> Place
-    requires words { position.words ≤ 66060288 }
-    requires item { item ≤ 268435460 }
+    requires words { position.words ≤ MOST_TEXT_WORDS }
+    requires item { item ≤ MOST_DATA_BYTES + 4 }
     ensures { result ≡ placed position.segment position.words item }
 {
     match position.segment {
         Segment::Text => Place {
             segment: Segment::Text,
-            address: 0x0040_0000 + 4 * position.words,
+            address: TEXT_START + 4 * position.words,
         },
         Segment::Data => Place {
             segment: Segment::Data,
-            address: 0x1000_0000 + item,
+            address: DATA_START + item,
         },
     }
 }

@@ -5,7 +5,7 @@ ghost use Rattle.mips_isa.specs.Lines.{statement_of, IsInRange};
 ghost use Rattle.mips_isa.specs.Assembly.{need, behind, is_wrong, item_or, up};
 ghost use Rattle.mips_asm.specs.Passes.{position_of, need_of, IsSmall, Fits, IsBehind};
 
-use mips_isa::{Segment, Statement};
+use mips_isa::{MOST_DATA_BYTES, MOST_TEXT_WORDS, Segment, Statement};
 
 /// How far the segments are filled, and which one is open.
 #[derive(Clone, Copy, Debug, PartialEq, Eq)]
@@ -67,7 +67,7 @@ pub fn need_of_statement(statement: &Statement) -> Need
 /// A number filled up to a multiple of a unit.
 fn up_to_multiple(unit: u32, number: u32) -> u32
     requires unit { (0 < unit) × (unit ≤ 4096) }
-    requires number { number ≤ 268435456 }
+    requires number { number ≤ MOST_DATA_BYTES }
     ensures exact { result ≡ up unit number }
     ensures bound { result ≤ number + unit }
 {
@@ -88,15 +88,15 @@ pub fn is_in_wrong_segment(need: Need, segment: Segment) -> bool
 
 /// The position after a number of bytes that begin at a place of the data, unless the data are then too large.
 fn behind_bytes(position: Position, first: u32, count: usize, unit: u32) -> Option<Position>
-    requires first { first ≤ 268439552 }
+    requires first { first ≤ MOST_DATA_BYTES + 4096 }
     requires unit { (0 < unit) × (unit ≤ 4) }
-    ensures { MatchOption result (268435456 < first + unit * count) (λ p. (p ≡ record position { bytes = first + unit * count }) × (first + unit * count ≤ 268435456)) }
+    ensures { MatchOption result (MOST_DATA_BYTES < first + unit * count) (λ p. (p ≡ record position { bytes = first + unit * count }) × (first + unit * count ≤ MOST_DATA_BYTES)) }
 {
-    if count > 268_435_456 {
+    if count > MOST_DATA_BYTES as usize {
         return None;
     }
     let bytes = first as usize + unit as usize * count;
-    if bytes > 268_435_456 {
+    if bytes > MOST_DATA_BYTES as usize {
         return None;
     }
     Some(Position {
@@ -135,12 +135,12 @@ pub fn behind_need(need: Need, position: Position) -> Option<Position>
 
 /// The position after a number of words of text, unless the text is then too large.
 fn behind_words(position: Position, count: u32) -> Option<Position>
-    requires words { position.words ≤ 66060288 }
+    requires words { position.words ≤ MOST_TEXT_WORDS }
     requires count { count ≤ 2 }
-    ensures { MatchOption result (66060288 < position.words + count) (λ p. (p ≡ record position { words = position.words + count }) × (position.words + count ≤ 66060288)) }
+    ensures { MatchOption result (MOST_TEXT_WORDS < position.words + count) (λ p. (p ≡ record position { words = position.words + count }) × (position.words + count ≤ MOST_TEXT_WORDS)) }
 {
     let words = position.words + count;
-    if words > 66_060_288 {
+    if words > MOST_TEXT_WORDS {
         return None;
     }
     Some(Position {
@@ -154,7 +154,7 @@ fn behind_words(position: Position, count: u32) -> Option<Position>
 pub fn place_of_item(need: Need, position: Position, other: u32) -> u32
     requires fits { Fits position.words position.bytes }
     ensures exact { result ≡ item_or (need_of need) (position_of position) other }
-    ensures bound { other ≤ 268435460 → result ≤ 268435460 }
+    ensures bound { other ≤ MOST_DATA_BYTES + 4 → result ≤ MOST_DATA_BYTES + 4 }
 {
     match need {
         Need::WordItems(_) => up_to_multiple(4, position.bytes),

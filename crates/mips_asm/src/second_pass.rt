@@ -3,7 +3,6 @@
 ghost use Rattle.std.specs.Prelude.{◌≡◌, ◌≤◌, ◌<◌, ◌+◌, ◌*◌, [], ◌++◌, List, length, map, Option, Some, None, OnOk, IfOk, IfErr};
 ghost use Rattle.std.specs.List.{AllByRecursion};
 ghost use Rattle.mips_isa.specs.Words.{word_of, InRange};
-ghost use Rattle.mips_isa.specs.ImageBounds.{text_start};
 ghost use Rattle.mips_isa.specs.Lines.{line_of, statement_of, IsInRange, AreInRange};
 ghost use Rattle.mips_isa.specs.Assembly.{instructions, address_or_zero, need, first_pass, start_position, start_name, place_of};
 ghost use Rattle.mips_asm.specs.Places.{places_of};
@@ -16,7 +15,10 @@ use crate::expansion::{Expansion, expand};
 use crate::items::{add_item, fault};
 use crate::labels::Labels;
 use crate::target::{Target, is_of_text, may_reach, target_of};
-use mips_isa::{AsmError, AsmKind, Image, Line, Segment, Statement, encode};
+use mips_isa::{
+    AsmError, AsmKind, DATA_START, Image, Line, MOST_DATA_BYTES, MOST_TEXT_WORDS, Segment,
+    Statement, TEXT_START, encode,
+};
 use std::alloc::Global;
 
 /// What lines are assembled to so far, and the segment that is open.
@@ -51,8 +53,8 @@ pub fn second_pass(alloc: Global, lines: &[&Line], labels: &Labels) -> Result<Im
 impl Output {
     /// Assembles a statement.
     fn add(&mut self, labels: &Labels, statement: &Statement, number: usize) -> Result<(), AsmError>
-        requires words { length self.old.text.items ≤ 66060288 }
-        requires bytes { length self.old.bytes.items ≤ 268435456 }
+        requires words { length self.old.text.items ≤ MOST_TEXT_WORDS }
+        requires bytes { length self.old.bytes.items ≤ MOST_DATA_BYTES }
         requires ranges { IsInRange (statement_of statement.now) }
         ensures checked { OnOk result (statement_fault (places_of labels.now) (length self.old.text.items) (statement_of statement.now) ≡ None) }
         ensures text { OnOk result (self.new.text.items ≡ self.old.text.items ++ words_of_statement (places_of labels.now) (length self.old.text.items) (statement_of statement.now)) }
@@ -68,14 +70,14 @@ impl Output {
 
     /// The image, if `__start` is the label of a word.
     fn finish(self, labels: &Labels, number: usize) -> Result<Image, AsmError>
-        requires words { length self.text.items ≤ 66060288 }
-        requires bytes { length self.bytes.items ≤ 268435456 }
+        requires words { length self.text.items ≤ MOST_TEXT_WORDS }
+        requires bytes { length self.bytes.items ≤ MOST_DATA_BYTES }
         requires start { IsWordPlace (places_of labels.now start_name) }
         ensures checked { OnOk result (last_fault (places_of labels.now) (length self.text.items) ≡ None) }
         ensures image { IfOk result (λ image. image ≡ record { entry = address_or_zero (places_of labels.now start_name); text = self.text.items; bytes = self.bytes.items }) }
         ensures error { IfErr result (IsError number (last_fault (places_of labels.now) (length self.text.items))) }
     {
-        let end = 0x0040_0000 + 4 * self.text.len() as u32;
+        let end = TEXT_START + 4 * self.text.len() as u32;
         match labels.place(b"__start") {
             Some(place) => {
                 if is_of_text(place.segment) && place.address < end {
@@ -100,13 +102,13 @@ fn add_instructions(
     statement: &Statement,
     number: usize,
 ) -> Result<(), AsmError>
-    requires small { length text.old.items ≤ 66060288 }
+    requires small { length text.old.items ≤ MOST_TEXT_WORDS }
     requires ranges { IsInRange (statement_of statement.now) }
-    ensures checked { OnOk result (instruction_fault (places_of labels.now) (text_start + 4 * length text.old.items) (statement_of statement.now) ≡ None) }
-    ensures added { OnOk result (text.new.items ≡ text.old.items ++ map word_of (instructions (λ name. address_or_zero (places_of labels.now name)) (text_start + 4 * length text.old.items) (statement_of statement.now))) }
-    ensures error { IfErr result (IsError number (instruction_fault (places_of labels.now) (text_start + 4 * length text.old.items) (statement_of statement.now))) }
+    ensures checked { OnOk result (instruction_fault (places_of labels.now) (TEXT_START + 4 * length text.old.items) (statement_of statement.now) ≡ None) }
+    ensures added { OnOk result (text.new.items ≡ text.old.items ++ map word_of (instructions (λ name. address_or_zero (places_of labels.now name)) (TEXT_START + 4 * length text.old.items) (statement_of statement.now))) }
+    ensures error { IfErr result (IsError number (instruction_fault (places_of labels.now) (TEXT_START + 4 * length text.old.items) (statement_of statement.now))) }
 {
-    let at = 0x0040_0000 + 4 * text.len() as u32;
+    let at = TEXT_START + 4 * text.len() as u32;
     let address = target_address(labels, statement, at, number)?;
     add_expansion(text, expand(statement, at, address))?;
     Ok(())
@@ -119,7 +121,7 @@ fn target_address(
     at: u32,
     number: usize,
 ) -> Result<u32, AsmError>
-    requires { at ≤ 268435456 }
+    requires { at ≤ DATA_START }
     ensures checked { OnOk result (instruction_fault (places_of labels.now) at (statement_of statement.now) ≡ None) }
     ensures address { IfOk result (λ address. address ≡ target_address (target_in (places_of labels.now) (statement_of statement.now))) }
     ensures error { IfErr result (IsError number (instruction_fault (places_of labels.now) at (statement_of statement.now))) }

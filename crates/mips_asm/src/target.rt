@@ -1,13 +1,13 @@
 //! The targets of instructions.
 
-ghost use Rattle.std.specs.Prelude.{◌≡◌, ◌≤◌, Some};
+ghost use Rattle.std.specs.Prelude.{◌≡◌, ◌+◌, ◌≤◌, Some};
 ghost use Rattle.mips_isa.specs.Lines.{statement_of};
 ghost use Rattle.mips_isa.specs.Assembly.{offset, is_text, is_reach, reaches, branch_reaches, jump_reaches};
 ghost use Rattle.mips_asm.specs.Places.{places_of};
 ghost use Rattle.mips_asm.specs.Parts.{target_in, found};
 
 use crate::labels::Labels;
-use mips_isa::{Label, Place, Segment, Statement};
+use mips_isa::{DATA_START, Label, Place, Segment, Statement};
 
 /// Where the label is that an instruction uses.
 #[derive(Clone, Copy, Debug)]
@@ -62,7 +62,7 @@ fn target_at(labels: &Labels, label: &Label) -> Target
 
 /// Whether a statement at an address may use a target at this place.
 pub fn may_reach(statement: &Statement, at: u32, place: Place) -> bool
-    requires { at ≤ 268435456 }
+    requires { at ≤ DATA_START }
     ensures { result ≡ reaches (λ _. Some place) at (statement_of statement.now) }
 {
     match statement {
@@ -94,7 +94,7 @@ pub fn may_reach(statement: &Statement, at: u32, place: Place) -> bool
 
 /// Whether a branch at an address reaches a place.
 fn is_near(at: u32, place: Place) -> bool
-    requires { at ≤ 268435460 }
+    requires { at ≤ DATA_START + 4 }
     ensures { result ≡ branch_reaches at (Some place) }
 {
     is_of_text(place.segment) && is_half(words_to(at, place.address))
@@ -104,7 +104,7 @@ fn is_near(at: u32, place: Place) -> bool
 fn is_below_data(place: Place) -> bool
     ensures { result ≡ jump_reaches (Some place) }
 {
-    is_of_text(place.segment) && place.address < 0x10000000
+    is_of_text(place.segment) && place.address < DATA_START
 }
 
 /// Whether a segment is the text.
@@ -126,7 +126,7 @@ fn is_half(words: i32) -> bool
 
 /// The words from the instruction behind an address to a target.
 pub fn words_to(at: u32, target: u32) -> i32
-    requires { at ≤ 268435460 }
+    requires { at ≤ DATA_START + 4 }
     ensures { result ≡ offset at target }
 {
     let behind = at + 4;

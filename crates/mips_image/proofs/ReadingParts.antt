@@ -1,6 +1,7 @@
 -- The parts of an image are read from bytes without a fault.
 use Rattle.std.proofs.Common.{◌≡◌, ℕ, suc, zero, ◌+◌, ◌-◌, ◌*◌, ◌%◌, ◌<◌, ◌≤◌, true, List, [], ◌∷◌, ◌++◌, length, drop, refl, ◌∙◌, ap, append_assoc, arith}
-use Rattle.mips_isa.specs.ImageBounds.{ImageParts, IsImage, text_start}
+use Rattle.mips_isa.specs.declared.address_map.TheConstants.{TEXT_START}
+use Rattle.mips_isa.specs.ImageBounds.{ImageParts, IsImage}
 use Rattle.mips_image.specs.ImageReading.{word_at, words_at, are_sizes}
 
 -- one more number
@@ -16,7 +17,7 @@ length-words_at zero bytes = refl
 length-words_at (suc n) bytes = ap suc (length-words_at n (drop 4 bytes))
 
 -- what the test of the sizes says
-pub sizes_hold : (words data_bytes entry : ℕ) → are_sizes words data_bytes entry ≡ true → (1 ≤ words) × (words ≤ 66060288) × (data_bytes ≤ 268435456) × (entry % 4 ≡ 0) × (text_start ≤ entry) × (entry < text_start + 4 * words)
+pub sizes_hold : (words data_bytes entry : ℕ) → are_sizes words data_bytes entry ≡ true → (1 ≤ words) × (words ≤ 66060288) × (data_bytes ≤ 268435456) × (entry % 4 ≡ 0) × (TEXT_START ≤ entry) × (entry < TEXT_START + 4 * words)
 sizes_hold words data_bytes entry h =
     (grind arith, grind arith, grind arith, grind arith, grind arith, grind arith)
 

@@ -1,7 +1,8 @@
 -- How the bytes of an image are read, and which fault is the first.
 use Rattle.std.specs.Prelude.{◌≡◌, ℕ, zero, suc, ◌+◌, ◌*◌, ◌%◌, ◌&&◌, ◌||◌, ◌==◌, not, nat_lt, nat_le, bytes_eq, if◌then◌else◌, Bool, true, List, [], ◌∷◌, length, take, drop, Option, Some, None, Result, Ok, Err}
 use Rattle.byteorder.specs.Endian.{little_number}
-use Rattle.mips_isa.specs.ImageBounds.{ImageParts, text_start}
+use Rattle.mips_isa.specs.declared.address_map.TheConstants.{TEXT_START, MOST_TEXT_WORDS, MOST_DATA_BYTES}
+use Rattle.mips_isa.specs.ImageBounds.{ImageParts}
 use Rattle.mips_image.specs.declared.stored_image.TheConstants.{MAGIC, HEADER_BYTES, UNCHECKED_VERSION, CHECKED_VERSION}
 use Rattle.mips_image.specs.declared.stored_image.StoredImage.{StoredImage}
 use Rattle.mips_image.specs.declared.image_error.ImageError.{ImageError}
@@ -23,8 +24,8 @@ is_version version = version == UNCHECKED_VERSION || version == CHECKED_VERSION
 -- there is a word, neither segment is too large, and the entry is the address of a word
 abbrev pub are_sizes : ℕ → ℕ → ℕ → Bool
 are_sizes words data_bytes entry =
-    nat_le 1 words && (nat_le words 66060288 && (nat_le data_bytes 268435456
-    && (entry % 4 == 0 && (nat_le text_start entry && nat_lt entry (text_start + 4 * words)))))
+    nat_le 1 words && (nat_le words MOST_TEXT_WORDS && (nat_le data_bytes MOST_DATA_BYTES
+    && (entry % 4 == 0 && (nat_le TEXT_START entry && nat_lt entry (TEXT_START + 4 * words)))))
 
 -- the bytes that an image of these sizes has
 abbrev pub size_of : ℕ → ℕ → ℕ

@@ -7,17 +7,8 @@ ghost use Rattle.mips_image.specs.ImageReading.{HasHeader, word_at, words_at, ar
 
 use crate::{CHECKED_VERSION, HEADER_BYTES, ImageError, MAGIC, StoredImage, UNCHECKED_VERSION};
 use byteorder::{ByteOrder, LittleEndian};
-use mips_isa::Image;
+use mips_isa::{Image, MOST_DATA_BYTES, MOST_TEXT_WORDS, TEXT_START};
 use std::alloc::{AllocError, Global};
-
-/// Where the text begins in the machine.
-const TEXT_START: u32 = 0x0040_0000;
-
-/// The most words of a text.
-const MOST_WORDS: u32 = 66_060_288;
-
-/// The most bytes of the data.
-const MOST_DATA_BYTES: u32 = 268_435_456;
 
 /// The image of these bytes and its version, or their first fault.
 ///
@@ -133,7 +124,7 @@ fn has_sizes(header: &Header) -> bool
     ensures { result ≡ are_sizes header.now.words header.now.data_bytes header.now.entry }
 {
     1 <= header.words
-        && header.words <= MOST_WORDS
+        && header.words <= MOST_TEXT_WORDS
         && header.data_bytes <= MOST_DATA_BYTES
         && header.entry % 4 == 0
         && TEXT_START <= header.entry

@@ -1,7 +1,7 @@
 -- What stands in a text is executed, one word after another.
 use Rattle.std.proofs.Common.{◌≡◌, ◌∙◌, ap, arith, refl, sym, ℕ, zero, suc, ◌+◌, ◌-◌, ◌*◌, ◌/◌, ◌%◌, ◌<◌, true, List, [], ◌∷◌, length, drop, get_or}
 use Rattle.std.specs.Prelude.{◌==◌, Some}
-use Rattle.mips_isa.specs.ImageBounds.{text_start}
+use Rattle.mips_isa.specs.declared.address_map.TheConstants.{TEXT_START}
 use Rattle.mips_isa.specs.Bytes.{Segments, lies}
 use Rattle.mips_isa.specs.Decoding.{decoded}
 use Rattle.mips_isa.specs.declared.instr.Instr.{Instr}
@@ -27,13 +27,13 @@ inside (suc k) [] word rest there = absurd cc
 inside (suc k) (w ∷ text) word rest there = omega (arith, inside k text word rest there)
 
 -- the word to which pc points is executed
-pub text_step : (text : List ℕ) (k word : ℕ) (rest : List ℕ) (b : Segments) (s : Core) (i : Instr) → b.text_end ≡ text_start + 4 * length text
-    → drop k text ≡ word ∷ rest → s.pc ≡ text_start + 4 * k → decoded word ≡ Some i → step text b s ≡ act b i s
+pub text_step : (text : List ℕ) (k word : ℕ) (rest : List ℕ) (b : Segments) (s : Core) (i : Instr) → b.text_end ≡ TEXT_START + 4 * length text
+    → drop k text ≡ word ∷ rest → s.pc ≡ TEXT_START + 4 * k → decoded word ≡ Some i → step text b s ≡ act b i s
 text_step text k word rest b s i end there at is =
     let within : k < length text = inside k text word rest there in
     let even : (s.pc % 4 == 0) ≡ true = grind (arith, at) in
-    let lying : lies text_start b.text_end s.pc 4 ≡ true = grind (arith, at, end, within) in
-    let index : (s.pc - text_start) / 4 ≡ k = omega (arith, at) in
+    let lying : lies TEXT_START b.text_end s.pc 4 ≡ true = grind (arith, at, end, within) in
+    let index : (s.pc - TEXT_START) / 4 ≡ k = omega (arith, at) in
     let here : word_of_text text s.pc ≡ word = rw index (word_behind k text word rest there) in
     rw (even, lying, here, is) refl
 

@@ -23,8 +23,11 @@ use Rattle.mips_isa.specs.declared.line.AsmError.TheVariants.{Memory, Fault}
 use Rattle.mips_isa.specs.declared.place.Segment.{Segment}
 use Rattle.mips_isa.specs.declared.place.Segment.TheVariants.{Text, Data}
 use Rattle.mips_isa.specs.declared.place.Place.{Place}
-use Rattle.mips_isa.specs.ImageBounds.{ImageParts, text_start}
-use Rattle.mips_isa.specs.Bytes.{data_start, byte_of_word}
+use Rattle.mips_isa.specs.declared.address_map.TheConstants.{TEXT_START, DATA_START, MOST_TEXT_WORDS, MOST_DATA_BYTES}
+use Rattle.mips_isa.specs.declared.register.TheConstants.{ZERO, AT, V0}
+use Rattle.mips_isa.specs.declared.system_call.TheConstants.{EXIT}
+use Rattle.mips_isa.specs.ImageBounds.{ImageParts}
+use Rattle.mips_isa.specs.Bytes.{byte_of_word}
 use Rattle.mips_isa.specs.Words.{word_of, bits_of}
 use Rattle.mips_isa.specs.Lines.{Name, WordItem, Number, Address, Statement, Empty, Plain, ToTwo, ToOne, ToJump, La, Li, Move, Neg, Nop, B, BranchZero, BranchOrder, Mul, ToText, ToData, Globl, Word, Byte, Ascii, Asciiz, Space, Align, Line}
 
@@ -110,8 +113,8 @@ next_item p (line ∷ rest) = item_or (need line.statement) p (next_item (behind
 
 -- the place of a label before these lines
 abbrev pub place_in : Segment → Position → List Line → Place
-place_in Text p lines = record { segment = Text; address = text_start + 4 * p.words }
-place_in Data p lines = record { segment = Data; address = data_start + next_item p lines }
+place_in Text p lines = record { segment = Text; address = TEXT_START + 4 * p.words }
+place_in Data p lines = record { segment = Data; address = DATA_START + next_item p lines }
 
 abbrev pub has : List Name → Name → Bool
 has names name = list_any (bytes_eq name) names
@@ -153,7 +156,7 @@ unlabelled statement = record { labels = []; statement = statement }
 abbrev pub added_lines : List Line
 added_lines =
     unlabelled ToText ∷ record { labels = start_name ∷ []; statement = ToJump Jal main_name }
-    ∷ unlabelled (Plain (instr.Imm Ori 2 0 (pos 10))) ∷ unlabelled (Plain instr.Syscall) ∷ []
+    ∷ unlabelled (Plain (instr.Imm Ori V0 ZERO (pos EXIT))) ∷ unlabelled (Plain instr.Syscall) ∷ []
 
 abbrev pub completed : List Line → List Line
 completed lines = if not (is_some (place_of lines start_name)) && in_text (place_of lines main_name) then lines ++ added_lines else lines
@@ -173,10 +176,10 @@ zero_branch Bnez = Bne
 
 -- the order is put into $at, and the branch goes by that
 abbrev pub order_branch : OrderOp → ℕ → ℕ → ℤ → List Instr
-order_branch Bgt rs rt imm = instr.Three Slt 1 rt rs ∷ instr.BranchTwo Bne 1 0 imm ∷ []
-order_branch Bge rs rt imm = instr.Three Slt 1 rs rt ∷ instr.BranchTwo Beq 1 0 imm ∷ []
-order_branch Blt rs rt imm = instr.Three Slt 1 rs rt ∷ instr.BranchTwo Bne 1 0 imm ∷ []
-order_branch Ble rs rt imm = instr.Three Slt 1 rt rs ∷ instr.BranchTwo Beq 1 0 imm ∷ []
+order_branch Bgt rs rt imm = instr.Three Slt AT rt rs ∷ instr.BranchTwo Bne AT ZERO imm ∷ []
+order_branch Bge rs rt imm = instr.Three Slt AT rs rt ∷ instr.BranchTwo Beq AT ZERO imm ∷ []
+order_branch Blt rs rt imm = instr.Three Slt AT rs rt ∷ instr.BranchTwo Bne AT ZERO imm ∷ []
+order_branch Ble rs rt imm = instr.Three Slt AT rt rs ∷ instr.BranchTwo Beq AT ZERO imm ∷ []
 
 abbrev pub instructions : (Name → ℕ) → ℕ → Statement → List Instr
 instructions address at Empty = []
@@ -186,11 +189,11 @@ instructions address at (ToOne op rs target) = instr.BranchOne op rs (offset at 
 instructions address at (ToJump op target) = instr.Jump op (address target / 4) ∷ []
 instructions address at (La rd label) = load_address rd (address label)
 instructions address at (Li rd value) = load_address rd (bits_of value)
-instructions address at (Move rd rs) = instr.Three Addu rd rs 0 ∷ []
-instructions address at (Neg rd rs) = instr.Three Sub rd 0 rs ∷ []
-instructions address at Nop = instr.Shift Sll 0 0 0 ∷ []
-instructions address at (B target) = instr.BranchTwo Beq 0 0 (offset at (address target)) ∷ []
-instructions address at (BranchZero op rs target) = instr.BranchTwo (zero_branch op) rs 0 (offset at (address target)) ∷ []
+instructions address at (Move rd rs) = instr.Three Addu rd rs ZERO ∷ []
+instructions address at (Neg rd rs) = instr.Three Sub rd ZERO rs ∷ []
+instructions address at Nop = instr.Shift Sll ZERO ZERO 0 ∷ []
+instructions address at (B target) = instr.BranchTwo Beq ZERO ZERO (offset at (address target)) ∷ []
+instructions address at (BranchZero op rs target) = instr.BranchTwo (zero_branch op) rs ZERO (offset at (address target)) ∷ []
 instructions address at (BranchOrder op rs rt target) = order_branch op rs rt (offset (at + 4) (address target))
 instructions address at (Mul rd rs rt) = instr.MulDiv Mult rs rt ∷ instr.MoveFrom Mflo rd ∷ []
 instructions address at ToText = []
@@ -251,7 +254,7 @@ padding (Padding unit) p = padding_to p.segment unit p.bytes
 abbrev pub text_from : (Name → ℕ) → Position → List Line → List ℕ
 text_from address p [] = []
 text_from address p (line ∷ rest) =
-    map word_of (instructions address (text_start + 4 * p.words) line.statement) ++ text_from address (behind_line line p) rest
+    map word_of (instructions address (TEXT_START + 4 * p.words) line.statement) ++ text_from address (behind_line line p) rest
 
 abbrev pub bytes_from : (Name → ℕ) → Position → List Line → List ℕ
 bytes_from address p [] = []
@@ -282,7 +285,7 @@ any_twice seen [] = false
 any_twice seen (label ∷ rest) = has seen label || any_twice (label ∷ seen) rest
 
 abbrev pub is_too_large : Position → Bool
-is_too_large p = nat_lt 66060288 p.words || nat_lt 268435456 p.bytes
+is_too_large p = nat_lt MOST_TEXT_WORDS p.words || nat_lt MOST_DATA_BYTES p.bytes
 
 abbrev pub defining_fault : List Name → Position → Line → Option AsmKind
 defining_fault seen p line =
@@ -340,9 +343,9 @@ is_reach (negsuc n) = nat_lt n 32768
 abbrev pub branch_reaches : ℕ → Option Place → Bool
 branch_reaches at place = in_text place && is_reach (offset at (address_or_zero place))
 
--- a jump reaches a label of text but one at 0x10000000, which its index cannot hold
+-- a jump reaches a label of text but one where the data begins, which its index cannot hold
 abbrev pub jump_reaches : Option Place → Bool
-jump_reaches place = in_text place && nat_lt (address_or_zero place) 268435456
+jump_reaches place = in_text place && nat_lt (address_or_zero place) DATA_START
 
 abbrev pub reaches : (Name → Option Place) → ℕ → Statement → Bool
 reaches place at Empty = true
@@ -376,11 +379,11 @@ any_without_place place (name ∷ rest) = not (is_some (place name)) || any_with
 abbrev pub using_fault : (Name → Option Place) → Position → Line → Option AsmKind
 using_fault place p line =
     if any_without_place place (used line.statement) then Some A6
-    else (if not (reaches place (text_start + 4 * p.words) line.statement) then Some A7 else None)
+    else (if not (reaches place (TEXT_START + 4 * p.words) line.statement) then Some A7 else None)
 
 -- behind the last line, `__start` has to be the label of a word of the text
 abbrev pub start_fault : Option Place → Position → Option AsmKind
-start_fault place p = if in_text place && nat_lt (address_or_zero place) (text_start + 4 * p.words) then None else Some A6
+start_fault place p = if in_text place && nat_lt (address_or_zero place) (TEXT_START + 4 * p.words) then None else Some A6
 
 abbrev pub second_pass : (Name → Option Place) → Position → ℕ → List Line → Option AsmFault
 second_pass place p number [] = fault_or number (start_fault (place start_name) p) None

@@ -1,6 +1,7 @@
 -- The bytes of a machine by their addresses, and the segments in which they lie. Numbers are little endian.
 use Rattle.std.specs.Prelude.{ℕ, ◌+◌, ◌-◌, ◌*◌, ◌/◌, ◌%◌, Bool, ◌&&◌, ◌||◌, ◌==◌, nat_le, nat_lt, if◌then◌else◌, length, get_or}
-use Rattle.mips_isa.specs.ImageBounds.{ImageParts, text_start}
+use Rattle.mips_isa.specs.declared.address_map.TheConstants.{TEXT_START, DATA_START, HEAP_START, STACK_END}
+use Rattle.mips_isa.specs.ImageBounds.{ImageParts}
 
 abbrev pub Bytes : Type 0
 Bytes = ℕ → ℕ
@@ -28,34 +29,25 @@ pub record Segments : Type 0 where
   pub heap_end : ℕ
   pub stack_low : ℕ
 
-abbrev pub data_start : ℕ
-data_start = 0x10000000
-
-abbrev pub heap_start : ℕ
-heap_start = 0x20000000
-
-abbrev pub stack_end : ℕ
-stack_end = 0x80000000
-
 -- the bytes from a on lie between two addresses
 abbrev pub lies : ℕ → ℕ → ℕ → ℕ → Bool
 lies low end a size = nat_le low a && nat_le (a + size) end
 
 -- so many bytes from a on may be stored: they are data, heap or stack
 abbrev pub writable : Segments → ℕ → ℕ → Bool
-writable s a size = lies data_start s.data_end a size || (lies heap_start s.heap_end a size || lies s.stack_low stack_end a size)
+writable s a size = lies DATA_START s.data_end a size || (lies HEAP_START s.heap_end a size || lies s.stack_low STACK_END a size)
 
 -- so many bytes from a on may be loaded: they may be stored, or are text
 abbrev pub readable : Segments → ℕ → ℕ → Bool
-readable s a size = lies text_start s.text_end a size || writable s a size
+readable s a size = lies TEXT_START s.text_end a size || writable s a size
 
 -- an image with so many bytes of heap and of stack
 abbrev pub segments_of : ImageParts → ℕ → ℕ → Segments
 segments_of image heap stack = record {
-  text_end = text_start + 4 * length image.text;
-  data_end = data_start + (length image.bytes + 3) / 4 * 4;
-  heap_end = heap_start + heap;
-  stack_low = stack_end - stack;
+  text_end = TEXT_START + 4 * length image.text;
+  data_end = DATA_START + (length image.bytes + 3) / 4 * 4;
+  heap_end = HEAP_START + heap;
+  stack_low = STACK_END - stack;
 }
 
 -- the byte of a word at this offset
@@ -66,5 +58,5 @@ byte_of_word w offset =
 -- the bytes of a machine that was loaded: text, data, and zeros
 abbrev pub bytes_of_image : ImageParts → Bytes
 bytes_of_image image = λ a.
-    if nat_lt a data_start then byte_of_word (get_or image.text ((a - text_start) / 4) 0) ((a - text_start) % 4)
-    else (if nat_lt a heap_start then get_or image.bytes (a - data_start) 0 else 0)
+    if nat_lt a DATA_START then byte_of_word (get_or image.text ((a - TEXT_START) / 4) 0) ((a - TEXT_START) % 4)
+    else (if nat_lt a HEAP_START then get_or image.bytes (a - DATA_START) 0 else 0)

@@ -1,10 +1,12 @@
 -- The system calls of SPIM: one case for each number.
 use Rattle.std.specs.Prelude.{◌≡◌, refl, ℕ, zero, suc, ◌+◌, ◌-◌, ◌*◌, ◌%◌, ℤ, pos, negsuc, Bool, true, false, ◌&&◌, ◌||◌, ◌==◌, not, nat_le, if◌then◌else◌, List, [], ◌∷◌, ◌++◌, length, Option, Some, None, option_map}
 use Rattle.std.specs.Fmt.{signed_decimal}
+use Rattle.mips_isa.specs.declared.register.TheConstants.{V0, A0, A1}
+use Rattle.mips_isa.specs.declared.system_call.TheConstants.{PRINT_INT, PRINT_STRING, READ_INT, READ_STRING, SBRK, EXIT, PRINT_CHAR, READ_CHAR, EXIT2}
 use Rattle.mips_isa.specs.declared.trap.Trap.{Trap}
 use Rattle.mips_isa.specs.declared.trap.TrapKind.TheVariants.{BadAddress, BadCall}
-use Rattle.mips_isa.specs.ImageBounds.{text_start}
-use Rattle.mips_isa.specs.Bytes.{Bytes, set_byte, Segments, data_start, heap_start, stack_end, lies, writable}
+use Rattle.mips_isa.specs.declared.address_map.TheConstants.{TEXT_START, DATA_START, HEAP_START, STACK_END}
+use Rattle.mips_isa.specs.Bytes.{Bytes, set_byte, Segments, lies, writable}
 use Rattle.mips_isa.specs.Machine.{Core, set_register, wrap, is_negative}
 
 -- The state: registers and memory, the end of what `sbrk` gave, the input that is left, whether its end was answered, and
@@ -75,10 +77,10 @@ signed a = if is_negative a then negsuc (4294967295 - a) else pos a
 -- the end of the segment in which an address lies
 abbrev pub segment_end : Segments → ℕ → Option ℕ
 segment_end s a =
-    if lies text_start s.text_end a 1 then Some s.text_end
-    else (if lies data_start s.data_end a 1 then Some s.data_end
-    else (if lies heap_start s.heap_end a 1 then Some s.heap_end
-    else (if lies s.stack_low stack_end a 1 then Some stack_end else None)))
+    if lies TEXT_START s.text_end a 1 then Some s.text_end
+    else (if lies DATA_START s.data_end a 1 then Some s.data_end
+    else (if lies HEAP_START s.heap_end a 1 then Some s.heap_end
+    else (if lies s.stack_low STACK_END a 1 then Some STACK_END else None)))
 
 -- the bytes up to a 0, if there is one among so many
 abbrev pub up_to_zero : Bytes → ℕ → ℕ → Option (List ℕ)
@@ -103,16 +105,16 @@ set_bytes m a [] = m
 set_bytes m a (b ∷ rest) = set_bytes (set_byte m a b) (a + 1) rest
 
 abbrev pub v0 : State → ℕ
-v0 s = s.core.registers 2
+v0 s = s.core.registers V0
 
 abbrev pub a0 : State → ℕ
-a0 s = s.core.registers 4
+a0 s = s.core.registers A0
 
 abbrev pub a1 : State → ℕ
-a1 s = s.core.registers 5
+a1 s = s.core.registers A1
 
 abbrev pub with_v0 : State → ℕ → State
-with_v0 s v = record s { core = record s.core { registers = set_register s.core.registers 2 v } }
+with_v0 s v = record s { core = record s.core { registers = set_register s.core.registers V0 v } }
 
 abbrev pub after_taking : State → Taken → State
 after_taking s t = record s { input = t.rest; ended = t.ended }
@@ -160,15 +162,15 @@ sbrk b s =
 -- the system call whose number is in $v0
 abbrev pub call : Segments → State → Outcome
 call b s =
-    if v0 s == 1 then print s (signed_decimal (signed (a0 s)))
-    else (if v0 s == 4 then print_string s (string_at b s.core.memory (a0 s))
-    else (if v0 s == 5 then read_int s (asked_line s.ended s.input)
-    else (if v0 s == 8 then read_string b s
-    else (if v0 s == 9 then sbrk b s
-    else (if v0 s == 10 then Exited 0 s
-    else (if v0 s == 11 then print s (a0 s % 256 ∷ [])
-    else (if v0 s == 12 then read_char s (asked s.ended 1 s.input)
-    else (if v0 s == 17 then Exited (a0 s) s
+    if v0 s == PRINT_INT then print s (signed_decimal (signed (a0 s)))
+    else (if v0 s == PRINT_STRING then print_string s (string_at b s.core.memory (a0 s))
+    else (if v0 s == READ_INT then read_int s (asked_line s.ended s.input)
+    else (if v0 s == READ_STRING then read_string b s
+    else (if v0 s == SBRK then sbrk b s
+    else (if v0 s == EXIT then Exited 0 s
+    else (if v0 s == PRINT_CHAR then print s (a0 s % 256 ∷ [])
+    else (if v0 s == READ_CHAR then read_char s (asked s.ended 1 s.input)
+    else (if v0 s == EXIT2 then Exited (a0 s) s
     else bad_call s))))))))
 
 -- Worked examples: the line `  -7x` and a newline before the bytes `ab`, with a 0 within; a line without a number; a line

@@ -1,5 +1,6 @@
 pub mod Words
 pub mod Decoding
+pub mod AddressMap
 pub mod ImageBounds
 pub mod Bytes
 pub mod Machine

@@ -1,6 +1,7 @@
 -- Lines of assembly, as contracts see them: the labels of a line, and its statement.
 use Rattle.std.specs.Prelude.{ℕ, ℤ, pos, negsuc, ◌<◌, ◌≤◌, List, map}
 use Rattle.std.specs.List.{AllByRecursion}
+use Rattle.mips_isa.specs.declared.address_map.TheConstants.{MOST_DATA_BYTES}
 use Rattle.mips_isa.specs.declared.instr.Instr.{Instr}
 use Rattle.mips_isa.specs.Words.{InRange}
 use Rattle.mips_isa.specs.declared.instr.TwoOp.{TwoOp}
@@ -125,7 +126,7 @@ IsInRange (Word list) = AllByRecursion IsItem list
 IsInRange (Byte list) = AllByRecursion IsByte list
 IsInRange (Ascii bytes) = Unit {0}
 IsInRange (Asciiz bytes) = Unit {0}
-IsInRange (Space n) = n ≤ 268435456
+IsInRange (Space n) = n ≤ MOST_DATA_BYTES
 IsInRange (Align n) = n ≤ 12
 
 abbrev pub AreInRange : List Line → Type 0

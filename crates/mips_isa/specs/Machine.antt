@@ -23,11 +23,12 @@ use Rattle.mips_isa.specs.declared.instr.OneOp.TheVariants.{Blez, Bgtz, Bltz, Bg
 use Rattle.mips_isa.specs.declared.instr.JumpOp.TheVariants.{J, Jal}
 use Rattle.mips_isa.specs.declared.instr.MemOp.{MemOp}
 use Rattle.mips_isa.specs.declared.instr.MemOp.TheVariants.{Lb, Lh, Lw, Lbu, Lhu, Sb, Sh, Sw}
+use Rattle.mips_isa.specs.declared.register.TheConstants.{ZERO, RA}
 use Rattle.mips_isa.specs.declared.trap.Trap.{Trap}
 use Rattle.mips_isa.specs.declared.trap.TrapKind.TheVariants.{BadAddress, Unaligned, Overflow, NoInstruction}
 use Rattle.mips_isa.specs.Words.{bits_of}
 use Rattle.mips_isa.specs.Decoding.{decoded}
-use Rattle.mips_isa.specs.ImageBounds.{text_start}
+use Rattle.mips_isa.specs.declared.address_map.TheConstants.{TEXT_START}
 use Rattle.mips_isa.specs.Bytes.{Bytes, half, word, set_byte, set_half, set_word, Segments, readable, writable, lies}
 
 -- Registers
@@ -37,7 +38,7 @@ Registers = ℕ → ℕ
 
 -- $zero stays 0
 abbrev pub set_register : Registers → ℕ → ℕ → Registers
-set_register r k v = λ q. if q == k then (if k == 0 then 0 else v) else r q
+set_register r k v = λ q. if q == k then (if k == ZERO then 0 else v) else r q
 
 -- Numbers of 32 bits
 
@@ -225,12 +226,12 @@ act b (Lui rt imm) s = put s rt (wrap (bits_of imm * 65536))
 act b (BranchTwo op rs rt imm) s = branch s (two_result op (s.registers rs) (s.registers rt)) imm
 act b (BranchOne op rs imm) s = branch s (one_result op (s.registers rs)) imm
 act b (Jump J index) s = go_to s (jump_target s.pc index)
-act b (Jump Jal index) s = go_to_with_return s 31 (jump_target s.pc index)
+act b (Jump Jal index) s = go_to_with_return s RA (jump_target s.pc index)
 act b (Mem op rt rs imm) s = mem b op s rt (wrap (s.registers rs + bits_of imm))
 
 -- the word of the text at a
 abbrev pub word_of_text : List ℕ → ℕ → ℕ
-word_of_text text a = get_or text ((a - text_start) / 4) 0
+word_of_text text a = get_or text ((a - TEXT_START) / 4) 0
 
 -- what the instruction at pc does, if there is one
 abbrev pub act_or_none : Segments → Option Instr → Core → Next
@@ -239,7 +240,7 @@ act_or_none b (Some i) s = act b i s
 
 -- one instruction, fetched at pc
 abbrev pub step : List ℕ → Segments → Core → Next
-step text b s = access 4 (lies text_start b.text_end s.pc 4) s.pc s.pc (act_or_none b (decoded (word_of_text text s.pc)) s)
+step text b s = access 4 (lies TEXT_START b.text_end s.pc 4) s.pc s.pc (act_or_none b (decoded (word_of_text text s.pc)) s)
 
 -- Worked examples: signed sums at the ends of the range, a signed order against an order without signs, shifts with the sign,
 -- -1 * 2, -7 / 2 and 7 / -2, and the smallest number by -1.

@@ -1,7 +1,9 @@
 -- The run of a machine: so many instructions, or the end before.
 use Rattle.std.specs.Prelude.{ℕ, zero, suc, ◌==◌, false, if◌then◌else◌, List, []}
+use Rattle.mips_isa.specs.declared.register.TheConstants.{S6, S7, GP, SP}
 use Rattle.mips_isa.specs.ImageBounds.{ImageParts}
-use Rattle.mips_isa.specs.Bytes.{Segments, heap_start, stack_end, segments_of, bytes_of_image}
+use Rattle.mips_isa.specs.declared.address_map.TheConstants.{HEAP_START, STACK_END}
+use Rattle.mips_isa.specs.Bytes.{Segments, segments_of, bytes_of_image}
 use Rattle.mips_isa.specs.Machine.{Core, Registers, Next, On, Call, Stop, step}
 use Rattle.mips_isa.specs.Calls.{State, Outcome, Running, Exited, Trapped, call}
 
@@ -28,14 +30,14 @@ run text b (suc n) s = and_then (cycle text b s) (run text b n)
 -- $s6 is the stack's lowest address, $s7 the heap's end, $gp the heap's start, $sp the stack's end
 abbrev pub start_registers : Segments → Registers
 start_registers b = λ k.
-    if k == 22 then b.stack_low else (if k == 23 then b.heap_end else (if k == 28 then heap_start else (if k == 29 then stack_end else 0)))
+    if k == S6 then b.stack_low else (if k == S7 then b.heap_end else (if k == GP then HEAP_START else (if k == SP then STACK_END else 0)))
 
 abbrev pub start_core : ImageParts → Segments → Core
 start_core image b = record { registers = start_registers b; hi = 0; lo = 0; pc = image.entry; memory = bytes_of_image image }
 
 -- the state of a machine that was loaded
 abbrev pub start : ImageParts → Segments → List ℕ → State
-start image b input = record { core = start_core image b; heap_break = heap_start; input = input; ended = false; output = [] }
+start image b input = record { core = start_core image b; heap_break = HEAP_START; input = input; ended = false; output = [] }
 
 -- the run of an image with so many bytes of heap and stack
 abbrev pub run_image : ImageParts → ℕ → ℕ → List ℕ → ℕ → Outcome

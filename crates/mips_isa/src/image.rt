@@ -2,11 +2,11 @@
 
 use std::marker::Model;
 
-/// The words of a text, from address 0x00400000 on, the bytes of the data, from 0x10000000 on, and the address at which
-/// a run begins.
+/// The words of a text, from `TEXT_START` on, the bytes of the data, from `DATA_START` on, and the address at which a run
+/// begins.
 ///
-/// There are 1 to 66,060,288 words and at most 268,435,456 bytes, and the entry is the address of a word of the text. A
-/// contract sees lists.
+/// There are 1 to `MOST_TEXT_WORDS` words and at most `MOST_DATA_BYTES` bytes, and the entry is the address of a word of the
+/// text. A contract sees lists.
 #[derive(Debug, Drop)]
 pub struct Image {
     pub entry: u32,

@@ -4,15 +4,20 @@
 //! encoder, the decoder and everything about emitted code reads.
 #![tactic(auto)]
 
+mod address_map;
 mod decoding;
 mod encoding;
 mod image;
 mod instr;
 mod line;
 mod place;
-mod reg;
+pub mod register;
+pub mod system_call;
 mod trap;
 
+pub use address_map::{
+    DATA_START, HEAP_START, MOST_DATA_BYTES, MOST_TEXT_WORDS, STACK_END, TEXT_START,
+};
 pub use decoding::decode;
 pub use encoding::encode;
 pub use image::Image;
@@ -21,5 +26,5 @@ pub use instr::{
 };
 pub use line::{AsmError, AsmFault, AsmKind, Label, Line, OrderOp, Statement, WordItem, ZeroOp};
 pub use place::{Place, Segment};
-pub use reg::Reg;
+pub use register::Reg;
 pub use trap::{Trap, TrapKind};

@@ -12,6 +12,7 @@ use crate::operands::{
 };
 use crate::ranges::{jump_index, shift_count, signed, unsigned, word_number};
 use crate::words::{Word, Words};
+use mips_isa::register::RA;
 use mips_isa::{
     FromOp, ImmOp, Instr, JumpOp, MemOp, MulDivOp, OneOp, OrderOp, Reg, ShiftOp, ShiftRegOp,
     Statement, ThreeOp, ToOp, TwoOp, ZeroOp,
@@ -95,7 +96,7 @@ fn take_jalr(words: &mut Words) -> Result<Statement, Flaw>
     let first = take_register(words)?;
     match words.take() {
         None => Ok(Statement::Plain(Instr::Jalr {
-            rd: Reg::new(31),
+            rd: Reg::new(RA),
             rs: first,
         })),
         Some(Word::Register(name)) => {

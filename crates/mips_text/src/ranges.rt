@@ -5,6 +5,10 @@ ghost use Rattle.mips_isa.specs.Words.{IsSigned, IsUnsigned};
 ghost use Rattle.mips_isa.specs.Lines.{IsWord, IsByte};
 
 use crate::flaw::Flaw;
+use mips_isa::MOST_DATA_BYTES;
+
+/// The most bytes of the data.
+const MOST_BYTES: i64 = MOST_DATA_BYTES as i64;
 
 /// An immediate that is extended by its sign, or the offset of a branch.
 pub(crate) fn signed(value: i64) -> Result<i32, Flaw>
@@ -68,10 +72,10 @@ pub(crate) fn byte_number(value: i64) -> Result<i32, Flaw>
 
 /// How many zero bytes are kept free.
 pub(crate) fn space_size(value: i64) -> Result<u32, Flaw>
-    ensures { IfOk result (λ size. size ≤ 268435456) }
+    ensures { IfOk result (λ size. size ≤ MOST_DATA_BYTES) }
 {
     match value {
-        0..=268_435_456 => Ok(value as u32),
+        0..=MOST_BYTES => Ok(value as u32),
         _ => Err(Flaw::Range),
     }
 }

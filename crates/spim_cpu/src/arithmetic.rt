@@ -4,7 +4,7 @@ ghost use Rattle.std.specs.Prelude.{◌≡◌, ◌<◌, ◌+◌, ◌*◌, ◌/�
 ghost use Rattle.mips_isa.specs.Words.{bits_of};
 ghost use Rattle.mips_isa.specs.Machine as machine;
 
-use mips_isa::{ImmOp, OneOp, ShiftOp, ShiftRegOp, ThreeOp, TwoOp};
+use mips_isa::{DATA_START, ImmOp, OneOp, ShiftOp, ShiftRegOp, ThreeOp, TwoOp};
 
 /// What a product or a quotient leaves in HI and in LO.
 #[derive(Clone, Copy)]
@@ -192,7 +192,7 @@ pub fn branch_target(pc: u32, imm: i32) -> u32
 /// The address to which a jump at `pc` goes: it keeps the upper four bits of the next instruction's address.
 pub fn jump_target(pc: u32, index: u32) -> u32
     requires index { index < 67108864 }
-    requires pc { pc < 268435456 }
+    requires pc { pc < DATA_START }
     ensures { result ≡ machine.jump_target pc index }
 {
     (pc + 4) & 0xf000_0000 | index << 2

@@ -16,15 +16,13 @@ use crate::arithmetic::{
     shift_of, shift_result, signed_division, signed_product, three_result, two_result,
 };
 use access::trap_of;
-use mips_isa::{FromOp, Image, Instr, JumpOp, MulDivOp, Reg, ShiftRegOp, ToOp, Trap, TrapKind};
+use mips_isa::register::{GP, RA, S6, S7, SP, ZERO};
+use mips_isa::{
+    DATA_START, FromOp, HEAP_START, Image, Instr, JumpOp, MulDivOp, Reg, STACK_END, ShiftRegOp,
+    ToOp, Trap, TrapKind,
+};
 use spim_memory::{Limits, Memory};
 use std::marker::Model;
-
-/// Where the heap begins.
-const HEAP_START: u32 = 0x2000_0000;
-
-/// Where the stack ends.
-const STACK_END: u32 = 0x8000_0000;
 
 /// A processor and its memory.
 #[derive(Drop)]
@@ -56,10 +54,10 @@ impl Cpu {
         ensures memory { result.memory ≡ memory }
     {
         let mut registers = [0; 32];
-        registers[22] = STACK_END - limits.stack;
-        registers[23] = HEAP_START + limits.heap;
-        registers[28] = HEAP_START;
-        registers[29] = STACK_END;
+        registers[S6 as usize] = STACK_END - limits.stack;
+        registers[S7 as usize] = HEAP_START + limits.heap;
+        registers[GP as usize] = HEAP_START;
+        registers[SP as usize] = STACK_END;
         Cpu {
             registers,
             hi: 0,
@@ -81,7 +79,7 @@ impl Cpu {
         ensures core { core_of self.new ≡ record (core_of self.old) { registers = machine.set_register (core_of self.old).registers r v } }
         ensures memory { self.new.memory ≡ self.old.memory }
     {
-        if r.number() != 0 {
+        if r.number() != ZERO {
             self.registers[r.number() as usize] = v;
         }
     }
@@ -123,7 +121,7 @@ impl Cpu {
     #[inline(always)]
     fn act(&mut self, instr: Instr) -> Step
         requires range { InRange instr }
-        requires pc { self.old.pc < 268435456 }
+        requires pc { self.old.pc < DATA_START }
         ensures stepped { Stepped (machine.act (segments self.old.memory) instr (core_of self.old)) result self.old self.new }
         ensures segments { KeepsSegments self.old.memory self.new.memory }
     {
@@ -161,7 +159,7 @@ impl Cpu {
     }
 
     fn shift_by_register(&mut self, op: ShiftRegOp, rd: Reg, rt: Reg, rs: Reg) -> Step
-        requires { self.old.pc < 268435456 }
+        requires { self.old.pc < DATA_START }
         ensures stepped { Stepped (machine.act (segments self.old.memory) (Instr.ShiftReg op rd rt rs) (core_of self.old)) result self.old self.new }
         ensures segments { KeepsSegments self.old.memory self.new.memory }
     {
@@ -171,7 +169,7 @@ impl Cpu {
 
     /// Puts a result, and goes on.
     fn put(&mut self, r: Reg, v: u32) -> Step
-        requires { self.old.pc < 268435456 }
+        requires { self.old.pc < DATA_START }
         ensures stepped { Stepped (machine.put (core_of self.old) r v) result self.old self.new }
         ensures segments { KeepsSegments self.old.memory self.new.memory }
     {
@@ -181,7 +179,7 @@ impl Cpu {
     }
 
     fn put_or_overflow(&mut self, r: Reg, answer: Option<u32>) -> Step
-        requires { self.old.pc < 268435456 }
+        requires { self.old.pc < DATA_START }
         ensures stepped { Stepped (machine.put_or_overflow (core_of self.old) r answer) result self.old self.new }
         ensures segments { KeepsSegments self.old.memory self.new.memory }
     {
@@ -204,7 +202,7 @@ impl Cpu {
     }
 
     fn go_to_with_return(&mut self, r: Reg, a: u32) -> Step
-        requires { self.old.pc < 268435456 }
+        requires { self.old.pc < DATA_START }
         ensures stepped { Stepped (machine.go_to_with_return (core_of self.old) r a) result self.old self.new }
         ensures segments { KeepsSegments self.old.memory self.new.memory }
     {
@@ -214,7 +212,7 @@ impl Cpu {
     }
 
     fn move_from(&mut self, op: FromOp, r: Reg) -> Step
-        requires { self.old.pc < 268435456 }
+        requires { self.old.pc < DATA_START }
         ensures stepped { Stepped (machine.act (segments self.old.memory) (Instr.MoveFrom op r) (core_of self.old)) result self.old self.new }
         ensures segments { KeepsSegments self.old.memory self.new.memory }
     {
@@ -225,7 +223,7 @@ impl Cpu {
     }
 
     fn put_hi_lo(&mut self, hi: u32, lo: u32) -> Step
-        requires { self.old.pc < 268435456 }
+        requires { self.old.pc < DATA_START }
         ensures stepped { Stepped (machine.put_hi_lo (core_of self.old) hi lo) result self.old self.new }
         ensures segments { KeepsSegments self.old.memory self.new.memory }
     {
@@ -236,7 +234,7 @@ impl Cpu {
     }
 
     fn move_to(&mut self, op: ToOp, v: u32) -> Step
-        requires { self.old.pc < 268435456 }
+        requires { self.old.pc < DATA_START }
         ensures stepped { Stepped (moved_to op (core_of self.old) v) result self.old self.new }
         ensures segments { KeepsSegments self.old.memory self.new.memory }
     {
@@ -248,7 +246,7 @@ impl Cpu {
 
     /// A divisor 0 leaves HI and LO.
     fn mul_div(&mut self, op: MulDivOp, a: u32, b: u32) -> Step
-        requires { self.old.pc < 268435456 }
+        requires { self.old.pc < DATA_START }
         ensures stepped { Stepped (machine.mul_div op (core_of self.old) a b) result self.old self.new }
         ensures segments { KeepsSegments self.old.memory self.new.memory }
     {
@@ -279,7 +277,7 @@ impl Cpu {
     }
 
     fn branch(&mut self, taken: bool, imm: i32) -> Step
-        requires { self.old.pc < 268435456 }
+        requires { self.old.pc < DATA_START }
         ensures stepped { Stepped (machine.branch (core_of self.old) taken imm) result self.old self.new }
         ensures segments { KeepsSegments self.old.memory self.new.memory }
     {
@@ -291,7 +289,7 @@ impl Cpu {
     }
 
     fn jump(&mut self, op: JumpOp, index: u32) -> Step
-        requires pc { self.old.pc < 268435456 }
+        requires pc { self.old.pc < DATA_START }
         requires index { index < 67108864 }
         ensures stepped { Stepped (machine.act (segments self.old.memory) (Instr.Jump op index) (core_of self.old)) result self.old self.new }
         ensures segments { KeepsSegments self.old.memory self.new.memory }
@@ -299,7 +297,7 @@ impl Cpu {
         let target = jump_target(self.pc, index);
         match op {
             JumpOp::J => self.go_to(target),
-            JumpOp::Jal => self.go_to_with_return(Reg::new(31), target),
+            JumpOp::Jal => self.go_to_with_return(Reg::new(RA), target),
         }
     }
 }

@@ -14,14 +14,11 @@ mod calls;
 
 use crate::Halt;
 use cool_ports::{Sink, Source};
-use mips_isa::Image;
+use mips_isa::{HEAP_START, Image};
 use spim_cpu::{Cpu, Step};
 use spim_memory::{Limits, Memory};
 use std::alloc::{AllocError, Global};
 use std::marker::Model;
-
-/// Where the heap begins.
-const HEAP_START: u32 = 0x2000_0000;
 
 /// A processor, the end of what `sbrk` gave, whether the end of the input was answered, and how the last run ended, unless
 /// it may go on.

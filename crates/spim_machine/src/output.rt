@@ -3,7 +3,7 @@
 ghost use Rattle.std.specs.Prelude.{◌≡◌, ◌+◌, ◌<◌, length, OnOk, OnErr};
 ghost use Rattle.cool_ports.specs.Counts.{Rose};
 ghost use Rattle.cool_ports.specs.SinkBytes.{appended, GotPrefix};
-ghost use Rattle.mips_isa.specs.Bytes.{stack_end};
+ghost use Rattle.mips_isa.specs.declared.address_map.TheConstants.{STACK_END};
 ghost use Rattle.spim_memory.specs.Memory.{segments, bytes_of};
 ghost use Rattle.spim_memory.specs.Strings.{bytes_from, MayLoad};
 
@@ -23,7 +23,7 @@ pub fn put_string<K: Sink>(
     sink: &mut K,
 ) -> Result<(), Failed>
     requires loads { MayLoad (segments memory.now) address count }
-    requires below { address + count < stack_end }
+    requires below { address + count < STACK_END }
     ensures put { OnOk result (K.held sink.new ≡ appended (K.held sink.old) (bytes_from (bytes_of memory.now) address count)) }
     ensures prefix { OnErr result (GotPrefix (K.held sink.old) (bytes_from (bytes_of memory.now) address count) (K.held sink.new)) }
     ensures no_fault { OnOk result (K.faults sink.new ≡ K.faults sink.old) }
@@ -44,7 +44,7 @@ pub fn put_string<K: Sink>(
 /// Loads the bytes from an address on.
 fn load_bytes(memory: &Memory, address: u32, bytes: &mut [u8])
     requires loads { MayLoad (segments memory.now) address (length bytes.old) }
-    requires below { address + length bytes.old < stack_end }
+    requires below { address + length bytes.old < STACK_END }
     ensures { bytes.new ≡ bytes_from (bytes_of memory.now) address (length bytes.old) }
 {
     for (k, byte) in bytes.iter_mut().enumerate() {

@@ -3,7 +3,7 @@ use Rattle.std.proofs.Common.{◌≡◌, ◌∙◌, ap, sym, ℕ, ◌+◌, ◌-�
 use Rattle.std.specs.Prelude.{◌==◌, if◌then◌else◌, Option, IfSome, Ok}
 use Rattle.std.proofs.lemmas.List.{length-map, get_or-map}
 use Rattle.mips_isa.specs.declared.instr.Instr.{Instr}
-use Rattle.mips_isa.specs.ImageBounds.{text_start}
+use Rattle.mips_isa.specs.declared.address_map.TheConstants.{TEXT_START}
 use Rattle.mips_isa.specs.Bytes.{lies}
 use Rattle.mips_isa.specs.Words.{InRange}
 use Rattle.mips_isa.specs.Decoding.{imm_at, mem_at, branch_at, immediate_at, decoded}
@@ -59,11 +59,11 @@ behind_start a = (a + 4290772992) % 4294967296
 -- the instruction that is found for the address of a word is that of the word
 pub found_instruction : (text : List ℕ) (all : List (Option Instr)) (a : ℕ) (found : Option Instr) → length text ≤ 66060288 → all ≡ map decoded text → a < 4294967296 → a % 4 ≡ 0
     → behind_start a / 4 < length all → ((e : Option Instr) → found ≡ get_or all (behind_start a / 4) e)
-    → Ok found ≡ accessed 4 (lies text_start (text_start + 4 * length text) a 4) a (decoded (word_of_text text a))
+    → Ok found ≡ accessed 4 (lies TEXT_START (TEXT_START + 4 * length text) a 4) a (decoded (word_of_text text a))
 found_instruction text all a found small same fits even within at =
     let here = item_of_map decoded text all (behind_start a / 4) found 0 same within at in
-    let index : behind_start a / 4 ≡ (a - text_start) / 4 = omega (arith, here.0, small, fits) in
-    let may : lies text_start (text_start + 4 * length text) a 4 ≡ true = grind (arith, here.0, small, fits, even) in
+    let index : behind_start a / 4 ≡ (a - TEXT_START) / 4 = omega (arith, here.0, small, fits) in
+    let may : lies TEXT_START (TEXT_START + 4 * length text) a 4 ≡ true = grind (arith, here.0, small, fits, even) in
     rw (even, may) (ap Ok (here.1 ∙ ap (λ i. decoded (get_or text i 0)) index))
 
 -- an instruction that is found is in range

@@ -1,21 +1,21 @@
 -- A half or a word is the number in its bytes, in a segment and in the text.
 use Rattle.std.proofs.Common.{◌≡◌, ◌∙◌, ℕ, ◌+◌, ◌-◌, ◌*◌, ◌/◌, ◌%◌, ◌^◌, ◌<◌, ◌≤◌, List, length, get_or, true, inl, inr, ◌⊎◌, refl, arith}
 use Rattle.std.specs.Prelude.{nat_lt}
-use Rattle.mips_isa.specs.ImageBounds.{text_start}
-use Rattle.mips_isa.specs.Bytes.{Bytes, half, word, data_start, heap_start, stack_end, byte_of_word}
+use Rattle.mips_isa.specs.declared.address_map.TheConstants.{TEXT_START, DATA_START, HEAP_START, STACK_END}
+use Rattle.mips_isa.specs.Bytes.{Bytes, half, word, byte_of_word}
 use Rattle.spim_memory.specs.Memory.{MemoryParts, bytes_of}
 
 -- a list of n numbers, from this address on, is seen by its bytes
 abbrev pub Reads : Bytes → ℕ → List ℕ → Type 0
 Reads seen first l = (i : ℕ) → i < length l → seen (first + i) ≡ get_or l i 0
 
-pub reads_static : (m : MemoryParts) → length m.static_bytes ≤ 268435456 → Reads (bytes_of m) data_start m.static_bytes
+pub reads_static : (m : MemoryParts) → length m.static_bytes ≤ 268435456 → Reads (bytes_of m) DATA_START m.static_bytes
 reads_static m h i within = grind arith
 
-pub reads_heap : (m : MemoryParts) → length m.heap ≤ 268435456 → length m.stack ≤ 67108864 → Reads (bytes_of m) heap_start m.heap
+pub reads_heap : (m : MemoryParts) → length m.heap ≤ 268435456 → length m.stack ≤ 67108864 → Reads (bytes_of m) HEAP_START m.heap
 reads_heap m h k i within = grind arith
 
-pub reads_stack : (m : MemoryParts) → length m.stack ≤ 67108864 → Reads (bytes_of m) (stack_end - length m.stack) m.stack
+pub reads_stack : (m : MemoryParts) → length m.stack ≤ 67108864 → Reads (bytes_of m) (STACK_END - length m.stack) m.stack
 reads_stack m h i within = grind arith
 
 -- a half of a segment
@@ -35,34 +35,34 @@ reads_word seen first l one i within =
     rw (next1, next2, next3, one i (omega arith), one (i + 1) (omega arith), one (i + 2) (omega arith), one (i + 3) (omega arith)) refl
 
 -- a byte of a word of the text
-byte_of_text : (m : MemoryParts) (a k w : ℕ) → length m.text ≤ 66060288 → a + 4 ≤ text_start + 4 * length m.text → text_start ≤ a → a % 4 ≡ 0 → k < 4 → get_or m.text ((a - text_start) / 4) 0 ≡ w → bytes_of m (a + k) ≡ byte_of_word w k
+byte_of_text : (m : MemoryParts) (a k w : ℕ) → length m.text ≤ 66060288 → a + 4 ≤ TEXT_START + 4 * length m.text → TEXT_START ≤ a → a % 4 ≡ 0 → k < 4 → get_or m.text ((a - TEXT_START) / 4) 0 ≡ w → bytes_of m (a + k) ≡ byte_of_word w k
 byte_of_text m a k w most to from even small is =
-    let index : (a + k - text_start) / 4 ≡ (a - text_start) / 4 = omega arith in
-    let offset : (a + k - text_start) % 4 ≡ k = omega arith in
-    let in_text : nat_lt (a + k) data_start ≡ true = grind arith in
+    let index : (a + k - TEXT_START) / 4 ≡ (a - TEXT_START) / 4 = omega arith in
+    let offset : (a + k - TEXT_START) % 4 ≡ k = omega arith in
+    let in_text : nat_lt (a + k) DATA_START ≡ true = grind arith in
     rw (in_text, index, offset, is) refl
 
-first_of_text : (m : MemoryParts) (a w : ℕ) → length m.text ≤ 66060288 → a < text_start + 4 * length m.text → text_start ≤ a → a % 4 ≡ 0 → get_or m.text ((a - text_start) / 4) 0 ≡ w → bytes_of m a ≡ w % 256
+first_of_text : (m : MemoryParts) (a w : ℕ) → length m.text ≤ 66060288 → a < TEXT_START + 4 * length m.text → TEXT_START ≤ a → a % 4 ≡ 0 → get_or m.text ((a - TEXT_START) / 4) 0 ≡ w → bytes_of m a ≡ w % 256
 first_of_text m a w most to from even is =
-    let offset : (a - text_start) % 4 ≡ 0 = omega arith in
-    let in_text : nat_lt a data_start ≡ true = grind arith in
+    let offset : (a - TEXT_START) % 4 ≡ 0 = omega arith in
+    let in_text : nat_lt a DATA_START ≡ true = grind arith in
     rw (in_text, offset, is) refl
 
-third_of_text : (m : MemoryParts) (a w : ℕ) → length m.text ≤ 66060288 → a < text_start + 4 * length m.text → text_start ≤ a → a % 4 ≡ 2 → get_or m.text ((a - text_start) / 4) 0 ≡ w → bytes_of m a ≡ w / 65536 % 256
+third_of_text : (m : MemoryParts) (a w : ℕ) → length m.text ≤ 66060288 → a < TEXT_START + 4 * length m.text → TEXT_START ≤ a → a % 4 ≡ 2 → get_or m.text ((a - TEXT_START) / 4) 0 ≡ w → bytes_of m a ≡ w / 65536 % 256
 third_of_text m a w most to from even is =
-    let offset : (a - text_start) % 4 ≡ 2 = omega arith in
-    let in_text : nat_lt a data_start ≡ true = grind arith in
+    let offset : (a - TEXT_START) % 4 ≡ 2 = omega arith in
+    let in_text : nat_lt a DATA_START ≡ true = grind arith in
     rw (in_text, offset, is) refl
 
-fourth_of_text : (m : MemoryParts) (a w : ℕ) → length m.text ≤ 66060288 → a < text_start + 4 * length m.text → text_start ≤ a → a % 4 ≡ 2 → get_or m.text ((a - text_start) / 4) 0 ≡ w → bytes_of m (a + 1) ≡ w / 16777216 % 256
+fourth_of_text : (m : MemoryParts) (a w : ℕ) → length m.text ≤ 66060288 → a < TEXT_START + 4 * length m.text → TEXT_START ≤ a → a % 4 ≡ 2 → get_or m.text ((a - TEXT_START) / 4) 0 ≡ w → bytes_of m (a + 1) ≡ w / 16777216 % 256
 fourth_of_text m a w most to from even is =
-    let index : (a + 1 - text_start) / 4 ≡ (a - text_start) / 4 = omega arith in
-    let offset : (a + 1 - text_start) % 4 ≡ 3 = omega arith in
-    let in_text : nat_lt (a + 1) data_start ≡ true = grind arith in
+    let index : (a + 1 - TEXT_START) / 4 ≡ (a - TEXT_START) / 4 = omega arith in
+    let offset : (a + 1 - TEXT_START) % 4 ≡ 3 = omega arith in
+    let in_text : nat_lt (a + 1) DATA_START ≡ true = grind arith in
     rw (in_text, index, offset, is) refl
 
 -- the bytes of a word of the text, from one of them on
-half_of_text_at : (m : MemoryParts) (a k w : ℕ) → length m.text ≤ 66060288 → a < text_start + 4 * length m.text → text_start ≤ a → a % 4 ≡ k → (k ≡ 0) ⊎ (k ≡ 2) → get_or m.text ((a - text_start) / 4) 0 ≡ w → w < 4294967296 → half (bytes_of m) a ≡ w / 2 ^ (8 * k) % 65536
+half_of_text_at : (m : MemoryParts) (a k w : ℕ) → length m.text ≤ 66060288 → a < TEXT_START + 4 * length m.text → TEXT_START ≤ a → a % 4 ≡ k → (k ≡ 0) ⊎ (k ≡ 2) → get_or m.text ((a - TEXT_START) / 4) 0 ≡ w → w < 4294967296 → half (bytes_of m) a ≡ w / 2 ^ (8 * k) % 65536
 unfolding half
 half_of_text_at m a k w most to from off (inl even) is small =
     let zero_off : a % 4 ≡ 0 = off ∙ even in
@@ -75,14 +75,14 @@ half_of_text_at m a k w most to from off (inr odd) is small =
     let b3 : bytes_of m (a + 1) ≡ w / 16777216 % 256 = fourth_of_text m a w most to from two_off is in
     rw (b2, b3, odd) (omega (arith, small))
 
-pub half_of_text : (m : MemoryParts) (a : ℕ) → length m.text ≤ 66060288 → a < text_start + 4 * length m.text → text_start ≤ a → a % 2 ≡ 0 → get_or m.text ((a - text_start) / 4) 0 < 4294967296 → half (bytes_of m) a ≡ get_or m.text ((a - text_start) / 4) 0 / 2 ^ (8 * (a % 4)) % 65536
+pub half_of_text : (m : MemoryParts) (a : ℕ) → length m.text ≤ 66060288 → a < TEXT_START + 4 * length m.text → TEXT_START ≤ a → a % 2 ≡ 0 → get_or m.text ((a - TEXT_START) / 4) 0 < 4294967296 → half (bytes_of m) a ≡ get_or m.text ((a - TEXT_START) / 4) 0 / 2 ^ (8 * (a % 4)) % 65536
 unfolding half
-half_of_text m a most to from even small = half_of_text_at m a (a % 4) (get_or m.text ((a - text_start) / 4) 0) most to from refl (grind arith) refl small
+half_of_text m a most to from even small = half_of_text_at m a (a % 4) (get_or m.text ((a - TEXT_START) / 4) 0) most to from refl (grind arith) refl small
 
-pub word_of_bytes : (m : MemoryParts) (a : ℕ) → length m.text ≤ 66060288 → a < text_start + 4 * length m.text → text_start ≤ a → a % 4 ≡ 0 → get_or m.text ((a - text_start) / 4) 0 < 4294967296 → word (bytes_of m) a ≡ get_or m.text ((a - text_start) / 4) 0
+pub word_of_bytes : (m : MemoryParts) (a : ℕ) → length m.text ≤ 66060288 → a < TEXT_START + 4 * length m.text → TEXT_START ≤ a → a % 4 ≡ 0 → get_or m.text ((a - TEXT_START) / 4) 0 < 4294967296 → word (bytes_of m) a ≡ get_or m.text ((a - TEXT_START) / 4) 0
 unfolding word
 word_of_bytes m a most to from even small =
-    let w = get_or m.text ((a - text_start) / 4) 0 in
+    let w = get_or m.text ((a - TEXT_START) / 4) 0 in
     let b0 : bytes_of m a ≡ w % 256 = first_of_text m a w most to from even refl in
     let b1 : bytes_of m (a + 1) ≡ w / 256 % 256 = byte_of_text m a 1 w most (omega arith) from even (omega arith) refl in
     let b2 : bytes_of m (a + 2) ≡ w / 65536 % 256 = byte_of_text m a 2 w most (omega arith) from even (omega arith) refl in

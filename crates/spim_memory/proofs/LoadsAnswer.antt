@@ -2,8 +2,8 @@
 use Rattle.std.proofs.Common.{◌≡◌, ◌∙◌, ap, sym, ℕ, ◌+◌, ◌-◌, ◌*◌, ◌/◌, ◌%◌, ◌^◌, ◌<◌, ◌≤◌, List, length, get_or, true, false, None, Some, arith}
 use Rattle.std.specs.Prelude.{Result, Ok, Err}
 use Rattle.spim_memory.specs.declared.fault.MemFault.{MemFault}
-use Rattle.mips_isa.specs.ImageBounds.{text_start}
-use Rattle.mips_isa.specs.Bytes.{half, word, data_start, heap_start, stack_end, readable}
+use Rattle.mips_isa.specs.declared.address_map.TheConstants.{TEXT_START, DATA_START, HEAP_START, STACK_END}
+use Rattle.mips_isa.specs.Bytes.{half, word, readable}
 use Rattle.mips_isa.specs.Machine.{word_of_text}
 use Rattle.spim_memory.specs.Memory.{MemoryParts, IsMemory, segments, bytes_of, accessed}
 use Rattle.spim_memory.specs.Places.{IsPlace, IsTextFrom}
@@ -27,7 +27,7 @@ half_of_static m l a i v is even at same value =
     let may : readable (segments m) a 2 ≡ true = grind (arith, at.0, within, is.static_bytes) in
     let number : v ≡ two_of m.static_bytes i = value ∙ ap (λ bytes. two_of bytes i) same in
     let found : v ≡ half (bytes_of m) a =
-    number ∙ sym (reads_half (bytes_of m) data_start m.static_bytes (reads_static m is.static_bytes) i within) ∙ ap (λ place. half (bytes_of m) place) (sym at.0) in
+    number ∙ sym (reads_half (bytes_of m) DATA_START m.static_bytes (reads_static m is.static_bytes) i within) ∙ ap (λ place. half (bytes_of m) place) (sym at.0) in
     rw (even, may) (ap Ok found)
 
 pub half_of_heap : (m : MemoryParts) (l : List ℕ) (a i v : ℕ) → IsMemory m → a % 2 ≡ 0 → IsPlace m a (Some (Heap i)) → l ≡ m.heap → v ≡ two_of l i → Ok v ≡ accessed 2 (readable (segments m) a 2) a (half (bytes_of m) a)
@@ -36,7 +36,7 @@ half_of_heap m l a i v is even at same value =
     let may : readable (segments m) a 2 ≡ true = grind (arith, at.0, within, is.heap) in
     let number : v ≡ two_of m.heap i = value ∙ ap (λ bytes. two_of bytes i) same in
     let found : v ≡ half (bytes_of m) a =
-    number ∙ sym (reads_half (bytes_of m) heap_start m.heap (reads_heap m is.heap is.stack) i within) ∙ ap (λ place. half (bytes_of m) place) (sym at.0) in
+    number ∙ sym (reads_half (bytes_of m) HEAP_START m.heap (reads_heap m is.heap is.stack) i within) ∙ ap (λ place. half (bytes_of m) place) (sym at.0) in
     rw (even, may) (ap Ok found)
 
 pub half_of_stack : (m : MemoryParts) (l : List ℕ) (a i v : ℕ) → IsMemory m → a % 2 ≡ 0 → IsPlace m a (Some (Stack i)) → l ≡ m.stack → v ≡ two_of l i → Ok v ≡ accessed 2 (readable (segments m) a 2) a (half (bytes_of m) a)
@@ -45,7 +45,7 @@ half_of_stack m l a i v is even at same value =
     let may : readable (segments m) a 2 ≡ true = grind (arith, at.0, within, is.stack) in
     let number : v ≡ two_of m.stack i = value ∙ ap (λ bytes. two_of bytes i) same in
     let found : v ≡ half (bytes_of m) a =
-    number ∙ sym (reads_half (bytes_of m) (stack_end - length m.stack) m.stack (reads_stack m is.stack) i within) ∙ ap (λ place. half (bytes_of m) place) (sym at.0) in
+    number ∙ sym (reads_half (bytes_of m) (STACK_END - length m.stack) m.stack (reads_stack m is.stack) i within) ∙ ap (λ place. half (bytes_of m) place) (sym at.0) in
     rw (even, may) (ap Ok found)
 
 pub word_of_static : (m : MemoryParts) (l : List ℕ) (a i v : ℕ) → IsMemory m → a % 4 ≡ 0 → IsPlace m a (Some (StaticBytes i)) → l ≡ m.static_bytes → v ≡ four_of l i → Ok v ≡ accessed 4 (readable (segments m) a 4) a (word (bytes_of m) a)
@@ -54,7 +54,7 @@ word_of_static m l a i v is even at same value =
     let may : readable (segments m) a 4 ≡ true = grind (arith, at.0, within, is.static_bytes) in
     let number : v ≡ four_of m.static_bytes i = value ∙ ap (λ bytes. four_of bytes i) same in
     let found : v ≡ word (bytes_of m) a =
-    number ∙ sym (reads_word (bytes_of m) data_start m.static_bytes (reads_static m is.static_bytes) i within) ∙ ap (λ place. word (bytes_of m) place) (sym at.0) in
+    number ∙ sym (reads_word (bytes_of m) DATA_START m.static_bytes (reads_static m is.static_bytes) i within) ∙ ap (λ place. word (bytes_of m) place) (sym at.0) in
     rw (even, may) (ap Ok found)
 
 pub word_of_heap : (m : MemoryParts) (l : List ℕ) (a i v : ℕ) → IsMemory m → a % 4 ≡ 0 → IsPlace m a (Some (Heap i)) → l ≡ m.heap → v ≡ four_of l i → Ok v ≡ accessed 4 (readable (segments m) a 4) a (word (bytes_of m) a)
@@ -63,7 +63,7 @@ word_of_heap m l a i v is even at same value =
     let may : readable (segments m) a 4 ≡ true = grind (arith, at.0, within, is.heap) in
     let number : v ≡ four_of m.heap i = value ∙ ap (λ bytes. four_of bytes i) same in
     let found : v ≡ word (bytes_of m) a =
-    number ∙ sym (reads_word (bytes_of m) heap_start m.heap (reads_heap m is.heap is.stack) i within) ∙ ap (λ place. word (bytes_of m) place) (sym at.0) in
+    number ∙ sym (reads_word (bytes_of m) HEAP_START m.heap (reads_heap m is.heap is.stack) i within) ∙ ap (λ place. word (bytes_of m) place) (sym at.0) in
     rw (even, may) (ap Ok found)
 
 pub word_of_stack : (m : MemoryParts) (l : List ℕ) (a i v : ℕ) → IsMemory m → a % 4 ≡ 0 → IsPlace m a (Some (Stack i)) → l ≡ m.stack → v ≡ four_of l i → Ok v ≡ accessed 4 (readable (segments m) a 4) a (word (bytes_of m) a)
@@ -72,14 +72,14 @@ word_of_stack m l a i v is even at same value =
     let may : readable (segments m) a 4 ≡ true = grind (arith, at.0, within, is.stack) in
     let number : v ≡ four_of m.stack i = value ∙ ap (λ bytes. four_of bytes i) same in
     let found : v ≡ word (bytes_of m) a =
-    number ∙ sym (reads_word (bytes_of m) (stack_end - length m.stack) m.stack (reads_stack m is.stack) i within) ∙ ap (λ place. word (bytes_of m) place) (sym at.0) in
+    number ∙ sym (reads_word (bytes_of m) (STACK_END - length m.stack) m.stack (reads_stack m is.stack) i within) ∙ ap (λ place. word (bytes_of m) place) (sym at.0) in
     rw (even, may) (ap Ok found)
 
 -- a half of the text
 pub loaded_half : (m : MemoryParts) (a rest : ℕ) → IsMemory m → a % 2 ≡ 0 → IsTextFrom m a (Ok rest) → Ok (rest % 65536) ≡ accessed 2 (readable (segments m) a 2) a (half (bytes_of m) a)
 loaded_half m a rest is even at =
-    let from : text_start ≤ a = grind (arith, at.0) in
-    let to : a < text_start + 4 * length m.text = grind (arith, at.0) in
+    let from : TEXT_START ≤ a = grind (arith, at.0) in
+    let to : a < TEXT_START + 4 * length m.text = grind (arith, at.0) in
     let may : readable (segments m) a 2 ≡ true = grind (arith, from, to, even) in
     let found : rest % 65536 ≡ half (bytes_of m) a = ap (λ n. n % 65536) at.1 ∙ sym (half_of_text m a is.text to from even at.2) in
     rw (even, may) (ap Ok found)
@@ -87,8 +87,8 @@ loaded_half m a rest is even at =
 -- a word of the text
 word_found : (m : MemoryParts) (a rest : ℕ) → IsMemory m → a % 4 ≡ 0 → IsTextFrom m a (Ok rest) → Ok rest ≡ accessed 4 (readable (segments m) a 4) a (word (bytes_of m) a)
 word_found m a rest is even at =
-    let from : text_start ≤ a = grind (arith, at.0) in
-    let to : a < text_start + 4 * length m.text = grind (arith, at.0) in
+    let from : TEXT_START ≤ a = grind (arith, at.0) in
+    let to : a < TEXT_START + 4 * length m.text = grind (arith, at.0) in
     let may : readable (segments m) a 4 ≡ true = grind (arith, from, to, even) in
     let whole : word_of_text m.text a / 2 ^ (8 * (a % 4)) ≡ word_of_text m.text a = rw even (omega arith) in
     let found : rest ≡ word (bytes_of m) a = at.1 ∙ whole ∙ sym (word_of_bytes m a is.text to from even at.2) in

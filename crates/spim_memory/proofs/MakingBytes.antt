@@ -5,7 +5,8 @@ use Rattle.std.proofs.Math.ListN.{get_or-append, get_or-eq_default}
 use Rattle.std.proofs.Math.Seq.{get_or-append_right}
 use Rattle.std.proofs.lemmas.List.{get_or-replicate, length-replicate}
 use Rattle.mips_isa.specs.ImageBounds.{ImageParts}
-use Rattle.mips_isa.specs.Bytes.{data_start, heap_start, stack_end, bytes_of_image}
+use Rattle.mips_isa.specs.declared.address_map.TheConstants.{DATA_START, HEAP_START, STACK_END}
+use Rattle.mips_isa.specs.Bytes.{bytes_of_image}
 use Rattle.spim_memory.specs.Memory.{bytes_of}
 use Rattle.spim_memory.specs.Places.{whole_words}
 
@@ -19,7 +20,7 @@ padded l n i = grind (arith, zeros, get_or-append, get_or-append_right, get_or-e
 
 -- the bytes of a memory of such lists
 made_of_zeros : (i : ImageParts) (pad heap stack : ℕ) → bytes_of (record { text = i.text; static_bytes = i.bytes ++ replicate pad 0; heap = replicate heap 0; stack = replicate stack 0 }) ≡ bytes_of_image i
-made_of_zeros i pad heap stack = fun_ext (λ q. rw (padded i.bytes pad (q - data_start), zeros heap (q - heap_start), zeros stack (q - (stack_end - length (replicate {A = ℕ} stack 0)))) (grind arith))
+made_of_zeros i pad heap stack = fun_ext (λ q. rw (padded i.bytes pad (q - DATA_START), zeros heap (q - HEAP_START), zeros stack (q - (STACK_END - length (replicate {A = ℕ} stack 0)))) (grind arith))
 
 -- the bytes of a memory that is made
 pub made : (i : ImageParts) (t d h s : List ℕ) (heap stack : ℕ) → t ≡ i.text → d ≡ whole_words i.bytes → h ≡ replicate heap 0 → s ≡ replicate stack 0 → bytes_of (record { text = t; static_bytes = d; heap = h; stack = s }) ≡ bytes_of_image i

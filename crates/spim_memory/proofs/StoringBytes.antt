@@ -4,7 +4,8 @@ use Rattle.std.specs.Vec.{with_items}
 use Rattle.std.specs.Prelude.{nat_lt, ◌==◌}
 use Rattle.std.proofs.Math.Path.{fun_ext}
 use Rattle.std.proofs.lemmas.List.{get_or-set_same, get_or-set_other, length-set, with_items_is}
-use Rattle.mips_isa.specs.Bytes.{data_start, heap_start, stack_end, Bytes, set_byte, set_half, set_word}
+use Rattle.mips_isa.specs.declared.address_map.TheConstants.{DATA_START, HEAP_START, STACK_END}
+use Rattle.mips_isa.specs.Bytes.{Bytes, set_byte, set_half, set_word}
 use Rattle.spim_memory.specs.Memory.{bytes_of}
 use Rattle.spim_memory.specs.Places.{set_two, set_four}
 
@@ -13,13 +14,13 @@ get_set : (l : List ℕ) (i x j : ℕ) → i < length l → get_or (slice_set l 
 get_set l i x j h = grind (arith, get_or-set_same, get_or-set_other)
 
 -- the place of one byte among the segments
-at_static : (q i v text here rest : ℕ) → i < 268435456 → cond (nat_lt q data_start) text (cond (nat_lt q heap_start) (cond (q - data_start == i) v here) rest) ≡ cond (q == data_start + i) v (cond (nat_lt q data_start) text (cond (nat_lt q heap_start) here rest))
+at_static : (q i v text here rest : ℕ) → i < 268435456 → cond (nat_lt q DATA_START) text (cond (nat_lt q HEAP_START) (cond (q - DATA_START == i) v here) rest) ≡ cond (q == DATA_START + i) v (cond (nat_lt q DATA_START) text (cond (nat_lt q HEAP_START) here rest))
 at_static q i v text here rest h = grind arith
 
-at_heap : (q i v low text before here rest : ℕ) → heap_start + i < low → cond (nat_lt q data_start) text (cond (nat_lt q heap_start) before (cond (nat_lt q low) (cond (q - heap_start == i) v here) rest)) ≡ cond (q == heap_start + i) v (cond (nat_lt q data_start) text (cond (nat_lt q heap_start) before (cond (nat_lt q low) here rest)))
+at_heap : (q i v low text before here rest : ℕ) → HEAP_START + i < low → cond (nat_lt q DATA_START) text (cond (nat_lt q HEAP_START) before (cond (nat_lt q low) (cond (q - HEAP_START == i) v here) rest)) ≡ cond (q == HEAP_START + i) v (cond (nat_lt q DATA_START) text (cond (nat_lt q HEAP_START) before (cond (nat_lt q low) here rest)))
 at_heap q i v low text before here rest h = grind arith
 
-at_stack : (q i v low text before heap here : ℕ) → heap_start ≤ low → cond (nat_lt q data_start) text (cond (nat_lt q heap_start) before (cond (nat_lt q low) heap (cond (q - low == i) v here))) ≡ cond (q == low + i) v (cond (nat_lt q data_start) text (cond (nat_lt q heap_start) before (cond (nat_lt q low) heap here)))
+at_stack : (q i v low text before heap here : ℕ) → HEAP_START ≤ low → cond (nat_lt q DATA_START) text (cond (nat_lt q HEAP_START) before (cond (nat_lt q low) heap (cond (q - low == i) v here))) ≡ cond (q == low + i) v (cond (nat_lt q DATA_START) text (cond (nat_lt q HEAP_START) before (cond (nat_lt q low) heap here)))
 at_stack q i v low text before heap here h = grind arith
 
 -- A list of n numbers, from this address on, is seen by its bytes: one that is written is written there.
@@ -27,19 +28,19 @@ abbrev pub Writes : (List ℕ → Bytes) → ℕ → ℕ → Type 0
 Writes seen first n = (l : List ℕ) (i v : ℕ) → length l ≡ n → i < n → seen (slice_set l i v) ≡ set_byte (seen l) (first + i) v
 
 -- a byte of the data
-pub writes_static : (t h s : List ℕ) (n : ℕ) → n ≤ 268435456 → Writes (λ d. bytes_of (record { text = t; static_bytes = d; heap = h; stack = s })) data_start n
+pub writes_static : (t h s : List ℕ) (n : ℕ) → n ≤ 268435456 → Writes (λ d. bytes_of (record { text = t; static_bytes = d; heap = h; stack = s })) DATA_START n
 writes_static t h s n most d i v size within =
-    fun_ext (λ q. rw (get_set d i v (q - data_start) (omega arith)) (at_static q i v _ _ _ (omega arith)))
+    fun_ext (λ q. rw (get_set d i v (q - DATA_START) (omega arith)) (at_static q i v _ _ _ (omega arith)))
 
 -- a byte of the heap
-pub writes_heap : (t d s : List ℕ) (n : ℕ) → n ≤ 268435456 → length s ≤ 67108864 → Writes (λ h. bytes_of (record { text = t; static_bytes = d; heap = h; stack = s })) heap_start n
+pub writes_heap : (t d s : List ℕ) (n : ℕ) → n ≤ 268435456 → length s ≤ 67108864 → Writes (λ h. bytes_of (record { text = t; static_bytes = d; heap = h; stack = s })) HEAP_START n
 writes_heap t d s n most least h i v size within =
-    fun_ext (λ q. rw (get_set h i v (q - heap_start) (omega arith)) (at_heap q i v (stack_end - length s) _ _ _ _ (omega arith)))
+    fun_ext (λ q. rw (get_set h i v (q - HEAP_START) (omega arith)) (at_heap q i v (STACK_END - length s) _ _ _ _ (omega arith)))
 
 -- a byte of the stack
-pub writes_stack : (t d h : List ℕ) (n : ℕ) → n ≤ 67108864 → Writes (λ s. bytes_of (record { text = t; static_bytes = d; heap = h; stack = s })) (stack_end - n) n
+pub writes_stack : (t d h : List ℕ) (n : ℕ) → n ≤ 67108864 → Writes (λ s. bytes_of (record { text = t; static_bytes = d; heap = h; stack = s })) (STACK_END - n) n
 writes_stack t d h n most s i v size within =
-    fun_ext (λ q. rw (length-set s i v) (rw size (rw (get_set s i v (q - (stack_end - n)) (omega arith)) (at_stack q i v (stack_end - n) _ _ _ _ (omega arith)))))
+    fun_ext (λ q. rw (length-set s i v) (rw size (rw (get_set s i v (q - (STACK_END - n)) (omega arith)) (at_stack q i v (STACK_END - n) _ _ _ _ (omega arith)))))
 
 -- a half
 pub writes_two : (seen : List ℕ → Bytes) (first n : ℕ) → Writes seen first n → (l : List ℕ) (i v : ℕ) → length l ≡ n → i + 2 ≤ n → seen (set_two l i v) ≡ set_half (seen l) (first + i) v

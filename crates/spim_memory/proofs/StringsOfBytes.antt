@@ -1,8 +1,8 @@
 -- A string ends at its first 0, and a buffer may be stored where each of its bytes may be.
 use Rattle.std.proofs.Common.{◌≡◌, ◌∙◌, refl, sym, ap, ℕ, zero, suc, ◌+◌, ◌-◌, ◌<◌, ◌≤◌, Bool, true, false, Some, None, arith}
 use Rattle.std.specs.Prelude.{◌==◌, ◌&&◌, ◌||◌, if◌then◌else◌}
-use Rattle.mips_isa.specs.ImageBounds.{text_start}
-use Rattle.mips_isa.specs.Bytes.{Bytes, Segments, data_start, heap_start, stack_end, lies, writable, readable}
+use Rattle.mips_isa.specs.declared.address_map.TheConstants.{TEXT_START, DATA_START, HEAP_START, STACK_END}
+use Rattle.mips_isa.specs.Bytes.{Bytes, Segments, lies, writable, readable}
 use Rattle.mips_isa.specs.Calls.{segment_end, up_to_zero, string_at, all_writable}
 use Rattle.spim_memory.specs.Strings.{bytes_from, storable_end}
 
@@ -81,19 +81,19 @@ fourth false true d = refl
 fourth false false d = or_true d
 
 -- the bytes of a segment may be loaded
-load_within_at : (s : Segments) (a k end : ℕ) (t d h w : Bool) → lies text_start s.text_end a 1 ≡ t → lies data_start s.data_end a 1 ≡ d → lies heap_start s.heap_end a 1 ≡ h → lies s.stack_low stack_end a 1 ≡ w → (if t then Some s.text_end else (if d then Some s.data_end else (if h then Some s.heap_end else (if w then Some stack_end else None)))) ≡ Some end → a + k < end → readable s (a + k) 1 ≡ true
+load_within_at : (s : Segments) (a k end : ℕ) (t d h w : Bool) → lies TEXT_START s.text_end a 1 ≡ t → lies DATA_START s.data_end a 1 ≡ d → lies HEAP_START s.heap_end a 1 ≡ h → lies s.stack_low STACK_END a 1 ≡ w → (if t then Some s.text_end else (if d then Some s.data_end else (if h then Some s.heap_end else (if w then Some STACK_END else None)))) ≡ Some end → a + k < end → readable s (a + k) 1 ≡ true
 load_within_at s a k end true d h w it id ih iw is within =
     let last : s.text_end ≡ end = cc in
-    rw (lies_on text_start s.text_end a k it (omega (arith, within, last))) refl
+    rw (lies_on TEXT_START s.text_end a k it (omega (arith, within, last))) refl
 load_within_at s a k end false true h w it id ih iw is within =
     let last : s.data_end ≡ end = cc in
-    rw (lies_on data_start s.data_end a k id (omega (arith, within, last))) (second (lies text_start s.text_end (a + k) 1) (lies heap_start s.heap_end (a + k) 1 || lies s.stack_low stack_end (a + k) 1))
+    rw (lies_on DATA_START s.data_end a k id (omega (arith, within, last))) (second (lies TEXT_START s.text_end (a + k) 1) (lies HEAP_START s.heap_end (a + k) 1 || lies s.stack_low STACK_END (a + k) 1))
 load_within_at s a k end false false true w it id ih iw is within =
     let last : s.heap_end ≡ end = cc in
-    rw (lies_on heap_start s.heap_end a k ih (omega (arith, within, last))) (third (lies text_start s.text_end (a + k) 1) (lies data_start s.data_end (a + k) 1) (lies s.stack_low stack_end (a + k) 1))
+    rw (lies_on HEAP_START s.heap_end a k ih (omega (arith, within, last))) (third (lies TEXT_START s.text_end (a + k) 1) (lies DATA_START s.data_end (a + k) 1) (lies s.stack_low STACK_END (a + k) 1))
 load_within_at s a k end false false false true it id ih iw is within =
-    let last : stack_end ≡ end = cc in
-    rw (lies_on s.stack_low stack_end a k iw (omega (arith, within, last))) (fourth (lies text_start s.text_end (a + k) 1) (lies data_start s.data_end (a + k) 1) (lies heap_start s.heap_end (a + k) 1))
+    let last : STACK_END ≡ end = cc in
+    rw (lies_on s.stack_low STACK_END a k iw (omega (arith, within, last))) (fourth (lies TEXT_START s.text_end (a + k) 1) (lies DATA_START s.data_end (a + k) 1) (lies HEAP_START s.heap_end (a + k) 1))
 load_within_at s a k end false false false false it id ih iw is within = cc
 
 pub load_within : (s : Segments) (a k end : ℕ) → segment_end s a ≡ Some end → a + k < end → readable s (a + k) 1 ≡ true
@@ -135,16 +135,16 @@ all_behind s a (suc k) (suc n) each within =
     rw (next, rest, first_may s a k each) (all_behind s (a + 1) k n (may_store-behind s a k each) (omega (arith, within)))
 
 -- the bytes of a segment of data, heap or stack may be stored
-store_within_at : (s : Segments) (a k end : ℕ) (d h w : Bool) → lies data_start s.data_end a 1 ≡ d → lies heap_start s.heap_end a 1 ≡ h → lies s.stack_low stack_end a 1 ≡ w → (if d then Some s.data_end else (if h then Some s.heap_end else (if w then Some stack_end else None))) ≡ Some end → a + k < end → writable s (a + k) 1 ≡ true
+store_within_at : (s : Segments) (a k end : ℕ) (d h w : Bool) → lies DATA_START s.data_end a 1 ≡ d → lies HEAP_START s.heap_end a 1 ≡ h → lies s.stack_low STACK_END a 1 ≡ w → (if d then Some s.data_end else (if h then Some s.heap_end else (if w then Some STACK_END else None))) ≡ Some end → a + k < end → writable s (a + k) 1 ≡ true
 store_within_at s a k end true h w id ih iw is within =
     let last : s.data_end ≡ end = cc in
-    rw (lies_on data_start s.data_end a k id (omega (arith, within, last))) refl
+    rw (lies_on DATA_START s.data_end a k id (omega (arith, within, last))) refl
 store_within_at s a k end false true w id ih iw is within =
     let last : s.heap_end ≡ end = cc in
-    rw (lies_on heap_start s.heap_end a k ih (omega (arith, within, last))) (second (lies data_start s.data_end (a + k) 1) (lies s.stack_low stack_end (a + k) 1))
+    rw (lies_on HEAP_START s.heap_end a k ih (omega (arith, within, last))) (second (lies DATA_START s.data_end (a + k) 1) (lies s.stack_low STACK_END (a + k) 1))
 store_within_at s a k end false false true id ih iw is within =
-    let last : stack_end ≡ end = cc in
-    rw (lies_on s.stack_low stack_end a k iw (omega (arith, within, last))) (third_or (lies data_start s.data_end (a + k) 1) (lies heap_start s.heap_end (a + k) 1))
+    let last : STACK_END ≡ end = cc in
+    rw (lies_on s.stack_low STACK_END a k iw (omega (arith, within, last))) (third_or (lies DATA_START s.data_end (a + k) 1) (lies HEAP_START s.heap_end (a + k) 1))
 store_within_at s a k end false false false id ih iw is within = cc
 
 pub store_within : (s : Segments) (a n end : ℕ) → Some end ≡ storable_end s a → a + n ≤ end → MayStore s a n

@@ -1,8 +1,8 @@
 -- What a contract sees of a memory: the words of the text, and the bytes of the other segments. From these come the bytes
 -- by their addresses, and where the segments begin and end.
 use Rattle.std.specs.Prelude.{◌≡◌, ℕ, ◌+◌, ◌-◌, ◌*◌, ◌/◌, ◌%◌, ◌≤◌, ◌==◌, nat_lt, not, Bool, if◌then◌else◌, List, length, get_or, Result, Ok, Err}
-use Rattle.mips_isa.specs.ImageBounds.{text_start}
-use Rattle.mips_isa.specs.Bytes.{Bytes, Segments, data_start, heap_start, stack_end, byte_of_word}
+use Rattle.mips_isa.specs.declared.address_map.TheConstants.{TEXT_START, DATA_START, HEAP_START, STACK_END, MOST_TEXT_WORDS, MOST_DATA_BYTES}
+use Rattle.mips_isa.specs.Bytes.{Bytes, Segments, byte_of_word}
 use Rattle.spim_memory.specs.declared.fault.MemFault.{MemFault}
 use Rattle.spim_memory.specs.declared.fault.MemFault.TheVariants.{Unaligned, BadAddress}
 
@@ -14,16 +14,16 @@ pub record MemoryParts : Type 0 where
 
 abbrev pub segments : MemoryParts → Segments
 segments m = record {
-  text_end = text_start + 4 * length m.text;
-  data_end = data_start + length m.static_bytes;
-  heap_end = heap_start + length m.heap;
-  stack_low = stack_end - length m.stack;
+  text_end = TEXT_START + 4 * length m.text;
+  data_end = DATA_START + length m.static_bytes;
+  heap_end = HEAP_START + length m.heap;
+  stack_low = STACK_END - length m.stack;
 }
 
 -- No segment reaches the next one, and each is made of words.
 pub record IsMemory (m : MemoryParts) : Type 0 where
-  pub text : length m.text ≤ 66060288
-  pub static_bytes : length m.static_bytes ≤ 268435456
+  pub text : length m.text ≤ MOST_TEXT_WORDS
+  pub static_bytes : length m.static_bytes ≤ MOST_DATA_BYTES
   pub heap : length m.heap ≤ 268435456
   pub stack : length m.stack ≤ 67108864
   pub static_words : length m.static_bytes % 4 ≡ 0
@@ -34,10 +34,10 @@ pub record IsMemory (m : MemoryParts) : Type 0 where
 -- may be loaded.
 abbrev pub bytes_of : MemoryParts → Bytes
 bytes_of m = λ a.
-    if nat_lt a data_start then byte_of_word (get_or m.text ((a - text_start) / 4) 0) ((a - text_start) % 4)
-    else (if nat_lt a heap_start then get_or m.static_bytes (a - data_start) 0
-    else (if nat_lt a (stack_end - length m.stack) then get_or m.heap (a - heap_start) 0
-    else get_or m.stack (a - (stack_end - length m.stack)) 0))
+    if nat_lt a DATA_START then byte_of_word (get_or m.text ((a - TEXT_START) / 4) 0) ((a - TEXT_START) % 4)
+    else (if nat_lt a HEAP_START then get_or m.static_bytes (a - DATA_START) 0
+    else (if nat_lt a (STACK_END - length m.stack) then get_or m.heap (a - HEAP_START) 0
+    else get_or m.stack (a - (STACK_END - length m.stack)) 0))
 
 -- what an access of this size at a answers: v, or why it may not be
 abbrev pub accessed : {V : Type 0} → ℕ → Bool → ℕ → V → Result V MemFault

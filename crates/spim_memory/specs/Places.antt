@@ -1,7 +1,7 @@
 -- Where in a memory an address lies, and what is written there.
 use Rattle.std.specs.Prelude.{◌≡◌, ℕ, ◌+◌, ◌-◌, ◌*◌, ◌/◌, ◌%◌, ◌^◌, ◌<◌, true, false, Option, None, Some, Result, Ok, Err, List, ◌++◌, length, replicate, slice_set}
-use Rattle.mips_isa.specs.ImageBounds.{text_start}
-use Rattle.mips_isa.specs.Bytes.{data_start, heap_start, stack_end, lies, writable}
+use Rattle.mips_isa.specs.declared.address_map.TheConstants.{TEXT_START, DATA_START, HEAP_START, STACK_END}
+use Rattle.mips_isa.specs.Bytes.{lies, writable}
 use Rattle.mips_isa.specs.Machine.{word_of_text}
 use Rattle.spim_memory.specs.Memory.{MemoryParts, segments}
 use Rattle.spim_memory.specs.declared.fault.MemFault.{MemFault}
@@ -12,20 +12,20 @@ use Rattle.spim_memory.specs.declared.memory.Place.TheVariants.{StaticBytes, Hea
 -- the byte at an address is at this place, or may not be stored
 abbrev pub IsPlace : MemoryParts → ℕ → Option Place → Type 0
 IsPlace m a None = writable (segments m) a 1 ≡ false
-IsPlace m a (Some (StaticBytes offset)) = (a ≡ data_start + offset) × (offset < length m.static_bytes)
-IsPlace m a (Some (Heap offset)) = (a ≡ heap_start + offset) × (offset < length m.heap)
-IsPlace m a (Some (Stack offset)) = (a ≡ stack_end - length m.stack + offset) × (offset < length m.stack)
+IsPlace m a (Some (StaticBytes offset)) = (a ≡ DATA_START + offset) × (offset < length m.static_bytes)
+IsPlace m a (Some (Heap offset)) = (a ≡ HEAP_START + offset) × (offset < length m.heap)
+IsPlace m a (Some (Stack offset)) = (a ≡ STACK_END - length m.stack + offset) × (offset < length m.stack)
 
 -- the word of the text that has the byte at an address, if there is one
 abbrev pub IsTextWord : MemoryParts → ℕ → Option ℕ → Type 0
-IsTextWord m a None = lies text_start (segments m).text_end a 1 ≡ false
-IsTextWord m a (Some word) = (lies text_start (segments m).text_end a 1 ≡ true) × (word ≡ word_of_text m.text a) × (word < 4294967296)
+IsTextWord m a None = lies TEXT_START (segments m).text_end a 1 ≡ false
+IsTextWord m a (Some word) = (lies TEXT_START (segments m).text_end a 1 ≡ true) × (word ≡ word_of_text m.text a) × (word < 4294967296)
 
 -- this word without the bytes before the address, or why it may not be
 abbrev pub IsTextFrom : MemoryParts → ℕ → Result ℕ MemFault → Type 0
 IsTextFrom m a (Ok rest) =
-    (lies text_start (segments m).text_end a 1 ≡ true) × (rest ≡ word_of_text m.text a / 2 ^ (8 * (a % 4))) × (word_of_text m.text a < 4294967296)
-IsTextFrom m a (Err fault) = (lies text_start (segments m).text_end a 1 ≡ false) × (fault ≡ BadAddress a)
+    (lies TEXT_START (segments m).text_end a 1 ≡ true) × (rest ≡ word_of_text m.text a / 2 ^ (8 * (a % 4))) × (word_of_text m.text a < 4294967296)
+IsTextFrom m a (Err fault) = (lies TEXT_START (segments m).text_end a 1 ≡ false) × (fault ≡ BadAddress a)
 
 -- a list with the bytes of a half from an index on
 abbrev pub set_two : List ℕ → ℕ → ℕ → List ℕ

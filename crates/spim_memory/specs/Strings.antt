@@ -1,7 +1,8 @@
 -- Strings in a memory: the bytes that stand one after another, and those that may be loaded, as SPIM's system call
 -- print_string takes them.
 use Rattle.std.specs.Prelude.{◌≡◌, refl, ℕ, zero, suc, ◌+◌, ◌%◌, ◌<◌, true, if◌then◌else◌, Option, Some, None, List, [], ◌∷◌}
-use Rattle.mips_isa.specs.Bytes.{Bytes, Segments, data_start, heap_start, stack_end, lies, readable}
+use Rattle.mips_isa.specs.declared.address_map.TheConstants.{DATA_START, HEAP_START, STACK_END}
+use Rattle.mips_isa.specs.Bytes.{Bytes, Segments, lies, readable}
 
 -- so many bytes from an address on
 abbrev pub bytes_from : Bytes → ℕ → ℕ → List ℕ
@@ -15,9 +16,9 @@ MayLoad s a n = (k : ℕ) → k < n → readable s (a + k) 1 ≡ true
 -- the end of the segment of data, heap or stack in which an address lies
 abbrev pub storable_end : Segments → ℕ → Option ℕ
 storable_end s a =
-    if lies data_start s.data_end a 1 then Some s.data_end
-    else (if lies heap_start s.heap_end a 1 then Some s.heap_end
-    else (if lies s.stack_low stack_end a 1 then Some stack_end else None))
+    if lies DATA_START s.data_end a 1 then Some s.data_end
+    else (if lies HEAP_START s.heap_end a 1 then Some s.heap_end
+    else (if lies s.stack_low STACK_END a 1 then Some STACK_END else None))
 
 -- Worked examples, where each byte is the last digit of its address.
 three_bytes : bytes_from (λ a. a % 10) 1028 3 ≡ 8 ∷ 9 ∷ 0 ∷ []

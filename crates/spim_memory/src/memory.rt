@@ -1,10 +1,9 @@
 //! Loads and stores.
 
 ghost use Rattle.std.specs.Prelude.{◌≡◌, ◌<◌, map, replicate, IfOk, IfSome, OnOk, OnErr};
-ghost use Rattle.mips_isa.specs.ImageBounds.{text_start};
 ghost use Rattle.mips_isa.specs.Words.{InRange};
 ghost use Rattle.mips_isa.specs.Decoding.{decoded};
-ghost use Rattle.mips_isa.specs.Bytes.{half, word, set_byte, set_half, set_word, readable, writable, lies, data_start, segments_of, bytes_of_image};
+ghost use Rattle.mips_isa.specs.Bytes.{half, word, set_byte, set_half, set_word, readable, writable, lies, segments_of, bytes_of_image};
 ghost use Rattle.mips_isa.specs.Machine.{word_of_text};
 ghost use Rattle.spim_memory.specs.Memory.{segments, bytes_of, accessed, IsLimits};
 ghost use Rattle.spim_memory.specs.Places.{IsPlace, IsTextWord, IsTextFrom, whole_words};
@@ -13,21 +12,9 @@ mod strings;
 
 use crate::little_endian::{read_half, read_word, write_half, write_word};
 use crate::{Limits, MemFault};
-use mips_isa::{Image, Instr, decode};
+use mips_isa::{DATA_START, HEAP_START, Image, Instr, STACK_END, TEXT_START, decode};
 use std::alloc::{AllocError, Global};
 use std::marker::Model;
-
-/// Where the text begins in the machine.
-const TEXT_START: u32 = 0x0040_0000;
-
-/// Where the data begins.
-const DATA_START: u32 = 0x1000_0000;
-
-/// Where the heap begins.
-const HEAP_START: u32 = 0x2000_0000;
-
-/// Where the stack ends.
-const STACK_END: u32 = 0x8000_0000;
 
 /// A word of text takes 20 bytes more where it is decoded.
 const _: () = prove!(size_of::<Option<Instr>>() == 20);
@@ -149,7 +136,7 @@ impl Memory {
     /// The word of the text that has the byte at an address.
     fn text_word(&self, a: u32) -> Option<u32>
         ensures word { IsTextWord self.now a result }
-        ensures below { IfSome result (λ _. a < data_start) }
+        ensures below { IfSome result (λ _. a < DATA_START) }
     {
         let index = a.wrapping_sub(TEXT_START) as usize / 4;
         self.text.get(index).copied()
@@ -159,9 +146,9 @@ impl Memory {
     ///
     /// `Unaligned` comes where the address is no multiple of 4, and `BadAddress` where no word of the text is.
     pub fn instruction(&self, a: u32) -> Result<Option<Instr>, MemFault>
-        ensures instruction { result ≡ accessed 4 (lies text_start (segments self.now).text_end a 4) a (decoded (word_of_text self.now.text a)) }
+        ensures instruction { result ≡ accessed 4 (lies TEXT_START (segments self.now).text_end a 4) a (decoded (word_of_text self.now.text a)) }
         ensures range { IfOk result (λ found. IfSome found InRange) }
-        ensures below { OnOk result (a < data_start) }
+        ensures below { OnOk result (a < DATA_START) }
     {
         if a % 4 != 0 {
             return Err(MemFault::Unaligned(a));

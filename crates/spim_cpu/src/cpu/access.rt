@@ -8,7 +8,7 @@ ghost use Rattle.spim_cpu.specs.Cpu.{core_of, trap_of, KeepsSegments, Stepped, p
 
 use crate::arithmetic::{signed_byte, signed_half};
 use crate::{Cpu, Step};
-use mips_isa::{MemOp, Reg, Trap, TrapKind};
+use mips_isa::{DATA_START, MemOp, Reg, Trap, TrapKind};
 use spim_memory::MemFault;
 
 /// The trap of an access that may not be, by the instruction at `pc`.
@@ -43,7 +43,7 @@ impl Cpu {
     /// A load into a register, or a store of one, at an address.
     #[inline(always)]
     pub(crate) fn access(&mut self, op: MemOp, r: Reg, a: u32) -> Step
-        requires { self.old.pc < 268435456 }
+        requires { self.old.pc < DATA_START }
         ensures stepped { Stepped (machine.mem (segments self.old.memory) op (core_of self.old) r a) result self.old self.new }
         ensures segments { KeepsSegments self.old.memory self.new.memory }
     {
@@ -75,7 +75,7 @@ impl Cpu {
     }
 
     fn put_loaded(&mut self, r: Reg, loaded: Result<u32, MemFault>) -> Step
-        requires { self.old.pc < 268435456 }
+        requires { self.old.pc < DATA_START }
         ensures stepped { Stepped (put_loaded (core_of self.old) r loaded) result self.old self.new }
         ensures segments { KeepsSegments self.old.memory self.new.memory }
     {
@@ -87,7 +87,7 @@ impl Cpu {
 
     #[inline(always)]
     fn execute_sb(&mut self, r: Reg, a: u32) -> Step
-        requires { self.old.pc < 268435456 }
+        requires { self.old.pc < DATA_START }
         ensures stepped { Stepped (machine.mem (segments self.old.memory) MemOp.Sb (core_of self.old) r a) result self.old self.new }
         ensures segments { KeepsSegments self.old.memory self.new.memory }
     {
@@ -98,7 +98,7 @@ impl Cpu {
 
     #[inline(always)]
     fn execute_sh(&mut self, r: Reg, a: u32) -> Step
-        requires { self.old.pc < 268435456 }
+        requires { self.old.pc < DATA_START }
         ensures stepped { Stepped (machine.mem (segments self.old.memory) MemOp.Sh (core_of self.old) r a) result self.old self.new }
         ensures segments { KeepsSegments self.old.memory self.new.memory }
     {
@@ -109,7 +109,7 @@ impl Cpu {
 
     #[inline(always)]
     fn execute_sw(&mut self, r: Reg, a: u32) -> Step
-        requires { self.old.pc < 268435456 }
+        requires { self.old.pc < DATA_START }
         ensures stepped { Stepped (machine.mem (segments self.old.memory) MemOp.Sw (core_of self.old) r a) result self.old self.new }
         ensures segments { KeepsSegments self.old.memory self.new.memory }
     {
@@ -120,7 +120,7 @@ impl Cpu {
 
     /// Goes on behind a store that was done.
     fn after_store(&mut self, stored: Result<(), MemFault>) -> Step
-        requires { self.old.pc < 268435456 }
+        requires { self.old.pc < DATA_START }
         ensures stepped { Stepped (after_store (core_of self.old) stored) result self.old self.new }
         ensures segments { KeepsSegments self.old.memory self.new.memory }
     {

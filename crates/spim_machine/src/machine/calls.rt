@@ -3,7 +3,7 @@
 ghost use Rattle.std.specs.Prelude.{◌≡◌, ◌+◌, ◌-◌, ◌%◌, ◌<◌, ◌≤◌, List, ℕ, length, Option, Ok, IfOk, OnOk, OnErr, true, false, ◌++◌, [], ◌∷◌};
 ghost use Rattle.std.specs.Fmt.{signed_decimal};
 ghost use Rattle.cool_ports.specs.Counts.{Rose};
-ghost use Rattle.mips_isa.specs.Bytes.{stack_end, writable, set_byte};
+ghost use Rattle.mips_isa.specs.Bytes.{writable, set_byte};
 ghost use Rattle.mips_isa.specs.Machine.{set_register};
 ghost use Rattle.mips_isa.specs.Calls as calls;
 ghost use Rattle.spim_memory.specs.Memory.{segments, bytes_of};
@@ -18,7 +18,11 @@ use crate::input::{next_byte, read_char};
 use crate::number::read_number;
 use crate::output::put_string;
 use cool_ports::{Failed, Sink, Source};
-use mips_isa::{Reg, Trap, TrapKind};
+use mips_isa::register::{A0, A1, V0};
+use mips_isa::system_call::{
+    EXIT, EXIT2, PRINT_CHAR, PRINT_INT, PRINT_STRING, READ_CHAR, READ_INT, READ_STRING, SBRK,
+};
+use mips_isa::{Reg, STACK_END, Trap, TrapKind};
 
 /// What `sbrk` answers where the heap is too small: -1.
 const NO_ROOM: u32 = 0xffff_ffff;
@@ -39,18 +43,18 @@ impl Machine {
         ensures keeps { Keeps self.old self.new }
     {
         match self.v0() {
-            1 => self.print_int(sink),
-            4 => self.print_string(sink),
-            5 => self.read_int(source),
-            8 => self.read_string(source),
-            9 => {
+            PRINT_INT => self.print_int(sink),
+            PRINT_STRING => self.print_string(sink),
+            READ_INT => self.read_int(source),
+            READ_STRING => self.read_string(source),
+            SBRK => {
                 self.sbrk();
                 Ok(())
             }
-            10 => Err(Halt::Exit(0)),
-            11 => self.print_char(sink),
-            12 => self.read_char(source),
-            17 => Err(Halt::Exit(self.a0())),
+            EXIT => Err(Halt::Exit(0)),
+            PRINT_CHAR => self.print_char(sink),
+            READ_CHAR => self.read_char(source),
+            EXIT2 => Err(Halt::Exit(self.a0())),
             _ => Err(self.bad_call()),
         }
     }
@@ -153,7 +157,7 @@ impl Machine {
     /// Stores at most so many bytes of the input at an address, up to a newline, and a 0 behind them.
     fn fill<S: Source>(&mut self, address: u32, most: u32, source: &mut S) -> Result<(), Failed>
         requires writable { calls.all_writable (segments self.old.cpu.memory) address (most + 1) ≡ true }
-        requires below { address + most < stack_end }
+        requires below { address + most < STACK_END }
         ensures took { Took self.old.ended self.new.ended (S.past source.old) (S.past source.new) (S.left source.old) (S.left source.new) }
         ensures all { OnOk result (OfAnyInput (S.past source.old) (S.past source.new) (λ before after. (got : List ℕ) × TookAll (calls.asked self.old.ended most) got before self.new.ended after × (core_of self.new.cpu ≡ record (core_of self.old.cpu) { memory = calls.set_bytes (core_of self.old.cpu).memory address (got ++ 0 ∷ []) }))) }
         ensures some { OnErr result (OfAnyInput (S.past source.old) (S.past source.new) (λ before after. (self.old.ended ≡ false) × TookSome (calls.asked self.old.ended most) before after)) }
@@ -175,7 +179,7 @@ impl Machine {
         source: &mut S,
     ) -> Result<u32, Failed>
         requires writable { calls.all_writable (segments self.old.cpu.memory) address most ≡ true }
-        requires below { address + most < stack_end }
+        requires below { address + most < STACK_END }
         ensures took { Took self.old.ended self.new.ended (S.past source.old) (S.past source.new) (S.left source.old) (S.left source.new) }
         ensures all { IfOk result (λ end. OfAnyInput (S.past source.old) (S.past source.new) (λ before after. (got : List ℕ) × TookAll (calls.asked self.old.ended most) got before self.new.ended after × (end ≡ address + length got) × (length got ≤ most) × (core_of self.new.cpu ≡ record (core_of self.old.cpu) { memory = calls.set_bytes (core_of self.old.cpu).memory address got }))) }
         ensures some { OnErr result (OfAnyInput (S.past source.old) (S.past source.new) (λ before after. (self.old.ended ≡ false) × TookSome (calls.asked self.old.ended most) before after)) }
@@ -229,7 +233,7 @@ impl Machine {
 
     /// A call that may not touch the address in `$a0`.
     fn bad_address(&self) -> Halt
-        ensures { result ≡ Halt.Trap (record { kind = TrapKind.BadAddress; address = (core_of self.now.cpu).registers 4; pc = self.now.cpu.pc - 4 }) }
+        ensures { result ≡ Halt.Trap (record { kind = TrapKind.BadAddress; address = (core_of self.now.cpu).registers A0; pc = self.now.cpu.pc - 4 }) }
     {
         Halt::Trap(Trap {
             kind: TrapKind::BadAddress,
@@ -251,33 +255,33 @@ impl Machine {
 
     /// The call's number.
     fn v0(&self) -> u32
-        ensures { result ≡ (core_of self.now.cpu).registers 2 }
+        ensures { result ≡ (core_of self.now.cpu).registers V0 }
     {
-        self.cpu.register(Reg::new(2))
+        self.cpu.register(Reg::new(V0))
     }
 
     /// The call's first argument.
     fn a0(&self) -> u32
-        ensures { result ≡ (core_of self.now.cpu).registers 4 }
+        ensures { result ≡ (core_of self.now.cpu).registers A0 }
     {
-        self.cpu.register(Reg::new(4))
+        self.cpu.register(Reg::new(A0))
     }
 
     /// The call's second argument.
     fn a1(&self) -> u32
-        ensures { result ≡ (core_of self.now.cpu).registers 5 }
+        ensures { result ≡ (core_of self.now.cpu).registers A1 }
     {
-        self.cpu.register(Reg::new(5))
+        self.cpu.register(Reg::new(A1))
     }
 
     /// Puts the call's answer into `$v0`.
     fn answer(&mut self, v: u32)
-        ensures core { core_of self.new.cpu ≡ record (core_of self.old.cpu) { registers = set_register (core_of self.old.cpu).registers 2 v } }
+        ensures core { core_of self.new.cpu ≡ record (core_of self.old.cpu) { registers = set_register (core_of self.old.cpu).registers V0 v } }
         ensures heap_break { self.new.heap_break ≡ self.old.heap_break }
         ensures ended { self.new.ended ≡ self.old.ended }
         ensures keeps { Keeps self.old self.new }
     {
-        self.cpu.set_register(Reg::new(2), v);
+        self.cpu.set_register(Reg::new(V0), v);
     }
 
     /// The address of the call, behind which pc stands.

@@ -1,12 +1,13 @@
 //! Strings and buffers, of which SPIM's system calls `print_string` and `read_string` ask.
 
 ghost use Rattle.std.specs.Prelude.{◌≡◌, ◌+◌, ◌<◌, ◌≤◌, ◌==◌, ◌&&◌, true, Some, None, IfSome, IfNone};
-ghost use Rattle.mips_isa.specs.Bytes.{readable, stack_end};
+ghost use Rattle.mips_isa.specs.Bytes.{readable};
 ghost use Rattle.mips_isa.specs.Calls.{segment_end, string_at, all_writable};
 ghost use Rattle.spim_memory.specs.Memory.{segments, bytes_of};
 ghost use Rattle.spim_memory.specs.Strings.{bytes_from, MayLoad, storable_end};
 
-use super::{DATA_START, HEAP_START, Memory, Place, STACK_END, TEXT_START};
+use super::{Memory, Place};
+use mips_isa::{DATA_START, HEAP_START, STACK_END, TEXT_START};
 
 impl Memory {
     /// The end of the segment of data, heap or stack that has the byte at an address. `None` comes where it may not be
@@ -14,7 +15,7 @@ impl Memory {
     fn storable_end(&self, a: u32) -> Option<u32>
         ensures end { result ≡ storable_end (segments self.now) a }
         ensures behind { IfSome result (λ end. a < end) }
-        ensures below { IfSome result (λ end. end ≤ stack_end) }
+        ensures below { IfSome result (λ end. end ≤ STACK_END) }
     {
         match self.place(a)? {
             Place::StaticBytes(_) => Some(DATA_START + self.static_bytes.len() as u32),
@@ -27,7 +28,7 @@ impl Memory {
     fn segment_end(&self, a: u32) -> Option<u32>
         ensures end { result ≡ segment_end (segments self.now) a }
         ensures behind { IfSome result (λ end. a < end) }
-        ensures below { IfSome result (λ end. end ≤ stack_end) }
+        ensures below { IfSome result (λ end. end ≤ STACK_END) }
     {
         match self.text_word(a) {
             Some(_) => Some(TEXT_START + 4 * self.text.len() as u32),
@@ -49,7 +50,7 @@ impl Memory {
         ensures found { IfSome result (λ n. string_at (segments self.now) (bytes_of self.now) a ≡ Some (bytes_from (bytes_of self.now) a n)) }
         ensures none { IfNone result (string_at (segments self.now) (bytes_of self.now) a ≡ None) }
         ensures inside { IfSome result (λ n. MayLoad (segments self.now) a n) }
-        ensures below { IfSome result (λ n. a + n < stack_end) }
+        ensures below { IfSome result (λ n. a + n < STACK_END) }
     {
         let room = self.segment_end(a)? - a;
         for k in 0..room {
@@ -66,7 +67,7 @@ impl Memory {
     /// be stored.
     pub fn may_store(&self, a: u32, count: u32) -> bool
         ensures writable { result ≡ all_writable (segments self.now) a count }
-        ensures below { result ≡ true → 0 < count → a + count ≤ stack_end }
+        ensures below { result ≡ true → 0 < count → a + count ≤ STACK_END }
     {
         let mut start = a;
         let mut left = count;

@@ -8,5 +8,5 @@ use Rattle.cool_runtime.proofs.piece.error.Goals as goal
 pub returns : goal.returns
 unfolding colon_text
 returns c =
-    let e : map drafted (c.label.result ∷ c.addiu.result ∷ c.addiu-2.result ∷ c.syscall.result ∷ c.la.result ∷ c.syscall-2.result ∷ c.copied.result ∷ c.addiu-3.result ∷ c.syscall-3.result ∷ c.la-2.result ∷ c.addiu-4.result ∷ c.syscall-4.result ∷ c.addiu-5.result ∷ c.addiu-6.result ∷ c.syscall-5.result ∷ []) ≡ error_lines c.args.name.now c.args.text.now = cc in
+    let e : map drafted (c.label.result ∷ c.addiu.result ∷ c.call_number.result ∷ c.syscall.result ∷ c.la.result ∷ c.syscall-2.result ∷ c.copied.result ∷ c.call_number-2.result ∷ c.syscall-3.result ∷ c.la-2.result ∷ c.call_number-3.result ∷ c.syscall-4.result ∷ c.addiu-2.result ∷ c.call_number-4.result ∷ c.syscall-5.result ∷ []) ≡ error_lines c.args.name.now c.args.text.now = cc in
     subst (λ xs. OnOk c.write.result (lines_of c.write.new.lines.items ≡ lines_of c.args.lines.now.items ++ xs)) e c.write.ensures

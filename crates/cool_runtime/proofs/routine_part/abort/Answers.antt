@@ -8,5 +8,5 @@ use Rattle.cool_runtime.proofs.routine_part.abort.Goals as goal
 pub returns : goal.returns
 unfolding abort abort_text name_table newline_text
 returns c =
-    let e : map drafted (c.label.result ∷ c.lw.result ∷ c.sll.result ∷ c.la.result ∷ c.addu.result ∷ c.lw-2.result ∷ c.la-2.result ∷ c.addiu.result ∷ c.syscall.result ∷ c.addiu-2.result ∷ c.syscall-2.result ∷ c.la-3.result ∷ c.syscall-3.result ∷ c.addiu-3.result ∷ c.addiu-4.result ∷ c.syscall-4.result ∷ []) ≡ abort_lines = cc in
+    let e : map drafted (c.label.result ∷ c.lw.result ∷ c.sll.result ∷ c.la.result ∷ c.addu.result ∷ c.lw-2.result ∷ c.la-2.result ∷ c.call_number.result ∷ c.syscall.result ∷ c.addiu.result ∷ c.syscall-2.result ∷ c.la-3.result ∷ c.syscall-3.result ∷ c.addiu-2.result ∷ c.call_number-2.result ∷ c.syscall-4.result ∷ []) ≡ abort_lines = cc in
     subst (λ xs. OnOk c.write.result (lines_of c.write.new.lines.items ≡ lines_of c.args.lines.now.items ++ xs)) e c.write.ensures

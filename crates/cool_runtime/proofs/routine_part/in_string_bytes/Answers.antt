@@ -8,5 +8,5 @@ use Rattle.cool_runtime.proofs.routine_part.in_string_bytes.Goals as goal
 pub returns : goal.returns
 unfolding heap_limit in_string_bytes in_string_end
 returns c =
-    let e : map drafted (c.label.result ∷ c.addiu.result ∷ c.syscall.result ∷ c.bgez.result ∷ c.j.result ∷ c.bne.result ∷ c.j-2.result ∷ c.sb.result ∷ c.addiu-2.result ∷ c.beq.result ∷ c.j-3.result ∷ c.bne-2.result ∷ c.j-4.result ∷ c.sw.result ∷ c.addiu-3.result ∷ c.j-5.result ∷ []) ≡ in_string_bytes_lines = cc in
+    let e : map drafted (c.label.result ∷ c.call_number.result ∷ c.syscall.result ∷ c.bgez.result ∷ c.j.result ∷ c.bne.result ∷ c.j-2.result ∷ c.sb.result ∷ c.addiu.result ∷ c.beq.result ∷ c.j-3.result ∷ c.bne-2.result ∷ c.j-4.result ∷ c.sw.result ∷ c.addiu-2.result ∷ c.j-5.result ∷ []) ≡ in_string_bytes_lines = cc in
     subst (λ xs. OnOk c.write.result (lines_of c.write.new.lines.items ≡ lines_of c.args.lines.now.items ++ xs)) e c.write.ensures

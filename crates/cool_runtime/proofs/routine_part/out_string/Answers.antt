@@ -8,5 +8,5 @@ use Rattle.cool_runtime.proofs.routine_part.out_string.Goals as goal
 pub returns : goal.returns
 unfolding out_string
 returns c =
-    let e : map drafted (c.label.result ∷ c.copied.result ∷ c.lw.result ∷ c.addiu.result ∷ c.addiu-2.result ∷ c.syscall.result ∷ c.copied-2.result ∷ c.addiu-3.result ∷ c.jr.result ∷ []) ≡ out_string_lines = cc in
+    let e : map drafted (c.label.result ∷ c.copied.result ∷ c.lw.result ∷ c.addiu.result ∷ c.call_number.result ∷ c.syscall.result ∷ c.copied-2.result ∷ c.addiu-2.result ∷ c.jr.result ∷ []) ≡ out_string_lines = cc in
     subst (λ xs. OnOk c.write.result (lines_of c.write.new.lines.items ≡ lines_of c.args.lines.now.items ++ xs)) e c.write.ensures

@@ -8,5 +8,5 @@ use Rattle.cool_runtime.proofs.routine_part.read_number.Goals as goal
 pub returns : goal.returns
 unfolding in_int
 returns c =
-    let e : map drafted (c.label.result ∷ c.addiu.result ∷ c.syscall.result ∷ c.copied.result ∷ []) ≡ read_number_lines = cc in
+    let e : map drafted (c.label.result ∷ c.call_number.result ∷ c.syscall.result ∷ c.copied.result ∷ []) ≡ read_number_lines = cc in
     subst (λ xs. OnOk c.write.result (lines_of c.write.new.lines.items ≡ lines_of c.args.lines.now.items ++ xs)) e c.write.ensures

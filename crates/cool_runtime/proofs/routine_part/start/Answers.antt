@@ -8,5 +8,5 @@ use Rattle.cool_runtime.proofs.routine_part.start.Goals as goal
 pub returns : goal.returns
 unfolding copy end_text main_init main_main main_prototype
 returns c =
-    let e : map drafted (c.label.result ∷ c.la.result ∷ c.jal.result ∷ c.jal-2.result ∷ c.jal-3.result ∷ c.la-2.result ∷ c.addiu.result ∷ c.syscall.result ∷ c.addiu-2.result ∷ c.syscall-2.result ∷ []) ≡ start_lines = cc in
+    let e : map drafted (c.label.result ∷ c.la.result ∷ c.jal.result ∷ c.jal-2.result ∷ c.jal-3.result ∷ c.la-2.result ∷ c.call_number.result ∷ c.syscall.result ∷ c.call_number-2.result ∷ c.syscall-2.result ∷ []) ≡ start_lines = cc in
     subst (λ xs. OnOk c.write.result (lines_of c.write.new.lines.items ≡ lines_of c.args.lines.now.items ++ xs)) e c.write.ensures

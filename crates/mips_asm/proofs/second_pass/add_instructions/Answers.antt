@@ -1,5 +1,5 @@
 use Rattle.std.proofs.Common.{◌≡◌, ◌++◌, ◌<◌, ◌+◌, ◌*◌, map, length, rules, ap, ◌∙◌}
-use Rattle.mips_isa.specs.ImageBounds.{text_start}
+use Rattle.mips_isa.specs.declared.address_map.TheConstants.{TEXT_START}
 use Rattle.mips_isa.specs.Words.{word_of}
 use Rattle.mips_isa.specs.Lines.{statement_of}
 use Rattle.mips_asm.specs.Places.{places_of}
@@ -13,6 +13,6 @@ add_expansion-requires c =
 
 pub returns-clause-added : goal.returns-clause-added
 returns-clause-added c =
-    let at : text_start + 4 * c.len.result ≡ text_start + 4 * length c.args.text.now.items = search rules in
-    let same = expansion_is (places_of c.args.labels.now) (text_start + 4 * c.len.result) _ (statement_of c.args.statement.now) _ _ c.in_ok-address.ensures.address c.expand.ensures at in
+    let at : TEXT_START + 4 * c.len.result ≡ TEXT_START + 4 * length c.args.text.now.items = search rules in
+    let same = expansion_is (places_of c.args.labels.now) (TEXT_START + 4 * c.len.result) _ (statement_of c.args.statement.now) _ _ c.in_ok-address.ensures.address c.expand.ensures at in
     c.in_ok-add_expansion.ensures.added ∙ ap (λ list. c.args.text.now.items ++ map word_of list) same

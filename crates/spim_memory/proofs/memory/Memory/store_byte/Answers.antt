@@ -1,5 +1,5 @@
 use Rattle.std.proofs.Common.{ap, length, ◌-◌, arith}
-use Rattle.mips_isa.specs.Bytes.{data_start, heap_start, stack_end}
+use Rattle.mips_isa.specs.declared.address_map.TheConstants.{DATA_START, HEAP_START, STACK_END}
 use Rattle.spim_memory.specs.Memory.{bytes_of}
 use Rattle.spim_memory.proofs.StoringBytes.{writes_static, writes_heap, writes_stack, stored_byte}
 use Rattle.spim_memory.proofs.memory.Memory.store_byte.Goals as goal
@@ -10,7 +10,7 @@ returns-in-Some-StaticBytes-clause-stored c =
     let at = rw found.field-0-is at found.ensures in
     let m = c.self.inside in
     let size = ap (λ parts. length parts.static_bytes) c.self.view_is in
-    stored_byte (λ d. bytes_of (record { text = m.text.items; static_bytes = d; heap = m.heap.items; stack = m.stack.items })) data_start m.static_bytes.items _ c.args.a found.offset c.args.v
+    stored_byte (λ d. bytes_of (record { text = m.text.items; static_bytes = d; heap = m.heap.items; stack = m.stack.items })) DATA_START m.static_bytes.items _ c.args.a found.offset c.args.v
     (writes_static m.text.items m.heap.items m.stack.items _ c.self.invariant.0.static_bytes) (ap bytes_of c.self.view_is) (omega (arith, at.0, size)) (omega (arith, at.1, size))
 
 pub returns-in-Some-Heap-clause-stored : goal.returns-in-Some-Heap-clause-stored
@@ -19,7 +19,7 @@ returns-in-Some-Heap-clause-stored c =
     let at = rw found.field-0-is at found.ensures in
     let m = c.self.inside in
     let size = ap (λ parts. length parts.heap) c.self.view_is in
-    stored_byte (λ h. bytes_of (record { text = m.text.items; static_bytes = m.static_bytes.items; heap = h; stack = m.stack.items })) heap_start m.heap.items _ c.args.a found.offset c.args.v
+    stored_byte (λ h. bytes_of (record { text = m.text.items; static_bytes = m.static_bytes.items; heap = h; stack = m.stack.items })) HEAP_START m.heap.items _ c.args.a found.offset c.args.v
     (writes_heap m.text.items m.static_bytes.items m.stack.items _ c.self.invariant.0.heap c.self.invariant.0.stack) (ap bytes_of c.self.view_is) (omega (arith, at.0, size)) (omega (arith, at.1, size))
 
 pub returns-in-Some-Stack-clause-stored : goal.returns-in-Some-Stack-clause-stored
@@ -28,5 +28,5 @@ returns-in-Some-Stack-clause-stored c =
     let at = rw found.field-0-is at found.ensures in
     let m = c.self.inside in
     let size = ap (λ parts. length parts.stack) c.self.view_is in
-    stored_byte (λ s. bytes_of (record { text = m.text.items; static_bytes = m.static_bytes.items; heap = m.heap.items; stack = s })) (stack_end - length m.stack.items) m.stack.items _ c.args.a found.offset c.args.v
+    stored_byte (λ s. bytes_of (record { text = m.text.items; static_bytes = m.static_bytes.items; heap = m.heap.items; stack = s })) (STACK_END - length m.stack.items) m.stack.items _ c.args.a found.offset c.args.v
     (writes_stack m.text.items m.static_bytes.items m.heap.items _ c.self.invariant.0.stack) (ap bytes_of c.self.view_is) (omega (arith, at.0, size)) (omega (arith, at.1, size))
