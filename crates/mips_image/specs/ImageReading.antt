@@ -3,7 +3,7 @@ use Rattle.std.specs.Prelude.{◌≡◌, ℕ, zero, suc, ◌+◌, ◌*◌, ◌%�
 use Rattle.byteorder.specs.Endian.{little_number}
 use Rattle.mips_isa.specs.declared.address_map.TheConstants.{TEXT_START, MOST_TEXT_WORDS, MOST_DATA_BYTES}
 use Rattle.mips_isa.specs.ImageBounds.{ImageParts}
-use Rattle.mips_image.specs.declared.stored_image.TheConstants.{MAGIC, HEADER_BYTES, UNCHECKED_VERSION, CHECKED_VERSION}
+use Rattle.mips_image.specs.declared.stored_image.TheConstants.{MAGIC, VERSION_PLACE, WORDS_PLACE, DATA_BYTES_PLACE, ENTRY_PLACE, HEADER_BYTES, UNCHECKED_VERSION, CHECKED_VERSION}
 use Rattle.mips_image.specs.declared.stored_image.StoredImage.{StoredImage}
 use Rattle.mips_image.specs.declared.image_error.ImageError.{ImageError}
 use Rattle.mips_image.specs.declared.image_error.ImageError.TheVariants.{Memory, I1, I2, I3, I4, I5}
@@ -42,21 +42,21 @@ size_fault bytes words data_bytes entry =
 unfoldable pub first_fault : List ℕ → Option ImageError
 first_fault bytes =
     if nat_lt (length bytes) HEADER_BYTES then Some I3
-    else (if not (bytes_eq (take 4 bytes) MAGIC) then Some I1
-    else (if not (is_version (word_at bytes 4)) then Some I2
-    else size_fault bytes (word_at bytes 8) (word_at bytes 12) (word_at bytes 16)))
+    else (if not (bytes_eq (take VERSION_PLACE bytes) MAGIC) then Some I1
+    else (if not (is_version (word_at bytes VERSION_PLACE)) then Some I2
+    else size_fault bytes (word_at bytes WORDS_PLACE) (word_at bytes DATA_BYTES_PLACE) (word_at bytes ENTRY_PLACE)))
 
 -- the parts of the image that bytes without a fault are
 abbrev pub parts_of : List ℕ → ImageParts
 parts_of bytes = record {
-  entry = word_at bytes 16;
-  text = words_at (word_at bytes 8) (drop HEADER_BYTES bytes);
-  bytes = drop (HEADER_BYTES + 4 * word_at bytes 8) bytes;
+  entry = word_at bytes ENTRY_PLACE;
+  text = words_at (word_at bytes WORDS_PLACE) (drop HEADER_BYTES bytes);
+  bytes = drop (HEADER_BYTES + 4 * word_at bytes WORDS_PLACE) bytes;
 }
 
 -- what reading answers: the image and its version, or the first fault, unless memory runs out
 abbrev pub Reads : List ℕ → Result StoredImage ImageError → Type 0
-Reads bytes (Ok stored) = (first_fault bytes ≡ None) × (stored.version ≡ word_at bytes 4) × (stored.image ≡ parts_of bytes)
+Reads bytes (Ok stored) = (first_fault bytes ≡ None) × (stored.version ≡ word_at bytes VERSION_PLACE) × (stored.image ≡ parts_of bytes)
 Reads bytes (Err Memory) = Unit {0}
 Reads bytes (Err fault) = first_fault bytes ≡ Some fault
 
@@ -69,9 +69,9 @@ IsReadAs version image (Err fault) = ⊥
 -- The bytes are without a fault, and have this header.
 pub record HasHeader (bytes : List ℕ) (version words data_bytes entry : ℕ) : Type 0 where
   pub no_fault : first_fault bytes ≡ None
-  pub version_is : version ≡ word_at bytes 4
-  pub words_is : words ≡ word_at bytes 8
-  pub data_bytes_is : data_bytes ≡ word_at bytes 12
-  pub entry_is : entry ≡ word_at bytes 16
+  pub version_is : version ≡ word_at bytes VERSION_PLACE
+  pub words_is : words ≡ word_at bytes WORDS_PLACE
+  pub data_bytes_is : data_bytes ≡ word_at bytes DATA_BYTES_PLACE
+  pub entry_is : entry ≡ word_at bytes ENTRY_PLACE
   pub sizes : are_sizes words data_bytes entry ≡ true
   pub size : length bytes ≡ size_of words data_bytes

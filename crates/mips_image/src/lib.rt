@@ -11,5 +11,8 @@ mod writing;
 
 pub use image_error::ImageError;
 pub use reading::read_image;
-pub use stored_image::{CHECKED_VERSION, HEADER_BYTES, MAGIC, StoredImage, UNCHECKED_VERSION};
+pub use stored_image::{
+    CHECKED_VERSION, DATA_BYTES_PLACE, ENTRY_PLACE, HEADER_BYTES, MAGIC, StoredImage,
+    UNCHECKED_VERSION, VERSION_PLACE, WORDS_PLACE,
+};
 pub use writing::write_image;

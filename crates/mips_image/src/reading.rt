@@ -5,15 +5,18 @@ ghost use Rattle.mips_isa.specs.ImageBounds.{ImageParts, IsImage};
 ghost use Rattle.mips_image.specs.ImageBytes.{image_bytes, IsVersion, HasWords};
 ghost use Rattle.mips_image.specs.ImageReading.{HasHeader, word_at, words_at, are_sizes, size_fault, size_of, first_fault, parts_of, Reads, IsReadAs};
 
-use crate::{CHECKED_VERSION, HEADER_BYTES, ImageError, MAGIC, StoredImage, UNCHECKED_VERSION};
+use crate::{
+    CHECKED_VERSION, DATA_BYTES_PLACE, ENTRY_PLACE, HEADER_BYTES, ImageError, MAGIC, StoredImage,
+    UNCHECKED_VERSION, VERSION_PLACE, WORDS_PLACE,
+};
 use byteorder::{ByteOrder, LittleEndian};
 use mips_isa::{Image, MOST_DATA_BYTES, MOST_TEXT_WORDS, TEXT_START};
 use std::alloc::{AllocError, Global};
 
 /// The image of these bytes and its version, or their first fault.
 ///
-/// The tests, in order: fewer than 20 bytes is I3, another magic I1, a version other than 1 and 2 I2, sizes or an entry
-/// out of range I4, fewer bytes than the sizes say I3, and more I5. `Memory` comes only for want of memory.
+/// The tests, in order: fewer bytes than the header has is I3, another magic I1, a version other than the two I2, sizes or an
+/// entry out of range I4, fewer bytes than the sizes say I3, and more I5. `Memory` comes only for want of memory.
 pub fn read_image(alloc: Global, bytes: &[u8]) -> Result<StoredImage, ImageError>
     // What is read has these bytes, in version 1 or 2.
     ensures found { IfOk result (λ stored. bytes.now ≡ image_bytes stored.version stored.image) }
@@ -66,15 +69,15 @@ fn read_header(bytes: &[u8]) -> Result<Header, ImageError>
     if !has_magic(bytes) {
         return Err(ImageError::I1);
     }
-    let version = read_word(bytes, 4);
+    let version = read_word(bytes, VERSION_PLACE);
     if version != UNCHECKED_VERSION && version != CHECKED_VERSION {
         return Err(ImageError::I2);
     }
     let header = Header {
         version,
-        words: read_word(bytes, 8),
-        data_bytes: read_word(bytes, 12),
-        entry: read_word(bytes, 16),
+        words: read_word(bytes, WORDS_PLACE),
+        data_bytes: read_word(bytes, DATA_BYTES_PLACE),
+        entry: read_word(bytes, ENTRY_PLACE),
     };
     match sizes_fault(bytes, &header) {
         Some(fault) => Err(fault),
@@ -83,10 +86,10 @@ fn read_header(bytes: &[u8]) -> Result<Header, ImageError>
 }
 
 fn has_magic(bytes: &[u8]) -> bool
-    requires { 4 ≤ length bytes.now }
-    ensures { result ≡ bytes_eq (take 4 bytes.now) MAGIC }
+    requires { VERSION_PLACE ≤ length bytes.now }
+    ensures { result ≡ bytes_eq (take VERSION_PLACE bytes.now) MAGIC }
 {
-    let (front, _) = bytes.split_at(4);
+    let (front, _) = bytes.split_at(VERSION_PLACE);
     front == MAGIC.as_slice()
 }
 
@@ -102,7 +105,7 @@ fn read_word(bytes: &[u8], place: usize) -> u32
 
 /// The fault of bytes with this header, if there is one.
 fn sizes_fault(bytes: &[u8], header: &Header) -> Option<ImageError>
-    requires { 20 ≤ length bytes.now }
+    requires { HEADER_BYTES ≤ length bytes.now }
     ensures fault { result ≡ size_fault bytes.now header.now.words header.now.data_bytes header.now.entry }
     ensures sizes { IsNone result → are_sizes header.now.words header.now.data_bytes header.now.entry ≡ true }
     ensures size { IsNone result → length bytes.now ≡ size_of header.now.words header.now.data_bytes }
