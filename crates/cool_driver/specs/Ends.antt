@@ -12,7 +12,7 @@ use Rattle.cool_ports.specs.SinkBytes.{appended, GotPrefix}
 use Rattle.mips_isa.specs.Assembly.{image_of}
 use Rattle.mips_isa.specs.ImageBounds.{ImageParts}
 use Rattle.mips_isa.specs.Calls.{State, call, print}
-use Rattle.mips_isa.specs.declared.line.AsmFault.{AsmFault}
+use Rattle.mips_isa.specs.declared.asm_fault.AsmFault.{AsmFault}
 use Rattle.mips_text.specs.Printing.{printed}
 use Rattle.mips_image.specs.ImageBytes.{image_bytes}
 use Rattle.mips_image.specs.ImageReading.{first_fault}

@@ -4,9 +4,9 @@ use Rattle.std.specs.Prelude.{if◌then◌else◌, Contains, bytes_eq, is_some}
 use Rattle.std.specs.List.{AllByRecursion}
 use Rattle.std.proofs.lemmas.Bool.{lt-ltb}
 use Rattle.std.proofs.lemmas.List.Folds.{list_any-append}
-use Rattle.mips_isa.specs.declared.line.AsmKind.{AsmKind}
-use Rattle.mips_isa.specs.declared.line.AsmKind.TheVariants.{A5, A6, A7, A8, A9}
-use Rattle.mips_isa.specs.declared.line.AsmFault.{AsmFault}
+use Rattle.mips_isa.specs.declared.asm_fault.AsmKind.{AsmKind}
+use Rattle.mips_isa.specs.declared.asm_fault.AsmKind.TheVariants.{A5, A6, A7, A8, A9}
+use Rattle.mips_isa.specs.declared.asm_fault.AsmFault.{AsmFault}
 use Rattle.mips_isa.specs.declared.place.Place.{Place}
 use Rattle.mips_isa.specs.declared.place.Segment.{Segment}
 use Rattle.mips_isa.specs.declared.place.Segment.TheVariants.{Text, Data}

@@ -6,10 +6,10 @@ use Rattle.std.specs.Result.{OnOk, IfOk, IfErr}
 use Rattle.mips_isa.specs.declared.place.Place.{Place}
 use Rattle.mips_isa.specs.declared.place.Segment.{Segment}
 use Rattle.mips_isa.specs.declared.place.Segment.TheVariants.{Text, Data}
-use Rattle.mips_isa.specs.declared.line.AsmKind.{AsmKind}
-use Rattle.mips_isa.specs.declared.line.AsmFault.{AsmFault}
-use Rattle.mips_isa.specs.declared.line.AsmError.{AsmError}
-use Rattle.mips_isa.specs.declared.line.AsmError.TheVariants.{Memory, Fault}
+use Rattle.mips_isa.specs.declared.asm_fault.AsmKind.{AsmKind}
+use Rattle.mips_isa.specs.declared.asm_fault.AsmFault.{AsmFault}
+use Rattle.mips_isa.specs.declared.asm_fault.AsmError.{AsmError}
+use Rattle.mips_isa.specs.declared.asm_fault.AsmError.TheVariants.{Memory, Fault}
 use Rattle.mips_isa.specs.declared.address_map.TheConstants.{TEXT_START}
 use Rattle.mips_isa.specs.ImageBounds.{ImageParts}
 use Rattle.mips_isa.specs.Lines.{Name, Line}

@@ -8,9 +8,9 @@ use Rattle.mips_isa.specs.declared.place.Segment.{Segment}
 use Rattle.mips_isa.specs.declared.place.Segment.TheVariants.{Text, Data}
 use Rattle.mips_isa.specs.declared.line.OrderOp.{OrderOp}
 use Rattle.mips_isa.specs.declared.line.OrderOp.TheVariants.{Bgt, Bge, Blt, Ble}
-use Rattle.mips_isa.specs.declared.line.AsmKind.{AsmKind}
-use Rattle.mips_isa.specs.declared.line.AsmKind.TheVariants.{A5, A6, A7, A8, A9}
-use Rattle.mips_isa.specs.declared.line.AsmFault.{AsmFault}
+use Rattle.mips_isa.specs.declared.asm_fault.AsmKind.{AsmKind}
+use Rattle.mips_isa.specs.declared.asm_fault.AsmKind.TheVariants.{A5, A6, A7, A8, A9}
+use Rattle.mips_isa.specs.declared.asm_fault.AsmFault.{AsmFault}
 use Rattle.mips_isa.specs.declared.address_map.TheConstants.{TEXT_START}
 use Rattle.mips_isa.specs.Words.{word_of, bits_of}
 use Rattle.mips_isa.specs.Lines.{Name, WordItem, Line, AreInRange, Statement, Empty, Plain, ToTwo, ToOne, ToJump, La, Li, Move, Neg, Nop, B, BranchZero, BranchOrder, Mul, ToText, ToData, Globl, Word, Byte, Ascii, Asciiz, Space, Align}

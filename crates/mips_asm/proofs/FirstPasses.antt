@@ -2,12 +2,12 @@
 use Rattle.std.specs.Prelude.{◌≡◌, ℕ, suc, ◌+◌, List, [], ◌∷◌, ◌++◌, Option, Some, None, refl, Result, Err, Vec}
 use Rattle.std.proofs.Common.{ap, sym, ◌∙◌, append_assoc, append-nil, arith, subst}
 use Rattle.std.specs.Global.{Global}
-use Rattle.mips_isa.specs.declared.line.AsmError.{AsmError}
-use Rattle.mips_isa.specs.declared.line.AsmError.TheVariants.{Memory, Fault}
+use Rattle.mips_isa.specs.declared.asm_fault.AsmError.{AsmError}
+use Rattle.mips_isa.specs.declared.asm_fault.AsmError.TheVariants.{Memory, Fault}
 use Rattle.mips_asm.specs.declared.position.Position as declared_position
 use Rattle.std.proofs.lemmas.List.{map-append}
-use Rattle.mips_isa.specs.declared.line.AsmKind.{AsmKind}
-use Rattle.mips_isa.specs.declared.line.AsmFault.{AsmFault}
+use Rattle.mips_isa.specs.declared.asm_fault.AsmKind.{AsmKind}
+use Rattle.mips_isa.specs.declared.asm_fault.AsmFault.{AsmFault}
 use Rattle.mips_isa.specs.Lines.{Name, Line, AreInRange}
 use Rattle.mips_isa.specs.Assembly.{Position, start_position, behind_line, defining_fault, first_pass, fault_or}
 use Rattle.mips_asm.specs.Passes.{names_of, numbered, positions_from, table_from, position_of, Steps, Passes}

@@ -3,7 +3,7 @@ use Rattle.std.proofs.Common.{◌≡◌, refl, sym, ◌∙◌, ap, ℕ, List, �
 use Rattle.std.proofs.lemmas.List.{append_assoc}
 use Rattle.std.specs.List.{AllByRecursion}
 use Rattle.mips_isa.specs.declared.place.Place.{Place}
-use Rattle.mips_isa.specs.declared.line.AsmKind.TheVariants.{A6}
+use Rattle.mips_isa.specs.declared.asm_fault.AsmKind.TheVariants.{A6}
 use Rattle.mips_isa.specs.Lines.{Name, WordItem, Number, Address, IsItem}
 use Rattle.mips_isa.specs.Assembly.{item_value, four_bytes, address_or_zero}
 use Rattle.mips_asm.specs.Parts.{items_fault, word_in, address_if}

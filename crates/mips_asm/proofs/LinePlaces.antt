@@ -11,9 +11,9 @@ use denote.Ref.{Bor}
 use Rattle.mips_isa.specs.declared.place.Segment.{Segment}
 use Rattle.mips_isa.specs.declared.place.Segment.TheVariants.{Text, Data}
 use Rattle.mips_isa.specs.declared.place.Place.{Place}
-use Rattle.mips_isa.specs.declared.line.AsmKind.{AsmKind}
-use Rattle.mips_isa.specs.declared.line.AsmKind.TheVariants.{A5, A8, A9}
-use Rattle.mips_isa.specs.declared.line.AsmFault.{AsmFault}
+use Rattle.mips_isa.specs.declared.asm_fault.AsmKind.{AsmKind}
+use Rattle.mips_isa.specs.declared.asm_fault.AsmKind.TheVariants.{A5, A8, A9}
+use Rattle.mips_isa.specs.declared.asm_fault.AsmFault.{AsmFault}
 use Rattle.mips_isa.specs.Lines.{Name, Line, AreInRange}
 use Rattle.mips_isa.specs.Assembly.{Position, start_position, behind_line, need, next_item, item_or, place_in, place_from, place_of, has, first_pass, fault_or, defining_fault, is_wrong, any_twice, is_too_large}
 use Rattle.mips_asm.specs.Passes.{Fits, numbered, shown, positions_from, position_at, placed, places_from, table_from, position_of}

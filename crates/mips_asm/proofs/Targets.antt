@@ -4,7 +4,7 @@ use Rattle.std.specs.List.{AllByRecursion}
 use Rattle.mips_isa.specs.declared.instr.Instr.{Instr}
 use Rattle.mips_isa.specs.declared.place.Place.{Place}
 use Rattle.mips_isa.specs.declared.instr.JumpOp.{JumpOp}
-use Rattle.mips_isa.specs.declared.line.AsmKind.TheVariants.{A7}
+use Rattle.mips_isa.specs.declared.asm_fault.AsmKind.TheVariants.{A7}
 use Rattle.mips_isa.specs.declared.line.OrderOp.{OrderOp}
 use Rattle.mips_isa.specs.declared.line.OrderOp.TheVariants.{Bgt, Bge, Blt, Ble}
 use Rattle.mips_isa.specs.Words.{InRange, IsSigned, bits_of}

@@ -2,10 +2,10 @@
 use Rattle.std.specs.Prelude.{◌≡◌, ℕ, ◌+◌, ◌*◌, ◌%◌, ◌≤◌, true, if◌then◌else◌, List, [], ◌∷◌, ◌++◌, map, replicate, Option, Some, None, Result, Ok, Err}
 use Rattle.mips_isa.specs.declared.instr.Instr.{Instr}
 use Rattle.mips_isa.specs.declared.place.Place.{Place}
-use Rattle.mips_isa.specs.declared.line.AsmKind.{AsmKind}
-use Rattle.mips_isa.specs.declared.line.AsmKind.TheVariants.{A6, A7}
-use Rattle.mips_isa.specs.declared.line.AsmError.{AsmError}
-use Rattle.mips_isa.specs.declared.line.AsmError.TheVariants.{Memory, Fault}
+use Rattle.mips_isa.specs.declared.asm_fault.AsmKind.{AsmKind}
+use Rattle.mips_isa.specs.declared.asm_fault.AsmKind.TheVariants.{A6, A7}
+use Rattle.mips_isa.specs.declared.asm_fault.AsmError.{AsmError}
+use Rattle.mips_isa.specs.declared.asm_fault.AsmError.TheVariants.{Memory, Fault}
 use Rattle.mips_isa.specs.Words.{bits_of, word_of}
 use Rattle.mips_isa.specs.declared.place.Segment.{Segment}
 use Rattle.mips_isa.specs.declared.place.Segment.TheVariants.{Text, Data}

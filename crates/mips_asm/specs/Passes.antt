@@ -3,9 +3,9 @@ use Rattle.std.specs.Prelude.{◌≡◌, ℕ, zero, suc, ◌+◌, ◌*◌, ◌<�
 use Rattle.std.specs.Global.{Global}
 use denote.Ref.{Bor}
 use Rattle.mips_isa.specs.declared.line.Line as declared_line
-use Rattle.mips_isa.specs.declared.line.AsmError.{AsmError}
-use Rattle.mips_isa.specs.declared.line.AsmError.TheVariants.{Memory, Fault}
-use Rattle.mips_isa.specs.declared.line.AsmKind.TheVariants.{A5}
+use Rattle.mips_isa.specs.declared.asm_fault.AsmError.{AsmError}
+use Rattle.mips_isa.specs.declared.asm_fault.AsmError.TheVariants.{Memory, Fault}
+use Rattle.mips_isa.specs.declared.asm_fault.AsmKind.TheVariants.{A5}
 use Rattle.mips_isa.specs.declared.place.Place.{Place}
 use Rattle.mips_isa.specs.declared.place.Segment.{Segment}
 use Rattle.mips_isa.specs.declared.place.Segment.TheVariants.{Text, Data}

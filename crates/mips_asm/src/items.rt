@@ -5,7 +5,7 @@ ghost use Rattle.std.specs.List.{AllByRecursion};
 ghost use Rattle.mips_isa.specs.Words.{bits_of};
 ghost use Rattle.mips_isa.specs.Lines.{item_of, statement_of, IsInRange, IsItem};
 ghost use Rattle.mips_isa.specs.Assembly.{up, need, item_bytes, item_value, four_bytes, address_or_zero, padding_to};
-ghost use Rattle.mips_isa.specs.declared.line.AsmError.TheVariants.{Memory};
+ghost use Rattle.mips_isa.specs.declared.asm_fault.AsmError.TheVariants.{Memory};
 ghost use Rattle.mips_asm.specs.Places.{places_of};
 ghost use Rattle.mips_asm.specs.Parts.{IsError, word_in, items_fault, item_fault, zeros};
 

@@ -8,7 +8,7 @@ ghost use Rattle.mips_isa.specs.Assembly.{instructions, address_or_zero, need, f
 ghost use Rattle.mips_asm.specs.Places.{places_of};
 ghost use Rattle.mips_asm.specs.Completing.{segment_behind};
 ghost use Rattle.mips_asm.specs.Parts.{expanded, instruction_fault, target_in, target_address, IsError, statement_fault, words_of_statement, bytes_of_statement, last_fault, IsWordPlace, IsImageOrFault};
-ghost use Rattle.mips_isa.specs.declared.line.AsmError.TheVariants.{Memory};
+ghost use Rattle.mips_isa.specs.declared.asm_fault.AsmError.TheVariants.{Memory};
 
 use crate::completing::segment_after;
 use crate::expansion::{Expansion, expand};

@@ -15,11 +15,11 @@ use Rattle.mips_isa.specs.declared.line.ZeroOp.{ZeroOp}
 use Rattle.mips_isa.specs.declared.line.ZeroOp.TheVariants.{Beqz, Bnez}
 use Rattle.mips_isa.specs.declared.line.OrderOp.{OrderOp}
 use Rattle.mips_isa.specs.declared.line.OrderOp.TheVariants.{Bgt, Bge, Blt, Ble}
-use Rattle.mips_isa.specs.declared.line.AsmKind.{AsmKind}
-use Rattle.mips_isa.specs.declared.line.AsmKind.TheVariants.{A5, A6, A7, A8, A9}
-use Rattle.mips_isa.specs.declared.line.AsmFault.{AsmFault}
-use Rattle.mips_isa.specs.declared.line.AsmError.{AsmError}
-use Rattle.mips_isa.specs.declared.line.AsmError.TheVariants.{Memory, Fault}
+use Rattle.mips_isa.specs.declared.asm_fault.AsmKind.{AsmKind}
+use Rattle.mips_isa.specs.declared.asm_fault.AsmKind.TheVariants.{A5, A6, A7, A8, A9}
+use Rattle.mips_isa.specs.declared.asm_fault.AsmFault.{AsmFault}
+use Rattle.mips_isa.specs.declared.asm_fault.AsmError.{AsmError}
+use Rattle.mips_isa.specs.declared.asm_fault.AsmError.TheVariants.{Memory, Fault}
 use Rattle.mips_isa.specs.declared.place.Segment.{Segment}
 use Rattle.mips_isa.specs.declared.place.Segment.TheVariants.{Text, Data}
 use Rattle.mips_isa.specs.declared.place.Place.{Place}

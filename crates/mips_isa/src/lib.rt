@@ -5,6 +5,7 @@
 #![tactic(auto)]
 
 mod address_map;
+mod asm_fault;
 mod decoding;
 mod encoding;
 mod image;
@@ -18,13 +19,14 @@ mod trap;
 pub use address_map::{
     DATA_START, HEAP_START, MOST_DATA_BYTES, MOST_TEXT_WORDS, STACK_END, TEXT_START,
 };
+pub use asm_fault::{AsmError, AsmFault, AsmKind};
 pub use decoding::decode;
 pub use encoding::encode;
 pub use image::Image;
 pub use instr::{
     FromOp, ImmOp, Instr, JumpOp, MemOp, MulDivOp, OneOp, ShiftOp, ShiftRegOp, ThreeOp, ToOp, TwoOp,
 };
-pub use line::{AsmError, AsmFault, AsmKind, Label, Line, OrderOp, Statement, WordItem, ZeroOp};
+pub use line::{Label, Line, OrderOp, Statement, WordItem, ZeroOp};
 pub use place::{Place, Segment};
 pub use register::Reg;
 pub use trap::{Trap, TrapKind};

@@ -1,8 +1,8 @@
 -- The faults that the reading of a text finds: A1 to A4.
-use Rattle.mips_isa.specs.declared.line.AsmKind.{AsmKind}
-use Rattle.mips_isa.specs.declared.line.AsmKind.TheVariants.{A1, A2, A3, A4, A5, A6, A7, A8, A9}
-use Rattle.mips_isa.specs.declared.line.AsmError.{AsmError}
-use Rattle.mips_isa.specs.declared.line.AsmError.TheVariants.{Memory, Fault}
+use Rattle.mips_isa.specs.declared.asm_fault.AsmKind.{AsmKind}
+use Rattle.mips_isa.specs.declared.asm_fault.AsmKind.TheVariants.{A1, A2, A3, A4, A5, A6, A7, A8, A9}
+use Rattle.mips_isa.specs.declared.asm_fault.AsmError.{AsmError}
+use Rattle.mips_isa.specs.declared.asm_fault.AsmError.TheVariants.{Memory, Fault}
 
 abbrev pub IsReadingKind : AsmKind → Type 0
 IsReadingKind A1 = Unit {0}

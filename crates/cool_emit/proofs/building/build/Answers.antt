@@ -2,7 +2,7 @@
 use Rattle.std.proofs.Common.{◌≡◌, ◌∙◌, length, Some, None, Err, ap, sym, subst, arith}
 use Rattle.std.proofs.lemmas.List.{length-map}
 use Rattle.mips_isa.specs.Lines.{line_of, lines_of, AreInRange}
-use Rattle.mips_isa.specs.declared.line.AsmError.{AsmError}
+use Rattle.mips_isa.specs.declared.asm_fault.AsmError.{AsmError}
 use Rattle.mips_isa.specs.Assembly.{Assembles, fault_of}
 use Rattle.cool_emit.proofs.SoundLinesAssemble.{few_lines, in_range, no_fault}
 use Rattle.cool_emit.proofs.building.build.Goals as goal
