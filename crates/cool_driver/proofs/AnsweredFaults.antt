@@ -11,10 +11,11 @@ use Rattle.cool_driver.specs.CommandLine.{plan_of}
 use Rattle.cool_driver.specs.Notes.{refused_note}
 use Rattle.cool_driver.specs.Ends.{Request, Due, IsRead, IsRunOf, MayRefuse, built_bytes, Told}
 use Rattle.cool_driver.specs.Ends.IsRunOf.{of_file, of_program}
-use Rattle.cool_driver.specs.Ends.Due.{checked, built, refused, ran, executed, unread_input, unfit, misread, usage, too_many, missing, unread, too_large}
+use Rattle.cool_driver.specs.Ends.Due.{checked, built, refused, ran, executed, unread_input, unfit, misread, summed, usage, too_many, missing, unread, too_large}
 use Rattle.cool_driver.specs.declared.command_line.Command.{Command}
 use Rattle.cool_driver.specs.declared.command_line.Command.TheVariants.{Check, Build, Run, Exec}
 use Rattle.cool_driver.specs.declared.command_line.Form.{Form}
+use Rattle.cool_driver.proofs.Plans.{no_files_for_big, no_files_for_nothing}
 use Rattle.cool_driver.proofs.ReadTwice.{same_plan, no_plan_and_plan, same_read, may_refuse}
 use Rattle.cool_driver.proofs.Findings.{no_file_fault}
 
@@ -99,7 +100,10 @@ answered r _ _ _ _ files command names contents faults (unfit limits name bytes 
     absurd (may_refuse r files command (Exec limits) names (name ∷ []) contents (bytes ∷ []) told read read' may)
 answered r _ _ _ _ files command names contents faults (misread limits name bytes fault read' text) told read may list =
     absurd (may_refuse r files command (Exec limits) names (name ∷ []) contents (bytes ∷ []) told read read' may)
-answered r _ _ _ _ files command names contents faults (usage plan calm) told read may list = absurd (no_plan_and_plan _ _ _ plan read.plan)
+answered r _ _ _ _ files command names contents faults (summed n line asked calm is) told read may list =
+    absurd (no_plan_and_plan _ _ _ (no_files_for_big r.words n asked) read.plan)
+answered r _ _ _ _ files command names contents faults (usage none calm) told read may list =
+    absurd (no_plan_and_plan _ _ _ (no_files_for_nothing r.words none) read.plan)
 answered r _ _ _ _ files command names contents faults (too_many command' names' plan many calm) told read may list = absurd (no_file_fault r files _ _ _ _ _ told read plan (inl (many, calm)))
 answered r _ _ _ _ files command names contents faults (missing command' name contents' u gone) told read may list =
     absurd (no_file_fault r files _ _ _ _ _ told read u.plan

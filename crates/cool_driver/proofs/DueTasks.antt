@@ -11,8 +11,9 @@ use Rattle.cool_words.specs.Plans.{IsBounded}
 use Rattle.cool_driver.specs.CommandLine.{is_number_of_files, plan_of, most_bytes}
 use Rattle.cool_driver.specs.Notes.{missing_note, unread_note, too_large_note, too_many_note}
 use Rattle.cool_driver.specs.Ends.{Request, Due, IsRead, IsReadUpTo, AreHeld}
-use Rattle.cool_driver.specs.Ends.Due.{checked, refused, unfit, misread, too_many, missing, unread, too_large}
+use Rattle.cool_driver.specs.Ends.Due.{checked, built, refused, unfit, misread, too_many, missing, unread, too_large}
 use Rattle.cool_driver.specs.Ends.IsRunOf.{of_file, of_program}
+use Rattle.cool_driver.specs.Ends.Writing.{by_build}
 use Rattle.cool_driver.specs.Reading.{IsStopAt}
 use Rattle.cool_driver.specs.Tasks.{fault_note, IsTaskOf, IsTaskOfFile, IsTaskOfChecked, IsTaskOfBuilt, IsTaskOfRun, IsLine, HasLimits, IsDue, IsFileTask}
 use Rattle.cool_driver.specs.declared.command_line.Command.{Command}
@@ -36,7 +37,7 @@ built_due : (r : Request) (form : Form) (names contents : List (List ℕ)) (task
     → IsTaskOfBuilt form names contents task → IsDue r task
 built_due r form names contents (Tell status lines) read (are, one, h) =
     rw (one, h.2) (refused (command.Build form) names contents h.0 read tt h.1, are, λ e. omega (arith, e))
-built_due r form names contents (Write made) read h = (form, (names, contents, h.0, read, h.1, h.2))
+built_due r form names contents (Write made) read h = rw h.2 (built form names contents h.0 read h.1, by_build form names contents h.0 read h.1)
 built_due r form names contents (Run within image) read h = absurd h
 built_due r form names contents (Execute within image) read h = absurd h
 
@@ -79,10 +80,10 @@ task_due r (command.Build form) names contents task bounded read number h = buil
 task_due r (command.Run limits) names contents task bounded read number h = run_due r limits names contents task bounded read h
 task_due r (command.Exec limits) names contents task bounded read number h = exec_due r limits names contents task bounded read (eqb-true (length names) 1 number) read.held h
 
--- what follows for each task follows for one that was made
-pub for_task : {E : Type 0} (P Q : Task → Type 0) (result : Result Task E) → ((task : Task) → P task → Q task) → IfOk result P → IfOk result Q
-for_task P Q (Err e) f h = tt
-for_task P Q (Ok task) f h = f task h
+-- what follows for each value follows for one that was made
+pub for_ok : {T E : Type 0} (P Q : T → Type 0) (result : Result T E) → ((made : T) → P made → Q made) → IfOk result P → IfOk result Q
+for_ok P Q (Err e) f h = tt
+for_ok P Q (Ok made) f h = f made h
 
 -- for files that were read, for any words that ask for them and over any input
 pub file_task : (files : Option FileMap) (before after : ℕ) (asked : Command) (names contents : List (List ℕ)) (task : Task)

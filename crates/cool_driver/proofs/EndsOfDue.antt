@@ -8,7 +8,7 @@ use Rattle.cool_ports.specs.ShelfFiles.{FileMap}
 use Rattle.cool_driver.specs.declared.command_line.Command.{Command}
 use Rattle.cool_driver.specs.declared.command_line.Command.TheVariants.{Check, Build}
 use Rattle.cool_driver.specs.Ends.{Request, Due, Writing, Call, NoLess, Ends, FailedOutput, FailedNote, Got, Told, IsRead, MayRefuse}
-use Rattle.cool_driver.specs.Ends.Writing.{by_build, by_run, by_image}
+use Rattle.cool_driver.specs.Ends.Writing.{by_build, by_run, by_big, by_image}
 use Rattle.cool_driver.proofs.AnsweredFaults.{answered}
 use Rattle.cool_driver.proofs.Findings as findings
 use Rattle.cool_driver.proofs.Findings.{Finding, finding_of_due, finding_below}
@@ -79,6 +79,9 @@ ends_found c status found calm written =
       compiled_exactly = λ files limits names contents p told read other is _ _. findings.compiled_exactly r status files limits names contents p found told read other is;
       unfit_exactly = λ files limits name bytes told read binary none _ _. findings.unfit_exactly r status files limits name bytes found told read binary none;
       executed_exactly = λ files limits name bytes image told read is _ _. findings.executed_exactly r status files limits name bytes image found told read is;
+      summed_exactly = λ n asked _ _.
+          let due = findings.big_due r status written.0 written.1 c.left n written.2 asked in
+          (due.0, written.0, due.1, written.3);
       no_less = record {
         files = findings.shelf_no_less r status found;
         input = input_no_less status c.input_before c.input_after calm.input calm.read_fault;
@@ -102,6 +105,7 @@ ends_written c status output note due out notes calm rose =
 read_of : (r : Request) (bytes more left : List ℕ) → Writing r bytes more left → r.faults_after ≡ r.faults_before
 read_of r _ _ _ (by_build form names contents p read is) = read.calm
 read_of r _ _ _ (by_run limits names contents strings read is) = read.calm
+read_of r _ _ _ (by_big n line asked calm is) = calm
 read_of r _ _ _ (by_image limits image at printed is comes prints) = (read_for_run r limits image is).3.calm
 
 -- no count fell where a write failed
@@ -142,6 +146,7 @@ ends_write_fault c rose part input = record {
   compiled_exactly = λ files limits names contents p told read form is other _. absurd (other refl);
   unfit_exactly = λ files limits name bytes told read binary none other _. absurd (other refl);
   executed_exactly = λ files limits name bytes image told read is other _. absurd (other refl);
+  summed_exactly = λ n asked other _. absurd (other refl);
   out_fault = λ _. refl;
   notes_fault = λ _. refl;
   input_fault = λ _. inr refl;
@@ -170,6 +175,7 @@ ends_without_memory c files out notes left calm = record {
   compiled_exactly = λ files limits names contents p told read form is _ other. absurd (other refl);
   unfit_exactly = λ files limits name bytes told read binary none _ other. absurd (other refl);
   executed_exactly = λ files limits name bytes image told read is _ other. absurd (other refl);
+  summed_exactly = λ n asked _ other. absurd (other refl);
   out_fault = λ more. absurd (omega (arith, out.1, more));
   notes_fault = λ more. absurd (omega (arith, notes.1, more));
   input_fault = λ more. absurd (omega (arith, calm, more));

@@ -1,19 +1,16 @@
 -- A task that was done ends a call as it should.
 use Rattle.std.proofs.Common.{◌≡◌, ◌≢◌, ℕ, inl, inr, List, [], ◌++◌, sym, subst, arith}
 use Rattle.std.specs.List.{concat}
-use Rattle.cool_classes.specs.Chains.{Class}
-use Rattle.cool_faults.specs.Verdicts.{IsAccepted}
 use Rattle.cool_driver.specs.Notes.{end_text}
 use Rattle.cool_words.specs.declared.plan.RunLimits.{RunLimits}
 use Rattle.cool_driver.specs.SimpleFiles.{RunSimply}
-use Rattle.cool_driver.specs.Ends.{Due, IsRead, Call, Ends, Got, Writing, built_bytes}
-use Rattle.cool_driver.specs.Ends.Due.{built, ran}
-use Rattle.cool_driver.specs.Ends.Writing.{by_build, by_run}
+use Rattle.cool_driver.specs.Ends.{Due, IsRead, Call, Ends, Got, Writing}
+use Rattle.cool_driver.specs.Ends.Due.{ran}
+use Rattle.cool_driver.specs.Ends.Writing.{by_run}
 use Rattle.cool_driver.specs.Tasks.{code_of, Noted, RunsSimple}
 use Rattle.cool_driver.specs.declared.status.Status.{Status}
 use Rattle.cool_driver.specs.declared.status.Status.TheVariants as statuses
-use Rattle.cool_driver.specs.declared.command_line.Command.TheVariants.{Build, Run}
-use Rattle.cool_driver.specs.declared.command_line.Form.{Form}
+use Rattle.cool_driver.specs.declared.command_line.Command.TheVariants.{Run}
 use Rattle.cool_driver.proofs.EndsOfDue.{ends_written, ends_write_fault, ends_without_memory}
 
 -- the input was left alone
@@ -35,15 +32,13 @@ note_ends c status answered note due other out alone (inr failed) =
     subst (λ (s : Status). Ends c (code_of s)) (sym failed.0)
     (ends_write_fault c (inr failed.1.1) (inr (code_of status, [], note, due_left c (code_of status) [] note alone due, out, failed.1)) (omega (arith, alone.calm)))
 
--- a program was written, or its write failed
-pub built_ends : (c : Call) (form : Form) (names contents : List (List ℕ)) (p : List Class) (bytes : List ℕ) (answered : Status)
-    → IsRead c.request (Build form) names contents → IsAccepted contents p → bytes ≡ built_bytes form p names → Got c.notes [] → Untouched c → Noted c.out bytes statuses.Done answered → Ends c (code_of answered)
-built_ends c form names contents p bytes answered read is made notes alone (inl done) =
-    let due = subst (λ (b : List ℕ). Due c.request 0 b [] c.request.input) (sym made) (built form names contents p read is) in
+-- bytes that are due were written, or their write failed
+pub written_ends : (c : Call) (bytes : List ℕ) (answered : Status) → Due c.request 0 bytes [] c.request.input → Writing c.request [] bytes c.request.input
+    → Got c.notes [] → Untouched c → Noted c.out bytes statuses.Done answered → Ends c (code_of answered)
+written_ends c bytes answered due writing notes alone (inl done) =
     subst (λ (s : Status). Ends c (code_of s)) (sym done.0)
     (ends_written c 0 bytes [] (due_left c 0 bytes [] alone due) done.1 notes (λ _. alone.calm) (λ e. absurd (omega (arith, e))))
-built_ends c form names contents p bytes answered read is made notes alone (inr failed) =
-    let writing = subst (λ (b : List ℕ). Writing c.request [] b c.request.input) (sym made) (by_build form names contents p read is) in
+written_ends c bytes answered due writing notes alone (inr failed) =
     subst (λ (s : Status). Ends c (code_of s)) (sym failed.0)
     (ends_write_fault c (inl failed.1.1)
     (inl ([], bytes, subst (λ left. Writing c.request [] bytes left) (sym alone.left) writing, failed.1, notes)) (omega (arith, alone.calm)))

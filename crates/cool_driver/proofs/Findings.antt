@@ -15,15 +15,19 @@ use Rattle.mips_isa.specs.Calls.{Outcome, Running, Exited, Trapped}
 use Rattle.mips_image.specs.ImageReading.{first_fault}
 use Rattle.mips_image.specs.declared.image_error.ImageError.{ImageError}
 use Rattle.cool_emit.specs.Programs.{program_lines}
-use Rattle.cool_driver.specs.CommandLine.{plan_of, most_bytes}
+use Rattle.cool_words.specs.Plans.{Asked}
+use Rattle.cool_words.specs.Plans.Asked.{big}
+use Rattle.cool_driver.specs.Big.{IsBigLine}
+use Rattle.cool_driver.specs.CommandLine.{asked_for, plan_of, most_bytes}
 use Rattle.cool_driver.specs.Execution.{IsImageOf, is_text_file, run_of, status_of}
 use Rattle.cool_words.specs.declared.plan.RunLimits.{RunLimits}
 use Rattle.cool_driver.specs.SimpleFiles.{RunSimply, RunOtherwise}
 use Rattle.cool_driver.specs.Ends.{Request, Due, IsRead, IsRunOf, AreHeld, MayRefuse, Told}
-use Rattle.cool_driver.specs.Ends.Due.{checked, built, refused, ran, executed, unread_input, unfit, misread, usage, too_many, missing, unread, too_large}
+use Rattle.cool_driver.specs.Ends.Due.{checked, built, refused, ran, executed, unread_input, unfit, misread, summed, usage, too_many, missing, unread, too_large}
 use Rattle.cool_driver.specs.declared.command_line.Command.{Command}
 use Rattle.cool_driver.specs.declared.command_line.Command.TheVariants.{Check, Build, Run, Exec}
 use Rattle.cool_driver.proofs.HeldFiles.{held_same, held_behind, none_missing}
+use Rattle.cool_driver.proofs.Plans.{same_number, no_files_for_big, no_files_for_nothing}
 use Rattle.cool_driver.proofs.ReadTwice.{same_plan, no_run_exec, RunsNothing, runs_nothing, no_plan_and_plan, held_told, files_read, same_read, same_file, may_refuse}
 use Rattle.cool_driver.proofs.ImagesOfCalls.{simple_again, image_without_fault, no_text, not_runnable, same_runnable, read_for_run, run_of_file, run_of_program, simple_not_run}
 
@@ -48,6 +52,10 @@ IsFileFault r command names =
 abbrev pub IsRunStatus : ℕ → Type 0
 IsRunStatus status = ((end : Outcome) × (status ≡ status_of end)) ⊎ (status ≡ 7)
 
+-- the status that is left where no files are asked about
+abbrev pub IsWithoutFiles : Option Asked → ℕ → Type 0
+IsWithoutFiles asked status = ((asked ≡ None) × (status ≡ 2)) ⊎ ((n : ℕ) × (asked ≡ Some (big n)) × (status ≡ 0))
+
 -- what was found, with the status that it leaves
 pub data Finding (r : Request) (status : ℕ) : Type 0 where
   accepted : (command : Command) (names contents : List (List ℕ)) → RunsNothing command → IsRead r command names contents → status ≡ 0 → Finding r status
@@ -56,7 +64,8 @@ pub data Finding (r : Request) (status : ℕ) : Type 0 where
   image : (limits : RunLimits) (found : ImageParts) → IsRunOf r limits found → IsRunStatus status → (status ≡ 7) ⊎ (status ≡ status_of (run_of limits found r.input)) → Finding r status
   no_image : (limits : RunLimits) (name bytes : List ℕ) (fault : ImageError) → IsRead r (Exec limits) (name ∷ []) (bytes ∷ []) → first_fault bytes ≡ Some fault → status ≡ 12 → Finding r status
   bad_text : (limits : RunLimits) (name bytes : List ℕ) → IsRead r (Exec limits) (name ∷ []) (bytes ∷ []) → is_text_file bytes ≡ true → status ≡ 12 → Finding r status
-  no_plan : plan_of r.words ≡ None → r.faults_after ≡ r.faults_before → status ≡ 2 → Finding r status
+  -- no files are asked about: `big` is asked for, or nothing
+  no_plan : plan_of r.words ≡ None → r.faults_after ≡ r.faults_before → IsWithoutFiles (asked_for r.words) status → Finding r status
   no_file : (command : Command) (names : List (List ℕ)) → plan_of r.words ≡ Some (command, names) → IsFileFault r command names → status ≡ 10 → Finding r status
 
 -- what is due is a finding
@@ -69,7 +78,8 @@ finding_of_due r _ _ _ _ (executed limits found run) = image limits found run (i
 finding_of_due r _ _ _ _ (unread_input limits found at output left run comes fails) = image limits found run (inr refl) (inl refl)
 finding_of_due r _ _ _ _ (unfit limits name bytes fault read binary is) = no_image limits name bytes fault read is refl
 finding_of_due r _ _ _ _ (misread limits name bytes fault read text) = bad_text limits name bytes read text refl
-finding_of_due r _ _ _ _ (usage plan calm) = no_plan plan calm refl
+finding_of_due r _ _ _ _ (summed n line asked calm is) = no_plan (no_files_for_big r.words n asked) calm (inr (n, asked, refl))
+finding_of_due r _ _ _ _ (usage none calm) = no_plan (no_files_for_nothing r.words none) calm (inl (none, refl))
 finding_of_due r _ _ _ _ (too_many command names plan many calm) = no_file command names plan (inl (many, calm)) refl
 finding_of_due r _ _ _ _ (missing command name contents u gone) =
     no_file command (u.front ++ name ∷ u.rest) u.plan (inr (inr (record { front = u.front; rest = u.rest; name = name; contents = contents; stands = refl; held = u.held; cause = inl gone }))) refl
@@ -117,7 +127,8 @@ finding_below r status (image limits' found run ends e) =
     (below status one, λ q. not_of_run status 8 one q (inr (inr (inl refl))), λ q. not_of_run status 9 one q (inr (inr (inr (inl refl)))))
 finding_below r status (no_image limits name bytes fault read is e) = (omega (arith, e), λ q. omega (arith, e, q), λ q. omega (arith, e, q))
 finding_below r status (bad_text limits name bytes read text e) = (omega (arith, e), λ q. omega (arith, e, q), λ q. omega (arith, e, q))
-finding_below r status (no_plan plan calm e) = (omega (arith, e), λ q. omega (arith, e, q), λ q. omega (arith, e, q))
+finding_below r status (no_plan plan calm (inl e)) = (omega (arith, e.1), λ q. omega (arith, e.1, q), λ q. omega (arith, e.1, q))
+finding_below r status (no_plan plan calm (inr e)) = (omega (arith, e.2), λ q. omega (arith, e.2, q), λ q. omega (arith, e.2, q))
 finding_below r status (no_file command names plan fault e) = (omega (arith, e), λ q. omega (arith, e, q), λ q. omega (arith, e, q))
 
 -- what a told shelf lacks
@@ -160,27 +171,33 @@ no_file_fault r files a b names others contents told read plan (inl many) =
 no_file_fault r files a b names others contents told read plan (inr (inl rose)) = omega (arith, rose.more told.1, told.2)
 no_file_fault r files a b names others contents told read plan (inr (inr refusal)) = no_refused_file r files a b names others contents refusal told read plan refusal.cause
 
--- status 2 is left only where there is no plan
-pub usage_only : (r : Request) (status : ℕ) → Finding r status → status ≡ 2 → plan_of r.words ≡ None
+-- one thing is asked for, or nothing
+asks_twice : (asked : Option Asked) (n : ℕ) → asked ≡ None → asked ≡ Some (big n) → ⊥
+asks_twice asked n p q = cc
+
+-- status 2 is left only where nothing is asked for
+pub usage_only : (r : Request) (status : ℕ) → Finding r status → status ≡ 2 → asked_for r.words ≡ None
 usage_only r status (accepted command' names' contents' quiet read' e) q = absurd (omega (arith, e, q))
 usage_only r status (faulty command' names' contents' faults' read' may is e) q = absurd (omega (arith, e, q))
 usage_only r status (simple limits' names' contents' strings' read' is e) q = absurd (omega (arith, e, q))
 usage_only r status (image limits' found run ends e) q = absurd (not_of_run status 2 (run_status status ends) q (inr (inl refl)))
 usage_only r status (no_image limits' name' bytes' fault read' is e) q = absurd (omega (arith, e, q))
 usage_only r status (bad_text limits' name' bytes' read' text e) q = absurd (omega (arith, e, q))
-usage_only r status (no_plan none calm e) q = none
+usage_only r status (no_plan plan calm (inl e)) q = e.0
+usage_only r status (no_plan plan calm (inr e)) q = absurd (omega (arith, e.2, q))
 usage_only r status (no_file command' names' plan' fault e) q = absurd (omega (arith, e, q))
 
 -- and always there
-pub usage_exactly : (r : Request) (status : ℕ) → Finding r status → plan_of r.words ≡ None → status ≡ 2
-usage_exactly r status (accepted command' names' contents' quiet read' e) gone = absurd (no_plan_and_plan _ _ _ gone read'.plan)
-usage_exactly r status (faulty command' names' contents' faults' read' may is e) gone = absurd (no_plan_and_plan _ _ _ gone read'.plan)
-usage_exactly r status (simple limits' names' contents' strings' read' is e) gone = absurd (no_plan_and_plan _ _ _ gone read'.plan)
-usage_exactly r status (image limits' found run ends e) gone = absurd (no_plan_and_plan _ _ _ gone (read_for_run r limits' found run).3.plan)
-usage_exactly r status (no_image limits' name' bytes' fault read' is e) gone = absurd (no_plan_and_plan _ _ _ gone read'.plan)
-usage_exactly r status (bad_text limits' name' bytes' read' text e) gone = absurd (no_plan_and_plan _ _ _ gone read'.plan)
-usage_exactly r status (no_plan none calm e) gone = e
-usage_exactly r status (no_file command' names' plan' fault e) gone = absurd (no_plan_and_plan _ _ _ gone plan')
+pub usage_exactly : (r : Request) (status : ℕ) → Finding r status → asked_for r.words ≡ None → status ≡ 2
+usage_exactly r status (accepted command' names' contents' quiet read' e) gone = absurd (no_plan_and_plan _ _ _ (no_files_for_nothing r.words gone) read'.plan)
+usage_exactly r status (faulty command' names' contents' faults' read' may is e) gone = absurd (no_plan_and_plan _ _ _ (no_files_for_nothing r.words gone) read'.plan)
+usage_exactly r status (simple limits' names' contents' strings' read' is e) gone = absurd (no_plan_and_plan _ _ _ (no_files_for_nothing r.words gone) read'.plan)
+usage_exactly r status (image limits' found run ends e) gone = absurd (no_plan_and_plan _ _ _ (no_files_for_nothing r.words gone) (read_for_run r limits' found run).3.plan)
+usage_exactly r status (no_image limits' name' bytes' fault read' is e) gone = absurd (no_plan_and_plan _ _ _ (no_files_for_nothing r.words gone) read'.plan)
+usage_exactly r status (bad_text limits' name' bytes' read' text e) gone = absurd (no_plan_and_plan _ _ _ (no_files_for_nothing r.words gone) read'.plan)
+usage_exactly r status (no_plan plan calm (inl e)) gone = e.1
+usage_exactly r status (no_plan plan calm (inr e)) gone = absurd (asks_twice _ _ gone e.1)
+usage_exactly r status (no_file command' names' plan' fault e) gone = absurd (no_plan_and_plan _ _ _ (no_files_for_nothing r.words gone) plan')
 
 -- files that were read are not too many
 read_are_few : (r : Request) (a b : Command) (names others contents : List (List ℕ)) → IsRead r a names contents → plan_of r.words ≡ Some (b, others) → MOST_FILES < length others → ⊥
@@ -320,3 +337,21 @@ shelf_no_less r status (no_plan none calm e) = omega (arith, calm)
 shelf_no_less r status (no_file command' names' plan' (inl many) e) = omega (arith, many.1)
 shelf_no_less r status (no_file command' names' plan' (inr (inl rose)) e) = rose.no_less
 shelf_no_less r status (no_file command' names' plan' (inr (inr refusal)) e) = cause_no_less r.files refusal.name _ r.faults_before r.faults_after refusal.cause
+
+-- where `big` is asked for, its line is due
+pub big_due : (r : Request) (status : ℕ) (output note left : List ℕ) (n : ℕ) → Due r status output note left → asked_for r.words ≡ Some (big n)
+    → (status ≡ 0) × IsBigLine n output
+big_due r _ _ _ _ n (checked names contents p read is) asked = absurd (no_plan_and_plan _ _ _ (no_files_for_big r.words n asked) read.plan)
+big_due r _ _ _ _ n (built form names contents p read is) asked = absurd (no_plan_and_plan _ _ _ (no_files_for_big r.words n asked) read.plan)
+big_due r _ _ _ _ n (refused command names contents faults read may is) asked = absurd (no_plan_and_plan _ _ _ (no_files_for_big r.words n asked) read.plan)
+big_due r _ _ _ _ n (ran limits names contents strings read is) asked = absurd (no_plan_and_plan _ _ _ (no_files_for_big r.words n asked) read.plan)
+big_due r _ _ _ _ n (executed limits found run) asked = absurd (no_plan_and_plan _ _ _ (no_files_for_big r.words n asked) (read_for_run r limits found run).3.plan)
+big_due r _ _ _ _ n (unread_input limits found at output left run comes fails) asked = absurd (no_plan_and_plan _ _ _ (no_files_for_big r.words n asked) (read_for_run r limits found run).3.plan)
+big_due r _ _ _ _ n (unfit limits name bytes fault read binary is) asked = absurd (no_plan_and_plan _ _ _ (no_files_for_big r.words n asked) read.plan)
+big_due r _ _ _ _ n (misread limits name bytes fault read text) asked = absurd (no_plan_and_plan _ _ _ (no_files_for_big r.words n asked) read.plan)
+big_due r _ _ _ _ n (summed m line asks calm is) asked = (refl, subst (λ (k : ℕ). IsBigLine k line) (same_number _ m n asks asked) is)
+big_due r _ _ _ _ n (usage none calm) asked = absurd (asks_twice _ n none asked)
+big_due r _ _ _ _ n (too_many command names plan many calm) asked = absurd (no_plan_and_plan _ _ _ (no_files_for_big r.words n asked) plan)
+big_due r _ _ _ _ n (missing command name contents u gone) asked = absurd (no_plan_and_plan _ _ _ (no_files_for_big r.words n asked) u.plan)
+big_due r _ _ _ _ n (unread command name contents u rose) asked = absurd (no_plan_and_plan _ _ _ (no_files_for_big r.words n asked) u.plan)
+big_due r _ _ _ _ n (too_large command name contents u long) asked = absurd (no_plan_and_plan _ _ _ (no_files_for_big r.words n asked) u.plan)

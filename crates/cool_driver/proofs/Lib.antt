@@ -17,6 +17,7 @@ pub mod AnsweredFaults
 pub mod EndsOfDue
 pub mod EndsOfTasks
 pub mod RunsWithinLimits
+pub mod BigRuns
 pub mod SimpleRuns
 pub mod EndsOfRuns
 pub mod HexDigits

@@ -1,4 +1,4 @@
--- What a command line asks to do with files: `check FILES`, `asm FILES`, `build FILES`, `run FILES` or `exec FILE`, the last two within limits.
+-- What a command line asks for: `check FILES`, `asm FILES`, `build FILES`, `run FILES` or `exec FILE`, the last two within limits, or `big N`.
 use Rattle.std.specs.Prelude.{◌≢◌, ℕ, Bool, ◌==◌, nat_le, List, [], ◌∷◌, Option, Some, None, option_and_then}
 use Rattle.cool_syntax.specs.declared.TheConstants.{MOST_SOURCE_BYTES}
 pub use Rattle.cool_words.specs.Plans.{words_of}
@@ -15,7 +15,7 @@ use Rattle.cool_driver.specs.declared.command_line.Form.TheVariants.{Text, Image
 unfoldable pub asked_for : List (List ℕ) → Option Asked
 asked_for given = words.plan_of given
 
--- the command that is asked for, and the files that it is about; `big` is no command yet
+-- the command about files that is asked for, and these files; `big` is about none
 abbrev pub files_asked : Asked → Option (Command × List (List ℕ))
 files_asked (check names) = Some (Check, names)
 files_asked (asm names) = Some (Build Text, names)

@@ -21,7 +21,9 @@ use Rattle.mips_image.specs.declared.stored_image.TheConstants.{CHECKED_VERSION}
 use Rattle.spim_machine.specs.Ends.{FailsReading, call_with}
 use Rattle.cool_emit.specs.Programs.{program_lines}
 use Rattle.cool_words.specs.declared.plan.RunLimits.{RunLimits}
-use Rattle.cool_driver.specs.CommandLine.{plan_of, most_bytes}
+use Rattle.cool_words.specs.Plans.Asked.{big}
+use Rattle.cool_driver.specs.Big.{IsBigLine}
+use Rattle.cool_driver.specs.CommandLine.{asked_for, plan_of, most_bytes}
 use Rattle.cool_driver.specs.Notes.{end_text, refused_note, usage_note, missing_note, unread_note, too_many_note, too_large_note, read_fault_note, image_note, asm_note}
 use Rattle.cool_driver.specs.SimpleFiles.{RunSimply, RunOtherwise}
 use Rattle.cool_driver.specs.Execution.{IsImageOf, IsRunnable, is_text_file, segments_within, run_of, ComesTo, left_by, status_of, note_of}
@@ -75,7 +77,8 @@ MayRefuse (Exec limits) contents = ⊥
 -- unless they are one of the simple form.
 pub data IsRunOf (r : Request) (limits : RunLimits) (image : ImageParts) : Type 0 where
   of_file : (name bytes : List ℕ) → IsRead r (Exec limits) (name ∷ []) (bytes ∷ []) → IsRunnable image bytes → IsRunOf r limits image
-  of_program : (names contents : List (List ℕ)) (p : List Class) → IsRead r (Run limits) names contents → RunOtherwise limits contents → IsAccepted contents p
+  of_program : (names contents : List (List ℕ)) (p : List Class) → IsRead r (Run limits) names contents → RunOtherwise limits contents
+      → IsAccepted contents p
       → image ≡ image_of (program_lines p names) → IsRunOf r limits image
 
 -- what `asm` and `build` write for a program whose files have these names: its lines, and the image of its lines in the version of checked
@@ -92,10 +95,12 @@ pub data Due (r : Request) : ℕ → List ℕ → List ℕ → List ℕ → Type
   built : (form : Form) (names contents : List (List ℕ)) (p : List Class) → IsRead r (Build form) names contents → IsAccepted contents p
       → Due r 0 (built_bytes form p names) [] r.input
   -- `check`, `asm`, `build` and `run`: a line for each fault
-  refused : (command : Command) (names contents : List (List ℕ)) (faults : List Fault) → IsRead r command names contents → MayRefuse command contents → IsRefused contents faults
+  refused : (command : Command) (names contents : List (List ℕ)) (faults : List Fault) → IsRead r command names contents
+      → MayRefuse command contents → IsRefused contents faults
       → Due r 1 [] (refused_note names faults) r.input
   -- `run` of a program of the simple form: its strings in order, and the end text
-  ran : (limits : RunLimits) (names contents strings : List (List ℕ)) → IsRead r (Run limits) names contents → RunSimply limits contents strings → Due r 0 (concat strings ++ end_text) [] r.input
+  ran : (limits : RunLimits) (names contents strings : List (List ℕ)) → IsRead r (Run limits) names contents
+      → RunSimply limits contents strings → Due r 0 (concat strings ++ end_text) [] r.input
   -- `run` and `exec`: as the run of the image ends
   executed : (limits : RunLimits) (image : ImageParts) → IsRunOf r limits image
       → Due r (status_of (run_of limits image r.input)) (left_by (run_of limits image r.input)).output (note_of (run_of limits image r.input))
@@ -105,14 +110,23 @@ pub data Due (r : Request) : ℕ → List ℕ → List ℕ → List ℕ → Type
       → ComesTo limits image r.input at → FailsReading (call_with (segments_within limits image) at) at (Some []) (Some left) (Some output)
       → Due r 7 output read_fault_note left
   -- `exec`: the file has a fault
-  unfit : (limits : RunLimits) (name bytes : List ℕ) (fault : ImageError) → IsRead r (Exec limits) (name ∷ []) (bytes ∷ []) → is_text_file bytes ≡ false → first_fault bytes ≡ Some fault → Due r 12 [] (image_note name fault) r.input
-  misread : (limits : RunLimits) (name bytes : List ℕ) (fault : AsmFault) → IsRead r (Exec limits) (name ∷ []) (bytes ∷ []) → is_text_file bytes ≡ true → Due r 12 [] (asm_note name fault) r.input
+  unfit : (limits : RunLimits) (name bytes : List ℕ) (fault : ImageError) → IsRead r (Exec limits) (name ∷ []) (bytes ∷ [])
+      → is_text_file bytes ≡ false → first_fault bytes ≡ Some fault → Due r 12 [] (image_note name fault) r.input
+  misread : (limits : RunLimits) (name bytes : List ℕ) (fault : AsmFault) → IsRead r (Exec limits) (name ∷ []) (bytes ∷ [])
+      → is_text_file bytes ≡ true → Due r 12 [] (asm_note name fault) r.input
+  -- `big`: its line
+  summed : (n : ℕ) (line : List ℕ) → asked_for r.words ≡ Some (big n) → r.faults_after ≡ r.faults_before → IsBigLine n line
+      → Due r 0 line [] r.input
   -- all
-  usage : plan_of r.words ≡ None → r.faults_after ≡ r.faults_before → Due r 2 [] usage_note r.input
-  too_many : (command : Command) (names : List (List ℕ)) → plan_of r.words ≡ Some (command, names) → MOST_FILES < length names → r.faults_after ≡ r.faults_before → Due r 10 [] too_many_note r.input
-  missing : (command : Command) (name : List ℕ) (contents : List (List ℕ)) → IsReadUpTo r command name contents → IsMissing r.files name r.faults_before r.faults_after → Due r 10 [] (missing_note name) r.input
-  unread : (command : Command) (name : List ℕ) (contents : List (List ℕ)) → IsReadUpTo r command name contents → Rose r.faults_before r.faults_after → Due r 10 [] (unread_note name) r.input
-  too_large : (command : Command) (name : List ℕ) (contents : List (List ℕ)) → IsReadUpTo r command name contents → IsLonger r.files name (most_bytes command - total contents) r.faults_before r.faults_after
+  usage : asked_for r.words ≡ None → r.faults_after ≡ r.faults_before → Due r 2 [] usage_note r.input
+  too_many : (command : Command) (names : List (List ℕ)) → plan_of r.words ≡ Some (command, names) → MOST_FILES < length names
+      → r.faults_after ≡ r.faults_before → Due r 10 [] too_many_note r.input
+  missing : (command : Command) (name : List ℕ) (contents : List (List ℕ)) → IsReadUpTo r command name contents
+      → IsMissing r.files name r.faults_before r.faults_after → Due r 10 [] (missing_note name) r.input
+  unread : (command : Command) (name : List ℕ) (contents : List (List ℕ)) → IsReadUpTo r command name contents
+      → Rose r.faults_before r.faults_after → Due r 10 [] (unread_note name) r.input
+  too_large : (command : Command) (name : List ℕ) (contents : List (List ℕ)) → IsReadUpTo r command name contents
+      → IsLonger r.files name (most_bytes command - total contents) r.faults_before r.faults_after
       → Due r 10 [] too_large_note r.input
 
 -- What is written when a write of the output fails: what was written before, what is being written, and what is left of the input.
@@ -120,7 +134,11 @@ pub data Writing (r : Request) : List ℕ → List ℕ → List ℕ → Type 0 w
   -- what `asm` and `build` write
   by_build : (form : Form) (names contents : List (List ℕ)) (p : List Class) → IsRead r (Build form) names contents → IsAccepted contents p
       → Writing r [] (built_bytes form p names) r.input
-  by_run : (limits : RunLimits) (names contents strings : List (List ℕ)) → IsRead r (Run limits) names contents → RunSimply limits contents strings → Writing r [] (concat strings ++ end_text) r.input
+  by_run : (limits : RunLimits) (names contents strings : List (List ℕ)) → IsRead r (Run limits) names contents
+      → RunSimply limits contents strings → Writing r [] (concat strings ++ end_text) r.input
+  -- the line of `big`
+  by_big : (n : ℕ) (line : List ℕ) → asked_for r.words ≡ Some (big n) → r.faults_after ≡ r.faults_before → IsBigLine n line
+      → Writing r [] line r.input
   -- the run of the image comes to a call that prints these bytes
   by_image : (limits : RunLimits) (image : ImageParts) (at : State) (printed : List ℕ) → IsRunOf r limits image
       → ComesTo limits image r.input at → call (segments_within limits image) at ≡ print at printed → Writing r at.output printed at.input
@@ -186,35 +204,47 @@ pub record Ends (c : Call) (status : ℕ) : Type 0 where
   pub want_of_memory : status ≡ 9 → Got c.out [] × Got c.notes [] × (c.left ≡ c.request.input) × (c.input_after ≡ c.input_before)
   -- status 7 comes only where the input failed
   pub read_fault : status ≡ 7 → Rose c.input_before c.input_after
-  -- status 2 comes where there is no plan, and only there
-  pub usage_only : status ≡ 2 → plan_of c.request.words ≡ None
-  pub usage_exactly : plan_of c.request.words ≡ None → Unless status (status ≡ 2)
+  -- status 2 comes where the words ask for nothing, and only there
+  pub usage_only : status ≡ 2 → asked_for c.request.words ≡ None
+  pub usage_exactly : asked_for c.request.words ≡ None → Unless status (status ≡ 2)
   -- status 10 comes where there are too many files, or one is missing, or all are too large, and else only where the shelf failed
-  pub too_many_exactly : (command : Command) (names : List (List ℕ)) → plan_of c.request.words ≡ Some (command, names) → MOST_FILES < length names → Unless status (status ≡ 10)
-  pub missing_exactly : (files : FileMap) (command : Command) (names : List (List ℕ)) (name : List ℕ) → Told c.request files → plan_of c.request.words ≡ Some (command, names) → Contains names name → files name ≡ None
+  pub too_many_exactly : (command : Command) (names : List (List ℕ)) → plan_of c.request.words ≡ Some (command, names)
+      → MOST_FILES < length names → Unless status (status ≡ 10)
+  pub missing_exactly : (files : FileMap) (command : Command) (names : List (List ℕ)) (name : List ℕ) → Told c.request files
+      → plan_of c.request.words ≡ Some (command, names) → Contains names name → files name ≡ None
       → Unless status (status ≡ 10)
-  pub too_large_exactly : (files : FileMap) (command : Command) (names contents : List (List ℕ)) → Told c.request files → plan_of c.request.words ≡ Some (command, names) → AreHeld (Some files) names contents
+  pub too_large_exactly : (files : FileMap) (command : Command) (names contents : List (List ℕ)) → Told c.request files
+      → plan_of c.request.words ≡ Some (command, names) → AreHeld (Some files) names contents
       → most_bytes command < total contents → Unless status (status ≡ 10)
   -- `check`: status 0 comes where the files were read and their fault list is empty, and status 1 where it is not
-  pub checked_exactly : (files : FileMap) (names contents : List (List ℕ)) (faults : List Fault) → Told c.request files → IsRead c.request Check names contents → IsFaultList contents faults
+  pub checked_exactly : (files : FileMap) (names contents : List (List ℕ)) (faults : List Fault) → Told c.request files
+      → IsRead c.request Check names contents → IsFaultList contents faults
       → Unless status ((faults ≡ [] → status ≡ 0) × (faults ≢ [] → status ≡ 1))
   -- `asm` and `build`: status 0, and the lines or the image, come where the files were read and are accepted
   pub built_exactly : (files : FileMap) (form : Form) (names contents : List (List ℕ)) (p : List Class) → Told c.request files
       → IsRead c.request (Build form) names contents → IsAccepted contents p → Unless status ((status ≡ 0) × Got c.out (built_bytes form p names))
   -- `check`, `asm`, `build` and `run`: status 1 comes where the files were read and their fault list is not empty, with a line for each fault
   -- of it
-  pub refused_exactly : (files : FileMap) (command : Command) (names contents : List (List ℕ)) (faults : List Fault) → Told c.request files → IsRead c.request command names contents → MayRefuse command contents
+  pub refused_exactly : (files : FileMap) (command : Command) (names contents : List (List ℕ)) (faults : List Fault) → Told c.request files
+      → IsRead c.request command names contents → MayRefuse command contents
       → IsFaultList contents faults → faults ≢ [] → Unless status ((status ≡ 1) × Got c.notes (refused_note names faults))
   -- `run`: status 0 comes where the files were read and are a program of the simple form, and the status of its run's end where they are
   -- another program
-  pub ran_exactly : (files : FileMap) (limits : RunLimits) (names contents strings : List (List ℕ)) → Told c.request files → IsRead c.request (Run limits) names contents → RunSimply limits contents strings → Unless status (status ≡ 0)
-  pub compiled_exactly : (files : FileMap) (limits : RunLimits) (names contents : List (List ℕ)) (p : List Class) → Told c.request files → IsRead c.request (Run limits) names contents → RunOtherwise limits contents → IsAccepted contents p
+  pub ran_exactly : (files : FileMap) (limits : RunLimits) (names contents strings : List (List ℕ)) → Told c.request files
+      → IsRead c.request (Run limits) names contents → RunSimply limits contents strings → Unless status (status ≡ 0)
+  pub compiled_exactly : (files : FileMap) (limits : RunLimits) (names contents : List (List ℕ)) (p : List Class) → Told c.request files
+      → IsRead c.request (Run limits) names contents → RunOtherwise limits contents → IsAccepted contents p
       → Unless status ((status ≡ 7) ⊎ (status ≡ status_of (run_of limits (image_of (program_lines p names)) c.request.input)))
   -- `exec`: status 12 comes where the file was read, is no text and no image, and the status of the run's end where it is an image
-  pub unfit_exactly : (files : FileMap) (limits : RunLimits) (name bytes : List ℕ) → Told c.request files → IsRead c.request (Exec limits) (name ∷ []) (bytes ∷ []) → is_text_file bytes ≡ false → ((image : ImageParts) → IsImageOf image bytes → ⊥)
+  pub unfit_exactly : (files : FileMap) (limits : RunLimits) (name bytes : List ℕ) → Told c.request files
+      → IsRead c.request (Exec limits) (name ∷ []) (bytes ∷ []) → is_text_file bytes ≡ false → ((image : ImageParts) → IsImageOf image bytes → ⊥)
       → Unless status (status ≡ 12)
-  pub executed_exactly : (files : FileMap) (limits : RunLimits) (name bytes : List ℕ) (image : ImageParts) → Told c.request files → IsRead c.request (Exec limits) (name ∷ []) (bytes ∷ []) → IsImageOf image bytes
+  pub executed_exactly : (files : FileMap) (limits : RunLimits) (name bytes : List ℕ) (image : ImageParts) → Told c.request files
+      → IsRead c.request (Exec limits) (name ∷ []) (bytes ∷ []) → IsImageOf image bytes
       → Unless status ((status ≡ 7) ⊎ (status ≡ status_of (run_of limits image c.request.input)))
+  -- `big`: status 0, and its line, come where the words ask for it
+  pub summed_exactly : (n : ℕ) → asked_for c.request.words ≡ Some (big n)
+      → Unless status ((status ≡ 0) × (line : List ℕ) × IsBigLine n line × Got c.out line)
   -- no fault is passed over, and none is taken back
   pub no_less : NoLess c
   pub out_fault : c.out.faults_before < c.out.faults_after → status ≡ 8

@@ -8,6 +8,8 @@ use Rattle.mips_isa.specs.Calls.{State, Outcome, Running, Exited, Trapped}
 use Rattle.mips_isa.specs.Run.{start, run_image}
 use Rattle.mips_image.specs.ImageBytes.{IsVersion, image_bytes, HasWords}
 use Rattle.spim_machine.specs.Ends.{ComesToCall}
+use Rattle.spim_machine.specs.declared.halt.Halt.{Halt}
+use Rattle.spim_machine.specs.declared.halt.Halt.TheVariants.{Exit, Trap, StepLimit, ReadFault, WriteFault}
 use Rattle.cool_words.specs.declared.plan.RunLimits.{RunLimits}
 use Rattle.cool_driver.specs.Notes.{heap_limit_note, stack_limit_note, step_limit_note, trap_note}
 
@@ -62,10 +64,21 @@ left_by (Exited code s) = s
 left_by (Trapped trap s) = s
 
 -- 0, 4 and 5 are exit codes of their own, every other one is 3
+abbrev pub exit_status : ℕ → ℕ
+exit_status code = if code == 0 then 0 else (if code == 4 then 4 else (if code == 5 then 5 else 3))
+
 abbrev pub status_of : Outcome → ℕ
 status_of (Running s) = 6
-status_of (Exited code s) = if code == 0 then 0 else (if code == 4 then 4 else (if code == 5 then 5 else 3))
+status_of (Exited code s) = exit_status code
 status_of (Trapped trap s) = 11
+
+-- the same for how a machine halted, where a read or a write may have failed
+abbrev pub status_of_halt : Halt → ℕ
+status_of_halt (Exit code) = exit_status code
+status_of_halt (Trap trap) = 11
+status_of_halt StepLimit = 6
+status_of_halt ReadFault = 7
+status_of_halt WriteFault = 8
 
 abbrev pub note_of : Outcome → List ℕ
 note_of (Running s) = step_limit_note

@@ -6,5 +6,6 @@ pub mod Limits
 pub mod CommandLine
 pub mod Notes
 pub mod Execution
+pub mod Big
 pub mod Ends
 pub mod Tasks

@@ -21,7 +21,7 @@ use Rattle.cool_words.specs.Plans.{IsBounded}
 use Rattle.cool_driver.specs.CommandLine.{plan_of}
 use Rattle.cool_driver.specs.Notes.{end_text, refused_note, missing_note, unread_note, too_large_note, image_note, asm_note}
 use Rattle.cool_driver.specs.Execution.{IsRunnable, is_text_file, run_of}
-use Rattle.cool_driver.specs.Ends.{Request, Due, IsRead, IsRunOf, built_bytes, SinkUse, Got, GotPart}
+use Rattle.cool_driver.specs.Ends.{Request, Due, Writing, IsRead, IsRunOf, built_bytes, SinkUse, Got, GotPart}
 use Rattle.cool_driver.specs.SimpleFiles.{RunSimply, RunOtherwise}
 use Rattle.cool_driver.specs.SimpleReading.{texts}
 use Rattle.cool_driver.specs.declared.command_line.Command.{Command}
@@ -75,7 +75,8 @@ IsMisread name bytes note = (fault : AsmFault) × (note ≡ asm_note name fault)
 
 -- what is left to do for a file of this name that `exec` names, within these limits, and that has these bytes
 abbrev pub IsTaskOfFile : RunLimits → List ℕ → List ℕ → Task → Type 0
-IsTaskOfFile limits name bytes (Tell status lines) = (code_of status ≡ 12) × AreLines lines.items × (IsUnfit name bytes (note_of lines.items) ⊎ IsMisread name bytes (note_of lines.items))
+IsTaskOfFile limits name bytes (Tell status lines) = (code_of status ≡ 12) × AreLines lines.items
+    × (IsUnfit name bytes (note_of lines.items) ⊎ IsMisread name bytes (note_of lines.items))
 IsTaskOfFile limits name bytes (Write made) = ⊥
 IsTaskOfFile limits name bytes (Run within image) = ⊥
 IsTaskOfFile limits name bytes (Execute within image) = (within ≡ limits) × IsRunnable image bytes
@@ -140,11 +141,10 @@ HasLimits (command.Exec limits) = IsBounded limits
 -- what is left to do is what is due
 abbrev pub IsDue : Request → Task → Type 0
 IsDue r (Tell status lines) = Due r (code_of status) [] (note_of lines.items) r.input × AreLines lines.items × (code_of status ≢ 7)
-IsDue r (Write made) =
-    (form : Form) × ((names : List (List ℕ)) × (contents : List (List ℕ)) × (p : List Class) × IsRead r (command.Build form) names contents × IsAccepted contents p
-    × (made.items ≡ built_bytes form p names))
+IsDue r (Write made) = Due r 0 made.items [] r.input × Writing r [] made.items r.input
 IsDue r (Run limits image) =
-    IsBounded limits × ((names : List (List ℕ)) × (contents : List (List ℕ)) × (strings : List (List ℕ)) × IsRead r (command.Run limits) names contents
+    IsBounded limits
+    × ((names : List (List ℕ)) × (contents : List (List ℕ)) × (strings : List (List ℕ)) × IsRead r (command.Run limits) names contents
     × RunSimply limits contents strings × Prints limits image (concat strings ++ end_text))
 IsDue r (Execute limits image) = IsBounded limits × IsRunOf r limits image
 

@@ -19,7 +19,7 @@ use spim_memory::Limits;
 use std::alloc::{AllocError, Global};
 
 /// The limits of a machine, in bytes.
-fn machine_limits(limits: RunLimits) -> Limits
+pub fn machine_limits(limits: RunLimits) -> Limits
     requires { IsBounded limits }
     ensures heap { result.heap ≡ heap_of limits }
     ensures stack { result.stack ≡ stack_of limits }

@@ -13,8 +13,10 @@ ghost use Rattle.cool_driver.specs.Notes.{usage_note};
 ghost use Rattle.cool_driver.specs.Ends.{Ends};
 ghost use Rattle.cool_driver.specs.Limits.{AreLimits};
 
+mod big;
 mod command_line;
 mod execution;
+mod growing_sink;
 mod notes;
 mod program;
 mod reading;
@@ -36,6 +38,9 @@ pub const MOST_IMAGE_BYTES: u64 = 532_676_628;
 
 /// The instructions with which each program of the simple form ends: five for each of 800 strings and for the end text, and three.
 pub const SIMPLE_STEPS: u64 = 4_008;
+
+/// The most bytes of output that `big` counts.
+pub const MOST_BIG_OUTPUT: u64 = 65_536;
 
 /// Does what the words ask, and answers the exit status. The words are those after the program's own name.
 pub fn cool<F: Shelf, I: Source, O: Sink, E: Sink>(

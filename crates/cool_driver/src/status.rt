@@ -1,7 +1,10 @@
 //! How a call ends.
 
 ghost use Rattle.std.specs.Prelude.{◌≡◌};
+ghost use Rattle.cool_driver.specs.Execution.{status_of_halt};
 ghost use Rattle.cool_driver.specs.Tasks.{code_of};
+
+use spim_machine::Halt;
 
 /// How a call ends.
 #[derive(Clone, Copy, Debug, PartialEq, Eq)]
@@ -35,6 +38,22 @@ pub enum Status {
 }
 
 impl Status {
+    /// That of a run that halted so.
+    pub fn of_halt(halt: Halt) -> Status
+        ensures { code_of result ≡ status_of_halt halt }
+    {
+        match halt {
+            Halt::Exit(0) => Status::Done,
+            Halt::Exit(4) => Status::HeapLimit,
+            Halt::Exit(5) => Status::StackLimit,
+            Halt::Exit(_) => Status::Failed,
+            Halt::Trap(_) => Status::Trapped,
+            Halt::StepLimit => Status::StepLimit,
+            Halt::ReadFault => Status::ReadFault,
+            Halt::WriteFault => Status::WriteFault,
+        }
+    }
+
     /// The program's exit status.
     pub fn code(self) -> u8
         ensures { result ≡ code_of self }

@@ -21,6 +21,7 @@ ghost use Rattle.cool_driver.specs.CommandLine.{is_number_of_files, most_bytes};
 ghost use Rattle.cool_driver.specs.Tasks.{fault_note, Prints, IsLine, AreLinesOf, IsTaskOf, IsTaskOfFile, IsTaskOfChecked, IsTaskOfBuilt, IsTaskOfRun, IsDue, IsFileTask, HasLimits};
 
 use crate::SIMPLE_STEPS;
+use crate::big::big_line;
 use crate::command_line::{Command, Form};
 use crate::program::compile;
 use crate::reading::{ReadError, read_files};
@@ -88,7 +89,7 @@ pub fn find_task<F: Shelf>(
             let names = vec![in alloc; file]?;
             find_file_task(alloc, Command::Exec(limits), &names, files)
         }
-        Ok(Plan::Big { .. }) => tell_usage(alloc),
+        Ok(Plan::Big { n }) => Ok(Task::Write(big_line(alloc, n)?.into_bytes())),
         Err(WordsError::Usage) => tell_usage(alloc),
         Err(WordsError::Memory) => Err(AllocError),
     }

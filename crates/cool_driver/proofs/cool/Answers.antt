@@ -4,7 +4,7 @@ use Rattle.cool_ports.proofs.GettingBytes.{appended-nil}
 use Rattle.spim_machine.proofs.InputsInParts.{took_nothing, leaves_same}
 use Rattle.cool_driver.specs.Notes.{end_text}
 use Rattle.cool_driver.proofs.EndsOfDue.{ends_without_memory}
-use Rattle.cool_driver.proofs.EndsOfTasks.{note_ends, built_ends, simple_ends}
+use Rattle.cool_driver.proofs.EndsOfTasks.{note_ends, written_ends, simple_ends}
 use Rattle.cool_driver.proofs.ImagesOfCalls.{run_takes_input}
 use Rattle.cool_driver.proofs.cool.Goals as goal
 use Rattle.cool_driver.proofs.cool.Goals.{in-Err, in-Ok-Tell, in-Ok-Write, in-Ok-Run, in-Ok-Execute}
@@ -55,7 +55,7 @@ returns-clause-ends g c given rest leaves =
           let due = rw w.in-Ok-Write.field-0-is at (w.in-Ok-Write.ensures.due given) in
           let wrote = rw w.deref-in-Ok-Write.ensures.value at w.write_pieces-status.ensures in
           rw (c.code.ensures, w.status-is, w.out-is, w.notes-is, w.input-is)
-          (built_ends _ due.0 due.1.0 due.1.1 due.1.2 _ _ due.1.3 due.1.4 due.1.5 (sym (appended-nil _), refl) (record { left = leaves_same _ given rest here; calm = refl }) wrote)
+          (written_ends _ _ _ due.0 due.1 (sym (appended-nil _), refl) (record { left = leaves_same _ given rest here; calm = refl }) wrote)
       | in-Ok-Run w ↦
           let here = rw w.input-is at leaves in
           let due = rw w.in-Ok-Run.field-0-is at (w.in-Ok-Run.ensures.due given) in
@@ -77,4 +77,4 @@ returns-clause-taken g c =
     ]
 
 pub returns-clause-limits : goal.returns-clause-limits
-returns-clause-limits g c = record { image_bytes = refl; simple_steps = refl }
+returns-clause-limits g c = record { image_bytes = refl; simple_steps = refl; big_output = refl }

@@ -6,7 +6,7 @@ use Rattle.cool_driver.specs.CommandLine.{words_of}
 use Rattle.cool_driver.specs.SimpleReading.{texts}
 use Rattle.cool_driver.specs.Tasks.{AreLinesOf}
 use Rattle.cool_driver.proofs.NoteLines.{have_names, built_lines}
-use Rattle.cool_driver.proofs.DueTasks.{for_task}
+use Rattle.cool_driver.proofs.DueTasks.{for_ok}
 use Rattle.cool_driver.proofs.task.build_files.Goals as goal
 
 -- the bytes are those of the program
@@ -26,7 +26,7 @@ refuse-requires c =
 pub returns-in-Refused : goal.returns-in-Refused
 returns-in-Refused c =
     let refused : IsRefused (texts c.args.contents.now) c.in-Refused.faults = rw c.in-Refused.is at c.in_ok-program.ensures.verdict in
-    for_task _ _ c.refuse.result
+    for_ok _ _ c.refuse.result
     (λ task h. built_lines c.args.form (words_of c.args.names.now) (texts c.args.contents.now) c.in-Refused.faults task refused
     (subst (λ (fs : List Fault). AreLinesOf (words_of c.args.names.now) fs task) c.as_slice.ensures h))
     c.refuse.ensures

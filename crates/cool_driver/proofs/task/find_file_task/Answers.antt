@@ -9,14 +9,14 @@ use Rattle.cool_driver.specs.Reading.{IsStopAt}
 use Rattle.cool_driver.specs.Tasks.{IsTaskOf, fault_note}
 use Rattle.std.specs.Global.{Vec}
 use Rattle.cool_driver.proofs.HeldFiles.{held_length}
-use Rattle.cool_driver.proofs.DueTasks.{for_task, file_task, many_task, stop_task}
+use Rattle.cool_driver.proofs.DueTasks.{for_ok, file_task, many_task, stop_task}
 use Rattle.cool_driver.proofs.task.find_file_task.Goals as goal
 
 -- there are too many files
 pub returns-then-names-gt-MOST_FILES-clause-due : goal.returns-then-names-gt-MOST_FILES-clause-due
 returns-then-names-gt-MOST_FILES-clause-due g c =
     let many : MOST_FILES < length (words_of c.args.names.now) = omega (arith, length-map c.args.names.now string_bytes, c.if-names-gt-MOST_FILES.true) in
-    for_task _ _ c.tell_line.result (λ task h. many_task _ _ c.args.command (words_of c.args.names.now) task many h) c.tell_line.ensures
+    for_ok _ _ c.tell_line.result (λ task h. many_task _ _ c.args.command (words_of c.args.names.now) task many h) c.tell_line.ensures
 
 -- there are as many files as names
 pub find_content_task-requires-clause-each : goal.find_content_task-requires-clause-each
@@ -35,7 +35,7 @@ returns-in-Ok-clause-due g c =
     let read = c.in-Ok.ensures in
     let few : length (words_of c.args.names.now) ≤ MOST_FILES = omega (arith, length-map c.args.names.now string_bytes, c.if-names-gt-MOST_FILES.false) in
     let within : total (texts c.in-Ok.contents.items) ≤ most_bytes c.args.command = omega (arith, read.within, c.most_bytes.ensures) in
-    for_task _ _ c.find_content_task.result
+    for_ok _ _ c.find_content_task.result
     (λ task h. file_task _ _ _ c.args.command (words_of c.args.names.now) (texts c.in-Ok.contents.items) task c.requires.limits
     (ap (is_number_of_files c.args.command) (length-map c.args.names.now string_bytes) ∙ c.requires.number) read.held few within read.calm
     (subst (λ (files : List (Vec ℕ)). IsTaskOf c.args.command (words_of c.args.names.now) (texts files) task) c.deref.ensures.value h))
@@ -49,7 +49,7 @@ returns-in_ok-note-in-Err-Refused-clause-due g c =
     let stop = rw refused.field-0-is at refused.ensures.stop in
     let told = rw refused.field-0-is at c.in_ok-note-in-Err-Refused.ensures in
     let note : fault_note refused.name.now refused.fault ≡ Some c.as_bytes.result.now = told ∙ ap Some (sym c.as_bytes.ensures.value) in
-    for_task _ _ c.tell_line-in-Err-Refused.result
+    for_ok _ _ c.tell_line-in-Err-Refused.result
     (λ task h. stop_task _ _ _ c.args.command (words_of c.args.names.now) refused.name.now refused.fault c.as_bytes.result.now task few
     (subst (λ (most : ℕ). IsStopAt (g.F.Shelf.files c.args.files.now) (g.F.Shelf.faults c.args.files.now) (g.F.Shelf.faults c.read_files.new.files) (words_of c.args.names.now) most refused.name.now refused.fault) c.most_bytes.ensures stop) note h)
     c.tell_line-in-Err-Refused.ensures

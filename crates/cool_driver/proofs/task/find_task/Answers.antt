@@ -2,13 +2,14 @@ use Rattle.std.proofs.Common.{refl, ap, sym, ◌∙◌, arith, Some}
 use Rattle.std.specs.Prelude.{Err}
 use Rattle.cool_driver.specs.CommandLine.{words_of}
 use Rattle.cool_driver.specs.Notes.{usage_note}
-use Rattle.cool_driver.specs.Ends.Due.{usage}
+use Rattle.cool_driver.specs.Ends.Due.{summed, usage}
+use Rattle.cool_driver.specs.Ends.Writing.{by_big}
 use Rattle.cool_driver.specs.declared.command_line.Command.TheVariants.{Check, Build, Run, Exec}
 use Rattle.cool_driver.specs.declared.command_line.Form.TheVariants.{Text, Image}
 use Rattle.cool_driver.specs.declared.status.Status.TheVariants as statuses
 use Rattle.cool_driver.proofs.NoteLines.{line_due}
-use Rattle.cool_driver.proofs.DueTasks.{for_task}
-use Rattle.cool_driver.proofs.Plans.{plan_is}
+use Rattle.cool_driver.proofs.DueTasks.{for_ok}
+use Rattle.cool_driver.proofs.Plans.{asked_is, plan_is}
 use Rattle.cool_driver.proofs.task.find_task.Goals as goal
 
 -- what is left to do for the plan's files is due
@@ -16,25 +17,25 @@ pub returns-in-Ok-Check-clause-due : goal.returns-in-Ok-Check-clause-due
 returns-in-Ok-Check-clause-due g c input =
     let asked = rw c.in-Ok-Check.field-0-is at c.in-Ok-Check.ensures.plan in
     let plan = plan_is (words_of c.args.words.now) _ asked ∙ ap (λ names. Some (Check, words_of names)) (sym c.deref.ensures.value) in
-    for_task _ _ c.find_file_task.result (λ task h. h (words_of c.args.words.now) input plan) c.find_file_task.ensures.due
+    for_ok _ _ c.find_file_task.result (λ task h. h (words_of c.args.words.now) input plan) c.find_file_task.ensures.due
 
 pub returns-in-Ok-Asm-clause-due : goal.returns-in-Ok-Asm-clause-due
 returns-in-Ok-Asm-clause-due g c input =
     let asked = rw c.in-Ok-Asm.field-0-is at c.in-Ok-Asm.ensures.plan in
     let plan = plan_is (words_of c.args.words.now) _ asked ∙ ap (λ names. Some (Build Text, words_of names)) (sym c.deref-in-Ok-Asm.ensures.value) in
-    for_task _ _ c.find_file_task-in-Ok-Asm.result (λ task h. h (words_of c.args.words.now) input plan) c.find_file_task-in-Ok-Asm.ensures.due
+    for_ok _ _ c.find_file_task-in-Ok-Asm.result (λ task h. h (words_of c.args.words.now) input plan) c.find_file_task-in-Ok-Asm.ensures.due
 
 pub returns-in-Ok-Build-clause-due : goal.returns-in-Ok-Build-clause-due
 returns-in-Ok-Build-clause-due g c input =
     let asked = rw c.in-Ok-Build.field-0-is at c.in-Ok-Build.ensures.plan in
     let plan = plan_is (words_of c.args.words.now) _ asked ∙ ap (λ names. Some (Build Image, words_of names)) (sym c.deref-in-Ok-Build.ensures.value) in
-    for_task _ _ c.find_file_task-in-Ok-Build.result (λ task h. h (words_of c.args.words.now) input plan) c.find_file_task-in-Ok-Build.ensures.due
+    for_ok _ _ c.find_file_task-in-Ok-Build.result (λ task h. h (words_of c.args.words.now) input plan) c.find_file_task-in-Ok-Build.ensures.due
 
 pub returns-in-Ok-Run-clause-due : goal.returns-in-Ok-Run-clause-due
 returns-in-Ok-Run-clause-due g c input =
     let asked = rw c.in-Ok-Run.field-0-is at c.in-Ok-Run.ensures.plan in
     let plan = plan_is (words_of c.args.words.now) _ asked ∙ ap (λ names. Some (Run c.in-Ok-Run.limits, words_of names)) (sym c.deref-in-Ok-Run.ensures.value) in
-    for_task _ _ c.find_file_task-in-Ok-Run.result (λ task h. h (words_of c.args.words.now) input plan) c.find_file_task-in-Ok-Run.ensures.due
+    for_ok _ _ c.find_file_task-in-Ok-Run.result (λ task h. h (words_of c.args.words.now) input plan) c.find_file_task-in-Ok-Run.ensures.due
 
 pub returns-in_ok-names-in-Ok-Exec-clause-due : goal.returns-in_ok-names-in-Ok-Exec-clause-due
 returns-in_ok-names-in-Ok-Exec-clause-due g c input =
@@ -42,19 +43,19 @@ returns-in_ok-names-in-Ok-Exec-clause-due g c input =
     let names = c.in_ok-names-in-Ok-Exec.ensures.items in
     let plan =
     plan_is (words_of c.args.words.now) _ asked ∙ ap (λ names. Some (Exec c.in-Ok-Exec.limits, words_of names)) (sym (c.deref-in-Ok-Exec.ensures.value ∙ names)) in
-    for_task _ _ c.find_file_task-in-Ok-Exec.result (λ task h. h (words_of c.args.words.now) input plan) c.find_file_task-in-Ok-Exec.ensures.due
+    for_ok _ _ c.find_file_task-in-Ok-Exec.result (λ task h. h (words_of c.args.words.now) input plan) c.find_file_task-in-Ok-Exec.ensures.due
+
+-- the line of `big` is due
+pub returns-in_ok-big_line-in-Ok-Big-clause-due : goal.returns-in_ok-big_line-in-Ok-Big-clause-due
+returns-in_ok-big_line-in-Ok-Big-clause-due g c input =
+    let asked = asked_is (words_of c.args.words.now) ∙ (rw c.in-Ok-Big.field-0-is at c.in-Ok-Big.ensures.plan) in
+    let is = c.in_ok-big_line-in-Ok-Big.ensures in
+    rw c.into_bytes.ensures.value (summed _ _ asked refl is, by_big _ _ asked refl is)
 
 -- without a plan the usage is due
-pub returns-in-Ok-Big-clause-due : goal.returns-in-Ok-Big-clause-due
-returns-in-Ok-Big-clause-due g c input =
-    let asked = rw c.in-Ok-Big.field-0-is at c.in-Ok-Big.ensures.plan in
-    for_task _ _ c.tell_usage.result
-    (λ task h. line_due _ statuses.Usage usage_note task h (omega arith) (λ e. omega (arith, e)) (usage (plan_is (words_of c.args.words.now) _ asked) refl))
-    c.tell_usage.ensures
-
 pub returns-in-Err-Usage-clause-due : goal.returns-in-Err-Usage-clause-due
 returns-in-Err-Usage-clause-due g c input =
-    let asked = c.read_words.ensures.usage (c.in-Err-Usage.is ∙ ap Err c.in-Err-Usage.field-0-is) in
-    for_task _ _ c.tell_usage-in-Err-Usage.result
-    (λ task h. line_due _ statuses.Usage usage_note task h (omega arith) (λ e. omega (arith, e)) (usage (plan_is (words_of c.args.words.now) _ asked) refl))
-    c.tell_usage-in-Err-Usage.ensures
+    let asked = asked_is (words_of c.args.words.now) ∙ c.read_words.ensures.usage (c.in-Err-Usage.is ∙ ap Err c.in-Err-Usage.field-0-is) in
+    for_ok _ _ c.tell_usage.result
+    (λ task h. line_due _ statuses.Usage usage_note task h (omega arith) (λ e. omega (arith, e)) (usage asked refl))
+    c.tell_usage.ensures

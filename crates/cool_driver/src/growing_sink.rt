@@ -1,0 +1,61 @@
+//! A sink in memory that grows.
+
+ghost use Rattle.std.specs.Prelude.{◌≡◌, ℕ, ◌<◌, [], List, length, OnOk, OnErr, Option, Some};
+ghost use Rattle.cool_ports.specs.Counts.{GoesOn, Rose};
+ghost use Rattle.cool_ports.specs.SinkBytes.{appended, GotPrefix};
+
+use cool_ports::{Failed, Sink};
+use std::alloc::{AllocError, Global};
+
+/// A sink that keeps its bytes in memory, and takes more of it where they need more. So it fails only for want of memory.
+#[derive(Drop)]
+pub struct GrowingSink {
+    bytes: Vec<u8>,
+    faults: u64,
+}
+
+impl GrowingSink {
+    /// A sink without bytes. Takes no memory.
+    pub fn new(alloc: Global) -> GrowingSink
+        ensures empty { result.bytes.items ≡ [] }
+        ensures calm { result.faults ≡ 0 }
+    {
+        GrowingSink {
+            bytes: Vec::new(alloc),
+            faults: 0,
+        }
+    }
+
+    /// How many bytes it holds.
+    pub fn len(&self) -> usize
+        ensures { result ≡ length self.now.bytes.items }
+    {
+        self.bytes.len()
+    }
+}
+
+impl Sink for GrowingSink {
+    ghost faults = { λ sink. sink.faults };
+
+    ghost held = { λ sink. Some sink.bytes.items };
+
+    /// `Failed` comes only for want of memory; then nothing is put.
+    #[tactic(auto, unfolding(cool_ports::specs::SinkBytes::appended))]
+    fn put(&mut self, bytes: &[u8]) -> Result<(), Failed>
+        requires { 0 < length bytes.now }
+        ensures put { OnOk result (Some self.new.bytes.items ≡ appended (Some self.old.bytes.items) bytes.now) }
+        ensures no_fault { OnOk result (self.new.faults ≡ self.old.faults) }
+        ensures failed { OnErr result (Rose self.old.faults self.new.faults) }
+        ensures prefix { OnErr result (GotPrefix (Some self.old.bytes.items) bytes.now (Some self.new.bytes.items)) }
+        ensures count { GoesOn self.old.faults self.new.faults }
+    {
+        let faults = self.faults;
+        match self.bytes.extend_from_slice(bytes) {
+            Ok(()) => Ok(()),
+            Err(AllocError) => {
+                self.faults = faults.saturating_add(1);
+                Err(Failed)
+            }
+        }
+    }
+}
