@@ -9,7 +9,7 @@ ghost use Rattle.cool_words.specs.Plans.{IsBounded};
 ghost use Rattle.spim_memory.specs.Memory.{IsLimits};
 ghost use Rattle.cool_driver.specs.Tasks.{code_of, Prints, RunsSimple};
 
-use crate::notes::{tell, trap_note};
+use crate::notes::{HEAP_LIMIT, READ_FAULT, STACK_LIMIT, STEP_LIMIT, tell, trap_note};
 use crate::status::Status;
 use cool_ports::{Sink, Source, SureSource};
 use cool_words::RunLimits;
@@ -88,12 +88,12 @@ pub fn execute<I: Source, O: Sink, E: Sink>(
     };
     match machine.run(limits.steps, input, out) {
         Halt::Exit(0) => Status::Done,
-        Halt::Exit(4) => tell(notes, Status::HeapLimit, b"cool: heap limit\n"),
-        Halt::Exit(5) => tell(notes, Status::StackLimit, b"cool: stack limit\n"),
+        Halt::Exit(4) => tell(notes, Status::HeapLimit, HEAP_LIMIT),
+        Halt::Exit(5) => tell(notes, Status::StackLimit, STACK_LIMIT),
         Halt::Exit(_) => Status::Failed,
         Halt::Trap(trap) => tell(notes, Status::Trapped, trap_note(trap).as_str().as_bytes()),
-        Halt::StepLimit => tell(notes, Status::StepLimit, b"cool: step limit\n"),
-        Halt::ReadFault => tell(notes, Status::ReadFault, b"cool: read fault\n"),
+        Halt::StepLimit => tell(notes, Status::StepLimit, STEP_LIMIT),
+        Halt::ReadFault => tell(notes, Status::ReadFault, READ_FAULT),
         Halt::WriteFault => Status::WriteFault,
     }
 }

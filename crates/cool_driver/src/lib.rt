@@ -27,7 +27,7 @@ mod writing;
 
 use cool_ports::{Failed, Shelf, Sink, Source};
 use execution::{execute, run_simple};
-use notes::tell_lines;
+use notes::{BAD_COMMAND_LINE, tell_lines};
 pub use status::Status;
 use std::alloc::{AllocError, Global};
 use task::{Task, find_task};
@@ -108,7 +108,7 @@ pub fn refuse_words<E: Sink>(notes: &mut E) -> Status
     ensures write_fault { result ≡ Status.WriteFault → Rose (E.faults notes.old) (E.faults notes.new) }
     ensures prefix { result ≡ Status.WriteFault → GotPrefix (E.held notes.old) usage_note (E.held notes.new) }
 {
-    match notes.put(b"cool: bad command line\n") {
+    match notes.put(BAD_COMMAND_LINE) {
         Ok(()) => Status::Usage,
         Err(Failed) => Status::WriteFault,
     }

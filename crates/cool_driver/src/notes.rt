@@ -1,14 +1,34 @@
-//! What is written to the notes.
+//! The notes: what they say, and how they are written.
 
-ghost use Rattle.std.specs.Prelude.{◌≡◌, ◌+◌, ◌<◌, ◌≤◌, ◌++◌, length};
+ghost use Rattle.std.specs.Prelude.{◌≡◌, ◌≢◌, ◌+◌, ◌<◌, ◌≤◌, ◌++◌, length, IfOk, Some, string_bytes};
 ghost use Rattle.arrayvec.specs.ArrayString.{array_string_len};
-ghost use Rattle.cool_driver.specs.Notes.{digits, trap_words, trap_note};
-ghost use Rattle.cool_driver.specs.Tasks.{AreLines, Noted, note_of};
+ghost use Rattle.cool_driver.specs.Notes.{asm_note, asm_words, digits, image_note, trap_words, trap_note};
+ghost use Rattle.cool_driver.specs.Tasks.{AreLines, Noted, fault_note, note_of};
 
 use crate::status::Status;
 use arrayvec::ArrayString;
-use cool_ports::{Failed, Sink};
-use mips_isa::{Trap, TrapKind};
+use cool_ports::{Failed, ShelfFault, Sink};
+use mips_image::ImageError;
+use mips_isa::{AsmFault, AsmKind, Trap, TrapKind};
+use std::alloc::{AllocError, Global};
+
+/// Of words that are no command line.
+pub const BAD_COMMAND_LINE: &[u8] = b"cool: bad command line\n";
+
+/// Of too many files.
+pub const TOO_MANY_FILES: &[u8] = b"cool: too many files\n";
+
+/// Of a run that used up its heap.
+pub const HEAP_LIMIT: &[u8] = b"cool: heap limit\n";
+
+/// Of a run that used up its stack.
+pub const STACK_LIMIT: &[u8] = b"cool: stack limit\n";
+
+/// Of a run that has not ended after its instructions.
+pub const STEP_LIMIT: &[u8] = b"cool: step limit\n";
+
+/// Of a run whose input failed.
+pub const READ_FAULT: &[u8] = b"cool: read fault\n";
 
 /// Writes a note at once and answers this status, or that the write failed.
 pub fn tell<E: Sink>(notes: &mut E, status: Status, note: &[u8]) -> Status
@@ -85,5 +105,58 @@ fn push_digits(note: &mut ArrayString<64>, a: u32)
     match str::from_utf8(&digits) {
         Ok(text) => note.push_str(text),
         Err(_) => unreachable!(),
+    }
+}
+
+/// The note of a file that was not read.
+pub fn file_note(alloc: Global, name: &str, fault: ShelfFault) -> Result<String, AllocError>
+    ensures { IfOk result (λ note. fault_note name.now fault ≡ Some (string_bytes note)) }
+{
+    match fault {
+        ShelfFault::Missing => format!(in alloc; "cool: {name}: missing\n"),
+        ShelfFault::Failed => format!(in alloc; "cool: {name}: read failed\n"),
+        ShelfFault::TooLarge => String::from_str(alloc, "cool: files too large\n"),
+        ShelfFault::Memory => Err(AllocError),
+    }
+}
+
+/// The note of a text with a fault.
+pub fn asm_note(alloc: Global, name: &str, fault: AsmFault) -> Result<String, AllocError>
+    ensures { IfOk result (λ note. string_bytes note ≡ asm_note name.now fault) }
+{
+    let line = fault.line;
+    let words = asm_words(fault.kind);
+    format!(in alloc; "{name}:{line}: {words}\n")
+}
+
+/// The kind of a fault of assembly, and what it says.
+fn asm_words(kind: AsmKind) -> &'static str
+    ensures { result.now ≡ asm_words kind }
+{
+    match kind {
+        AsmKind::A1 => "A1: unknown word",
+        AsmKind::A2 => "A2: wrong operand",
+        AsmKind::A3 => "A3: number out of range",
+        AsmKind::A4 => "A4: unknown directive",
+        AsmKind::A5 => "A5: label defined twice",
+        AsmKind::A6 => "A6: label not defined",
+        AsmKind::A7 => "A7: branch too far",
+        AsmKind::A8 => "A8: wrong segment",
+        AsmKind::A9 => "A9: segment too large",
+    }
+}
+
+/// The note of a file that is no image.
+pub fn image_note(alloc: Global, name: &str, fault: ImageError) -> Result<String, AllocError>
+    ensures note { IfOk result (λ note. string_bytes note ≡ image_note name.now fault) }
+    ensures fault { IfOk result (λ _. fault ≢ ImageError.Memory) }
+{
+    match fault {
+        ImageError::Memory => Err(AllocError),
+        ImageError::I1 => format!(in alloc; "{name}: I1: wrong magic\n"),
+        ImageError::I2 => format!(in alloc; "{name}: I2: unknown version\n"),
+        ImageError::I3 => format!(in alloc; "{name}: I3: too short\n"),
+        ImageError::I4 => format!(in alloc; "{name}: I4: sizes out of range\n"),
+        ImageError::I5 => format!(in alloc; "{name}: I5: bytes after the end\n"),
     }
 }

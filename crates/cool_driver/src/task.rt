@@ -9,7 +9,7 @@ ghost use Rattle.cool_driver.specs.SimpleReading.{texts};
 ghost use Rattle.cool_driver.specs.Emitted.{HasNoZero, data_of};
 ghost use Rattle.cool_syntax.specs.declared.TheConstants.{MOST_CALLS, MOST_FILES, MOST_SOURCE_BYTES};
 ghost use Rattle.cool_driver.specs.declared.TheConstants.{MOST_IMAGE_BYTES, SIMPLE_STEPS};
-ghost use Rattle.cool_driver.specs.Notes.{end_text, usage_note, image_note, asm_words, asm_note};
+ghost use Rattle.cool_driver.specs.Notes.{end_text, usage_note};
 ghost use Rattle.cool_driver.specs.Execution.{is_text_file};
 ghost use Rattle.mips_isa.specs.Lines.{Line};
 ghost use Rattle.mips_isa.specs.Assembly.{fault_of, image_of};
@@ -18,24 +18,25 @@ ghost use Rattle.cool_faults.specs.Files.{total};
 ghost use Rattle.cool_driver.specs.Ends.{built_bytes};
 ghost use Rattle.cool_faults.specs.Verdicts.{place_of};
 ghost use Rattle.cool_driver.specs.CommandLine.{is_number_of_files, most_bytes};
-ghost use Rattle.cool_driver.specs.Tasks.{fault_note, Prints, IsLine, AreLinesOf, IsTaskOf, IsTaskOfFile, IsTaskOfChecked, IsTaskOfBuilt, IsTaskOfRun, IsDue, IsFileTask, HasLimits};
+ghost use Rattle.cool_driver.specs.Tasks.{Prints, IsLine, AreLinesOf, IsTaskOf, IsTaskOfFile, IsTaskOfChecked, IsTaskOfBuilt, IsTaskOfRun, IsDue, IsFileTask, HasLimits};
 
 use crate::SIMPLE_STEPS;
 use crate::big::big_line;
 use crate::command_line::{Command, Form};
+use crate::notes::{BAD_COMMAND_LINE, TOO_MANY_FILES, asm_note, file_note, image_note};
 use crate::program::compile;
 use crate::reading::{ReadError, read_files};
 use crate::simple_form::{SimpleError, read_programs};
 use crate::status::Status;
 use cool_emit::{build, lines};
 use cool_faults::{Fault, Verdict, accept, fault_text};
-use cool_ports::{Shelf, ShelfFault};
+use cool_ports::Shelf;
 use cool_rules::TypedProgram;
 use cool_syntax::MOST_FILES;
 use cool_words::{Plan, RunLimits, WordsError, read_words};
 use mips_asm::assemble;
-use mips_image::{CHECKED_VERSION, ImageError, read_image, write_image};
-use mips_isa::{AsmError, AsmFault, AsmKind, Image};
+use mips_image::{CHECKED_VERSION, read_image, write_image};
+use mips_isa::{AsmError, Image};
 use mips_text::{print_asm, read_asm};
 use std::alloc::{AllocError, Global};
 
@@ -99,7 +100,7 @@ pub fn find_task<F: Shelf>(
 fn tell_usage(alloc: Global) -> Result<Task, AllocError>
     ensures { IfOk result (IsLine Status.Usage usage_note) }
 {
-    tell_line(alloc, Status::Usage, b"cool: bad command line\n")
+    tell_line(alloc, Status::Usage, BAD_COMMAND_LINE)
 }
 
 /// To write this one line. `Err` comes only for want of memory.
@@ -126,12 +127,12 @@ fn find_file_task<F: Shelf>(
     ensures due { IfOk result (IsFileTask (F.files files.old) (F.faults files.old) (F.faults files.new) command (words_of names.now)) }
 {
     if names.len() > MOST_FILES {
-        return tell_line(alloc, Status::FileFault, b"cool: too many files\n");
+        return tell_line(alloc, Status::FileFault, TOO_MANY_FILES);
     }
     match read_files(alloc, names, command.most_bytes(), files) {
         Ok(contents) => find_content_task(alloc, command, names, &contents),
         Err(ReadError::Refused(name, fault)) => {
-            let note = note_of_fault(alloc, name, fault)?;
+            let note = file_note(alloc, name, fault)?;
             tell_line(alloc, Status::FileFault, note.as_bytes())
         }
         Err(ReadError::Memory) => Err(AllocError),
@@ -326,47 +327,6 @@ fn assemble_text(alloc: Global, bytes: &[u8]) -> Result<Image, AsmError>
     assemble(alloc, &lines)
 }
 
-/// The note of a text with a fault.
-fn asm_note(alloc: Global, name: &str, fault: AsmFault) -> Result<String, AllocError>
-    ensures { IfOk result (λ note. string_bytes note ≡ asm_note name.now fault) }
-{
-    let line = fault.line;
-    let words = asm_words(fault.kind);
-    format!(in alloc; "{name}:{line}: {words}\n")
-}
-
-/// The kind of a fault of assembly, and what it says.
-fn asm_words(kind: AsmKind) -> &'static str
-    ensures { result.now ≡ asm_words kind }
-{
-    match kind {
-        AsmKind::A1 => "A1: unknown word",
-        AsmKind::A2 => "A2: wrong operand",
-        AsmKind::A3 => "A3: number out of range",
-        AsmKind::A4 => "A4: unknown directive",
-        AsmKind::A5 => "A5: label defined twice",
-        AsmKind::A6 => "A6: label not defined",
-        AsmKind::A7 => "A7: branch too far",
-        AsmKind::A8 => "A8: wrong segment",
-        AsmKind::A9 => "A9: segment too large",
-    }
-}
-
-/// The note of a file that is no image.
-fn image_note(alloc: Global, name: &str, fault: ImageError) -> Result<String, AllocError>
-    ensures note { IfOk result (λ note. string_bytes note ≡ image_note name.now fault) }
-    ensures fault { IfOk result (λ _. fault ≢ ImageError.Memory) }
-{
-    match fault {
-        ImageError::Memory => Err(AllocError),
-        ImageError::I1 => format!(in alloc; "{name}: I1: wrong magic\n"),
-        ImageError::I2 => format!(in alloc; "{name}: I2: unknown version\n"),
-        ImageError::I3 => format!(in alloc; "{name}: I3: too short\n"),
-        ImageError::I4 => format!(in alloc; "{name}: I4: sizes out of range\n"),
-        ImageError::I5 => format!(in alloc; "{name}: I5: bytes after the end\n"),
-    }
-}
-
 /// The image of a program that prints the strings and then the end text.
 fn compile_with_end(alloc: Global, strings: Vec<Vec<u8>>) -> Result<Image, AllocError>
     requires few { length strings.items ≤ MOST_CALLS }
@@ -378,16 +338,4 @@ fn compile_with_end(alloc: Global, strings: Vec<Vec<u8>>) -> Result<Image, Alloc
     let end = Vec::from_slice(alloc, b"COOL program successfully executed\n")?;
     strings.push(end)?;
     compile(alloc, &strings)
-}
-
-/// The note of a file that was not read.
-fn note_of_fault(alloc: Global, name: &str, fault: ShelfFault) -> Result<String, AllocError>
-    ensures { IfOk result (λ note. fault_note name.now fault ≡ Some (string_bytes note)) }
-{
-    match fault {
-        ShelfFault::Missing => format!(in alloc; "cool: {name}: missing\n"),
-        ShelfFault::Failed => format!(in alloc; "cool: {name}: read failed\n"),
-        ShelfFault::TooLarge => String::from_str(alloc, "cool: files too large\n"),
-        ShelfFault::Memory => Err(AllocError),
-    }
 }

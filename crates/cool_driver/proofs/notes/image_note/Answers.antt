@@ -1,4 +1,4 @@
-use Rattle.cool_driver.proofs.task.image_note.Goals as goal
+use Rattle.cool_driver.proofs.notes.image_note.Goals as goal
 
 pub returns-in-I1-clause-note : goal.returns-in-I1-clause-note
 returns-in-I1-clause-note c = rw c.in-I1.is c.format.ensures.ok
