@@ -36,6 +36,7 @@ use std::alloc::AllocError;
 
 /// Adds the code of a `let` or a `case`, whose parts have numbers below this one.
 #[cycle(coding)]
+#[inline(never)]
 pub(crate) fn binding<'a>(
     setting: &Setting<'a>,
     variables: &mut Variables<'a>,

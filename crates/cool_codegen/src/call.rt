@@ -28,6 +28,7 @@ use std::alloc::AllocError;
 
 /// Adds the code of a dispatch, whose parts have numbers below this one.
 #[cycle(coding)]
+#[inline(never)]
 pub(crate) fn dispatch<'a>(
     setting: &Setting<'a>,
     variables: &mut Variables<'a>,

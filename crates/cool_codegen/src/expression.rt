@@ -29,6 +29,8 @@ use std::alloc::AllocError;
 
 /// Adds the code of the expression at this number, which begins and ends with so many words on the stack behind the frame, and
 /// answers its type. `Err` comes only for want of memory.
+///
+/// The functions of the groups are not inlined: so a level of an expression takes no more of the stack than its own group needs.
 #[cycle(coding)]
 pub(crate) fn expression<'a>(
     setting: &Setting<'a>,
@@ -103,6 +105,7 @@ fn node_of<'a>(
 }
 
 /// Adds the code of a name, a constant or a new object.
+#[inline(never)]
 fn leaf(
     setting: &Setting<'_>,
     variables: &mut Variables<'_>,
@@ -189,6 +192,7 @@ fn type_of_name(setting: &Setting<'_>, variables: &Variables<'_>, name: &Name) -
 
 /// Adds the code of a condition, a loop or a block, whose parts have numbers below this one.
 #[cycle(coding)]
+#[inline(never)]
 fn control<'a>(
     setting: &Setting<'a>,
     variables: &mut Variables<'a>,

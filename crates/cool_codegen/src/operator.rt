@@ -28,6 +28,7 @@ use std::alloc::AllocError;
 
 /// Adds the code of an assignment or of an operator with one operand, which has a number below this one.
 #[cycle(coding)]
+#[inline(never)]
 pub(crate) fn unary<'a>(
     setting: &Setting<'a>,
     variables: &mut Variables<'a>,
@@ -86,6 +87,7 @@ pub(crate) fn unary<'a>(
 
 /// Adds the code of an operator between two operands, which have numbers below this one.
 #[cycle(coding)]
+#[inline(never)]
 pub(crate) fn binary<'a>(
     setting: &Setting<'a>,
     variables: &mut Variables<'a>,
