@@ -4,10 +4,10 @@ ghost use Rattle.std.specs.Prelude.{◌≡◌, ◌<◌, ℕ, [], Ok, None, lengt
 ghost use Rattle.std.specs.List.{AllByRecursion};
 ghost use Rattle.std.specs.Option.{option_map};
 ghost use Rattle.cool_syntax.specs.Tree.{of_option, of_twigs, tree_size};
+ghost use Rattle.cool_syntax.specs.NodeGroups.{IsBinding};
 ghost use Rattle.cool_syntax.specs.NodeLists.{all_trees, at_id, made, tree_at, twig_at, HasPartsBelow};
 ghost use Rattle.cool_syntax.specs.TokenFacts.{IsPlaced};
 ghost use Rattle.cool_syntax.specs.TreesWithinLimits.{AreCasesWithin, IsMaybeWithin, IsTreeWithin};
-ghost use Rattle.cool_pool.specs.Groups.{IsBinding};
 ghost use Rattle.cool_rules.specs.Conformance.{IsType};
 ghost use Rattle.cool_check.specs.Faults.{IsPlacedError};
 ghost use Rattle.cool_check.specs.FirstFaults.{checked, maybe_checked, cases_checked, bound_type, branch_class, joined, bind, IsFirst};

@@ -3,10 +3,10 @@
 ghost use Rattle.std.specs.Prelude.{◌≡◌, ◌<◌, ℕ, Ok, length, map, IfOk, IfErr, IfSome, OnOk};
 ghost use Rattle.std.specs.List.{AllByRecursion};
 ghost use Rattle.cool_syntax.specs.Tree.{of_list, tree_size};
+ghost use Rattle.cool_syntax.specs.NodeGroups.{IsCall};
 ghost use Rattle.cool_syntax.specs.NodeLists.{all_trees, at_id, made, HasPartsBelow};
 ghost use Rattle.cool_syntax.specs.TokenFacts.{IsPlaced};
 ghost use Rattle.cool_syntax.specs.TreesWithinLimits.{AreTreesWithin, IsTreeWithin};
-ghost use Rattle.cool_pool.specs.Groups.{IsCall};
 ghost use Rattle.cool_classes.specs.Features.{HasMethod, formals_of};
 ghost use Rattle.cool_rules.specs.Conformance.{IsType};
 ghost use Rattle.cool_check.specs.Faults.{IsPlacedError};

@@ -2,9 +2,9 @@
 
 ghost use Rattle.std.specs.Prelude.{◌≡◌, ◌<◌, ℕ, Ok, true, false, IfOk, IfErr, OnOk};
 ghost use Rattle.cool_syntax.specs.Tree.{tree_size};
+ghost use Rattle.cool_syntax.specs.NodeGroups.{IsBinary, IsUnary};
 ghost use Rattle.cool_syntax.specs.NodeLists.{all_trees, made, tree_at, HasPartsBelow};
 ghost use Rattle.cool_syntax.specs.TreesWithinLimits.{IsTreeWithin};
-ghost use Rattle.cool_pool.specs.Groups.{IsBinary, IsUnary};
 ghost use Rattle.cool_rules.specs.Conformance.{IsType};
 ghost use Rattle.cool_check.specs.Faults.{IsPlacedError, StandsAt};
 ghost use Rattle.cool_rules.specs.Rules.{same_type};

@@ -4,9 +4,9 @@ ghost use Rattle.std.specs.Prelude.{◌≡◌, ◌++◌, ◌+◌, ◌*◌, ◌-�
 ghost use Rattle.std.specs.List.{AllByRecursion};
 ghost use Rattle.mips_isa.specs.Lines.{lines_of};
 ghost use Rattle.cool_syntax.specs.Tree.{of_list};
+ghost use Rattle.cool_syntax.specs.NodeGroups.{IsCall};
 ghost use Rattle.cool_syntax.specs.NodeLists.{all_trees, at_id, made, HasPartsBelow};
 ghost use Rattle.cool_syntax.specs.TreesWithinLimits.{AreTreesWithin, IsTreeWithin};
-ghost use Rattle.cool_pool.specs.Groups.{IsCall};
 ghost use Rattle.cool_rules.specs.Conformance.{IsType};
 ghost use Rattle.cool_codegen.specs.Code.{slot_code, static_code};
 ghost use Rattle.cool_codegen.specs.Numbered.{all_asked, arguments_lines, node_asked, node_lines, node_size, node_type, sizes_at, with_file, AreRoots, HasRoots};

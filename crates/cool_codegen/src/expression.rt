@@ -4,9 +4,9 @@ ghost use Rattle.std.specs.Prelude.{◌≡◌, ◌++◌, ◌+◌, ◌*◌, ◌-�
 ghost use Rattle.std.specs.List.{AllByRecursion};
 ghost use Rattle.mips_isa.specs.Lines.{lines_of};
 ghost use Rattle.cool_syntax.specs.Tree.{of_list};
+ghost use Rattle.cool_syntax.specs.NodeGroups.{IsControl, IsLeaf};
 ghost use Rattle.cool_syntax.specs.NodeLists.{all_trees, at_id, made, tree_at, HasPartsBelow};
 ghost use Rattle.cool_syntax.specs.TreesWithinLimits.{AreTreesWithin, IsTreeWithin};
-ghost use Rattle.cool_pool.specs.Groups.{IsControl, IsLeaf};
 ghost use Rattle.cool_rules.specs.Conformance.{IsType};
 ghost use Rattle.cool_codegen.specs.Code.{truth_label};
 ghost use Rattle.cool_codegen.specs.Numbered.{all_asked, asked_at, items_lines, last_type_at, lines_at, node_asked, node_lines, node_size, node_type, size_at, sizes_at, type_at, AreRoots, HasRoots, IsRoot};

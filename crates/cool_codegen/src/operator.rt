@@ -3,9 +3,9 @@
 ghost use Rattle.std.specs.Prelude.{◌≡◌, ◌++◌, ◌+◌, ◌*◌, ◌-◌, ◌^◌, ◌<◌, ◌≤◌, length, IfOk, OnOk};
 ghost use Rattle.std.specs.List.{AllByRecursion};
 ghost use Rattle.mips_isa.specs.Lines.{lines_of};
+ghost use Rattle.cool_syntax.specs.NodeGroups.{IsBinary, IsUnary};
 ghost use Rattle.cool_syntax.specs.NodeLists.{all_trees, made, tree_at, HasPartsBelow};
 ghost use Rattle.cool_syntax.specs.TreesWithinLimits.{IsTreeWithin};
-ghost use Rattle.cool_pool.specs.Groups.{IsBinary, IsUnary};
 ghost use Rattle.cool_rules.specs.Conformance.{IsType};
 ghost use Rattle.cool_runtime.specs.Routines.{push_lines};
 ghost use Rattle.cool_codegen.specs.Numbered.{asked_at, lines_at, node_asked, node_lines, node_size, node_type, operation_asked, operation_lines, size_at, tested_strings, HasRoots, IsRoot};

@@ -5,7 +5,7 @@ ghost use Rattle.std.specs.List.{AllByRecursion};
 ghost use Rattle.std.specs.Option.{option_map};
 ghost use Rattle.cool_syntax.specs.View.{tree, twig};
 ghost use Rattle.cool_syntax.specs.NodeLists.{at_id, twig_at, grown, made, HasPartsBelow};
-ghost use Rattle.cool_pool.specs.Groups.{IsBinary, IsBinding, IsCall, IsControl, IsLeaf, IsUnary};
+ghost use Rattle.cool_syntax.specs.NodeGroups.{IsBinary, IsBinding, IsCall, IsControl, IsLeaf, IsUnary};
 
 use crate::pool::Pool;
 use cool_syntax::{Branch, Branches, Bytes, Child, Expr, Exprs, Name, Node, NodeBranch, NodeId};

@@ -8,6 +8,7 @@ pub mod Groups
 pub mod Lexemes
 pub mod LexicalStructure
 pub mod Limits
+pub mod NodeGroups
 pub mod NodeLists
 pub mod PlainTrees
 pub mod Readings

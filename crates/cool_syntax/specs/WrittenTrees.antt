@@ -8,8 +8,6 @@ use Rattle.cool_syntax.specs.declared.operator.ArithOp.TheVariants as arith_op
 use Rattle.cool_syntax.specs.declared.token.Token.{Token}
 use Rattle.cool_syntax.specs.declared.token.Key.TheVariants as key
 use Rattle.cool_syntax.specs.declared.token.Sign.TheVariants as sign
-use Rattle.cool_syntax.specs.declared.node.Node.{Node}
-use Rattle.cool_syntax.specs.declared.node.Node.TheVariants as node
 use Rattle.cool_syntax.specs.declared.file_tree.ClassDef.{ClassDef}
 use Rattle.cool_syntax.specs.declared.file_tree.Feature.{Feature}
 use Rattle.cool_syntax.specs.declared.file_tree.Feature.TheVariants as feature
@@ -170,44 +168,6 @@ IsFeatureWritable (feature.Attribute a) = IsValueWritable a.init
 
 abbrev pub AreClassesWritable : List ClassDef → Type 0
 AreClassesWritable = AllByRecursion (λ c. AllByRecursion IsFeatureWritable c.features)
-
--- Groups of nodes
-
-abbrev pub IsCallNode : Node → Type 0
-IsCallNode (node.Dispatch at a name ids) = Unit {0}
-IsCallNode (node.StaticDispatch at a class name ids) = Unit {0}
-IsCallNode _ = ⊥
-
-abbrev pub IsBindingNode : Node → Type 0
-IsBindingNode (node.Let at name declared o a) = Unit {0}
-IsBindingNode (node.Case at a bs) = Unit {0}
-IsBindingNode _ = ⊥
-
-abbrev pub IsControlNode : Node → Type 0
-IsControlNode (node.If at a b c) = Unit {0}
-IsControlNode (node.While at a b) = Unit {0}
-IsControlNode (node.Block at ids) = Unit {0}
-IsControlNode _ = ⊥
-
-abbrev pub IsUnaryNode : Node → Type 0
-IsUnaryNode (node.Assign at name a) = Unit {0}
-IsUnaryNode (node.IsVoid at a) = Unit {0}
-IsUnaryNode (node.Neg at a) = Unit {0}
-IsUnaryNode (node.Not at a) = Unit {0}
-IsUnaryNode _ = ⊥
-
-abbrev pub IsBinaryNode : Node → Type 0
-IsBinaryNode (node.Arith at op a b) = Unit {0}
-IsBinaryNode (node.Compare at op a b) = Unit {0}
-IsBinaryNode _ = ⊥
-
-abbrev pub IsLeafNode : Node → Type 0
-IsLeafNode (node.New at class) = Unit {0}
-IsLeafNode (node.Id at name) = Unit {0}
-IsLeafNode (node.Int at value) = Unit {0}
-IsLeafNode (node.Str at bytes) = Unit {0}
-IsLeafNode (node.Bool at value) = Unit {0}
-IsLeafNode _ = ⊥
 
 -- Worked example: the product of `1 + 2` and `x` is written `(1 + 2) * x`.
 product_is_written : (p : Place) → written (trees.Arith p arith_op.Mul (trees.Arith p arith_op.Add (trees.Int p 1) (trees.Int p 2)) (trees.Id p (codes "x")))

@@ -4,10 +4,11 @@ ghost use Rattle.std.specs.Prelude.{◌≡◌, ◌<◌, List, ◌++◌, map, IfS
 ghost use Rattle.std.specs.List.{AllByRecursion};
 ghost use Rattle.std.specs.Option.{option_map};
 ghost use Rattle.cool_syntax.specs.Tree.{Tree, of_list, of_option, of_twigs, tree_size};
+ghost use Rattle.cool_syntax.specs.NodeGroups.{IsBinary, IsBinding, IsCall, IsControl, IsLeaf, IsUnary};
 ghost use Rattle.cool_syntax.specs.NodeLists.{all_trees, at_id, made, tree_at, twig_at, HasPartsBelow};
 ghost use Rattle.cool_syntax.specs.ConcreteTrees.{Arith as OfArith, Compare as OfCompare};
 ghost use Rattle.cool_syntax.specs.Readings.{operator_sign};
-ghost use Rattle.cool_syntax.specs.WrittenTrees.{IsCallNode, IsBindingNode, IsControlNode, IsUnaryNode, IsBinaryNode, IsLeafNode, is_atom, enclosed, written, written_args, written_items, written_init, written_cases};
+ghost use Rattle.cool_syntax.specs.WrittenTrees.{is_atom, enclosed, written, written_args, written_items, written_init, written_cases};
 
 use crate::body::Body;
 use crate::node::{Node, NodeBranch, NodeId};
@@ -47,7 +48,7 @@ pub(crate) fn write_expr(body: &Body, id: NodeId, out: &mut TokenList) -> Result
 /// Writes a dispatch, whose parts have numbers below this one.
 #[cycle(written)]
 fn write_call(body: &Body, id: NodeId, node: &Node, out: &mut TokenList) -> Result<(), AllocError>
-    requires group { IsCallNode node.now }
+    requires group { IsCall node.now }
     requires below { id.0 < tree_size body.now }
     requires parts { HasPartsBelow id.0 node.now }
     ensures { OnOk result (out.new ≡ out.old ++ written (made (all_trees body.now) node.now)) }
@@ -94,7 +95,7 @@ fn write_binding(
     node: &Node,
     out: &mut TokenList,
 ) -> Result<(), AllocError>
-    requires group { IsBindingNode node.now }
+    requires group { IsBinding node.now }
     requires below { id.0 < tree_size body.now }
     requires parts { HasPartsBelow id.0 node.now }
     ensures { OnOk result (out.new ≡ out.old ++ written (made (all_trees body.now) node.now)) }
@@ -138,7 +139,7 @@ fn write_control(
     node: &Node,
     out: &mut TokenList,
 ) -> Result<(), AllocError>
-    requires group { IsControlNode node.now }
+    requires group { IsControl node.now }
     requires below { id.0 < tree_size body.now }
     requires parts { HasPartsBelow id.0 node.now }
     ensures { OnOk result (out.new ≡ out.old ++ written (made (all_trees body.now) node.now)) }
@@ -176,7 +177,7 @@ fn write_control(
 /// Writes an assignment or a prefix operator, whose part has a number below this one.
 #[cycle(written)]
 fn write_unary(body: &Body, id: NodeId, node: &Node, out: &mut TokenList) -> Result<(), AllocError>
-    requires group { IsUnaryNode node.now }
+    requires group { IsUnary node.now }
     requires below { id.0 < tree_size body.now }
     requires parts { HasPartsBelow id.0 node.now }
     ensures { OnOk result (out.new ≡ out.old ++ written (made (all_trees body.now) node.now)) }
@@ -206,7 +207,7 @@ fn write_unary(body: &Body, id: NodeId, node: &Node, out: &mut TokenList) -> Res
 /// Writes an operator between two operands, which have numbers below this one.
 #[cycle(written)]
 fn write_binary(body: &Body, id: NodeId, node: &Node, out: &mut TokenList) -> Result<(), AllocError>
-    requires group { IsBinaryNode node.now }
+    requires group { IsBinary node.now }
     requires below { id.0 < tree_size body.now }
     requires parts { HasPartsBelow id.0 node.now }
     ensures { OnOk result (out.new ≡ out.old ++ written (made (all_trees body.now) node.now)) }
@@ -238,7 +239,7 @@ fn write_binary(body: &Body, id: NodeId, node: &Node, out: &mut TokenList) -> Re
 
 /// Writes an expression without parts.
 fn write_leaf(node: &Node, out: &mut TokenList) -> Result<(), AllocError>
-    requires group { IsLeafNode node.now }
+    requires group { IsLeaf node.now }
     ensures { (ts : List Tree) → OnOk result (out.new ≡ out.old ++ written (made ts node.now)) }
 {
     match node {
