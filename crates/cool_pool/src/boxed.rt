@@ -8,7 +8,7 @@ ghost use Rattle.cool_syntax.specs.NodeLists.{at_id, twig_at, grown, made, HasPa
 ghost use Rattle.cool_syntax.specs.NodeGroups.{IsBinary, IsBinding, IsCall, IsControl, IsLeaf, IsUnary};
 
 use crate::pool::Pool;
-use cool_syntax::{Branch, Branches, Bytes, Child, Expr, Exprs, Name, Node, NodeBranch, NodeId};
+use cool_syntax::{Branch, Branches, Child, Expr, Exprs, Node, NodeBranch, NodeId};
 use std::alloc::{AllocError, Global};
 
 // The expression at this number.
@@ -53,7 +53,7 @@ fn boxed_call(alloc: Global, pool: &Pool, id: NodeId, node: &Node) -> Result<Exp
         } => Ok(Expr::Dispatch {
             at: *at,
             receiver: boxed_child(alloc, pool, *receiver)?,
-            name: copy_name(alloc, name)?,
+            name: name.copy(alloc)?,
             args: boxed_all(alloc, pool, id, args.as_slice())?,
         }),
         Node::StaticDispatch {
@@ -66,7 +66,7 @@ fn boxed_call(alloc: Global, pool: &Pool, id: NodeId, node: &Node) -> Result<Exp
             at: *at,
             receiver: boxed_child(alloc, pool, *receiver)?,
             class: class.copy(alloc)?,
-            name: copy_name(alloc, name)?,
+            name: name.copy(alloc)?,
             args: boxed_all(alloc, pool, id, args.as_slice())?,
         }),
         _ => unreachable!(),
@@ -90,7 +90,7 @@ fn boxed_binding(alloc: Global, pool: &Pool, id: NodeId, node: &Node) -> Result<
             body,
         } => Ok(Expr::Let {
             at: *at,
-            name: copy_name(alloc, name)?,
+            name: name.copy(alloc)?,
             declared: declared.copy(alloc)?,
             init: boxed_option(alloc, pool, id, *init)?,
             body: boxed_child(alloc, pool, *body)?,
@@ -147,7 +147,7 @@ fn boxed_unary(alloc: Global, pool: &Pool, id: NodeId, node: &Node) -> Result<Ex
     match node {
         Node::Assign { at, name, value } => Ok(Expr::Assign {
             at: *at,
-            name: copy_name(alloc, name)?,
+            name: name.copy(alloc)?,
             value: boxed_child(alloc, pool, *value)?,
         }),
         Node::IsVoid { at, value } => Ok(Expr::IsVoid {
@@ -213,7 +213,7 @@ fn boxed_leaf(alloc: Global, node: &Node) -> Result<Expr, AllocError>
         }),
         Node::Id { at, name } => Ok(Expr::Id {
             at: *at,
-            name: copy_name(alloc, name)?,
+            name: name.copy(alloc)?,
         }),
         Node::Int { at, value } => Ok(Expr::Int {
             at: *at,
@@ -221,7 +221,7 @@ fn boxed_leaf(alloc: Global, node: &Node) -> Result<Expr, AllocError>
         }),
         Node::Str { at, bytes } => Ok(Expr::Str {
             at: *at,
-            bytes: Bytes::new(alloc, bytes.as_slice())?,
+            bytes: bytes.copy(alloc)?,
         }),
         Node::Bool { at, value } => Ok(Expr::Bool {
             at: *at,
@@ -229,12 +229,6 @@ fn boxed_leaf(alloc: Global, node: &Node) -> Result<Expr, AllocError>
         }),
         _ => unreachable!(),
     }
-}
-
-fn copy_name(alloc: Global, name: &Name) -> Result<Name, AllocError>
-    ensures copied { IfOk result (λ copy. copy ≡ name.now) }
-{
-    Name::new(alloc, name.as_slice())
 }
 
 #[cycle(boxed)]
@@ -285,7 +279,7 @@ fn boxed_branch(alloc: Global, pool: &Pool, branch: &NodeBranch) -> Result<Branc
 {
     Ok(Branch {
         at: branch.at,
-        name: copy_name(alloc, &branch.name)?,
+        name: branch.name.copy(alloc)?,
         declared: branch.declared.copy(alloc)?,
         body: boxed_child(alloc, pool, branch.body)?,
     })

@@ -6,7 +6,6 @@ ghost use Rattle.cool_syntax.specs.Groups.{IsBinary, IsBinding, IsCall, IsContro
 
 use crate::expr::{Branch, Expr};
 use crate::parts::{Branches, Child, Exprs};
-use crate::text::{Bytes, Name};
 use std::alloc::{AllocError, Global};
 
 /// A copy of the expression, with its places. `Err` comes only for want of memory.
@@ -47,7 +46,7 @@ fn copy_call(alloc: Global, e: &Expr) -> Result<Expr, AllocError>
         } => Ok(Expr::Dispatch {
             at: *at,
             receiver: copy_child(alloc, receiver)?,
-            name: copy_name(alloc, name)?,
+            name: name.copy(alloc)?,
             args: copy_exprs(alloc, args)?,
         }),
         Expr::StaticDispatch {
@@ -60,7 +59,7 @@ fn copy_call(alloc: Global, e: &Expr) -> Result<Expr, AllocError>
             at: *at,
             receiver: copy_child(alloc, receiver)?,
             class: class.copy(alloc)?,
-            name: copy_name(alloc, name)?,
+            name: name.copy(alloc)?,
             args: copy_exprs(alloc, args)?,
         }),
         _ => unreachable!(),
@@ -82,7 +81,7 @@ fn copy_binding(alloc: Global, e: &Expr) -> Result<Expr, AllocError>
             body,
         } => Ok(Expr::Let {
             at: *at,
-            name: copy_name(alloc, name)?,
+            name: name.copy(alloc)?,
             declared: declared.copy(alloc)?,
             init: copy_option(alloc, init)?,
             body: copy_child(alloc, body)?,
@@ -135,7 +134,7 @@ fn copy_unary(alloc: Global, e: &Expr) -> Result<Expr, AllocError>
     match e {
         Expr::Assign { at, name, value } => Ok(Expr::Assign {
             at: *at,
-            name: copy_name(alloc, name)?,
+            name: name.copy(alloc)?,
             value: copy_child(alloc, value)?,
         }),
         Expr::IsVoid { at, value } => Ok(Expr::IsVoid {
@@ -199,7 +198,7 @@ fn copy_leaf(alloc: Global, e: &Expr) -> Result<Expr, AllocError>
         }),
         Expr::Id { at, name } => Ok(Expr::Id {
             at: *at,
-            name: copy_name(alloc, name)?,
+            name: name.copy(alloc)?,
         }),
         Expr::Int { at, value } => Ok(Expr::Int {
             at: *at,
@@ -207,7 +206,7 @@ fn copy_leaf(alloc: Global, e: &Expr) -> Result<Expr, AllocError>
         }),
         Expr::Str { at, bytes } => Ok(Expr::Str {
             at: *at,
-            bytes: Bytes::new(alloc, bytes.as_slice())?,
+            bytes: bytes.copy(alloc)?,
         }),
         Expr::Bool { at, value } => Ok(Expr::Bool {
             at: *at,
@@ -215,12 +214,6 @@ fn copy_leaf(alloc: Global, e: &Expr) -> Result<Expr, AllocError>
         }),
         _ => unreachable!(),
     }
-}
-
-fn copy_name(alloc: Global, name: &Name) -> Result<Name, AllocError>
-    ensures copied { IfOk result (λ copy. copy ≡ name.now) }
-{
-    Name::new(alloc, name.as_slice())
 }
 
 #[cycle(copy)]
@@ -258,7 +251,7 @@ fn copy_branch(alloc: Global, branch: &Branch) -> Result<Branch, AllocError>
 {
     Ok(Branch {
         at: branch.at,
-        name: copy_name(alloc, &branch.name)?,
+        name: branch.name.copy(alloc)?,
         declared: branch.declared.copy(alloc)?,
         body: copy_child(alloc, &branch.body)?,
     })

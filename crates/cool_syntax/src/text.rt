@@ -29,6 +29,20 @@ impl Bytes {
         })
     }
 
+    /// These bytes. It takes no memory.
+    pub fn from_vec(bytes: Vec<u8>) -> Self
+        ensures { result ≡ bytes.items }
+    {
+        Bytes { bytes }
+    }
+
+    /// A copy. `Err` comes only for want of memory.
+    pub fn copy(&self, alloc: Global) -> Result<Self, AllocError>
+        ensures copied { IfOk result (λ copy. copy ≡ self.now) }
+    {
+        Bytes::new(alloc, self.as_slice())
+    }
+
     /// The bytes.
     pub fn as_slice(&self) -> &[u8]
         ensures { result.now ≡ self.now }
@@ -59,6 +73,13 @@ impl Name {
         Ok(Name {
             spelling: Bytes::new(alloc, bytes)?,
         })
+    }
+
+    /// A copy. `Err` comes only for want of memory.
+    pub fn copy(&self, alloc: Global) -> Result<Self, AllocError>
+        ensures copied { IfOk result (λ copy. copy ≡ self.now) }
+    {
+        Name::new(alloc, self.as_slice())
     }
 
     /// The bytes of the name.

@@ -72,8 +72,7 @@ impl TokenList {
     pub(crate) fn object(&mut self, name: &Name, at: Place) -> Result<(), AllocError>
         ensures { OnOk result (self.new ≡ self.old ++ object name.now at ∷ []) }
     {
-        let copy = Name::new(self.alloc, name.as_slice())?;
-        self.push(TokenKind::ObjectId(copy), at)
+        self.push(TokenKind::ObjectId(name.copy(self.alloc)?), at)
     }
 
     /// One more type identifier.
@@ -87,15 +86,13 @@ impl TokenList {
     pub(crate) fn class_name(&mut self, name: &Name, at: Place) -> Result<(), AllocError>
         ensures { OnOk result (self.new ≡ self.old ++ type (record { name = name.now; at = at }) ∷ []) }
     {
-        let copy = Name::new(self.alloc, name.as_slice())?;
-        self.push(TokenKind::TypeId(copy), at)
+        self.push(TokenKind::TypeId(name.copy(self.alloc)?), at)
     }
 
     /// One more string constant.
     pub(crate) fn string(&mut self, bytes: &Bytes, at: Place) -> Result<(), AllocError>
         ensures { OnOk result (self.new ≡ self.old ++ record { kind = kind.Str bytes.now; at = at } ∷ []) }
     {
-        let copy = Bytes::new(self.alloc, bytes.as_slice())?;
-        self.push(TokenKind::Str(copy), at)
+        self.push(TokenKind::Str(bytes.copy(self.alloc)?), at)
     }
 }

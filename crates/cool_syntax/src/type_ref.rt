@@ -22,7 +22,7 @@ impl TypeRef {
         ensures copied { IfOk result (λ copy. copy ≡ self.now) }
     {
         Ok(TypeRef {
-            name: Name::new(alloc, self.name.as_slice())?,
+            name: self.name.copy(alloc)?,
             at: self.at,
         })
     }
