@@ -4,7 +4,7 @@ use Rattle.std.specs.Prelude.{◌==◌, IsTrue}
 use Rattle.std.specs.List.{AllByRecursion, concat}
 use Rattle.std.proofs.Math.ListN.{length-append}
 use Rattle.cool_syntax.specs.declared.TheConstants.{MOST_BYTES}
-use Rattle.cool_syntax.specs.SimpleForm.{is_plain, IsPlainString}
+use Rattle.cool_driver.specs.SimpleForm.{is_plain, IsPlainString}
 use Rattle.cool_driver.specs.Emitted.{HasNoZero, data_of}
 
 -- what holds of each element and of one more

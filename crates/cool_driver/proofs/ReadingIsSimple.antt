@@ -5,8 +5,8 @@ use Rattle.std.specs.List.{prefix_len, list_all, AllByRecursion}
 use Rattle.std.proofs.Math.ListN.{length-append}
 use Rattle.std.proofs.lemmas.Bool.{and_parts, cond_both}
 use Rattle.std.proofs.lemmas.Option.{cond_some, option_and_then_some}
-use Rattle.cool_syntax.specs.declared.TheConstants.{MOST_CALLS}
-use Rattle.cool_syntax.specs.SimpleForm.{Simple, is_blank, AreBlanks, call, head, tail}
+use Rattle.cool_driver.specs.declared.simple_form.TheConstants.{MOST_CALLS}
+use Rattle.cool_driver.specs.SimpleForm.{Simple, is_blank, AreBlanks, call, head, tail}
 use Rattle.cool_words.specs.declared.plan.RunLimits.{RunLimits}
 use Rattle.cool_driver.specs.SimpleFiles.{IsBlankFile, AreSimple, RunOtherwise}
 use Rattle.cool_driver.specs.SimpleReading.{lexemes_at, calls_at, program_at, is_blank_file, programs_at}

@@ -6,7 +6,7 @@ use Rattle.std.proofs.Math.Bool.{and-false}
 use Rattle.std.proofs.lemmas.List.Folds.{length-prefix_len}
 use Rattle.std.proofs.lemmas.Option.{cond_some, same_Some, option_and_then_some}
 use Rattle.std.proofs.lemmas.Slice.Eq.{bytes_eq-Decides}
-use Rattle.cool_syntax.specs.SimpleForm.{Spaced, Spells, AreBlanks, is_blank}
+use Rattle.cool_driver.specs.SimpleForm.{Spaced, Spells, AreBlanks, is_blank}
 use Rattle.cool_driver.specs.SimpleReading.{lexeme_at, lexemes_at}
 
 -- a lexeme that white space cannot be taken for: it has a first byte, which is no blank

@@ -3,7 +3,7 @@ use Rattle.std.proofs.Common.{◌≡◌, ℕ, Bool, true, false, List, [], ◌�
 use Rattle.std.specs.List.{AllByRecursion}
 use Rattle.std.proofs.lemmas.Bool.{cond_both, eqb-true, leb-true, le-leb, ne_eqb, and_parts, not-true, cases_eq}
 use Rattle.std.proofs.lemmas.Option.{some_pair_parts}
-use Rattle.cool_syntax.specs.SimpleForm.{escaped, is_plain}
+use Rattle.cool_driver.specs.SimpleForm.{escaped, is_plain}
 use Rattle.cool_driver.specs.SimpleReading.{string_at, with_front}
 
 -- bytes with the backslash, if one came just before them

@@ -4,7 +4,7 @@ use Rattle.std.specs.List.{AllByRecursion, prefix_len}
 use Rattle.std.proofs.lemmas.Bool.{leb-true, le-leb}
 use Rattle.std.proofs.lemmas.Option.{cond_some, option_and_then_some}
 use Rattle.cool_syntax.specs.declared.TheConstants.{MOST_BYTES}
-use Rattle.cool_syntax.specs.SimpleForm.{Spaced, Spells, close, call, tail, quoted, escaped, is_plain, is_blank, IsPlainString}
+use Rattle.cool_driver.specs.SimpleForm.{Spaced, Spells, close, call, tail, quoted, escaped, is_plain, is_blank, IsPlainString}
 use Rattle.cool_driver.specs.SimpleReading.{lexeme_at, lexemes_at, string_at, call_head, call_tail, call_at, call_and, calls_at}
 use Rattle.cool_driver.proofs.ReadingLexemes.{lexeme_found, lexeme_read, lexeme_apart, last_lexeme, front_passes, lexemes_found, lexemes_read, lexemes_at-append}
 use Rattle.cool_driver.proofs.ReadingStrings.{string_found, string_read}

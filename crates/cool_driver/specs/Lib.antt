@@ -1,4 +1,5 @@
 pub mod Reading
+pub mod SimpleForm
 pub mod SimpleFiles
 pub mod SimpleReading
 pub mod Emitted

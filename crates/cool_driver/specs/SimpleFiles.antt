@@ -1,7 +1,7 @@
 -- Files that are a program of the simple form: one of them is, and all others are blank.
 use Rattle.std.specs.Prelude.{ℕ, ◌≤◌, ◌⊎◌, IsTrue, List, [], ◌∷◌}
 use Rattle.std.specs.List.{AllByRecursion}
-use Rattle.cool_syntax.specs.SimpleForm.{Simple, is_blank}
+use Rattle.cool_driver.specs.SimpleForm.{Simple, is_blank}
 use Rattle.cool_words.specs.declared.plan.RunLimits.{RunLimits}
 use Rattle.cool_driver.specs.declared.TheConstants.{SIMPLE_STEPS}
 

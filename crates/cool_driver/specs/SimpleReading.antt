@@ -3,8 +3,9 @@
 use Rattle.std.specs.Prelude.{◌≡◌, ℕ, zero, suc, ◌==◌, ◌&&◌, nat_le, bytes_eq, Bool, true, false, if◌then◌else◌, List, [], ◌∷◌, ◌++◌, length, take, drop, codes, Option, Some, None, option_map, option_and_then, map, Result, Ok, Err}
 use Rattle.std.specs.Global.{Vec}
 use Rattle.std.specs.List.{list_all, prefix_len}
-use Rattle.cool_syntax.specs.declared.TheConstants.{MOST_BYTES, MOST_CALLS}
-use Rattle.cool_syntax.specs.SimpleForm.{Spaced, is_blank, close, head, tail}
+use Rattle.cool_syntax.specs.declared.TheConstants.{MOST_BYTES}
+use Rattle.cool_driver.specs.declared.simple_form.TheConstants.{MOST_CALLS}
+use Rattle.cool_driver.specs.SimpleForm.{Spaced, is_blank, close, head, tail}
 use Rattle.cool_driver.specs.declared.simple_form.SimpleError.{SimpleError}
 use Rattle.cool_driver.specs.declared.simple_form.SimpleError.TheVariants.{Memory, NotSimple}
 

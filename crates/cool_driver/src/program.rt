@@ -8,7 +8,7 @@ ghost use Rattle.cool_driver.specs.Tasks.{Prints};
 ghost use Rattle.cool_driver.specs.SimpleReading.{texts};
 ghost use Rattle.cool_driver.specs.Emitted.{HasNoZero, print_words, text_of, data_of};
 
-use cool_syntax::MOST_CALLS;
+use crate::simple_form::MOST_CALLS;
 use mips_isa::{DATA_START, Image, TEXT_START};
 use std::alloc::{AllocError, Global};
 

@@ -2,12 +2,15 @@
 
 ghost use Rattle.std.specs.Prelude.{◌≡◌, ◌≤◌, length, true, false, option_copied, Some};
 ghost use Rattle.std.specs.List.{list_all, prefix_len};
-ghost use Rattle.cool_syntax.specs.SimpleForm.{is_blank, head, tail};
+ghost use Rattle.cool_driver.specs.SimpleForm.{is_blank, head, tail};
 ghost use Rattle.cool_driver.specs.SimpleReading.{Gives, lexeme_at, lexemes_at, string_at, call_head, call_tail, call_at, calls_at, is_blank_file, program_at, programs_at, texts};
 ghost use Rattle.cool_driver.specs.declared.simple_form.SimpleError.TheVariants.{Memory};
 
-use cool_syntax::{MOST_BYTES, MOST_CALLS};
+use cool_syntax::MOST_BYTES;
 use std::alloc::{AllocError, AllocFailed, Global};
+
+/// The most calls in a program of the simple form.
+pub const MOST_CALLS: usize = 800;
 
 /// Why no strings were read.
 #[derive(Clone, Copy, Debug, PartialEq, Eq)]

@@ -13,7 +13,6 @@ pub mod NodeLists
 pub mod PlainTrees
 pub mod Readings
 pub mod Shapes
-pub mod SimpleForm
 pub mod TokenFacts
 pub mod Tree
 pub mod TreeCode

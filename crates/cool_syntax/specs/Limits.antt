@@ -1,7 +1,7 @@
 -- The limits of a program's source, each by its value: how many files there may be, how many bytes they may have together, how
--- many bytes a string may have, how many tokens may stand in a run, and how many calls a program of the simple form may have.
+-- many bytes a string may have, and how many tokens may stand in a run.
 use Rattle.std.specs.Prelude.{◌≡◌, refl}
-use Rattle.cool_syntax.specs.declared.TheConstants.{MOST_FILES, MOST_SOURCE_BYTES, MOST_BYTES, MOST_TOKENS, MOST_CALLS}
+use Rattle.cool_syntax.specs.declared.TheConstants.{MOST_FILES, MOST_SOURCE_BYTES, MOST_BYTES, MOST_TOKENS}
 
 most_files : MOST_FILES ≡ 64
 most_files = refl
@@ -14,6 +14,3 @@ most_bytes = refl
 
 most_tokens : MOST_TOKENS ≡ 8000
 most_tokens = refl
-
-most_calls : MOST_CALLS ≡ 800
-most_calls = refl

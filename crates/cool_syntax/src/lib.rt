@@ -49,6 +49,3 @@ pub const MOST_BYTES: usize = 65_535;
 
 /// The most tokens in a run.
 pub const MOST_TOKENS: usize = 8_000;
-
-/// The most calls in a program of the simple form.
-pub const MOST_CALLS: usize = 800;

@@ -77,4 +77,4 @@ returns-clause-taken g c =
     ]
 
 pub returns-clause-limits : goal.returns-clause-limits
-returns-clause-limits g c = record { image_bytes = refl; simple_steps = refl; big_output = refl }
+returns-clause-limits g c = record { image_bytes = refl; calls = refl; simple_steps = refl; big_output = refl }

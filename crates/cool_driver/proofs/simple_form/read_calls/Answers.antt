@@ -1,6 +1,6 @@
 use Rattle.std.proofs.Common.{◌≡◌, [], ◌∷◌, ◌++◌, ap, ◌∙◌}
 use Rattle.std.proofs.lemmas.List.{map_push}
-use Rattle.cool_syntax.specs.declared.TheConstants.{MOST_CALLS}
+use Rattle.cool_driver.specs.declared.simple_form.TheConstants.{MOST_CALLS}
 use Rattle.cool_driver.specs.SimpleReading.{texts}
 use Rattle.cool_driver.proofs.ReadingCalls.{calls_at-turn}
 use Rattle.cool_driver.proofs.simple_form.read_calls.Goals as goal

@@ -1,5 +1,5 @@
 use Rattle.std.proofs.Common.{◌≡◌, ◌-◌}
-use Rattle.cool_syntax.specs.declared.TheConstants.{MOST_CALLS}
+use Rattle.cool_driver.specs.declared.simple_form.TheConstants.{MOST_CALLS}
 use Rattle.cool_driver.specs.SimpleReading.{calls_at, texts}
 use Rattle.cool_driver.proofs.ReadingCalls.{behind}
 use Rattle.cool_driver.proofs.simple_form.read_calls.Given as goal

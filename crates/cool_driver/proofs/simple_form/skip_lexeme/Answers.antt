@@ -2,7 +2,7 @@ use Rattle.std.proofs.Common.{◌≡◌, ◌+◌, Bool, true, false, cond, List,
 use Rattle.std.specs.Prelude.{Option, MatchOption, option_copied, nat_le, bytes_eq}
 use Rattle.std.specs.Borrow.{Bor}
 use Rattle.std.specs.List.{prefix_len}
-use Rattle.cool_syntax.specs.SimpleForm.{is_blank}
+use Rattle.cool_driver.specs.SimpleForm.{is_blank}
 use Rattle.cool_driver.specs.SimpleReading.{lexeme_at}
 use Rattle.cool_driver.proofs.simple_form.skip_lexeme.Goals as goal
 

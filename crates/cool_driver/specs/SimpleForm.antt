@@ -2,7 +2,8 @@
 -- (section 10). It says which bytes are such a program and which strings they write.
 use Rattle.std.specs.Prelude.{◌≡◌, ℕ, ◌≤◌, Bool, not, ◌&&◌, ◌||◌, ◌==◌, nat_le, if◌then◌else◌, List, [], ◌∷◌, ◌++◌, length, replicate, codes, IsTrue, flat_map, refl}
 use Rattle.std.specs.List.{AllByRecursion}
-use Rattle.cool_syntax.specs.declared.TheConstants.{MOST_BYTES, MOST_CALLS}
+use Rattle.cool_syntax.specs.declared.TheConstants.{MOST_BYTES}
+use Rattle.cool_driver.specs.declared.simple_form.TheConstants.{MOST_CALLS}
 
 -- white space: space, newline, form feed, carriage return, tab, vertical tab
 abbrev pub is_blank : ℕ → Bool
