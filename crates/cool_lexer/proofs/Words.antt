@@ -1,5 +1,5 @@
 -- The front of a word, from the facts that its parts give.
-use Rattle.std.proofs.Common.{◌≡◌, ◌∙◌, ap, ℕ, Bool, List, ◌∷◌, take, map}
+use Rattle.std.proofs.Common.{◌≡◌, ◌∙◌, sym, ap, arith, ℕ, suc, ◌+◌, Bool, List, ◌∷◌, take, map}
 use Rattle.std.specs.List.{prefix_len}
 use Rattle.cool_syntax.specs.declared.token.TokenKind.{TokenKind}
 use Rattle.cool_syntax.specs.Lexemes.{is_capital, named, key_among, keywords, lower, word}
@@ -7,6 +7,12 @@ use Rattle.cool_lexer.specs.declared.front.Front.TheVariants.{Item}
 use Rattle.cool_lexer.specs.declared.front.Scan.TheVariants.{Lexeme}
 use Rattle.cool_lexer.specs.declared.span.Span.TheVariants as span
 use Rattle.cool_lexer.specs.Fronts.{takes, word_front}
+
+-- the text of a word is its first byte and those behind it
+pub word_text : (b n : ℕ) (bs text : List ℕ) → b ∷ bs ≡ text → take (n + 1) text ≡ b ∷ take n bs
+word_text b n bs text e =
+    let next : n + 1 ≡ suc n = omega arith in
+    ap (λ m. take m text) next ∙ ap (λ l. take (suc n) l) (sym e)
 
 -- its text, its kind and its size make the front of a word
 pub word_found : (b n : ℕ) (bs text : List ℕ) (k : TokenKind) (capital : Bool) → capital ≡ is_capital b → text ≡ b ∷ take n bs → k ≡ named capital text (key_among keywords (map lower text)) → n ≡ prefix_len (takes span.Word) bs → Item (Lexeme k) n ≡ word_front b bs

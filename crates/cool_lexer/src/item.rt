@@ -1,6 +1,6 @@
 //! Items: what a text begins with, by the class of its first byte.
 
-ghost use Rattle.std.specs.Prelude.{◌≡◌, ◌<◌, IfOk, length};
+ghost use Rattle.std.specs.Prelude.{◌≡◌, ◌<◌, ◌∷◌, IfOk, length};
 ghost use Rattle.cool_syntax.specs.Lexemes as lexemes;
 ghost use Rattle.cool_lexer.specs.Fronts.{front_of, Begins};
 
@@ -19,15 +19,16 @@ pub(crate) fn item_at(alloc: Global, text: &[u8]) -> Result<Front, AllocError>
     requires { 0 < length text.now }
     ensures { IfOk result (λ front. Begins text.now front) }
 {
-    item_behind(alloc, text[0], &text[1..])
+    item_behind(alloc, text, text[0], &text[1..])
 }
 
 /// The item that a text begins with, or its fault, by the first byte and those behind it. `Err` comes only for want of memory.
-fn item_behind(alloc: Global, first: u8, tail: &[u8]) -> Result<Front, AllocError>
+fn item_behind(alloc: Global, text: &[u8], first: u8, tail: &[u8]) -> Result<Front, AllocError>
+    requires whole { first ∷ tail.now ≡ text.now }
     ensures { IfOk result (λ front. front ≡ front_of (lexemes.class_of first) first tail.now) }
 {
     match class_of(first) {
-        Class::Capital | Class::Small => word_at(alloc, first, tail),
+        Class::Capital | Class::Small => word_at(alloc, text, first, tail),
         Class::Digit => Ok(number_at(first, tail)),
         Class::Quote => string_at(alloc, tail),
         Class::White => Ok(Front::Item {

@@ -20,7 +20,7 @@ pub(crate) fn string_at(alloc: Global, tail: &[u8]) -> Result<Front, AllocError>
     let mut at = 0;
     while at < tail.len() {
         match piece_of(escaped, tail[at]) {
-            Piece::Ends => return string(alloc, held.as_slice(), at + 1),
+            Piece::Ends => return Ok(string(held, at + 1)),
             Piece::Newline => return Ok(Front::Fault {
                 kind: LexKind::L2,
                 offset: 0,
@@ -49,14 +49,12 @@ pub(crate) fn string_at(alloc: Global, tail: &[u8]) -> Result<Front, AllocError>
     })
 }
 
-/// The string with this constant, whose closing quote stands this many bytes behind the opening one. `Err` comes only for want of
-/// memory.
-fn string(alloc: Global, held: &[u8], behind: usize) -> Result<Front, AllocError>
-    ensures { IfOk result (λ front. front ≡ Item (Lexeme (Str held.now)) behind) }
+/// The string with this constant, whose closing quote stands this many bytes behind the opening one.
+fn string(held: Vec<u8>, behind: usize) -> Front
+    ensures { result ≡ Item (Lexeme (Str held.items)) behind }
 {
-    let constant = Bytes::new(alloc, held)?;
-    Ok(Front::Item {
-        form: Scan::Lexeme(TokenKind::Str(constant)),
+    Front::Item {
+        form: Scan::Lexeme(TokenKind::Str(Bytes::from_vec(held))),
         behind,
-    })
+    }
 }

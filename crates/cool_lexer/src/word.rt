@@ -9,27 +9,22 @@ use crate::span::{Span, span_len};
 use cool_syntax::{Key, Name, TokenKind};
 use std::alloc::{AllocError, Global};
 
-/// The word that begins with this letter. `Err` comes only for want of memory.
-pub(crate) fn word_at(alloc: Global, first: u8, tail: &[u8]) -> Result<Front, AllocError>
+/// The word that a text begins with: this letter, and what goes on with it of the bytes behind. `Err` comes only for want of memory.
+pub(crate) fn word_at(
+    alloc: Global,
+    text: &[u8],
+    first: u8,
+    tail: &[u8],
+) -> Result<Front, AllocError>
+    requires whole { first ∷ tail.now ≡ text.now }
     ensures { IfOk result (λ front. front ≡ word_front first tail.now) }
 {
     let behind = span_len(Span::Word, tail);
-    let text = joined(alloc, first, &tail[..behind])?;
-    let kind = word(alloc, first.is_ascii_uppercase(), text.as_slice())?;
+    let kind = word(alloc, first.is_ascii_uppercase(), &text[..behind + 1])?;
     Ok(Front::Item {
         form: Scan::Lexeme(kind),
         behind,
     })
-}
-
-/// A byte and those behind it. `Err` comes only for want of memory.
-fn joined(alloc: Global, first: u8, tail: &[u8]) -> Result<Vec<u8>, AllocError>
-    ensures { IfOk result (λ text. text.items ≡ first ∷ tail.now) }
-{
-    let mut text = Vec::new(alloc);
-    text.push(first)?;
-    text.extend_from_slice(tail)?;
-    Ok(text)
 }
 
 /// The lexeme that a word is, which begins with a capital letter or not: `true` and `false` begin with a small letter, and all other
