@@ -1,6 +1,7 @@
 -- The faults of a phase, refused exactly: those of the classes, or else those of the features of the classes that definitions make.
-use Rattle.std.proofs.Common.{◌≡◌, ℕ, List, [], ◌∷◌, ◌++◌, length, map, inl, inr, ap, refl, subst, arith, Option}
+use Rattle.std.proofs.Common.{◌≡◌, ℕ, List, [], ◌∷◌, ◌++◌, length, map, inl, inr, ap, sym, ◌∙◌, Some, refl, subst, arith, Option}
 use Rattle.std.specs.List.Sorted.{IsPermutation}
+use Rattle.std.specs.Global.{Vec}
 use Rattle.cool_syntax.specs.declared.file_tree.ClassDef.{ClassDef}
 use Rattle.cool_classes.specs.declared.fault.ClassFault.{ClassFault}
 use Rattle.cool_classes.specs.declared.fault.TableError.{TableError}
@@ -9,8 +10,11 @@ use Rattle.cool_classes.specs.Chains.{Class}
 use Rattle.cool_classes.specs.ClassFaults.{class_meant, classes_meant, feature_phase, HasClassPhase, HasClassFaults, HasTableFaults}
 use Rattle.cool_classes.specs.Entries.{classes, class_of}
 use Rattle.cool_classes.specs.FaultLists.{HasExactly}
+use Rattle.cool_classes.specs.FirstNames.{places_shown, FindsPlaces, AreFirst}
+use Rattle.cool_classes.specs.OwnNames.{AreNamed}
 use Rattle.cool_classes.specs.Settled.{names_with_basic, entries_meant, entries_of, AreSettled}
 use Rattle.cool_classes.specs.Tables.{basic_classes}
+use Rattle.cool_classes.proofs.LawfulByFaults.{names_meant}
 use Rattle.cool_classes.proofs.ParentsOfDefinitions.{parents_long}
 
 -- the faults of classes are refused
@@ -39,3 +43,14 @@ entries_are_meant ds os settled =
     let long = settled.grounded.same in
     let all = parents_long (names_with_basic ds) ds in
     ap (λ (cs : List Class). basic_classes ++ cs) (meant_in (names_with_basic ds) ds os (omega arith))
+
+-- the names of all classes are those of the entries
+names_in_row : (p : List Class) → map Some (map (λ (c : Class). c.name) p) ≡ map (λ (c : Class). Some c.name) p
+names_in_row [] = refl
+names_in_row (c ∷ p) = ap (λ (row : List (Option (List ℕ))). Some c.name ∷ row) (names_in_row p)
+
+pub entries_named : (ds : List ClassDef) (os : List (Option ℕ)) (names : List (Vec ℕ × ℕ)) → AreSettled ds os → AreFirst names (names_with_basic ds) → AreNamed names (entries_of ds os)
+entries_named ds os names settled first =
+    let row : map Some (names_with_basic ds) ≡ map (λ (c : Class). Some c.name) (classes (entries_of ds os)) =
+    ap (map Some) (sym (names_meant ds)) ∙ names_in_row (classes_meant ds) ∙ ap (map (λ (c : Class). Some c.name)) (sym (entries_are_meant ds os settled)) in
+    subst (FindsPlaces (places_shown names)) row first

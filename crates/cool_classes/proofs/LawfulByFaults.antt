@@ -256,7 +256,7 @@ names_of_meant : (names : List (List ℕ)) (ds : List ClassDef) → map (λ (c :
 names_of_meant names [] = refl
 names_of_meant names (d ∷ ds) = let rest : map (λ (c : Class). c.name) (map (class_meant names) ds) ≡ names_in ds = names_of_meant names ds in λ i. d.name ∷ rest i
 
-names_meant : (ds : List ClassDef) → map (λ (c : Class). c.name) (classes_meant ds) ≡ names_with_basic ds
+pub names_meant : (ds : List ClassDef) → map (λ (c : Class). c.name) (classes_meant ds) ≡ names_with_basic ds
 names_meant ds = ap (λ (ns : List (List ℕ)). basic_names ++ ns) (names_of_meant (names_with_basic ds) ds)
 
 main_class : (ds : List ClassDef) → main_faults (names_with_basic ds) ≡ [] → (c : ClassId) × (first_named 0 (names_with_basic ds) (codes "Main") ≡ Some c)

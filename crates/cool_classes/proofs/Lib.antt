@@ -25,7 +25,6 @@ pub mod MainMethods
 pub mod Methods
 pub mod MethodsNamed
 pub mod NamePlaces
-pub mod NamesInOrder
 pub mod NamesOfDefinitions
 pub mod NamesOfFeatures
 pub mod NewMethods

@@ -1,6 +1,6 @@
 -- A map from names to their first places, when the next place comes.
-use Rattle.std.proofs.Common.{◌≡◌, ℕ, suc, ◌+◌, List, [], ◌∷◌, ◌++◌, length, Option, Some, None, is_some, Bool, true, false, cond, ap, sym, ◌∙◌, refl, arith, true≢false}
-use Rattle.std.specs.Prelude.{bytes_eq}
+use Rattle.std.proofs.Common.{◌≡◌, ℕ, suc, ◌+◌, List, [], ◌∷◌, ◌++◌, map, length, Option, Some, None, is_some, Bool, true, false, cond, ap, sym, ◌∙◌, refl, arith, true≢false}
+use Rattle.std.specs.Prelude.{bytes_eq, option_map}
 use Rattle.std.specs.Map.{lookup}
 use Rattle.std.specs.HashMap.{get}
 use Rattle.std.specs.Option.{option_copied}
@@ -10,7 +10,10 @@ use Rattle.std.proofs.lemmas.Slice.Eq.{bytes_eq-Decides}
 use denote.Ref.{Bor}
 use Rattle.indexmap.specs.IndexMap.{IndexMap, insert_entry}
 use Rattle.indexmap.proofs.CallerLemmas.{insert_entry-new}
+use Rattle.cool_classes.specs.declared.class_id.ClassId.{ClassId}
+use Rattle.cool_classes.specs.Chains.{class_number}
 use Rattle.cool_classes.specs.FirstNames.{first_place, places_shown, FindsPlaces}
+use Rattle.cool_classes.specs.Names.{first_named}
 
 -- the first of two answers
 pub or_else : Option ℕ → Option ℕ → Option ℕ
@@ -108,3 +111,13 @@ copied_some (Some c) = refl
 pub nothing_there : (o : Option ℕ) → is_some o ≡ false → o ≡ None
 nothing_there None h = refl
 nothing_there (Some c) h = absurd (true≢false h)
+
+-- the class of a name is that at the first place of the name
+pub class_at_place : (k : ℕ) (names : List (List ℕ)) (f : List ℕ) → option_map class_number (first_place k (map Some names) f) ≡ first_named k names f
+class_at_place k [] f = refl
+class_at_place k (name ∷ names) f = by (bytes_eq f name) (class_at_place (k + 1) names f)
+  where
+    by : (b : Bool) → option_map class_number (first_place (k + 1) (map Some names) f) ≡ first_named (k + 1) names f
+        → option_map class_number (cond b (Some k) (first_place (k + 1) (map Some names) f)) ≡ cond b (Some (class_number k)) (first_named (k + 1) names f)
+    by true h = refl
+    by false h = h

@@ -1,13 +1,16 @@
 -- Names of definitions, one after another.
-use Rattle.std.proofs.Common.{◌≡◌, ◌≢◌, ℕ, ◌+◌, ◌<◌, List, [], ◌∷◌, ◌++◌, length, take, get_or, Option, Some, None, is_some, Bool, false, sym, ap, ◌∙◌, refl, arith, below_more, true≢false}
-use Rattle.std.specs.Prelude.{codes}
-use Rattle.std.proofs.lemmas.List.{length-append, length-take-le, length-map, get_or-map, take_more}
+use Rattle.std.proofs.Common.{◌≡◌, ◌≢◌, ℕ, ◌+◌, ◌<◌, List, [], ◌∷◌, ◌++◌, length, map, take, get_or, Option, Some, None, is_some, Bool, false, sym, ap, ◌∙◌, refl, subst, arith, below_more, true≢false}
+use Rattle.std.specs.Prelude.{codes, option_map}
+use Rattle.std.specs.Global.{Vec}
+use Rattle.std.proofs.lemmas.List.{length-append, length-take-le, length-map, map-append, get_or-map, take_more}
 use Rattle.std.proofs.Math.Seq.{take-length}
 use Rattle.cool_syntax.specs.declared.file_tree.ClassDef.{ClassDef}
 use Rattle.cool_classes.specs.declared.class_id.ClassId.{ClassId}
 use Rattle.cool_classes.specs.Chains.{class_number}
+use Rattle.cool_classes.specs.FirstNames.{first_place, places_shown, FindsPlaces, AreFirst}
 use Rattle.cool_classes.specs.Names.{first_named}
 use Rattle.cool_classes.specs.Settled.{basic_names, names_in, names_with_basic, IsNamedAnew, AreNamedAnew}
+use Rattle.cool_classes.proofs.NamePlaces.{class_at_place}
 
 -- the name of a definition at a position
 pub name_there : (ds : List ClassDef) (k : ℕ) (d : ClassDef) → k < length ds → d ≡ get_or ds k d → get_or (names_in ds) k [] ≡ d.name
@@ -25,12 +28,26 @@ names_more ds k name within is =
     ap (λ (xs : List (List ℕ)). basic_names ++ xs) (ap (λ (n : List ℕ). take k (names_in ds) ++ n ∷ []) (sym is) ∙ sym (take_more (names_in ds) k [] less))
 
 -- the number of the next class
-pub number_next : (ds : List ClassDef) (k : ℕ) → k < length ds → class_number (k + 5) ≡ class_number (length (basic_names ++ take k (names_in ds)))
+pub number_next : (ds : List ClassDef) (k : ℕ) → k < length ds → k + 5 ≡ length (map Some (basic_names ++ take k (names_in ds)))
 number_next ds k within =
     let less : k < length (names_in ds) = let e = names_long ds in omega arith in
     let long : length (take k (names_in ds)) ≡ k = length-take-le k (names_in ds) (omega arith) in
     let both = length-append basic_names (take k (names_in ds)) in
-    ap class_number (omega (arith, long, both))
+    let row = length-map (basic_names ++ take k (names_in ds)) Some in
+    omega (arith, long, both, row)
+
+-- a map finds one name more
+pub finds_more : (entries : List (Vec ℕ × ℕ)) (before next : List (List ℕ)) (name : List ℕ) → before ++ name ∷ [] ≡ next → FindsPlaces (places_shown entries) (map Some before ++ Some name ∷ [])
+    → AreFirst entries next
+finds_more entries before next name is finds = subst (FindsPlaces (places_shown entries)) (sym (map-append Some before (name ∷ [])) ∙ ap (map Some) is) finds
+
+-- whether a class has a name
+pub known_there : (names : List (List ℕ)) (f : List ℕ) (known : Bool) (o : Option ℕ) → known ≡ is_some o → o ≡ first_place 0 (map Some names) f → known ≡ is_some (first_named 0 names f)
+known_there names f known o is first = is ∙ ap is_some first ∙ sym (some_number (first_place 0 (map Some names) f)) ∙ ap is_some (class_at_place 0 names f)
+  where
+    some_number : (p : Option ℕ) → is_some (option_map class_number p) ≡ is_some p
+    some_number None = refl
+    some_number (Some k) = refl
 
 -- behind the last definition all names are there
 pub all_names : (ds : List ClassDef) (k : ℕ) → length ds ≡ k → basic_names ++ take k (names_in ds) ≡ names_with_basic ds

@@ -48,17 +48,6 @@ own_attribute_next own attributes fs x a is have finds = (
   row_next attribute_name fs x (Some a.name) (ap attribute_name is) (places_shown attributes) finds,
 )
 
--- one more class
-pub named_next : (entries : List (Vec ℕ × ℕ)) (es : List Entry) (k : ℕ) (d : Entry) → k < length es
-    → FindsPlaces (places_shown entries) (map (λ (c : Class). Some c.name) (classes (take k es)) ++ Some (get_or es k d).name ∷ []) → AreNamed entries (take (k + 1) es)
-named_next entries es k d within finds =
-    let more : classes (take (k + 1) es) ≡ classes (take k es) ++ class_of (get_or es k d) ∷ [] = ap classes (take_more es k d within) ∙ map-append class_of (take k es) (get_or es k d ∷ []) in
-    subst (FindsPlaces (places_shown entries)) (sym (ap (map (λ (c : Class). Some c.name)) more ∙ map-append (λ (c : Class). Some c.name) (classes (take k es)) (class_of (get_or es k d) ∷ []))) finds
-
--- a row of classes has as many places as there are entries
-pub named_length : (es : List Entry) → length (map (λ (c : Class). Some c.name) (classes es)) ≡ length es
-named_length es = length-map (classes es) (λ (c : Class). Some c.name) ∙ length-map es class_of
-
 -- the names of one more class's features
 pub all_own_next : (k : ℕ) (all : List OwnNames) (p : List Class) (own : OwnNames) → AreAllOwn k all p → AreOwn own (features_of p (class_number k)) → AreAllOwn (k + 1) (all ++ own ∷ []) p
 all_own_next k all p own have here = record {

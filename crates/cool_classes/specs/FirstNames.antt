@@ -24,6 +24,10 @@ places_shown = map (λ entry. (entry.0.items, entry.1))
 abbrev pub FindsPlaces : List (List ℕ × ℕ) → List (Option (List ℕ)) → Type 0
 FindsPlaces entries row = (f : List ℕ) → lookup (bytes_eq f) entries ≡ first_place 0 row f
 
+-- a look-up of any name finds its first place among these names
+abbrev pub AreFirst : List (Vec ℕ × ℕ) → List (List ℕ) → Type 0
+AreFirst entries names = FindsPlaces (places_shown entries) (map Some names)
+
 -- the names of the methods among features, and those of the attributes
 abbrev pub method_name : Feature → Option (List ℕ)
 method_name (Method m) = Some m.name

@@ -1,7 +1,5 @@
 -- Names of classes in the order of their definitions: which class a name means where several have it.
-use Rattle.std.specs.Prelude.{◌≡◌, ℕ, ◌+◌, List, [], ◌∷◌, map, Option, Some, None, codes, bytes_eq, if◌then◌else◌, refl}
-use Rattle.std.specs.Map.{lookup}
-use denote.Ref.{Bor}
+use Rattle.std.specs.Prelude.{◌≡◌, ℕ, ◌+◌, List, [], ◌∷◌, Option, Some, None, codes, bytes_eq, if◌then◌else◌, refl}
 use Rattle.cool_classes.specs.declared.class_id.ClassId.{ClassId}
 use Rattle.cool_classes.specs.Chains.{class_number}
 
@@ -9,14 +7,6 @@ use Rattle.cool_classes.specs.Chains.{class_number}
 abbrev pub first_named : ℕ → List (List ℕ) → List ℕ → Option ClassId
 first_named k [] f = None
 first_named k (name ∷ names) f = if bytes_eq f name then Some (class_number k) else first_named (k + 1) names f
-
--- the entries of a map, whose keys are names behind references
-abbrev pub shown : List (Bor (List ℕ) × ClassId) → List (List ℕ × ClassId)
-shown = map (λ entry. (entry.0.now, entry.1))
-
--- a look-up of any name finds the first class of that name
-abbrev pub FindsFirst : List (List ℕ × ClassId) → List (List ℕ) → Type 0
-FindsFirst entries names = (f : List ℕ) → lookup (bytes_eq f) entries ≡ first_named 0 names f
 
 -- Worked example: of two classes A the first one counts.
 first_a : first_named 5 (codes "A" ∷ codes "B" ∷ codes "A" ∷ []) (codes "A") ≡ Some (class_number 5)

@@ -5,10 +5,9 @@ ghost use Rattle.std.specs.Prelude.{◌≡◌, ℕ, ◌-◌, ◌<◌, ◌≤◌,
 ghost use Rattle.std.specs.List.{AllByRecursion};
 ghost use Rattle.cool_syntax.specs.TreesWithinLimits.{IsTypeWithin, AreClassesWithin};
 ghost use Rattle.cool_syntax.specs.declared.file_tree.ClassDef as tree;
-ghost use Rattle.cool_classes.specs.declared.fault.TableError.TheVariants as error;
 ghost use Rattle.cool_classes.specs.ClassFaults.{name_kind, names_faults, is_barred, parent_kind, parent_faults, parents_faults, cycle_faults, main_faults, number_faults, HasClassPhase, HasClassFaults};
 ghost use Rattle.cool_classes.specs.FaultLists.{rank, IsRefusal, IsPlacedRefusal};
-ghost use Rattle.cool_classes.specs.Names.{shown, FindsFirst};
+ghost use Rattle.cool_classes.specs.FirstNames.{AreFirst};
 ghost use Rattle.cool_classes.specs.Settled.{basic_names, names_with_basic, parent_meant, parents_meant, IsParentKnown, AreNamedAnew, AreSettled, AddsFaults};
 
 use crate::MOST_CLASSES;
@@ -17,29 +16,29 @@ use crate::class_id::{BOOL, ClassId, INT, IO, OBJECT, STRING};
 use crate::depths::depths;
 use crate::fault::{ClassFault, ClassKind, TableError};
 use crate::fault_list::{add_fault, refuse_faults};
-use crate::names::{Names, add_name, class_of};
+use crate::first_names::{FirstNames, add_place, first_place};
+use crate::lookup::class_named;
 use cool_syntax::{ClassDef, Place, TypeRef};
-use indexmap::IndexMap;
 use std::alloc::{AllocError, Global};
 
-/// Where the definitions stand in the table: the parent of each and its depth.
+/// Where the definitions stand in the table: the names of all classes, and the parent of each definition and its depth.
 #[derive(Drop)]
 pub(crate) struct Ancestry {
+    pub(crate) names: FirstNames,
     pub(crate) parents: Vec<ClassId>,
     pub(crate) depths: Vec<Option<u32>>,
 }
 
 /// The names of the basic classes. `Err` comes only for want of memory.
-fn basic_names<'a>(alloc: Global) -> Result<Names<'a>, TableError>
-    ensures memory { IfErr result (λ e. e ≡ error.Memory) }
-    ensures finds { IfOk result (λ names. FindsFirst (shown names.entries) basic_names) }
+fn basic_names(alloc: Global) -> Result<FirstNames, AllocError>
+    ensures { IfOk result (λ names. AreFirst names.entries basic_names) }
 {
-    let mut names = IndexMap::new(alloc);
-    add_name(&mut names, b"Object", OBJECT)?;
-    add_name(&mut names, b"IO", IO)?;
-    add_name(&mut names, b"Int", INT)?;
-    add_name(&mut names, b"Bool", BOOL)?;
-    add_name(&mut names, b"String", STRING)?;
+    let mut names = FirstNames::new(alloc);
+    add_place(alloc, &mut names, b"Object", OBJECT.0)?;
+    add_place(alloc, &mut names, b"IO", IO.0)?;
+    add_place(alloc, &mut names, b"Int", INT.0)?;
+    add_place(alloc, &mut names, b"Bool", BOOL.0)?;
+    add_place(alloc, &mut names, b"String", STRING.0)?;
     Ok(names)
 }
 
@@ -61,14 +60,13 @@ fn name_fault(name: &[u8], known: bool) -> Option<ClassKind>
 
 /// The first class of each name, the basic classes first. Adds C1 and C2 for the names of definitions. `Err` comes only for
 /// want of memory.
-fn find_names<'a>(
+fn find_names(
     alloc: Global,
-    definitions: &'a [ClassDef],
+    definitions: &[ClassDef],
     faults: &mut Vec<ClassFault>,
-) -> Result<Names<'a>, TableError>
+) -> Result<FirstNames, AllocError>
     requires few { length definitions.now < 2 ^ 32 - 5 }
-    ensures memory { IfErr result (λ e. e ≡ error.Memory) }
-    ensures finds { IfOk result (λ names. FindsFirst (shown names.entries) (names_with_basic definitions.now)) }
+    ensures finds { IfOk result (λ names. AreFirst names.entries (names_with_basic definitions.now)) }
     ensures adds { OnOk result (AddsFaults (λ n. AreClassesWithin n definitions.now) faults.old.items faults.new.items) }
     ensures exact { OnOk result (faults.new.items ≡ faults.old.items ++ names_faults basic_names definitions.now) }
     ensures anew { OnOk result (faults.new.items ≡ [] → AreNamedAnew definitions.now (length definitions.now)) }
@@ -77,8 +75,8 @@ fn find_names<'a>(
     for index in 0..definitions.len() {
         let definition = &definitions[index];
         let name = definition.name.as_slice();
-        let class = ClassId(index as u32 + BASIC_CLASSES);
-        let known = add_name(&mut names, name, class)?;
+        let known = first_place(&names, name).is_some();
+        add_place(alloc, &mut names, name, index as u32 + BASIC_CLASSES)?;
         add_fault(faults, name_fault(name, known), definition.at)?;
     }
     Ok(names)
@@ -111,19 +109,19 @@ fn is_barred(class: ClassId) -> bool
 /// The parent of a definition: Object where it names none or no class. Adds C2, C3 or C4. `Err` comes only for want of
 /// memory.
 fn find_parent(
-    names: &Names<'_>,
+    names: &FirstNames,
     parent: &Option<TypeRef>,
     faults: &mut Vec<ClassFault>,
 ) -> Result<ClassId, AllocError>
-    ensures parent { IfOk result (λ class. (all : List (List ℕ)) → FindsFirst (shown names.now.entries) all → class ≡ parent_meant all parent.now) }
+    ensures parent { IfOk result (λ class. (all : List (List ℕ)) → AreFirst names.now.entries all → class ≡ parent_meant all parent.now) }
     ensures adds { OnOk result (AddsFaults (λ n. IfSome parent.now (IsTypeWithin n)) faults.old.items faults.new.items) }
-    ensures exact { OnOk result ((all : List (List ℕ)) → FindsFirst (shown names.now.entries) all → faults.new.items ≡ faults.old.items ++ parent_faults all parent.now) }
-    ensures known { OnOk result (faults.new.items ≡ [] → (all : List (List ℕ)) → FindsFirst (shown names.now.entries) all → IsParentKnown all parent.now) }
+    ensures exact { OnOk result ((all : List (List ℕ)) → AreFirst names.now.entries all → faults.new.items ≡ faults.old.items ++ parent_faults all parent.now) }
+    ensures known { OnOk result (faults.new.items ≡ [] → (all : List (List ℕ)) → AreFirst names.now.entries all → IsParentKnown all parent.now) }
 {
     match parent {
         None => Ok(OBJECT),
         Some(named) => {
-            let class = class_of(names, named.name.as_slice());
+            let class = class_named(names, named.name.as_slice());
             add_fault(faults, parent_fault(named.name.as_slice(), class), named.at)?;
             Ok(class.unwrap_or(OBJECT))
         }
@@ -134,10 +132,10 @@ fn find_parent(
 fn find_parents(
     alloc: Global,
     definitions: &[ClassDef],
-    names: &Names<'_>,
+    names: &FirstNames,
     faults: &mut Vec<ClassFault>,
 ) -> Result<Vec<ClassId>, AllocError>
-    requires finds { FindsFirst (shown names.now.entries) (names_with_basic definitions.now) }
+    requires finds { AreFirst names.now.entries (names_with_basic definitions.now) }
     ensures parents { IfOk result (λ parents. parents.items ≡ parents_meant (names_with_basic definitions.now) definitions.now) }
     ensures adds { OnOk result (AddsFaults (λ n. AreClassesWithin n definitions.now) faults.old.items faults.new.items) }
     ensures exact { OnOk result (faults.new.items ≡ faults.old.items ++ parents_faults (names_with_basic definitions.now) definitions.now) }
@@ -164,11 +162,11 @@ fn check_number(definitions: &[ClassDef], faults: &mut Vec<ClassFault>) -> Resul
 }
 
 /// Adds C6 where no class is named Main. `Err` comes only for want of memory.
-fn check_main(names: &Names<'_>, faults: &mut Vec<ClassFault>) -> Result<(), AllocError>
-    ensures exact { OnOk result ((all : List (List ℕ)) → FindsFirst (shown names.now.entries) all → faults.new.items ≡ faults.old.items ++ main_faults all) }
+fn check_main(names: &FirstNames, faults: &mut Vec<ClassFault>) -> Result<(), AllocError>
+    ensures exact { OnOk result ((all : List (List ℕ)) → AreFirst names.now.entries all → faults.new.items ≡ faults.old.items ++ main_faults all) }
     ensures adds { OnOk result (AddsFaults (λ n. 0 < n) faults.old.items faults.new.items) }
 {
-    if class_of(names, b"Main").is_none() {
+    if class_named(names, b"Main").is_none() {
         let at = Place {
             file: 0,
             line: 1,
@@ -203,6 +201,7 @@ pub(crate) fn settle_classes(
     definitions: &[ClassDef],
 ) -> Result<Ancestry, TableError>
     requires few { length definitions.now < 2 ^ 32 - 5 }
+    ensures names { IfOk result (λ found. AreFirst found.names.entries (names_with_basic definitions.now)) }
     ensures parents { IfOk result (λ found. found.parents.items ≡ parents_meant (names_with_basic definitions.now) definitions.now) }
     ensures settled { IfOk result (λ found. AreSettled definitions.now found.depths.items) }
     ensures faultless { OnOk result (HasClassPhase definitions.now []) }
@@ -219,6 +218,7 @@ pub(crate) fn settle_classes(
     check_number(definitions, &mut faults)?;
     refuse_faults(faults)?;
     Ok(Ancestry {
+        names,
         parents,
         depths: found.known,
     })

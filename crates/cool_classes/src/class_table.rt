@@ -7,13 +7,14 @@ ghost use Rattle.std.specs.List.{AllByRecursion};
 ghost use Rattle.cool_classes.specs.Features.{implementation, attributes_of, attribute_name, attribute_type, HasAttribute, HasMethod, Denotes, formals_of, result_of};
 ghost use Rattle.cool_classes.specs.LawfulTables.{IsLawful};
 ghost use Rattle.cool_classes.specs.Tables.{IsTable, IsWholeTable, IsNamed};
-ghost use Rattle.cool_classes.specs.Entries.{classes, AreWhole};
+ghost use Rattle.cool_classes.specs.Entries.{classes};
+ghost use Rattle.cool_classes.specs.OwnNames.{IsIndexed};
 
 use crate::class_id::{ClassId, Ty};
 use crate::entry::Entry;
 use crate::first_names::FirstNames;
 use crate::method::{AttributeRef, MethodRef};
-use crate::own_names::{OwnNames, all_own_names, class_names};
+use crate::own_names::OwnNames;
 use crate::{attributes, climbing, lookup, signature};
 use cool_syntax::{Feature, Name};
 use std::alloc::{AllocError, Global};
@@ -50,19 +51,20 @@ impl Model for ClassTable {
 }
 
 impl ClassTable {
-    /// A table of these entries. `Err` comes only for want of memory.
-    pub(crate) fn from_entries(alloc: Global, entries: Vec<Entry>) -> Result<ClassTable, AllocError>
-        requires whole { AreWhole entries.items }
-        requires lawful { IsLawful (classes entries.items) }
-        ensures { IfOk result (λ table. table ≡ classes entries.items) }
+    /// A table of these entries, with the names of the classes and those of the features of each.
+    pub(crate) fn from_entries(
+        entries: Vec<Entry>,
+        names: FirstNames,
+        own: Vec<OwnNames>,
+    ) -> ClassTable
+        requires indexed { IsIndexed entries.items names.entries own.items }
+        ensures { result ≡ classes entries.items }
     {
-        let names = class_names(alloc, &entries)?;
-        let own = all_own_names(alloc, &entries)?;
-        Ok(ClassTable {
+        ClassTable {
             entries,
             names,
             own,
-        })
+        }
     }
 
     /// How many classes there are.

@@ -9,19 +9,18 @@ ghost use Rattle.cool_classes.specs.Entries.{classes};
 ghost use Rattle.cool_classes.specs.FaultLists.{IsOfFeatures};
 ghost use Rattle.cool_classes.specs.Lineages.{IsLineage, AreCounts};
 ghost use Rattle.cool_classes.specs.OwnNames.{IsScope};
-ghost use Rattle.cool_classes.specs.Resolved.{AreResolved, AreGood, ArePlaced};
+ghost use Rattle.cool_classes.specs.Resolved.{AreGood, ArePlaced};
 ghost use Rattle.cool_classes.specs.Features.{implementation};
 ghost use Rattle.cool_classes.specs.Chains.{features_of};
 ghost use Rattle.cool_classes.specs.FeatureFaults.{redefines_otherwise, is_doubled, method_faults, attribute_faults, one_feature_faults, features_faults, lacks_main, class_faults};
 
 use crate::basic::BASIC_CLASSES;
 use crate::class_id::ClassId;
-use crate::entry::Entry;
 use crate::fault::{ClassFault, ClassKind};
 use crate::feature_limits::{Counts, counts_of, is_over_limit};
 use crate::first_names::{first_place, is_first_at};
 use crate::lineage::{Lineage, lineage_of};
-use crate::own_names::{Scope, have_attribute, method_at, nearest_method, scope_of};
+use crate::own_names::{Scope, have_attribute, method_at, nearest_method};
 use crate::signature_faults::{declares_otherwise, note, note_formals, note_type};
 use cool_syntax::{AttributeDef, Feature, MethodDef, Place};
 use std::alloc::{AllocError, Global};
@@ -186,22 +185,21 @@ fn note_class(
 /// that of climbing from each feature to the first class above it that has its name.
 pub(crate) fn feature_faults(
     alloc: Global,
-    entries: &[Entry],
+    scope: &Scope<'_>,
     places: &[Place],
 ) -> Result<Vec<ClassFault>, AllocError>
-    requires resolved { AreResolved entries.now }
-    requires places { length places.now + 5 ≡ length entries.now }
-    ensures exact { IfOk result (λ faults. faults.items ≡ features_from (classes entries.now) 5 places.now) }
+    requires scope { IsScope scope.now }
+    requires places { length places.now + 5 ≡ length scope.now.entries.now }
+    ensures exact { IfOk result (λ faults. faults.items ≡ features_from (classes scope.now.entries.now) 5 places.now) }
     ensures kinds { IfOk result (λ faults. AllByRecursion IsOfFeatures faults.items) }
-    ensures good { IfOk result (λ faults. faults.items ≡ [] → AreGood (classes entries.now)) }
-    ensures places { (n : ℕ) → ArePlaced n entries.now places.now → IfOk result (λ faults. AllByRecursion (λ f. IsPlaced n f.at) faults.items) }
+    ensures good { IfOk result (λ faults. faults.items ≡ [] → AreGood (classes scope.now.entries.now)) }
+    ensures places { (n : ℕ) → ArePlaced n scope.now.entries.now places.now → IfOk result (λ faults. AllByRecursion (λ f. IsPlaced n f.at) faults.items) }
 {
-    let scope = scope_of(alloc, entries)?;
-    let counts = counts_of(alloc, &scope)?;
+    let counts = counts_of(alloc, scope)?;
     let mut faults = Vec::new(alloc);
     for index in 0..places.len() {
-        let lineage = lineage_of(alloc, entries, ClassId(BASIC_CLASSES + index as u32))?;
-        note_class(alloc, &mut faults, &scope, &counts, &lineage, places[index])?;
+        let lineage = lineage_of(alloc, scope.entries, ClassId(BASIC_CLASSES + index as u32))?;
+        note_class(alloc, &mut faults, scope, &counts, &lineage, places[index])?;
     }
     Ok(faults)
 }

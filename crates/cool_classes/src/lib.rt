@@ -22,7 +22,6 @@ mod first_names;
 mod lineage;
 mod lookup;
 mod method;
-mod names;
 mod own_names;
 mod path;
 mod signature;

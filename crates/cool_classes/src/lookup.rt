@@ -1,10 +1,12 @@
 //! Looking up classes and methods by name.
 
-ghost use Rattle.std.specs.Prelude.{◌≡◌, ◌<◌, List, length, IfSome, Some};
+ghost use Rattle.std.specs.Prelude.{◌≡◌, ℕ, ◌<◌, List, length, IfSome, Some};
 ghost use Rattle.cool_classes.specs.declared.class_id.ClassId as number;
 ghost use Rattle.cool_classes.specs.declared.entry.Entry as entry;
 ghost use Rattle.cool_classes.specs.Chains.{IsChain};
 ghost use Rattle.cool_classes.specs.Features.{implementation, HasMethod};
+ghost use Rattle.cool_classes.specs.FirstNames.{AreFirst};
+ghost use Rattle.cool_classes.specs.Names.{first_named};
 ghost use Rattle.cool_classes.specs.Tables.{IsNamed};
 ghost use Rattle.cool_classes.specs.Entries.{classes, AreWhole};
 ghost use Rattle.cool_classes.specs.OwnNames.{AreAllOwn, AreNamed};
@@ -18,7 +20,8 @@ use crate::own_names::{OwnNames, own_method};
 
 /// The class of a name, if there is one.
 pub(crate) fn class_named(names: &FirstNames, name: &[u8]) -> Option<ClassId>
-    ensures { (es : List entry.Entry) → AreNamed names.now.entries es → IsNamed (classes es) name.now result }
+    ensures named { (es : List entry.Entry) → AreNamed names.now.entries es → IsNamed (classes es) name.now result }
+    ensures first { (all : List (List ℕ)) → AreFirst names.now.entries all → result ≡ first_named 0 all name.now }
 {
     let place = first_place(names, name)?;
     Some(ClassId(place))

@@ -74,7 +74,7 @@ fn own_names(alloc: Global, features: &[Feature]) -> Result<OwnNames, AllocError
 }
 
 /// The names of the features of each class. `Err` comes only for want of memory.
-pub(crate) fn all_own_names(alloc: Global, entries: &[Entry]) -> Result<Vec<OwnNames>, AllocError>
+fn all_own_names(alloc: Global, entries: &[Entry]) -> Result<Vec<OwnNames>, AllocError>
     requires few_features { (c : number.ClassId) → c.0 < length (classes entries.now) → length (features_of (classes entries.now) c) < 2 ^ 32 }
     ensures { IfOk result (λ all. AreAllOwn (length entries.now) all.items (classes entries.now)) }
 {
@@ -85,32 +85,20 @@ pub(crate) fn all_own_names(alloc: Global, entries: &[Entry]) -> Result<Vec<OwnN
     Ok(all)
 }
 
-/// The names of classes. `Err` comes only for want of memory.
-pub(crate) fn class_names(alloc: Global, entries: &[Entry]) -> Result<FirstNames, AllocError>
-    requires few { length entries.now < 2 ^ 32 }
-    ensures { IfOk result (λ names. AreNamed names.entries entries.now) }
-{
-    let mut names = FirstNames::new(alloc);
-    for index in 0..entries.len() {
-        add_place(
-            alloc,
-            &mut names,
-            entries[index].name.as_slice(),
-            index as u32,
-        )?;
-    }
-    Ok(names)
-}
-
 /// The names of classes and of their features. `Err` comes only for want of memory.
-pub(crate) fn scope_of<'a>(alloc: Global, entries: &'a [Entry]) -> Result<Scope<'a>, AllocError>
+pub(crate) fn scope_of<'a>(
+    alloc: Global,
+    entries: &'a [Entry],
+    classes: FirstNames,
+) -> Result<Scope<'a>, AllocError>
     requires resolved { AreResolved entries.now }
+    requires named { AreNamed classes.entries entries.now }
     ensures scope { IfOk result (λ scope. IsScope scope) }
     ensures entries { IfOk result (λ scope. scope.entries.now ≡ entries.now) }
 {
     Ok(Scope {
         entries,
-        classes: class_names(alloc, entries)?,
+        classes,
         own: all_own_names(alloc, entries)?,
     })
 }

@@ -1,16 +1,17 @@
 -- The name of a definition comes behind those before it.
-use Rattle.std.proofs.Common.{◌≡◌, ◌≢◌, ◌++◌, ◌<◌, ℕ, List, [], Option, None, false, take, length, get_or, sym, ap, ◌∙◌, ◌∷◌, ◌+◌, is_some, subst, arith}
+use Rattle.std.proofs.Common.{◌≡◌, ◌≢◌, ◌++◌, ◌<◌, ℕ, List, [], Option, Some, None, false, map, take, length, get_or, sym, ap, ◌∙◌, ◌∷◌, ◌+◌, is_some, subst, arith}
 use Rattle.std.specs.Prelude.{IfNone, codes}
 use Rattle.cool_syntax.specs.TreesWithinLimits.{AreClassesWithin}
 use Rattle.cool_classes.specs.declared.fault.ClassFault.{ClassFault}
 use Rattle.cool_classes.specs.declared.fault.ClassKind.{ClassKind}
 use Rattle.cool_classes.specs.ClassFaults.{name_kind}
-use Rattle.cool_classes.specs.Names.{first_named, shown, FindsFirst}
+use Rattle.cool_classes.specs.Names.{first_named}
+use Rattle.cool_classes.specs.FirstNames.{AreFirst}
 use Rattle.cool_classes.specs.Settled.{basic_names, names_in, AddsFaults}
 use Rattle.cool_classes.proofs.AllOfLists.{class_within}
 use Rattle.cool_classes.proofs.FaultsLeft.{names_next}
 use Rattle.cool_classes.proofs.FaultsAdded.{adds_both, adds_one, no_fault}
-use Rattle.cool_classes.proofs.NamesOfDefinitions.{name_there, names_more, number_next, all_names, anew_more}
+use Rattle.cool_classes.proofs.NamesOfDefinitions.{name_there, names_more, number_next, all_names, anew_more, finds_more, known_there}
 use Rattle.cool_classes.proofs.class_phase.find_names.Goals as goal
 
 pub loop-index-preserved : goal.loop-index-preserved
@@ -29,17 +30,17 @@ loop-index-preserved c =
     let before = basic_names ++ take i (names_in ds) in
     let slice = c.as_slice-name.ensures in
     let more = ap (λ (n : List ℕ). before ++ n ∷ []) (sym slice) ∙ names_more ds i name within at_name in
-    let known = c.in_ok-known.ensures.known before c.loop-index.invariant.finds in
+    let known = known_there before name c.is_some-known.result c.first_place.result c.is_some-known.ensures (c.first_place.ensures (map Some before) c.loop-index.invariant.finds) in
     let kind_is = c.name_fault.ensures.exact ∙ ap (name_kind name) known ∙ ap (λ (n : List ℕ). name_kind n (is_some (first_named 0 before n))) slice in
     record {
-      finds = subst (FindsFirst (shown c.add_name.new.names.entries)) (names_more ds i name within at_name) (c.in_ok-known.ensures.finds (basic_names ++ take i (names_in ds)) (number_next ds i within) c.loop-index.invariant.finds);
+      finds = finds_more c.add_place.new.names.entries before (basic_names ++ take (i + 1) (names_in ds)) name (names_more ds i name within at_name) (c.in_ok-add_place.ensures (map Some before) (number_next ds i within) c.loop-index.invariant.finds);
       adds = adds_both (λ (n : ℕ). AreClassesWithin n ds) c.args.faults.now.items faults c.add_fault.new.faults.items c.loop-index.invariant.adds one;
       exact = names_next ds i d before (basic_names ++ take (i + 1) (names_in ds)) faults c.add_fault.new.faults.items kind within c.index-definitions-index.is more kind_is c.in_ok-add_fault.ensures
           ∙ c.loop-index.invariant.exact;
       anew = λ none.
           let no_kind : kind ≡ None = no_fault kind d.at faults (sym c.in_ok-add_fault.ensures ∙ none) in
-          anew_more ds i name c.in_ok-known.known at_name (c.in_ok-known.ensures.known (basic_names ++ take i (names_in ds)) c.loop-index.invariant.finds)
-          (subst (λ (o : Option ClassKind). IfNone o (c.in_ok-known.known ≡ false)) no_kind c.name_fault.ensures.anew)
+          anew_more ds i name c.is_some-known.result at_name known
+          (subst (λ (o : Option ClassKind). IfNone o (c.is_some-known.result ≡ false)) no_kind c.name_fault.ensures.anew)
           (subst (λ (o : Option ClassKind). IfNone o (name ≢ codes "SELF_TYPE")) no_kind c.name_fault.ensures.no_self_type)
           (c.loop-index.invariant.anew (one.kept none));
     }
@@ -48,4 +49,4 @@ pub returns-clause-finds : goal.returns-clause-finds
 returns-clause-finds c =
     let ds = c.args.definitions.now in
     let all : length ds ≡ c.loop-index.index = let t = c.loop-index-test.false in let e = c.loop-index.auto.index-end in omega arith in
-    subst (FindsFirst (shown c.loop-index.names.entries)) (all_names ds c.loop-index.index all) c.loop-index.invariant.finds
+    subst (AreFirst c.loop-index.names.entries) (all_names ds c.loop-index.index all) c.loop-index.invariant.finds

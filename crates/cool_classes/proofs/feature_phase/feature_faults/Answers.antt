@@ -1,9 +1,8 @@
 -- The faults of one more class are there; where there are none, the table is good.
-use Rattle.std.proofs.Common.{◌≡◌, ◌+◌, ◌++◌, ◌<◌, ◌≤◌, List, length, get_or, ap, ◌∙◌, subst, arith}
+use Rattle.std.proofs.Common.{◌≡◌, ◌+◌, ◌++◌, ◌<◌, ◌≤◌, length, get_or, ap, ◌∙◌, subst, arith}
 use Rattle.cool_syntax.specs.declared.place.Place.{Place}
 use Rattle.cool_syntax.specs.TokenFacts.{IsPlaced}
 use Rattle.cool_classes.specs.declared.class_id.ClassId.{ClassId}
-use Rattle.cool_classes.specs.declared.entry.Entry.{Entry}
 use Rattle.cool_classes.specs.Chains.{class_number, parent_of, IsChain}
 use Rattle.cool_classes.specs.Entries.{classes}
 use Rattle.cool_classes.specs.FeatureFaults.{class_faults}
@@ -13,7 +12,7 @@ use Rattle.cool_classes.proofs.feature_phase.feature_faults.Goals as goal
 
 pub loop-index-preserved : goal.loop-index-preserved
 loop-index-preserved c =
-    let es = c.args.entries.now in
+    let es = c.args.scope.now.entries.now in
     let k = c.loop-index.index in
     let faults = c.loop-index.faults.items in
     let above = c.in_ok-lineage.lineage.above.items in
@@ -25,15 +24,14 @@ loop-index-preserved c =
     let within : 5 + k < length es = omega arith in
     let is : c.note_class.new.faults.items ≡ faults ++ class_faults (classes es) (class_number (5 + k)) above at =
     c.in_ok-note_class.ensures
-    ∙ ap (λ (q : List Entry). faults ++ class_faults (classes q) c.in_ok-lineage.lineage.class above at) c.in_ok-scope.ensures.entries
     ∙ ap (λ (x : ClassId). faults ++ class_faults (classes es) x above at) class in
     let chain = subst (λ (x : ClassId). IsChain (classes es) (parent_of (classes es) x) above) class c.in_ok-lineage.ensures.lineage.chain in
     record {
-      are = faults_next es c.args.places.now k faults c.note_class.new.faults.items above at c.requires.resolved within (λ n h. all_at (IsPlaced n) c.args.places.now k none less h) chain c.loop-index.invariant.are is;
+      are = faults_next es c.args.places.now k faults c.note_class.new.faults.items above at c.requires.scope.resolved within (λ n h. all_at (IsPlaced n) c.args.places.now k none less h) chain c.loop-index.invariant.are is;
       exact = features_next (classes es) c.args.places.now k faults c.note_class.new.faults.items above none less chain is ∙ c.loop-index.invariant.exact;
     }
 
 pub returns-clause-good : goal.returns-clause-good
 returns-clause-good c none =
     let past : length c.args.places.now ≤ c.loop-index.index = omega arith in
-    all_good c.args.entries.now (length c.args.places.now) c.requires.resolved c.requires.places (λ k less. c.loop-index.invariant.are.good none k (omega arith))
+    all_good c.args.scope.now.entries.now (length c.args.places.now) c.requires.scope.resolved c.requires.places (λ k less. c.loop-index.invariant.are.good none k (omega arith))
