@@ -6,7 +6,7 @@ use Rattle.std.proofs.lemmas.Bool.{cases_order}
 use Rattle.std.proofs.lemmas.Slice.Eq.{bytes_eq-Decides}
 use Rattle.cool_syntax.specs.declared.file_tree.ClassDef.{ClassDef}
 use Rattle.cool_classes.specs.Chains.{class_number}
-use Rattle.cool_classes.specs.Names.{first_named}
+use Rattle.cool_classes.specs.Names.{first_named, self_type}
 use Rattle.cool_classes.specs.Settled.{names_with_basic, AreNamedAnew}
 use Rattle.cool_classes.proofs.NamesOfDefinitions.{names_long}
 
@@ -52,10 +52,10 @@ byte_apart : (xs ys : List ℕ) (k : ℕ) → get_or xs k 0 ≢ get_or ys k 0 �
 byte_apart xs ys k apart e = apart (ap (λ (zs : List ℕ). get_or zs k 0) e)
 
 -- no class is named SELF_TYPE
-pub no_self_types : (ds : List ClassDef) → AreNamedAnew ds (length ds) → (k : ℕ) → k < length ds + 5 → get_or (names_with_basic ds) k [] ≢ codes "SELF_TYPE"
-no_self_types ds named zero within = byte_apart (codes "Object") (codes "SELF_TYPE") 0 (λ e. omega arith)
-no_self_types ds named (suc zero) within = byte_apart (codes "IO") (codes "SELF_TYPE") 0 (λ e. omega arith)
-no_self_types ds named (suc (suc zero)) within = byte_apart (codes "Int") (codes "SELF_TYPE") 0 (λ e. omega arith)
-no_self_types ds named (suc (suc (suc zero))) within = byte_apart (codes "Bool") (codes "SELF_TYPE") 0 (λ e. omega arith)
-no_self_types ds named (suc (suc (suc (suc zero)))) within = byte_apart (codes "String") (codes "SELF_TYPE") 1 (λ e. omega arith)
+pub no_self_types : (ds : List ClassDef) → AreNamedAnew ds (length ds) → (k : ℕ) → k < length ds + 5 → get_or (names_with_basic ds) k [] ≢ self_type
+no_self_types ds named zero within = byte_apart (codes "Object") self_type 0 (λ e. omega arith)
+no_self_types ds named (suc zero) within = byte_apart (codes "IO") self_type 0 (λ e. omega arith)
+no_self_types ds named (suc (suc zero)) within = byte_apart (codes "Int") self_type 0 (λ e. omega arith)
+no_self_types ds named (suc (suc (suc zero))) within = byte_apart (codes "Bool") self_type 0 (λ e. omega arith)
+no_self_types ds named (suc (suc (suc (suc zero)))) within = byte_apart (codes "String") self_type 1 (λ e. omega arith)
 no_self_types ds named (suc (suc (suc (suc (suc k))))) within = (named k (omega arith)).no_self_type

@@ -18,6 +18,7 @@ use Rattle.cool_classes.specs.FaultLists.{rank, IsOfFeatures}
 use Rattle.cool_classes.specs.Features.{first_method, implementation}
 use Rattle.cool_classes.specs.FirstNames.{first_place, is_place}
 use Rattle.cool_classes.specs.FeatureFaults.{noted, is_class, is_doubled, redefines_otherwise, lacks_main, is_over_limit, type_faults, formal_faults, formals_faults, one_feature_faults, features_faults, class_faults}
+use Rattle.cool_classes.specs.Names.{self_type}
 
 -- what holds of two lists holds of both as one
 pub all_both : {X : Type 0} (P : X → Type 0) (xs ys : List X) → AllByRecursion P xs → AllByRecursion P ys → AllByRecursion P (xs ++ ys)
@@ -46,16 +47,16 @@ and_noted : (Q : Place → Type 0) (P : ClassFault → Type 0) → Makes Q P →
 and_noted Q P make b kind r at q rest h = all_both P (noted b kind at) rest (noted_good Q P make b kind r at q) h
 
 type_good : (Q : Place → Type 0) (P : ClassFault → Type 0) → Makes Q P → (p : List Class) (r : TypeRef) → Q r.at → AllByRecursion P (type_faults p r)
-type_good Q P make p r q = noted_good Q P make (not (bytes_eq r.name (codes "SELF_TYPE") || is_class p r.name)) F6 (omega arith) r.at q
+type_good Q P make p r q = noted_good Q P make (not (bytes_eq r.name self_type || is_class p r.name)) F6 (omega arith) r.at q
 
 formal_good : (Q : Place → Type 0) (P : ClassFault → Type 0) → Makes Q P → (p : List Class) (before : List (Option (List ℕ))) (f : Formal) → IsGoodFormal Q f → AllByRecursion P (formal_faults p before f)
 formal_good Q P make p before f q =
     let self = bytes_eq f.name (codes "self") in
     let double = is_some (first_place 0 before f.name) in
-    let self_type = bytes_eq f.declared.name (codes "SELF_TYPE") in
-    let last = and_noted Q P make self_type F5 (omega arith) f.declared.at q.1 (type_faults p f.declared) (type_good Q P make p f.declared q.1) in
-    let two = and_noted Q P make double F4 (omega arith) f.at q.0 (noted self_type F5 f.declared.at ++ type_faults p f.declared) last in
-    and_noted Q P make self F3 (omega arith) f.at q.0 (noted double F4 f.at ++ (noted self_type F5 f.declared.at ++ type_faults p f.declared)) two
+    let self_typed = bytes_eq f.declared.name self_type in
+    let last = and_noted Q P make self_typed F5 (omega arith) f.declared.at q.1 (type_faults p f.declared) (type_good Q P make p f.declared q.1) in
+    let two = and_noted Q P make double F4 (omega arith) f.at q.0 (noted self_typed F5 f.declared.at ++ type_faults p f.declared) last in
+    and_noted Q P make self F3 (omega arith) f.at q.0 (noted double F4 f.at ++ (noted self_typed F5 f.declared.at ++ type_faults p f.declared)) two
 
 formals_good : (Q : Place → Type 0) (P : ClassFault → Type 0) → Makes Q P → (p : List Class) (before : List (Option (List ℕ))) (fs : List Formal) → AllByRecursion (IsGoodFormal Q) fs
     → AllByRecursion P (formals_faults p before fs)

@@ -1,6 +1,6 @@
 -- Features with no fault: their types are types.
 use Rattle.std.proofs.Common.{◌≡◌, ℕ, suc, ◌+◌, ◌<◌, List, [], ◌∷◌, ◌++◌, length, map, get_or, Option, Some, is_some, Bool, true, false, ◌||◌, cond, sym, refl, arith, true≢false}
-use Rattle.std.specs.Prelude.{bytes_eq, codes}
+use Rattle.std.specs.Prelude.{bytes_eq}
 use Rattle.std.specs.List.{AllByRecursion}
 use Rattle.std.proofs.lemmas.Bool.{not-false}
 use Rattle.std.proofs.lemmas.Slice.Eq.{bytes_eq-Decides}
@@ -17,6 +17,7 @@ use Rattle.cool_classes.specs.Definitions.{HasFewFormals}
 use Rattle.cool_classes.specs.FirstNames.{first_place}
 use Rattle.cool_classes.specs.Tables.{IsClassName, IsTypeName, IsTyped}
 use Rattle.cool_classes.specs.FeatureFaults.{noted, is_class, type_faults, formal_faults, formals_faults, one_feature_faults, features_faults, class_faults, is_over_limit}
+use Rattle.cool_classes.specs.Names.{self_type}
 
 -- two lists that are none as one are none
 pub none_both : {X : Type 0} (xs ys : List X) → xs ++ ys ≡ [] → (xs ≡ []) × (ys ≡ [])
@@ -45,13 +46,13 @@ class_found k (c ∷ p) f h = by (bytes_eq f c.name) refl h (class_found (k + 1)
 class_known : (p : List Class) (name : List ℕ) → is_class p name ≡ true → IsClassName p name
 class_known p name h = let w = class_found 0 p name h in (class_number w.0, w.1, w.2)
 
-known_by : (p : List Class) (name : List ℕ) (b : Bool) → bytes_eq name (codes "SELF_TYPE") ≡ b → (b || is_class p name) ≡ true → IsTypeName p name
-known_by p name true e h = (SelfType, (bytes_eq-Decides name (codes "SELF_TYPE")).0 e)
+known_by : (p : List Class) (name : List ℕ) (b : Bool) → bytes_eq name self_type ≡ b → (b || is_class p name) ≡ true → IsTypeName p name
+known_by p name true e h = (SelfType, (bytes_eq-Decides name self_type).0 e)
 known_by p name false e h = let w = class_known p name h in (IsClass w.0, (w.1, w.2))
 
 -- a type with no fault is a type
 type_known : (p : List Class) (r : TypeRef) → type_faults p r ≡ [] → IsTypeName p r.name
-type_known p r h = known_by p r.name (bytes_eq r.name (codes "SELF_TYPE")) refl (not-false _ (not_noted _ _ r.at h))
+type_known p r h = known_by p r.name (bytes_eq r.name self_type) refl (not-false _ (not_noted _ _ r.at h))
 
 formal_by : (p : List Class) (name : List ℕ) (b : Bool) → b ≡ false → (b || is_class p name) ≡ true → IsClassName p name
 formal_by p name true e h = absurd (true≢false e)
@@ -62,7 +63,7 @@ formal_known : (p : List Class) (before : List (Option (List ℕ))) (f : Formal)
 formal_known p before f h =
     let others = (none_both _ _ (none_both _ _ h).1).1 in
     let last = none_both _ _ others in
-    formal_by p f.declared.name (bytes_eq f.declared.name (codes "SELF_TYPE")) (not_noted _ _ f.declared.at last.0) (not-false _ (not_noted _ _ f.declared.at last.1))
+    formal_by p f.declared.name (bytes_eq f.declared.name self_type) (not_noted _ _ f.declared.at last.0) (not-false _ (not_noted _ _ f.declared.at last.1))
 
 formals_known : (p : List Class) (before : List (Option (List ℕ))) (fs : List Formal) → formals_faults p before fs ≡ [] → AllByRecursion (λ (f : Formal). IsClassName p f.declared.name) fs
 formals_known p before [] h = tt

@@ -25,6 +25,7 @@ use Rattle.cool_classes.specs.FeatureFaults.{noted, is_class, type_faults, forma
 use Rattle.cool_classes.specs.FeatureRows.{IsMethodAt, IsAttributeAt, IsFormalAt, IsNoType, HasOtherSignature, IsFeatureFault, AreRows}
 use Rattle.cool_classes.specs.FeatureRows as rows
 use Rattle.cool_classes.specs.MethodNames.{methods_of}
+use Rattle.cool_classes.specs.Names.{self_type}
 use Rattle.cool_classes.proofs.FaultPlaces.{all_both}
 use Rattle.cool_classes.proofs.FaultsLeft.{nothing_behind}
 use Rattle.cool_classes.proofs.FirstPlaces.{behind_get, seam_get, take_get, get_within, has_left, has_right, place_found, place_sound, method_row, row_method, attribute_row, row_attribute, formal_row_get, row_formal, class_row, row_class}
@@ -107,17 +108,17 @@ class_known p name e =
     let w = place_sound 0 (map (λ (x : Class). Some x.name) p) name m.0 m.1 in
     let r = class_row p w.0 name w.2 in (class_number w.0, r.0, r.1)
 
-no_type : (p : List Class) (name : List ℕ) → not (bytes_eq name (codes "SELF_TYPE") || is_class p name) ≡ true → IsNoType p name
+no_type : (p : List Class) (name : List ℕ) → not (bytes_eq name self_type || is_class p name) ≡ true → IsNoType p name
 no_type p name e =
-    let both = both_false (bytes_eq name (codes "SELF_TYPE")) (is_class p name) (not_true (bytes_eq name (codes "SELF_TYPE") || is_class p name) e) in
-    (bytes_other name (codes "SELF_TYPE") both.0, λ c within is. true≢false (sym (known_class p name c within is) ∙ both.1))
+    let both = both_false (bytes_eq name self_type) (is_class p name) (not_true (bytes_eq name self_type || is_class p name) e) in
+    (bytes_other name self_type both.0, λ c within is. true≢false (sym (known_class p name c within is) ∙ both.1))
 
-type_no : (p : List Class) (name : List ℕ) → IsNoType p name → not (bytes_eq name (codes "SELF_TYPE") || is_class p name) ≡ true
+type_no : (p : List Class) (name : List ℕ) → IsNoType p name → not (bytes_eq name self_type || is_class p name) ≡ true
 type_no p name h =
-    true_not (bytes_eq name (codes "SELF_TYPE") || is_class p name)
-    (false_from (bytes_eq name (codes "SELF_TYPE") || is_class p name) (λ e.
-    elim (or_cases (bytes_eq name (codes "SELF_TYPE")) (is_class p name) e) [
-      | inl self ↦ h.0 ((bytes_eq-Decides name (codes "SELF_TYPE")).0 self)
+    true_not (bytes_eq name self_type || is_class p name)
+    (false_from (bytes_eq name self_type || is_class p name) (λ e.
+    elim (or_cases (bytes_eq name self_type) (is_class p name) e) [
+      | inl self ↦ h.0 ((bytes_eq-Decides name self_type).0 self)
       | inr known ↦ let c = class_known p name known in h.1 c.0 c.1 c.2
     ]))
 
@@ -192,23 +193,23 @@ place_earlier row k j f less there =
 -- the faults of one formal, behind others of its method
 
 formal_only : (p : List Class) (P : ClassFault → Type 0) (before : List (Option (List ℕ))) (f : Formal) → (f.name ≡ codes "self" → P (fault F3 f.at))
-    → (is_some (first_place 0 before f.name) ≡ true → P (fault F4 f.at)) → (f.declared.name ≡ codes "SELF_TYPE" → P (fault F5 f.declared.at)) → (IsNoType p f.declared.name → P (fault F6 f.declared.at))
+    → (is_some (first_place 0 before f.name) ≡ true → P (fault F4 f.at)) → (f.declared.name ≡ self_type → P (fault F5 f.declared.at)) → (IsNoType p f.declared.name → P (fault F6 f.declared.at))
     → AllByRecursion P (formal_faults p before f)
 formal_only p P before f three four five six =
     let a = noted (bytes_eq f.name (codes "self")) F3 f.at in
     let b = noted (is_some (first_place 0 before f.name)) F4 f.at in
-    let c = noted (bytes_eq f.declared.name (codes "SELF_TYPE")) F5 f.declared.at in
+    let c = noted (bytes_eq f.declared.name self_type) F5 f.declared.at in
     let d = type_faults p f.declared in
     all_both P a (b ++ (c ++ d)) (noted_only P (bytes_eq f.name (codes "self")) F3 f.at (λ e. three ((bytes_eq-Decides f.name (codes "self")).0 e)))
     (all_both P b (c ++ d) (noted_only P (is_some (first_place 0 before f.name)) F4 f.at four)
-    (all_both P c d (noted_only P (bytes_eq f.declared.name (codes "SELF_TYPE")) F5 f.declared.at (λ e. five ((bytes_eq-Decides f.declared.name (codes "SELF_TYPE")).0 e)))
-    (noted_only P (not (bytes_eq f.declared.name (codes "SELF_TYPE") || is_class p f.declared.name)) F6 f.declared.at (λ e. six (no_type p f.declared.name e)))))
+    (all_both P c d (noted_only P (bytes_eq f.declared.name self_type) F5 f.declared.at (λ e. five ((bytes_eq-Decides f.declared.name self_type).0 e)))
+    (noted_only P (not (bytes_eq f.declared.name self_type || is_class p f.declared.name)) F6 f.declared.at (λ e. six (no_type p f.declared.name e)))))
 
 -- what a property of each formal's faults makes of all
 formals_only : (p : List Class) (P : ClassFault → Type 0) (m : MethodDef) (done fs : List Formal) → done ++ fs ≡ m.formals
     → ((j : ℕ) (f : Formal) → IsFormalAt m j f → f.name ≡ codes "self" → P (fault F3 f.at))
     → ((j k : ℕ) (f g : Formal) → IsFormalAt m j f → k < j → IsFormalAt m k g → g.name ≡ f.name → P (fault F4 f.at))
-    → ((j : ℕ) (f : Formal) → IsFormalAt m j f → f.declared.name ≡ codes "SELF_TYPE" → P (fault F5 f.declared.at))
+    → ((j : ℕ) (f : Formal) → IsFormalAt m j f → f.declared.name ≡ self_type → P (fault F5 f.declared.at))
     → ((j : ℕ) (f : Formal) → IsFormalAt m j f → IsNoType p f.declared.name → P (fault F6 f.declared.at))
     → AllByRecursion P (formals_faults p (formal_row done) fs)
 formals_only p P m done [] whole three four five six = tt
@@ -261,7 +262,7 @@ method_only p c ds here k m at =
     (all_both P formals result
     (formals_only p P m [] m.formals refl (λ j f is e. rows.formal_self k j m f at is e) (λ j i f g is less also e. rows.formal_twice k j i m f g at is less also e)
     (λ j f is e. rows.formal_self_type k j m f at is e) (λ j f is e. rows.formal_unknown k j m f at is e))
-    (noted_only P (not (bytes_eq m.result.name (codes "SELF_TYPE") || is_class p m.result.name)) F6 m.result.at (λ e. rows.result_unknown k m at (no_type p m.result.name e)))))
+    (noted_only P (not (bytes_eq m.result.name self_type || is_class p m.result.name)) F6 m.result.at (λ e. rows.result_unknown k m at (no_type p m.result.name e)))))
   where
     other : (o : Option MethodRef) → implementation p ds m.name ≡ o → redefines_otherwise p m o ≡ true → IsFeatureFault p c ds here F7 m.at
     other None is e = absurd (cc)
@@ -285,7 +286,7 @@ attribute_only p c ds here k a at =
           rows.attribute_twice k w.0 a b.0 at w.1 b.1 b.2
       | inr above ↦ let w = attribute_above p ds a.name above in rows.attribute_inherited k w.2.0 a w.2.1 w.0 at w.1 w.2.2 w.2.3
     ]))
-    (noted_only P (not (bytes_eq a.declared.name (codes "SELF_TYPE") || is_class p a.declared.name)) F6 a.declared.at (λ e. rows.attribute_unknown k a at (no_type p a.declared.name e))))
+    (noted_only P (not (bytes_eq a.declared.name self_type || is_class p a.declared.name)) F6 a.declared.at (λ e. rows.attribute_unknown k a at (no_type p a.declared.name e))))
 
 features_only : (p : List Class) (c : ClassId) (ds : List ClassId) (here : Place) (k : ℕ) (fs : List Feature) → ((i : ℕ) (x : Feature) → slice_get fs i ≡ Some x → slice_get (features_of p c) (k + i) ≡ Some x)
     → AllByRecursion (λ (f : ClassFault). IsFeatureFault p c ds here f.kind f.at) (features_faults p c ds k fs)
@@ -421,25 +422,25 @@ row_there p c ds here kind at (rows.formal_twice i j k m f g is also less earlie
     (has_right (noted (bytes_eq f.name (codes "self")) F3 f.at) _ (fault F4 f.at) (has_left (noted double F4 f.at) _ (fault F4 f.at) (noted_in double F4 f.at (ap (λ (o : Option ℕ). is_some o) w.1))))
 row_there p c ds here kind at (rows.formal_self_type i j m f is also same) =
     let row = formal_row (take j m.formals) in
-    let self = bytes_eq f.declared.name (codes "SELF_TYPE") in
+    let self = bytes_eq f.declared.name self_type in
     method_formal_has p c ds here i j m f (fault F5 f.declared.at) is also
     (has_right (noted (bytes_eq f.name (codes "self")) F3 f.at) _ (fault F5 f.declared.at) (has_right (noted (is_some (first_place 0 row f.name)) F4 f.at) _ (fault F5 f.declared.at)
-    (has_left (noted self F5 f.declared.at) _ (fault F5 f.declared.at) (noted_in self F5 f.declared.at ((bytes_eq-Decides f.declared.name (codes "SELF_TYPE")).1 same)))))
+    (has_left (noted self F5 f.declared.at) _ (fault F5 f.declared.at) (noted_in self F5 f.declared.at ((bytes_eq-Decides f.declared.name self_type).1 same)))))
 row_there p c ds here kind at (rows.formal_unknown i j m f is also none) =
     let row = formal_row (take j m.formals) in
-    let unknown = not (bytes_eq f.declared.name (codes "SELF_TYPE") || is_class p f.declared.name) in
+    let unknown = not (bytes_eq f.declared.name self_type || is_class p f.declared.name) in
     method_formal_has p c ds here i j m f (fault F6 f.declared.at) is also
     (has_right (noted (bytes_eq f.name (codes "self")) F3 f.at) _ (fault F6 f.declared.at) (has_right (noted (is_some (first_place 0 row f.name)) F4 f.at) _ (fault F6 f.declared.at)
-    (has_right (noted (bytes_eq f.declared.name (codes "SELF_TYPE")) F5 f.declared.at) _ (fault F6 f.declared.at) (noted_in unknown F6 f.declared.at (type_no p f.declared.name none)))))
+    (has_right (noted (bytes_eq f.declared.name self_type) F5 f.declared.at) _ (fault F6 f.declared.at) (noted_in unknown F6 f.declared.at (type_no p f.declared.name none)))))
 row_there p c ds here kind at (rows.result_unknown i m is none) =
     let twice = noted (not (is_place i (first_method 0 (features_of p c) m.name))) F1 m.at in
     let otherwise = noted (redefines_otherwise p m (implementation p ds m.name)) F7 m.at in
-    let unknown = not (bytes_eq m.result.name (codes "SELF_TYPE") || is_class p m.result.name) in
+    let unknown = not (bytes_eq m.result.name self_type || is_class p m.result.name) in
     own_have p c ds here i (Method m) (fault F6 m.result.at) is
     (has_right twice _ (fault F6 m.result.at) (has_right otherwise _ (fault F6 m.result.at) (has_right (formals_faults p [] m.formals) _ (fault F6 m.result.at)
     (noted_in unknown F6 m.result.at (type_no p m.result.name none)))))
 row_there p c ds here kind at (rows.attribute_unknown i a is none) =
-    let unknown = not (bytes_eq a.declared.name (codes "SELF_TYPE") || is_class p a.declared.name) in
+    let unknown = not (bytes_eq a.declared.name self_type || is_class p a.declared.name) in
     own_have p c ds here i (Attribute a) (fault F6 a.declared.at) is
     (has_right (noted (bytes_eq a.name (codes "self")) F3 a.at) _ (fault F6 a.declared.at) (has_right (noted (is_doubled p c ds i a.name) F2 a.at) _ (fault F6 a.declared.at)
     (noted_in unknown F6 a.declared.at (type_no p a.declared.name none))))

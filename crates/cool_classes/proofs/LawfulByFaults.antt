@@ -21,7 +21,7 @@ use Rattle.cool_classes.specs.ClimbedChains.{above}
 use Rattle.cool_classes.specs.FeatureFaults.{noted, same_types, declared_types, declares_otherwise, redefines_otherwise, one_feature_faults, features_faults, has_formals, lacks_main_at, lacks_main, class_faults}
 use Rattle.cool_classes.specs.Features.{own_method, user_method, first_method, first_of, implementation, method_among, basic_methods, object_methods, io_methods, string_methods, formals_of, result_of, formals_in, result_in}
 use Rattle.cool_classes.specs.LawfulTables.{HasMain, MayInherit, SameSignature, IsLawful}
-use Rattle.cool_classes.specs.Names.{first_named}
+use Rattle.cool_classes.specs.Names.{first_named, self_type}
 use Rattle.cool_classes.specs.Settled.{basic_names, names_in, names_with_basic, parent_meant, or_object}
 use Rattle.cool_classes.specs.Tables.{IsWholeTable}
 use Rattle.cool_classes.proofs.ChainsOfTables.{above_of}
@@ -74,7 +74,7 @@ class_may (Some c) e = by (is_barred c) refl e
 
 parent_may : (names : List (List ℕ)) (r : Option TypeRef) → parent_faults names r ≡ [] → MayInherit (parent_meant names r)
 parent_may names None h = object_may
-parent_may names (Some r) h = by (bytes_eq r.name (codes "SELF_TYPE")) (no_kind (parent_kind r.name (first_named 0 names r.name)) r.at h)
+parent_may names (Some r) h = by (bytes_eq r.name self_type) (no_kind (parent_kind r.name (first_named 0 names r.name)) r.at h)
   where
     by : (b : Bool) → (if b then Some C2 else class_kind (first_named 0 names r.name)) ≡ None → MayInherit (or_object (first_named 0 names r.name))
     by true e = absurd (cc)

@@ -1,6 +1,6 @@
 -- Names of definitions, one after another.
 use Rattle.std.proofs.Common.{◌≡◌, ◌≢◌, ℕ, ◌+◌, ◌<◌, List, [], ◌∷◌, ◌++◌, length, map, take, get_or, Option, Some, None, is_some, Bool, false, sym, ap, ◌∙◌, refl, subst, arith, below_more, true≢false}
-use Rattle.std.specs.Prelude.{codes, option_map}
+use Rattle.std.specs.Prelude.{option_map}
 use Rattle.std.specs.Global.{Vec}
 use Rattle.std.proofs.lemmas.List.{length-append, length-take-le, length-map, map-append, get_or-map, take_more}
 use Rattle.std.proofs.Math.Seq.{take-length}
@@ -8,7 +8,7 @@ use Rattle.cool_syntax.specs.declared.file_tree.ClassDef.{ClassDef}
 use Rattle.cool_classes.specs.declared.class_id.ClassId.{ClassId}
 use Rattle.cool_classes.specs.Chains.{class_number}
 use Rattle.cool_classes.specs.FirstNames.{first_place, places_shown, FindsPlaces, AreFirst}
-use Rattle.cool_classes.specs.Names.{first_named}
+use Rattle.cool_classes.specs.Names.{first_named, self_type}
 use Rattle.cool_classes.specs.Settled.{basic_names, names_in, names_with_basic, IsNamedAnew, AreNamedAnew}
 use Rattle.cool_classes.proofs.NamePlaces.{class_at_place}
 
@@ -61,7 +61,7 @@ none_named (Some c) known is no_class = absurd (true≢false (sym is ∙ no_clas
 
 -- one definition more has a name of its own
 pub anew_more : (ds : List ClassDef) (k : ℕ) (name : List ℕ) (known : Bool) → get_or (names_in ds) k [] ≡ name → known ≡ is_some (first_named 0 (basic_names ++ take k (names_in ds)) name)
-    → known ≡ false → name ≢ codes "SELF_TYPE" → AreNamedAnew ds k → AreNamedAnew ds (k + 1)
+    → known ≡ false → name ≢ self_type → AreNamedAnew ds k → AreNamedAnew ds (k + 1)
 anew_more ds k name known is found no_class no_self_type before =
     below_more (IsNamedAnew ds) k before (record {
       anew = ap (first_named 0 (basic_names ++ take k (names_in ds))) is ∙ none_named (first_named 0 (basic_names ++ take k (names_in ds)) name) known found no_class;

@@ -1,6 +1,6 @@
 -- Definitions whose classes have no fault make the classes of a table, all but the types of features.
 use Rattle.std.proofs.Common.{◌≡◌, ◌≢◌, ℕ, zero, suc, ◌+◌, ◌<◌, ◌≤◌, ◌^◌, List, [], ◌∷◌, ◌++◌, length, take, map, get_or, Option, Some, None, Bool, true, false, cond, sym, ap, ◌∙◌, refl, subst, arith, true≢false}
-use Rattle.std.specs.Prelude.{codes, bytes_eq, IsSome}
+use Rattle.std.specs.Prelude.{bytes_eq, IsSome}
 use Rattle.std.specs.List.{AllByRecursion}
 use Rattle.std.proofs.lemmas.List.{length-map}
 use Rattle.std.proofs.Math.ListN.{get_or-map as get_or-map_same}
@@ -16,7 +16,7 @@ use Rattle.cool_classes.specs.Chains.{Class, class_number, class_at, name_of, pa
 use Rattle.cool_classes.specs.Definitions.{AreFew, HasFewFeatures, HasFewFormals, InheritsAs, AreDefinedBy, IsTableOf}
 use Rattle.cool_classes.specs.Tables.{basic_classes, IsGrounded}
 use Rattle.cool_classes.specs.Entries.{class_of, classes, no_entry, depth_at, AreWhole}
-use Rattle.cool_classes.specs.Names.{first_named}
+use Rattle.cool_classes.specs.Names.{first_named, self_type}
 use Rattle.cool_classes.specs.Depths.{parents_with_basic, HasDepth, AreDepths}
 use Rattle.cool_classes.specs.Resolved.{AreResolved, AreGood, ArePlaced}
 use Rattle.cool_classes.specs.Settled.{basic_names, names_in, names_with_basic, parent_meant, parents_meant, entries_meant, entries_of, or_zero, or_object, IsParentKnown, AreSettled}
@@ -143,7 +143,7 @@ resolved_by ds os few settled =
       grounded = subst (λ (p : List Class). IsGrounded p (depth_at (entries_of ds os))) seen (grounded_meant ds os settled);
       names = subst (λ (p : List Class). (c d : ClassId) → c.0 < length p → d.0 < length p → name_of p c ≡ name_of p d → c ≡ d) seen (names_meant ds os settled);
       no_self_type =
-          subst (λ (p : List Class). (c : ClassId) → c.0 < length p → name_of p c ≢ codes "SELF_TYPE") seen
+          subst (λ (p : List Class). (c : ClassId) → c.0 < length p → name_of p c ≢ self_type) seen
           (λ c within e. no_self_types ds settled.names c.0 (omega arith) (sym (name_seen ds c) ∙ e));
       few = subst (λ (p : List Class). length p ≤ 5 + MOST_CLASSES) seen (let most = settled.few in omega arith);
       few_features =

@@ -27,7 +27,7 @@ use Rattle.cool_classes.specs.Cycles.{IsOnCycle}
 use Rattle.cool_classes.specs.Depths.{parents_with_basic}
 use Rattle.cool_classes.specs.FeatureFaults.{class_faults}
 use Rattle.cool_classes.specs.FeatureRows.{IsFeatureFault, AreRows}
-use Rattle.cool_classes.specs.Names.{first_named}
+use Rattle.cool_classes.specs.Names.{first_named, self_type}
 use Rattle.cool_classes.specs.Settled.{basic_names, names_in, names_with_basic, parents_meant}
 use Rattle.cool_classes.proofs.AllOfLists.{all_permuted}
 use Rattle.cool_classes.proofs.CyclesCaught.{one_of}
@@ -119,13 +119,13 @@ none_is None e = refl
 none_is (Some x) e = absurd (true≢false e)
 
 -- the faults of the names of definitions
-name_cases : (name : List ℕ) (known : Bool) (kind : ClassKind) → name_kind name known ≡ Some kind → ((kind ≡ C2) × (name ≡ codes "SELF_TYPE")) ⊎ ((kind ≡ C1) × (name ≢ codes "SELF_TYPE") × (known ≡ true))
-name_cases name known kind e = by (bytes_eq name (codes "SELF_TYPE")) refl known refl e
+name_cases : (name : List ℕ) (known : Bool) (kind : ClassKind) → name_kind name known ≡ Some kind → ((kind ≡ C2) × (name ≡ self_type)) ⊎ ((kind ≡ C1) × (name ≢ self_type) × (known ≡ true))
+name_cases name known kind e = by (bytes_eq name self_type) refl known refl e
   where
-    by : (b : Bool) → bytes_eq name (codes "SELF_TYPE") ≡ b → (k : Bool) → known ≡ k → (if b then Some C2 else (if k then Some C1 else None)) ≡ Some kind
-        → ((kind ≡ C2) × (name ≡ codes "SELF_TYPE")) ⊎ ((kind ≡ C1) × (name ≢ codes "SELF_TYPE") × (known ≡ true))
-    by true s k t h = inl (sym (same_Some C2 kind h), (bytes_eq-Decides name (codes "SELF_TYPE")).0 s)
-    by false s true t h = inr (sym (same_Some C1 kind h), bytes_other name (codes "SELF_TYPE") s, t)
+    by : (b : Bool) → bytes_eq name self_type ≡ b → (k : Bool) → known ≡ k → (if b then Some C2 else (if k then Some C1 else None)) ≡ Some kind
+        → ((kind ≡ C2) × (name ≡ self_type)) ⊎ ((kind ≡ C1) × (name ≢ self_type) × (known ≡ true))
+    by true s k t h = inl (sym (same_Some C2 kind h), (bytes_eq-Decides name self_type).0 s)
+    by false s true t h = inr (sym (same_Some C1 kind h), bytes_other name self_type s, t)
     by false s false t h = absurd (none-some kind h)
 
 names_only : (all done ds : List ClassDef) → done ++ ds ≡ all → AllByRecursion (λ (f : ClassFault). IsClassFault all f.kind f.at) (names_faults (basic_names ++ names_in done) ds)
@@ -188,16 +188,16 @@ barred_name ds name c found barred =
 
 parent_cases : (ds : List ClassDef) (k : ℕ) (r : TypeRef) (kind : ClassKind) → HasParent ds k r → (o : Option ClassId) → first_named 0 (names_with_basic ds) r.name ≡ o → parent_kind r.name o ≡ Some kind
     → IsClassFault ds kind r.at
-parent_cases ds k r kind has o found e = by (bytes_eq r.name (codes "SELF_TYPE")) refl o found e
+parent_cases ds k r kind has o found e = by (bytes_eq r.name self_type) refl o found e
   where
     barred : (c : ClassId) → first_named 0 (names_with_basic ds) r.name ≡ Some c → (b : Bool) → is_barred c ≡ b → (if b then Some C4 else None) ≡ Some kind → IsClassFault ds kind r.at
     barred c f true t h = subst (λ (x : ClassKind). IsClassFault ds x r.at) (same_Some C4 kind h) (rows.barred_parent k r has (barred_name ds r.name c f t))
     barred c f false t h = absurd (none-some kind h)
 
-    by : (b : Bool) → bytes_eq r.name (codes "SELF_TYPE") ≡ b → (o : Option ClassId) → first_named 0 (names_with_basic ds) r.name ≡ o → (if b then Some C2 else class_kind o) ≡ Some kind → IsClassFault ds kind r.at
-    by true s o f h = subst (λ (x : ClassKind). IsClassFault ds x r.at) (same_Some C2 kind h) (rows.parent_self_type k r has ((bytes_eq-Decides r.name (codes "SELF_TYPE")).0 s))
+    by : (b : Bool) → bytes_eq r.name self_type ≡ b → (o : Option ClassId) → first_named 0 (names_with_basic ds) r.name ≡ o → (if b then Some C2 else class_kind o) ≡ Some kind → IsClassFault ds kind r.at
+    by true s o f h = subst (λ (x : ClassKind). IsClassFault ds x r.at) (same_Some C2 kind h) (rows.parent_self_type k r has ((bytes_eq-Decides r.name self_type).0 s))
     by false s None f h = subst (λ (x : ClassKind). IsClassFault ds x r.at) (same_Some C3 kind h)
-        (rows.no_parent k r has (bytes_other r.name (codes "SELF_TYPE") s) (λ there. true≢false (sym (named_found 0 (names_with_basic ds) r.name there) ∙ ap (λ (x : Option ClassId). is_some x) f)))
+        (rows.no_parent k r has (bytes_other r.name self_type s) (λ there. true≢false (sym (named_found 0 (names_with_basic ds) r.name there) ∙ ap (λ (x : Option ClassId). is_some x) f)))
     by false s (Some c) f h = barred c f (is_barred c) refl h
 
 parents_only : (all ds : List ClassDef) (n : ℕ) → ((i : ℕ) (d : ClassDef) → slice_get ds i ≡ Some d → slice_get all (n + i) ≡ Some d)
@@ -318,27 +318,27 @@ phase_there ds cyclic on kind at (rows.twice k d is other there) =
     (names_have basic_names ds k d (fault C1 d.at) is
     (kind_in (name_kind d.name (is_some (first_named 0 before d.name))) C1 d.at (kind_known d.name (is_some (first_named 0 before d.name)) other (named_found 0 before d.name there))))
   where
-    kind_known : (name : List ℕ) (known : Bool) → name ≢ codes "SELF_TYPE" → known ≡ true → name_kind name known ≡ Some C1
+    kind_known : (name : List ℕ) (known : Bool) → name ≢ self_type → known ≡ true → name_kind name known ≡ Some C1
     kind_known name known o k =
-        ap (λ (b : Bool). if b then Some C2 else (if known then Some C1 else None)) (false_from (bytes_eq name (codes "SELF_TYPE")) (λ e. o ((bytes_eq-Decides name (codes "SELF_TYPE")).0 e)))
+        ap (λ (b : Bool). if b then Some C2 else (if known then Some C1 else None)) (false_from (bytes_eq name self_type) (λ e. o ((bytes_eq-Decides name self_type).0 e)))
         ∙ ap (λ (b : Bool). if b then Some C1 else None) k
 phase_there ds cyclic on kind at (rows.named_self_type k d is self) =
     let known = is_some (first_named 0 (basic_names ++ take k (names_in ds)) d.name) in
     in_names ds cyclic (fault C2 d.at)
     (names_have basic_names ds k d (fault C2 d.at) is
-    (kind_in (name_kind d.name known) C2 d.at (ap (λ (b : Bool). if b then Some C2 else (if known then Some C1 else None)) ((bytes_eq-Decides d.name (codes "SELF_TYPE")).1 self))))
+    (kind_in (name_kind d.name known) C2 d.at (ap (λ (b : Bool). if b then Some C2 else (if known then Some C1 else None)) ((bytes_eq-Decides d.name self_type).1 self))))
 phase_there ds cyclic on kind at (rows.parent_self_type k r has self) =
     let o = first_named 0 (names_with_basic ds) r.name in
     in_parents ds cyclic (fault C2 r.at)
     (parents_have (names_with_basic ds) ds k r (fault C2 r.at) has
-    (kind_in (parent_kind r.name o) C2 r.at (ap (λ (b : Bool). if b then Some C2 else class_kind o) ((bytes_eq-Decides r.name (codes "SELF_TYPE")).1 self))))
+    (kind_in (parent_kind r.name o) C2 r.at (ap (λ (b : Bool). if b then Some C2 else class_kind o) ((bytes_eq-Decides r.name self_type).1 self))))
 phase_there ds cyclic on kind at (rows.no_parent k r has other none) =
     let o = first_named 0 (names_with_basic ds) r.name in
     let nowhere : o ≡ None = none_is o (false_from (is_some o) (λ e. none (found_named (names_with_basic ds) r.name e))) in
     in_parents ds cyclic (fault C3 r.at)
     (parents_have (names_with_basic ds) ds k r (fault C3 r.at) has
     (kind_in (parent_kind r.name o) C3 r.at
-    (ap (λ (b : Bool). if b then Some C2 else class_kind o) (false_from (bytes_eq r.name (codes "SELF_TYPE")) (λ e. other ((bytes_eq-Decides r.name (codes "SELF_TYPE")).0 e))) ∙ ap class_kind nowhere)))
+    (ap (λ (b : Bool). if b then Some C2 else class_kind o) (false_from (bytes_eq r.name self_type) (λ e. other ((bytes_eq-Decides r.name self_type).0 e))) ∙ ap class_kind nowhere)))
 phase_there ds cyclic on kind at (rows.barred_parent k r has barred) =
     let o = first_named 0 (names_with_basic ds) r.name in
     in_parents ds cyclic (fault C4 r.at)

@@ -17,7 +17,7 @@ use Rattle.cool_classes.specs.ClimbedChains.{above}
 use Rattle.cool_classes.specs.Cycles.{AreCycles}
 use Rattle.cool_classes.specs.FaultLists.{standing_of}
 use Rattle.cool_classes.specs.FeatureFaults.{class_faults}
-use Rattle.cool_classes.specs.Names.{first_named}
+use Rattle.cool_classes.specs.Names.{first_named, self_type}
 use Rattle.cool_classes.specs.Settled.{basic_names, names_with_basic, parent_meant, parents_meant}
 use Rattle.cool_classes.specs.Tables.{basic_classes}
 
@@ -28,7 +28,7 @@ of_kind (Some kind) at = record { kind = kind; at = at } ∷ []
 
 -- C2 of a class named SELF_TYPE, else C1 where an earlier class has its name
 abbrev pub name_kind : List ℕ → Bool → Option ClassKind
-name_kind name known = if bytes_eq name (codes "SELF_TYPE") then Some C2 else (if known then Some C1 else None)
+name_kind name known = if bytes_eq name self_type then Some C2 else (if known then Some C1 else None)
 
 -- the faults of the names of definitions behind classes of these names
 abbrev pub names_faults : List (List ℕ) → List ClassDef → List ClassFault
@@ -46,7 +46,7 @@ class_kind (Some c) = if is_barred c then Some C4 else None
 
 -- C2 of a parent named SELF_TYPE, else C3 and C4
 abbrev pub parent_kind : List ℕ → Option ClassId → Option ClassKind
-parent_kind name class = if bytes_eq name (codes "SELF_TYPE") then Some C2 else class_kind class
+parent_kind name class = if bytes_eq name self_type then Some C2 else class_kind class
 
 abbrev pub parent_faults : List (List ℕ) → Option TypeRef → List ClassFault
 parent_faults names None = []

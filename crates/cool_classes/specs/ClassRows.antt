@@ -14,6 +14,7 @@ use Rattle.cool_classes.specs.ClassFaults.{classes_meant, places}
 use Rattle.cool_classes.specs.ClimbedChains.{above}
 use Rattle.cool_classes.specs.Cycles.{IsOnCycle}
 use Rattle.cool_classes.specs.FeatureRows.{IsFeatureFault, AreRows}
+use Rattle.cool_classes.specs.Names.{self_type}
 use Rattle.cool_classes.specs.Settled.{basic_names, names_in, names_with_basic, parents_meant}
 
 -- the definition at a position, and its parent
@@ -37,12 +38,12 @@ IsBarredName name = (name ≡ codes "Int") ⊎ ((name ≡ codes "Bool") ⊎ (nam
 -- a fault of these definitions
 pub data IsClassFault (ds : List ClassDef) : ClassKind → Place → Type 0 where
   -- a definition whose name is that of a basic class or of an earlier definition, and not SELF_TYPE
-  twice : (k : ℕ) (d : ClassDef) → IsClassAt ds k d → d.name ≢ codes "SELF_TYPE" → IsNamedBefore ds k d.name → IsClassFault ds C1 d.at
+  twice : (k : ℕ) (d : ClassDef) → IsClassAt ds k d → d.name ≢ self_type → IsNamedBefore ds k d.name → IsClassFault ds C1 d.at
   -- a class or a parent named SELF_TYPE
-  named_self_type : (k : ℕ) (d : ClassDef) → IsClassAt ds k d → d.name ≡ codes "SELF_TYPE" → IsClassFault ds C2 d.at
-  parent_self_type : (k : ℕ) (r : TypeRef) → HasParent ds k r → r.name ≡ codes "SELF_TYPE" → IsClassFault ds C2 r.at
+  named_self_type : (k : ℕ) (d : ClassDef) → IsClassAt ds k d → d.name ≡ self_type → IsClassFault ds C2 d.at
+  parent_self_type : (k : ℕ) (r : TypeRef) → HasParent ds k r → r.name ≡ self_type → IsClassFault ds C2 r.at
   -- a parent that is no class and not SELF_TYPE
-  no_parent : (k : ℕ) (r : TypeRef) → HasParent ds k r → r.name ≢ codes "SELF_TYPE" → IsUnnamed ds r.name → IsClassFault ds C3 r.at
+  no_parent : (k : ℕ) (r : TypeRef) → HasParent ds k r → r.name ≢ self_type → IsUnnamed ds r.name → IsClassFault ds C3 r.at
   -- the parent Int, Bool or String
   barred_parent : (k : ℕ) (r : TypeRef) → HasParent ds k r → IsBarredName r.name → IsClassFault ds C4 r.at
   -- a definition whose chain of parents comes back to itself

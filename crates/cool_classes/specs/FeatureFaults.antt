@@ -17,6 +17,7 @@ use Rattle.cool_classes.specs.Chains.{Class, name_of, features_of}
 use Rattle.cool_classes.specs.Features.{first_method, implementation, attributes_of, formals_in, formals_of, result_of}
 use Rattle.cool_classes.specs.FirstNames.{first_place, is_place, attribute_name}
 use Rattle.cool_classes.specs.MethodNames.{methods_of}
+use Rattle.cool_classes.specs.Names.{self_type}
 
 -- one fault where a test holds
 abbrev pub noted : Bool → ClassKind → Place → List ClassFault
@@ -27,14 +28,14 @@ is_class p name = is_some (first_place 0 (map (λ (c : Class). Some c.name) p) n
 
 -- F6
 abbrev pub type_faults : List Class → TypeRef → List ClassFault
-type_faults p r = noted (not (bytes_eq r.name (codes "SELF_TYPE") || is_class p r.name)) F6 r.at
+type_faults p r = noted (not (bytes_eq r.name self_type || is_class p r.name)) F6 r.at
 
 -- F3, F4, F5 and F6 of a formal behind those of these names
 abbrev pub formal_faults : List Class → List (Option (List ℕ)) → Formal → List ClassFault
 formal_faults p before f =
     noted (bytes_eq f.name (codes "self")) F3 f.at
     ++ (noted (is_some (first_place 0 before f.name)) F4 f.at
-    ++ (noted (bytes_eq f.declared.name (codes "SELF_TYPE")) F5 f.declared.at ++ type_faults p f.declared))
+    ++ (noted (bytes_eq f.declared.name self_type) F5 f.declared.at ++ type_faults p f.declared))
 
 -- the names of formals
 abbrev pub formal_row : List Formal → List (Option (List ℕ))

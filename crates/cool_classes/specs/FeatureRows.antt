@@ -17,6 +17,7 @@ use Rattle.cool_classes.specs.Chains.{Class, name_of, features_of}
 use Rattle.cool_classes.specs.FeatureFaults.{declared_types}
 use Rattle.cool_classes.specs.Features.{implementation, attributes_of, formals_of, result_of}
 use Rattle.cool_classes.specs.MethodNames.{methods_of}
+use Rattle.cool_classes.specs.Names.{self_type}
 
 -- the feature of a class at a position
 abbrev pub IsMethodAt : List Class → ClassId → ℕ → MethodDef → Type 0
@@ -30,7 +31,7 @@ IsFormalAt m i f = slice_get m.formals i ≡ Some f
 
 -- a name that is that of no class, and not SELF_TYPE
 abbrev pub IsNoType : List Class → List ℕ → Type 0
-IsNoType p name = (name ≢ codes "SELF_TYPE") × ((c : ClassId) → c.0 < length p → name_of p c ≢ name)
+IsNoType p name = (name ≢ self_type) × ((c : ClassId) → c.0 < length p → name_of p c ≢ name)
 
 -- a method of another signature than this one
 abbrev pub HasOtherSignature : List Class → MethodDef → MethodRef → Type 0
@@ -49,7 +50,7 @@ pub data IsFeatureFault (p : List Class) (c : ClassId) (ds : List ClassId) (here
   -- an earlier formal of the method has the name
   formal_twice : (i j k : ℕ) (m : MethodDef) (f g : Formal) → IsMethodAt p c i m → IsFormalAt m j f → k < j → IsFormalAt m k g → g.name ≡ f.name → IsFeatureFault p c ds here F4 f.at
   -- a formal of type SELF_TYPE
-  formal_self_type : (i j : ℕ) (m : MethodDef) (f : Formal) → IsMethodAt p c i m → IsFormalAt m j f → f.declared.name ≡ codes "SELF_TYPE" → IsFeatureFault p c ds here F5 f.declared.at
+  formal_self_type : (i j : ℕ) (m : MethodDef) (f : Formal) → IsMethodAt p c i m → IsFormalAt m j f → f.declared.name ≡ self_type → IsFeatureFault p c ds here F5 f.declared.at
   -- a type of a formal, a result or an attribute that is no class and not SELF_TYPE
   formal_unknown : (i j : ℕ) (m : MethodDef) (f : Formal) → IsMethodAt p c i m → IsFormalAt m j f → IsNoType p f.declared.name → IsFeatureFault p c ds here F6 f.declared.at
   result_unknown : (i : ℕ) (m : MethodDef) → IsMethodAt p c i m → IsNoType p m.result.name → IsFeatureFault p c ds here F6 m.result.at

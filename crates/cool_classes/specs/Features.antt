@@ -1,6 +1,6 @@
 -- The methods and attributes of a class with those that it inherits, and the types that they declare (the Cool manual, sections 5, 6 and
 -- 8).
-use Rattle.std.specs.Prelude.{◌≡◌, ℕ, zero, suc, ◌+◌, ◌<◌, List, [], ◌∷◌, ◌++◌, map, length, slice_get, Option, Some, None, option_map, codes, bytes_eq, nat_lt, if◌then◌else◌, refl}
+use Rattle.std.specs.Prelude.{◌≡◌, ℕ, zero, suc, ◌+◌, ◌<◌, List, [], ◌∷◌, ◌++◌, map, length, slice_get, Option, Some, None, option_map, Bool, false, codes, bytes_eq, nat_lt, if◌then◌else◌, refl}
 use Rattle.cool_syntax.specs.declared.file_tree.Feature.{Feature}
 use Rattle.cool_syntax.specs.declared.file_tree.Feature.TheVariants.{Method, Attribute}
 use Rattle.cool_classes.specs.declared.class_id.ClassId.{ClassId}
@@ -12,6 +12,8 @@ use Rattle.cool_classes.specs.declared.method.MethodRef.{MethodRef}
 use Rattle.cool_classes.specs.declared.method.MethodRef.TheVariants.{Basic, User}
 use Rattle.cool_classes.specs.declared.method.AttributeRef.{AttributeRef}
 use Rattle.cool_classes.specs.Chains.{Class, class_number, name_of, features_of}
+use Rattle.cool_classes.specs.FirstNames.{first_with}
+use Rattle.cool_classes.specs.Names.{self_type}
 
 -- the methods of the basic classes (section 8)
 pub record NamedMethod : Type 0 where
@@ -53,11 +55,14 @@ abbrev pub method_among : List NamedMethod → List ℕ → Option BasicMethod
 method_among [] f = None
 method_among (m ∷ ms) f = if bytes_eq m.name f then Some m.method else method_among ms f
 
+-- a feature is a method of this name
+abbrev pub is_method_named : List ℕ → Feature → Bool
+is_method_named f (Method m) = bytes_eq m.name f
+is_method_named f (Attribute a) = false
+
 -- the place of the first method of a name among features, which begin at a place
 abbrev pub first_method : ℕ → List Feature → List ℕ → Option ℕ
-first_method k [] f = None
-first_method k (Method m ∷ fs) f = if bytes_eq m.name f then Some k else first_method (k + 1) fs f
-first_method k (Attribute a ∷ fs) f = first_method (k + 1) fs f
+first_method k fs f = first_with (is_method_named f) (λ (n : ℕ). n) k fs
 
 abbrev pub user_method : ClassId → Option ℕ → Option MethodRef
 user_method c None = None
@@ -99,9 +104,9 @@ basic_formals _ = []
 abbrev pub basic_result : BasicMethod → List ℕ
 basic_result Abort = codes "Object"
 basic_result TypeName = codes "String"
-basic_result Copy = codes "SELF_TYPE"
-basic_result OutString = codes "SELF_TYPE"
-basic_result OutInt = codes "SELF_TYPE"
+basic_result Copy = self_type
+basic_result OutString = self_type
+basic_result OutInt = self_type
 basic_result InString = codes "String"
 basic_result InInt = codes "Int"
 basic_result Length = codes "Int"
@@ -161,7 +166,7 @@ attribute_type p a = result_in (slice_get (features_of p a.owner) a.index)
 -- a name of the source denotes a type
 abbrev pub Denotes : List Class → List ℕ → Ty → Type 0
 Denotes p name (IsClass c) = (c.0 < length p) × (name_of p c ≡ name)
-Denotes p name SelfType = name ≡ codes "SELF_TYPE"
+Denotes p name SelfType = name ≡ self_type
 
 -- Worked examples: `substr` is a method of String and none of Object.
 substr_of_string : own_method [] (class_number 4) (codes "substr") ≡ Some (Basic Substr)

@@ -5,11 +5,19 @@ use Rattle.std.specs.Global.{Vec}
 use Rattle.cool_syntax.specs.declared.file_tree.Feature.{Feature}
 use Rattle.cool_syntax.specs.declared.file_tree.Feature.TheVariants.{Method, Attribute}
 
+-- the first item of a list for which a test holds, by what its number stands for, where the list begins at a number
+abbrev pub first_with : {X Y : Type 0} → (X → Bool) → (ℕ → Y) → ℕ → List X → Option Y
+first_with has at k [] = None
+first_with has at k (x ∷ xs) = if has x then Some (at k) else first_with has at (k + 1) xs
+
+-- a place has this name
+abbrev pub is_named : List ℕ → Option (List ℕ) → Bool
+is_named f None = false
+is_named f (Some name) = bytes_eq f name
+
 -- the first place of a name, where the row begins at a number
 abbrev pub first_place : ℕ → List (Option (List ℕ)) → List ℕ → Option ℕ
-first_place k [] f = None
-first_place k (None ∷ row) f = first_place (k + 1) row f
-first_place k (Some name ∷ row) f = if bytes_eq f name then Some k else first_place (k + 1) row f
+first_place k row f = first_with (is_named f) (λ (n : ℕ). n) k row
 
 -- the first place of a name is this one
 abbrev pub is_place : ℕ → Option ℕ → Bool

@@ -1,5 +1,5 @@
 -- Entries of a table after its classes were checked, before their features are: all of a whole table but for the types of features.
-use Rattle.std.specs.Prelude.{◌≡◌, ◌≢◌, ℕ, ◌+◌, ◌<◌, ◌≤◌, ◌^◌, List, length, take, codes}
+use Rattle.std.specs.Prelude.{◌≡◌, ◌≢◌, ℕ, ◌+◌, ◌<◌, ◌≤◌, ◌^◌, List, length, take}
 use Rattle.std.specs.List.{AllByRecursion}
 use Rattle.cool_syntax.specs.declared.place.Place.{Place}
 use Rattle.cool_syntax.specs.TokenFacts.{IsPlaced}
@@ -12,13 +12,14 @@ use Rattle.cool_classes.specs.Definitions.{HasFewFormals}
 use Rattle.cool_classes.specs.Tables.{IsGrounded, IsTyped, basic_classes}
 use Rattle.cool_classes.specs.Entries.{classes, depth_at}
 use Rattle.cool_classes.specs.Limits.{KeepsLimits}
+use Rattle.cool_classes.specs.Names.{self_type}
 
 -- The classes are settled.
 pub record AreResolved (es : List Entry) : Type 0 where
   pub basic : take 5 (classes es) ≡ basic_classes
   pub grounded : IsGrounded (classes es) (depth_at es)
   pub names : (c d : ClassId) → c.0 < length (classes es) → d.0 < length (classes es) → name_of (classes es) c ≡ name_of (classes es) d → c ≡ d
-  pub no_self_type : (c : ClassId) → c.0 < length (classes es) → name_of (classes es) c ≢ codes "SELF_TYPE"
+  pub no_self_type : (c : ClassId) → c.0 < length (classes es) → name_of (classes es) c ≢ self_type
   pub few : length (classes es) ≤ 5 + MOST_CLASSES
   pub few_features : (c : ClassId) → c.0 < length (classes es) → length (features_of (classes es) c) < 2 ^ 32
   pub few_formals : (c : ClassId) → c.0 < length (classes es) → AllByRecursion HasFewFormals (features_of (classes es) c)

@@ -12,7 +12,7 @@ use Rattle.cool_classes.specs.declared.fault.ClassFault.{ClassFault}
 use Rattle.cool_classes.specs.declared.fault.ClassKind.{ClassKind}
 use Rattle.cool_classes.specs.Chains.{class_number}
 use Rattle.cool_classes.specs.Entries.{basic_entries}
-use Rattle.cool_classes.specs.Names.{first_named}
+use Rattle.cool_classes.specs.Names.{first_named, self_type}
 use Rattle.cool_classes.specs.Depths.{AreDepths}
 use Rattle.cool_classes.specs.FaultLists.{IsOfClasses}
 
@@ -46,7 +46,7 @@ IsParentKnown names (Some r) = IsSome (first_named 0 names r.name)
 -- no class before a definition has its name, and that is not SELF_TYPE
 pub record IsNamedAnew (definitions : List ClassDef) (k : ℕ) : Type 0 where
   pub anew : first_named 0 (basic_names ++ take k (names_in definitions)) (get_or (names_in definitions) k []) ≡ None
-  pub no_self_type : get_or (names_in definitions) k [] ≢ codes "SELF_TYPE"
+  pub no_self_type : get_or (names_in definitions) k [] ≢ self_type
 
 abbrev pub AreNamedAnew : List ClassDef → ℕ → Type 0
 AreNamedAnew definitions n = (k : ℕ) → k < n → IsNamedAnew definitions k

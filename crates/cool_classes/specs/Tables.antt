@@ -8,6 +8,7 @@ use Rattle.cool_classes.specs.declared.class_id.ClassId.{ClassId}
 use Rattle.cool_classes.specs.declared.class_id.Ty.{Ty}
 use Rattle.cool_classes.specs.Chains.{Class, class_number, name_of, parent_of, features_of, IsChain}
 use Rattle.cool_classes.specs.Features.{Denotes}
+use Rattle.cool_classes.specs.Names.{self_type}
 
 -- the basic classes
 abbrev pub basic_classes : List Class
@@ -39,7 +40,7 @@ pub record IsTable (p : List Class) : Type 0 where
   pub basic : take 5 p ≡ basic_classes
   pub chains : (c : ClassId) → c.0 < length p → (ds : List ClassId) × IsChain p (Some c) ds
   pub names : (c d : ClassId) → c.0 < length p → d.0 < length p → name_of p c ≡ name_of p d → c ≡ d
-  pub no_self_type : (c : ClassId) → c.0 < length p → name_of p c ≢ codes "SELF_TYPE"
+  pub no_self_type : (c : ClassId) → c.0 < length p → name_of p c ≢ self_type
   pub types : (c : ClassId) → c.0 < length p → AllByRecursion (IsTyped p) (features_of p c)
   pub few : length p < 2 ^ 32
   pub few_features : (c : ClassId) → c.0 < length p → length (features_of p c) < 2 ^ 32

@@ -1,13 +1,14 @@
 //! The faults of classes: their names, their parents, their number, and the chains that they make (the Cool manual,
 //! section 3).
 
-ghost use Rattle.std.specs.Prelude.{◌≡◌, ℕ, ◌-◌, ◌<◌, ◌≤◌, ◌^◌, ◌≢◌, List, [], ◌++◌, length, IfOk, IfErr, OnOk, IfSome, IfNone, IsSome, codes, false};
+ghost use Rattle.std.specs.Prelude.{◌≡◌, ℕ, ◌-◌, ◌<◌, ◌≤◌, ◌^◌, ◌≢◌, List, [], ◌++◌, length, IfOk, IfErr, OnOk, IfSome, IfNone, IsSome, false};
 ghost use Rattle.std.specs.List.{AllByRecursion};
 ghost use Rattle.cool_syntax.specs.TreesWithinLimits.{IsTypeWithin, AreClassesWithin};
 ghost use Rattle.cool_syntax.specs.declared.file_tree.ClassDef as tree;
 ghost use Rattle.cool_classes.specs.ClassFaults.{name_kind, names_faults, is_barred, parent_kind, parent_faults, parents_faults, cycle_faults, main_faults, number_faults, HasClassPhase, HasClassFaults};
 ghost use Rattle.cool_classes.specs.FaultLists.{rank, IsRefusal, IsPlacedRefusal};
 ghost use Rattle.cool_classes.specs.FirstNames.{AreFirst};
+ghost use Rattle.cool_classes.specs.Names.{self_type};
 ghost use Rattle.cool_classes.specs.Settled.{basic_names, names_with_basic, parent_meant, parents_meant, IsParentKnown, AreNamedAnew, AreSettled, AddsFaults};
 
 use crate::MOST_CLASSES;
@@ -18,6 +19,7 @@ use crate::fault::{ClassFault, ClassKind, TableError};
 use crate::fault_list::{add_fault, refuse_faults};
 use crate::first_names::{FirstNames, add_place, first_place};
 use crate::lookup::class_named;
+use crate::self_type::is_self_type;
 use cool_syntax::{ClassDef, Place, TypeRef};
 use std::alloc::{AllocError, Global};
 
@@ -46,10 +48,10 @@ fn basic_names(alloc: Global) -> Result<FirstNames, AllocError>
 fn name_fault(name: &[u8], known: bool) -> Option<ClassKind>
     ensures exact { result ≡ name_kind name.now known }
     ensures kind { IfSome result (λ kind. rank kind < 7) }
-    ensures no_self_type { IfNone result (name.now ≢ codes "SELF_TYPE") }
+    ensures no_self_type { IfNone result (name.now ≢ self_type) }
     ensures anew { IfNone result (known ≡ false) }
 {
-    if name == b"SELF_TYPE".as_slice() {
+    if is_self_type(name) {
         Some(ClassKind::C2)
     } else if known {
         Some(ClassKind::C1)
@@ -89,7 +91,7 @@ fn parent_fault(name: &[u8], class: Option<ClassId>) -> Option<ClassKind>
     ensures kind { IfSome result (λ kind. rank kind < 7) }
     ensures known { IfNone result (IsSome class) }
 {
-    if name == b"SELF_TYPE".as_slice() {
+    if is_self_type(name) {
         return Some(ClassKind::C2);
     }
     match class {

@@ -24,6 +24,7 @@ mod lookup;
 mod method;
 mod own_names;
 mod path;
+mod self_type;
 mod signature;
 mod signature_faults;
 

@@ -13,6 +13,7 @@ use crate::entry::Entry;
 use crate::first_names::FirstNames;
 use crate::lookup::class_named;
 use crate::method::{AttributeRef, MethodRef};
+use crate::self_type::is_self_type;
 use cool_syntax::Feature;
 
 /// The type of this name.
@@ -20,7 +21,7 @@ fn type_named(names: &FirstNames, name: &[u8]) -> Ty
     requires known { (es : List entry.Entry) × AreNamed names.now.entries es × IsTypeName (classes es) name.now }
     ensures { (es : List entry.Entry) → AreNamed names.now.entries es → Denotes (classes es) name.now result }
 {
-    if name == b"SELF_TYPE".as_slice() {
+    if is_self_type(name) {
         return Ty::SelfType;
     }
     match class_named(names, name) {

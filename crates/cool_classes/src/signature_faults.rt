@@ -11,6 +11,7 @@ use crate::fault::{ClassFault, ClassKind};
 use crate::first_names::{FirstNames, add_place, first_place};
 use crate::method::{BasicMethod, MethodRef};
 use crate::own_names::{Scope, is_class, method_at};
+use crate::self_type::{is_self_type, self_type};
 use cool_syntax::{Formal, MethodDef, Place, TypeRef};
 use std::alloc::{AllocError, Global};
 
@@ -39,7 +40,7 @@ pub(crate) fn note_type(
     ensures { OnOk result (faults.new.items ≡ faults.old.items ++ type_faults (classes scope.now.entries.now) declared.now) }
 {
     let name = declared.name.as_slice();
-    let known = name == b"SELF_TYPE".as_slice() || is_class(scope, name);
+    let known = is_self_type(name) || is_class(scope, name);
     note(faults, !known, ClassKind::F6, declared.at)
 }
 
@@ -57,8 +58,8 @@ fn note_formal(
     note(faults, name == b"self".as_slice(), ClassKind::F3, formal.at)?;
     let doubled = first_place(before, name).is_some();
     note(faults, doubled, ClassKind::F4, formal.at)?;
-    let self_type = formal.declared.name.as_slice() == b"SELF_TYPE".as_slice();
-    note(faults, self_type, ClassKind::F5, formal.declared.at)?;
+    let self_typed = is_self_type(formal.declared.name.as_slice());
+    note(faults, self_typed, ClassKind::F5, formal.declared.at)?;
     note_type(faults, scope, &formal.declared)
 }
 
@@ -143,7 +144,7 @@ fn basic_result_name(basic: BasicMethod) -> &'static [u8]
 {
     match basic {
         BasicMethod::Abort => b"Object",
-        BasicMethod::Copy | BasicMethod::OutString | BasicMethod::OutInt => b"SELF_TYPE",
+        BasicMethod::Copy | BasicMethod::OutString | BasicMethod::OutInt => self_type(),
         BasicMethod::InInt | BasicMethod::Length => b"Int",
         BasicMethod::TypeName | BasicMethod::InString | BasicMethod::Concat | BasicMethod::Substr =>
             b"String",

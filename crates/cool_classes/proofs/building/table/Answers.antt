@@ -99,7 +99,7 @@ returns-clause-table c =
     let ds = c.in_ok-definitions.definitions.items in
     let os = c.in_ok-ancestry.ancestry.depths.items in
     let settled = subst (λ (xs : List ClassDef). AreSettled xs os) c.deref.ensures.value c.in_ok-ancestry.ensures.settled in
-    subst (IsTableOf (definitions c.args.files.items)) (sym (c.in_ok-from_entries.ensures ∙ ap classes c.in_ok-entries.ensures))
+    subst (IsTableOf (definitions c.args.files.items)) (sym (c.from_entries.ensures ∙ ap classes c.in_ok-entries.ensures))
     (subst (λ (xs : List ClassDef). IsTableOf xs (classes (entries_of ds os))) c.in_ok-definitions.ensures (table_by ds os settled))
 
 pub returns-clause-classes : goal.returns-clause-classes
@@ -107,7 +107,7 @@ returns-clause-classes c =
     let ds = c.in_ok-definitions.definitions.items in
     let os = c.in_ok-ancestry.ancestry.depths.items in
     let settled = subst (λ (xs : List ClassDef). AreSettled xs os) c.deref.ensures.value c.in_ok-ancestry.ensures.settled in
-    c.in_ok-from_entries.ensures ∙ ap classes c.in_ok-entries.ensures ∙ entries_are_meant ds os settled ∙ ap classes_meant c.in_ok-definitions.ensures
+    c.from_entries.ensures ∙ ap classes c.in_ok-entries.ensures ∙ entries_are_meant ds os settled ∙ ap classes_meant c.in_ok-definitions.ensures
 
 pub returns-clause-faultless : goal.returns-clause-faultless
 returns-clause-faultless c =

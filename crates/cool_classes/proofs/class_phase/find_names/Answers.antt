@@ -1,11 +1,11 @@
 -- The name of a definition comes behind those before it.
 use Rattle.std.proofs.Common.{◌≡◌, ◌≢◌, ◌++◌, ◌<◌, ℕ, List, [], Option, Some, None, false, map, take, length, get_or, sym, ap, ◌∙◌, ◌∷◌, ◌+◌, is_some, subst, arith}
-use Rattle.std.specs.Prelude.{IfNone, codes}
+use Rattle.std.specs.Prelude.{IfNone}
 use Rattle.cool_syntax.specs.TreesWithinLimits.{AreClassesWithin}
 use Rattle.cool_classes.specs.declared.fault.ClassFault.{ClassFault}
 use Rattle.cool_classes.specs.declared.fault.ClassKind.{ClassKind}
 use Rattle.cool_classes.specs.ClassFaults.{name_kind}
-use Rattle.cool_classes.specs.Names.{first_named}
+use Rattle.cool_classes.specs.Names.{first_named, self_type}
 use Rattle.cool_classes.specs.FirstNames.{AreFirst}
 use Rattle.cool_classes.specs.Settled.{basic_names, names_in, AddsFaults}
 use Rattle.cool_classes.proofs.AllOfLists.{class_within}
@@ -41,7 +41,7 @@ loop-index-preserved c =
           let no_kind : kind ≡ None = no_fault kind d.at faults (sym c.in_ok-add_fault.ensures ∙ none) in
           anew_more ds i name c.is_some-known.result at_name known
           (subst (λ (o : Option ClassKind). IfNone o (c.is_some-known.result ≡ false)) no_kind c.name_fault.ensures.anew)
-          (subst (λ (o : Option ClassKind). IfNone o (name ≢ codes "SELF_TYPE")) no_kind c.name_fault.ensures.no_self_type)
+          (subst (λ (o : Option ClassKind). IfNone o (name ≢ self_type)) no_kind c.name_fault.ensures.no_self_type)
           (c.loop-index.invariant.anew (one.kept none));
     }
 
