@@ -1,10 +1,10 @@
--- The class of a name is at the first place of the name, and has the name.
+-- The class of a name is at the first index of the name, and has the name.
 use Rattle.std.proofs.Common.{◌≡◌, ◌≢◌, ℕ, zero, suc, ◌+◌, ◌<◌, List, [], ◌∷◌, map, length, get_or, Option, Some, None, Bool, true, false, cond, ap, sym, ◌∙◌, refl, subst, arith, true≢false}
 use Rattle.std.specs.Prelude.{bytes_eq, option_map}
 use Rattle.std.proofs.lemmas.Slice.Eq.{bytes_eq-Decides}
 use Rattle.cool_classes.specs.declared.class_id.ClassId.{ClassId}
 use Rattle.cool_classes.specs.Chains.{Class, class_number, nothing, name_of}
-use Rattle.cool_classes.specs.FirstNames.{first_place}
+use Rattle.cool_classes.specs.FirstNames.{first_index}
 use Rattle.cool_classes.specs.Names.{first_named}
 use Rattle.cool_classes.specs.Tables.{IsNamed}
 
@@ -12,34 +12,34 @@ use Rattle.cool_classes.specs.Tables.{IsNamed}
 abbrev name_row : List Class → List (Option (List ℕ))
 name_row = map (λ (c : Class). Some c.name)
 
--- this class stands at this place, where the row begins at a number, and has the name
+-- this class stands at this index, where the row begins at a number, and has the name
 abbrev StandsAt : ℕ → List Class → List ℕ → ℕ → Type 0
 StandsAt k p f j = (i : ℕ) × (j ≡ k + i) × (i < length p) × ((get_or p i nothing).name ≡ f)
 
--- a class at the first place of a name has the name
-found_at : (k : ℕ) (p : List Class) (f : List ℕ) (j : ℕ) → first_place k (name_row p) f ≡ Some j → StandsAt k p f j
+-- a class at the first index of a name has the name
+found_at : (k : ℕ) (p : List Class) (f : List ℕ) (j : ℕ) → first_index k (name_row p) f ≡ Some j → StandsAt k p f j
 found_at k [] f j h = absurd (cc)
 found_at k (x ∷ p) f j h = by (bytes_eq f x.name) refl h (found_at (k + 1) p f j)
   where
-    by : (b : Bool) → bytes_eq f x.name ≡ b → cond b (Some k) (first_place (k + 1) (name_row p) f) ≡ Some j
-        → (first_place (k + 1) (name_row p) f ≡ Some j → StandsAt (k + 1) p f j) → StandsAt k (x ∷ p) f j
+    by : (b : Bool) → bytes_eq f x.name ≡ b → cond b (Some k) (first_index (k + 1) (name_row p) f) ≡ Some j
+        → (first_index (k + 1) (name_row p) f ≡ Some j → StandsAt (k + 1) p f j) → StandsAt k (x ∷ p) f j
     by true e h more = let here : k ≡ j = cc in (0, omega arith, omega arith, sym ((bytes_eq-Decides f x.name).0 e))
     by false e h more = let w = more h in let s = w.1 in let less = w.2 in (suc w.0, omega arith, omega arith, w.3)
 
--- where a name has no first place, no class has it
-missing_at : (k : ℕ) (p : List Class) (f : List ℕ) → first_place k (name_row p) f ≡ None → (i : ℕ) → i < length p → (get_or p i nothing).name ≢ f
+-- where a name has no first index, no class has it
+missing_at : (k : ℕ) (p : List Class) (f : List ℕ) → first_index k (name_row p) f ≡ None → (i : ℕ) → i < length p → (get_or p i nothing).name ≢ f
 missing_at k [] f h i less = absurd (omega arith)
 missing_at k (x ∷ p) f h i less = by (bytes_eq f x.name) refl h (missing_at (k + 1) p f) i less
   where
-    by : (b : Bool) → bytes_eq f x.name ≡ b → cond b (Some k) (first_place (k + 1) (name_row p) f) ≡ None
-        → (first_place (k + 1) (name_row p) f ≡ None → (i : ℕ) → i < length p → (get_or p i nothing).name ≢ f)
+    by : (b : Bool) → bytes_eq f x.name ≡ b → cond b (Some k) (first_index (k + 1) (name_row p) f) ≡ None
+        → (first_index (k + 1) (name_row p) f ≡ None → (i : ℕ) → i < length p → (get_or p i nothing).name ≢ f)
         → (i : ℕ) → i < length (x ∷ p) → (get_or (x ∷ p) i nothing).name ≢ f
     by true e h more i less = absurd (cc)
     by false e h more zero less = λ same. true≢false (sym ((bytes_eq-Decides f x.name).1 (sym same)) ∙ e)
     by false e h more (suc i) less = let below : i < length p = omega arith in more h i below
 
--- the class at the first place of a name is that of the name, and without such a place there is none
-pub named_by : (p : List Class) (f : List ℕ) (o : Option ℕ) → o ≡ first_place 0 (name_row p) f → IsNamed p f (option_map class_number o)
+-- the class at the first index of a name is that of the name, and without such an index there is none
+pub named_by : (p : List Class) (f : List ℕ) (o : Option ℕ) → o ≡ first_index 0 (name_row p) f → IsNamed p f (option_map class_number o)
 named_by p f None e = λ c less. missing_at 0 p f (sym e) c.0 less
 named_by p f (Some j) e =
     let w = found_at 0 p f j (sym e) in

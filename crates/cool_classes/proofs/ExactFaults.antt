@@ -8,9 +8,9 @@ use Rattle.cool_classes.specs.declared.fault.TableError.{TableError}
 use Rattle.cool_classes.specs.declared.fault.TableError.TheVariants as error
 use Rattle.cool_classes.specs.Chains.{Class}
 use Rattle.cool_classes.specs.ClassFaults.{class_meant, classes_meant, feature_phase, HasClassPhase, HasClassFaults, HasTableFaults}
-use Rattle.cool_classes.specs.Entries.{classes, class_of}
+use Rattle.cool_classes.specs.Entries.{classes, as_class}
 use Rattle.cool_classes.specs.FaultLists.{HasExactly}
-use Rattle.cool_classes.specs.FirstNames.{places_shown, FindsPlaces, AreFirst}
+use Rattle.cool_classes.specs.FirstNames.{shown_names, FindsFirst, FindsNames}
 use Rattle.cool_classes.specs.OwnNames.{AreNamed}
 use Rattle.cool_classes.specs.Settled.{names_with_basic, entries_meant, entries_of, AreSettled}
 use Rattle.cool_classes.specs.Tables.{basic_classes}
@@ -33,7 +33,7 @@ refused_features ds fs error.Memory none is h = tt
 refused_features ds fs (error.Faults faults) none is h = (h.0, h.2, inr (none, subst (λ (xs : List ClassFault). IsPermutation xs faults) is h.1))
 
 -- the classes of entries that definitions make
-meant_in : (names : List (List ℕ)) (ds : List ClassDef) (os : List (Option ℕ)) → length os ≡ length ds → map class_of (entries_meant names ds os) ≡ map (class_meant names) ds
+meant_in : (names : List (List ℕ)) (ds : List ClassDef) (os : List (Option ℕ)) → length os ≡ length ds → map as_class (entries_meant names ds os) ≡ map (class_meant names) ds
 meant_in names [] os long = refl
 meant_in names (d ∷ ds) [] long = absurd (omega arith)
 meant_in names (d ∷ ds) (o ∷ os) long = ap (λ (cs : List Class). class_meant names d ∷ cs) (meant_in names ds os (omega arith))
@@ -49,8 +49,8 @@ names_in_row : (p : List Class) → map Some (map (λ (c : Class). c.name) p) �
 names_in_row [] = refl
 names_in_row (c ∷ p) = ap (λ (row : List (Option (List ℕ))). Some c.name ∷ row) (names_in_row p)
 
-pub entries_named : (ds : List ClassDef) (os : List (Option ℕ)) (names : List (Vec ℕ × ℕ)) → AreSettled ds os → AreFirst names (names_with_basic ds) → AreNamed names (entries_of ds os)
+pub entries_named : (ds : List ClassDef) (os : List (Option ℕ)) (names : List (Vec ℕ × ℕ)) → AreSettled ds os → FindsNames names (names_with_basic ds) → AreNamed names (entries_of ds os)
 entries_named ds os names settled first =
     let row : map Some (names_with_basic ds) ≡ map (λ (c : Class). Some c.name) (classes (entries_of ds os)) =
     ap (map Some) (sym (names_meant ds)) ∙ names_in_row (classes_meant ds) ∙ ap (map (λ (c : Class). Some c.name)) (sym (entries_are_meant ds os settled)) in
-    subst (FindsPlaces (places_shown names)) row first
+    subst (FindsFirst (shown_names names)) row first

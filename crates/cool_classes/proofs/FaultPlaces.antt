@@ -16,7 +16,7 @@ use Rattle.cool_classes.specs.declared.fault.ClassKind.TheVariants.{F1, F2, F3, 
 use Rattle.cool_classes.specs.Chains.{Class, features_of}
 use Rattle.cool_classes.specs.FaultLists.{rank, IsOfFeatures}
 use Rattle.cool_classes.specs.Features.{first_method, implementation}
-use Rattle.cool_classes.specs.FirstNames.{first_place, is_place}
+use Rattle.cool_classes.specs.FirstNames.{first_index, is_index}
 use Rattle.cool_classes.specs.FeatureFaults.{noted, is_class, is_doubled, redefines_otherwise, lacks_main, is_over_limit, type_faults, formal_faults, formals_faults, one_feature_faults, features_faults, class_faults}
 use Rattle.cool_classes.specs.Names.{self_type}
 
@@ -52,7 +52,7 @@ type_good Q P make p r q = noted_good Q P make (not (bytes_eq r.name self_type |
 formal_good : (Q : Place → Type 0) (P : ClassFault → Type 0) → Makes Q P → (p : List Class) (before : List (Option (List ℕ))) (f : Formal) → IsGoodFormal Q f → AllByRecursion P (formal_faults p before f)
 formal_good Q P make p before f q =
     let self = bytes_eq f.name (codes "self") in
-    let double = is_some (first_place 0 before f.name) in
+    let double = is_some (first_index 0 before f.name) in
     let self_typed = bytes_eq f.declared.name self_type in
     let last = and_noted Q P make self_typed F5 (omega arith) f.declared.at q.1 (type_faults p f.declared) (type_good Q P make p f.declared q.1) in
     let two = and_noted Q P make double F4 (omega arith) f.at q.0 (noted self_typed F5 f.declared.at ++ type_faults p f.declared) last in
@@ -67,7 +67,7 @@ formals_good Q P make p before (f ∷ fs) q =
 feature_good : (Q : Place → Type 0) (P : ClassFault → Type 0) → Makes Q P → (p : List Class) (c : ClassId) (above : List ClassId) (k : ℕ) (x : Feature) → IsGoodFeature Q x
     → AllByRecursion P (one_feature_faults p c above k x)
 feature_good Q P make p c above k (Method m) q =
-    let double = not (is_place k (first_method 0 (features_of p c) m.name)) in
+    let double = not (is_index k (first_method 0 (features_of p c) m.name)) in
     let otherwise = redefines_otherwise p m (implementation p above m.name) in
     let declared = formals_faults p [] m.formals ++ type_faults p m.result in
     let last = all_both P (formals_faults p [] m.formals) (type_faults p m.result) (formals_good Q P make p [] m.formals q.1) (type_good Q P make p m.result q.2) in

@@ -14,7 +14,7 @@ use Rattle.cool_classes.specs.declared.class_id.Ty.TheVariants.{Class as IsClass
 use Rattle.cool_classes.specs.declared.fault.ClassKind.{ClassKind}
 use Rattle.cool_classes.specs.Chains.{Class, class_number, features_of, nothing}
 use Rattle.cool_classes.specs.Definitions.{HasFewFormals}
-use Rattle.cool_classes.specs.FirstNames.{first_place}
+use Rattle.cool_classes.specs.FirstNames.{first_index}
 use Rattle.cool_classes.specs.Tables.{IsClassName, IsTypeName, IsTyped}
 use Rattle.cool_classes.specs.FeatureFaults.{noted, is_class, type_faults, formal_faults, formals_faults, one_feature_faults, features_faults, class_faults, is_over_limit}
 use Rattle.cool_classes.specs.Names.{self_type}
@@ -29,16 +29,16 @@ not_noted : (b : Bool) (kind : ClassKind) (at : Place) → noted b kind at ≡ [
 not_noted false kind at h = refl
 not_noted true kind at h = absurd (cc)
 
--- the class at the first place of a name has it
+-- the class at the first index of a name has it
 abbrev Finds : List Class → List ℕ → Type 0
 Finds p f = (i : ℕ) × (i < length p) × ((get_or p i nothing).name ≡ f)
 
-class_found : (k : ℕ) (p : List Class) (f : List ℕ) → is_some (first_place k (map (λ (c : Class). Some c.name) p) f) ≡ true → Finds p f
+class_found : (k : ℕ) (p : List Class) (f : List ℕ) → is_some (first_index k (map (λ (c : Class). Some c.name) p) f) ≡ true → Finds p f
 class_found k [] f h = absurd (true≢false (sym h))
 class_found k (c ∷ p) f h = by (bytes_eq f c.name) refl h (class_found (k + 1) p f)
   where
-    by : (b : Bool) → bytes_eq f c.name ≡ b → is_some (cond b (Some k) (first_place (k + 1) (map (λ (x : Class). Some x.name) p) f)) ≡ true
-        → (is_some (first_place (k + 1) (map (λ (x : Class). Some x.name) p) f) ≡ true → Finds p f) → Finds (c ∷ p) f
+    by : (b : Bool) → bytes_eq f c.name ≡ b → is_some (cond b (Some k) (first_index (k + 1) (map (λ (x : Class). Some x.name) p) f)) ≡ true
+        → (is_some (first_index (k + 1) (map (λ (x : Class). Some x.name) p) f) ≡ true → Finds p f) → Finds (c ∷ p) f
     by true e t more = (0, omega arith, sym ((bytes_eq-Decides f c.name).0 e))
     by false e t more = let w = more t in (suc w.0, (let less = w.1 in omega arith), w.2)
 

@@ -20,7 +20,7 @@ use Rattle.cool_classes.specs.declared.fault.ClassKind.TheVariants.{F1, F2, F3, 
 use Rattle.cool_classes.specs.declared.method.MethodRef.{MethodRef}
 use Rattle.cool_classes.specs.Chains.{Class, class_number, name_of, features_of}
 use Rattle.cool_classes.specs.Features.{first_method, implementation, attributes_of, formals_in, formals_of, result_of}
-use Rattle.cool_classes.specs.FirstNames.{first_place, is_place, method_name, attribute_name}
+use Rattle.cool_classes.specs.FirstNames.{first_index, is_index, method_name, attribute_name}
 use Rattle.cool_classes.specs.FeatureFaults.{noted, is_class, type_faults, formal_faults, formals_faults, formal_row, same_types, declared_types, declares_otherwise, redefines_otherwise, have_attribute, method_faults, attribute_faults, is_doubled, one_feature_faults, features_faults, has_formals, lacks_main_at, lacks_main, is_over_limit, class_faults}
 use Rattle.cool_classes.specs.FeatureRows.{IsMethodAt, IsAttributeAt, IsFormalAt, IsNoType, HasOtherSignature, IsFeatureFault, AreRows}
 use Rattle.cool_classes.specs.FeatureRows as rows
@@ -28,8 +28,8 @@ use Rattle.cool_classes.specs.MethodNames.{methods_of}
 use Rattle.cool_classes.specs.Names.{self_type}
 use Rattle.cool_classes.proofs.FaultPlaces.{all_both}
 use Rattle.cool_classes.proofs.FaultsLeft.{nothing_behind}
-use Rattle.cool_classes.proofs.FirstPlaces.{behind_get, seam_get, take_get, get_within, has_left, has_right, place_found, place_sound, method_row, row_method, attribute_row, row_attribute, formal_row_get, row_formal, class_row, row_class}
-use Rattle.cool_classes.proofs.OwnNamesGrow.{first_method_place}
+use Rattle.cool_classes.proofs.FirstIndexes.{behind_get, seam_get, take_get, get_within, has_left, has_right, index_found, index_sound, method_row, row_method, attribute_row, row_attribute, formal_row_get, row_formal, class_row, row_class}
+use Rattle.cool_classes.proofs.OwnNamesGrow.{first_method_index}
 
 abbrev pub fault : ClassKind → Place → ClassFault
 fault kind at = record { kind = kind; at = at }
@@ -100,12 +100,12 @@ some_value (Some x) e = (x, refl)
 -- a type that is none
 known_class : (p : List Class) (name : List ℕ) (c : ClassId) → c.0 < length p → name_of p c ≡ name → is_class p name ≡ true
 known_class p name c within is =
-    let w = place_found 0 (map (λ (x : Class). Some x.name) p) c.0 name (row_class p c.0 name within is) in ap (λ (o : Option ℕ). is_some o) w.1
+    let w = index_found 0 (map (λ (x : Class). Some x.name) p) c.0 name (row_class p c.0 name within is) in ap (λ (o : Option ℕ). is_some o) w.1
 
 class_known : (p : List Class) (name : List ℕ) → is_class p name ≡ true → (c : ClassId) × (c.0 < length p) × (name_of p c ≡ name)
 class_known p name e =
-    let m = some_value (first_place 0 (map (λ (x : Class). Some x.name) p) name) e in
-    let w = place_sound 0 (map (λ (x : Class). Some x.name) p) name m.0 m.1 in
+    let m = some_value (first_index 0 (map (λ (x : Class). Some x.name) p) name) e in
+    let w = index_sound 0 (map (λ (x : Class). Some x.name) p) name m.0 m.1 in
     let r = class_row p w.0 name w.2 in (class_number w.0, r.0, r.1)
 
 no_type : (p : List Class) (name : List ℕ) → not (bytes_eq name self_type || is_class p name) ≡ true → IsNoType p name
@@ -155,10 +155,10 @@ is_other_signature p m q h =
 attribute_above : (p : List Class) (ds : List ClassId) (f : List ℕ) → have_attribute p ds f ≡ true → (d : ClassId) × Contains ds d × ((j : ℕ) × (b : AttributeDef) × IsAttributeAt p d j b × (b.name ≡ f))
 attribute_above p [] f e = absurd (cc)
 attribute_above p (d ∷ ds) f e =
-    elim (or_cases (is_some (first_place 0 (map attribute_name (features_of p d)) f)) (have_attribute p ds f) e) [
+    elim (or_cases (is_some (first_index 0 (map attribute_name (features_of p d)) f)) (have_attribute p ds f) e) [
       | inl here ↦
-          let m = some_value (first_place 0 (map attribute_name (features_of p d)) f) here in
-          let w = place_sound 0 (map attribute_name (features_of p d)) f m.0 m.1 in
+          let m = some_value (first_index 0 (map attribute_name (features_of p d)) f) here in
+          let w = index_sound 0 (map attribute_name (features_of p d)) f m.0 m.1 in
           let a = attribute_row (features_of p d) w.0 f w.2 in
           (d, has_left (d ∷ []) ds d (zero, omega arith, refl), (w.0, a.0, a.1, a.2))
       | inr later ↦ let w = attribute_above p ds f later in (w.0, has_right (d ∷ []) ds w.0 w.1, w.2)
@@ -168,40 +168,40 @@ above_attribute : (p : List Class) (ds : List ClassId) (d : ClassId) (j : ℕ) (
 above_attribute p [] d j b (i, less, e) at = absurd (omega arith)
 above_attribute p (x ∷ ds) d j b (zero, less, e) at =
     let there = subst (λ (y : ClassId). IsAttributeAt p y j b) (sym e) at in
-    let w = place_found 0 (map attribute_name (features_of p x)) j b.name (row_attribute (features_of p x) j b there) in
-    or_left (is_some (first_place 0 (map attribute_name (features_of p x)) b.name)) (have_attribute p ds b.name) (ap (λ (o : Option ℕ). is_some o) w.1)
+    let w = index_found 0 (map attribute_name (features_of p x)) j b.name (row_attribute (features_of p x) j b there) in
+    or_left (is_some (first_index 0 (map attribute_name (features_of p x)) b.name)) (have_attribute p ds b.name) (ap (λ (o : Option ℕ). is_some o) w.1)
 above_attribute p (x ∷ ds) d j b (suc i, less, e) at =
-    or_right (is_some (first_place 0 (map attribute_name (features_of p x)) b.name)) (have_attribute p ds b.name) (above_attribute p ds d j b (i, omega arith, e) at)
+    or_right (is_some (first_index 0 (map attribute_name (features_of p x)) b.name)) (have_attribute p ds b.name) (above_attribute p ds d j b (i, omega arith, e) at)
 
 -- the name at a place stands earlier too
-earlier_place : (row : List (Option (List ℕ))) (k : ℕ) (f : List ℕ) → slice_get row k ≡ Some (Some f) → not (is_place k (first_place 0 row f)) ≡ true → (j : ℕ) × (j < k) × (slice_get row j ≡ Some (Some f))
+earlier_place : (row : List (Option (List ℕ))) (k : ℕ) (f : List ℕ) → slice_get row k ≡ Some (Some f) → not (is_index k (first_index 0 row f)) ≡ true → (j : ℕ) × (j < k) × (slice_get row j ≡ Some (Some f))
 earlier_place row k f there e =
-    let w = place_found 0 row k f there in
-    let other = eqb-false (0 + w.0) k (sym (ap (is_place k) w.1) ∙ not_true (is_place k (first_place 0 row f)) e) in
+    let w = index_found 0 row k f there in
+    let other = eqb-false (0 + w.0) k (sym (ap (is_index k) w.1) ∙ not_true (is_index k (first_index 0 row f)) e) in
     (w.0, (let l = w.2 in less_by w.0 k l (λ same. other (let z : 0 + w.0 ≡ k = omega arith in z))), w.3)
   where
     less_by : (j k : ℕ) → j ≤ k → (j ≡ k → ⊥) → j < k
     less_by j k l other =
         elim (nat_lt j k) as (λ b. nat_lt j k ≡ b → j < k) [ true ↦ (λ e. ltb-true j k e) | false ↦ (λ e. let past = ltb-false j k e in absurd (other (omega arith))) ] refl
 
-place_earlier : (row : List (Option (List ℕ))) (k j : ℕ) (f : List ℕ) → j < k → slice_get row j ≡ Some (Some f) → not (is_place k (first_place 0 row f)) ≡ true
+place_earlier : (row : List (Option (List ℕ))) (k j : ℕ) (f : List ℕ) → j < k → slice_get row j ≡ Some (Some f) → not (is_index k (first_index 0 row f)) ≡ true
 place_earlier row k j f less there =
-    let w = place_found 0 row j f there in
+    let w = index_found 0 row j f there in
     let l = w.2 in
-    true_not (is_place k (first_place 0 row f)) (ap (is_place k) w.1 ∙ ne_eqb (0 + w.0) k (λ same. omega arith))
+    true_not (is_index k (first_index 0 row f)) (ap (is_index k) w.1 ∙ ne_eqb (0 + w.0) k (λ same. omega arith))
 
 -- the faults of one formal, behind others of its method
 
 formal_only : (p : List Class) (P : ClassFault → Type 0) (before : List (Option (List ℕ))) (f : Formal) → (f.name ≡ codes "self" → P (fault F3 f.at))
-    → (is_some (first_place 0 before f.name) ≡ true → P (fault F4 f.at)) → (f.declared.name ≡ self_type → P (fault F5 f.declared.at)) → (IsNoType p f.declared.name → P (fault F6 f.declared.at))
+    → (is_some (first_index 0 before f.name) ≡ true → P (fault F4 f.at)) → (f.declared.name ≡ self_type → P (fault F5 f.declared.at)) → (IsNoType p f.declared.name → P (fault F6 f.declared.at))
     → AllByRecursion P (formal_faults p before f)
 formal_only p P before f three four five six =
     let a = noted (bytes_eq f.name (codes "self")) F3 f.at in
-    let b = noted (is_some (first_place 0 before f.name)) F4 f.at in
+    let b = noted (is_some (first_index 0 before f.name)) F4 f.at in
     let c = noted (bytes_eq f.declared.name self_type) F5 f.declared.at in
     let d = type_faults p f.declared in
     all_both P a (b ++ (c ++ d)) (noted_only P (bytes_eq f.name (codes "self")) F3 f.at (λ e. three ((bytes_eq-Decides f.name (codes "self")).0 e)))
-    (all_both P b (c ++ d) (noted_only P (is_some (first_place 0 before f.name)) F4 f.at four)
+    (all_both P b (c ++ d) (noted_only P (is_some (first_index 0 before f.name)) F4 f.at four)
     (all_both P c d (noted_only P (bytes_eq f.declared.name self_type) F5 f.declared.at (λ e. five ((bytes_eq-Decides f.declared.name self_type).0 e)))
     (noted_only P (not (bytes_eq f.declared.name self_type || is_class p f.declared.name)) F6 f.declared.at (λ e. six (no_type p f.declared.name e)))))
 
@@ -220,8 +220,8 @@ formals_only p P m done (f ∷ fs) whole three four five six =
     all_both P (formal_faults p (formal_row done) f) (formals_faults p (formal_row done ++ Some f.name ∷ []) fs)
     (formal_only p P (formal_row done) f (three (length done) f here)
     (λ e.
-    let n = some_value (first_place 0 (formal_row done) f.name) e in
-    let w = place_sound 0 (formal_row done) f.name n.0 n.1 in
+    let n = some_value (first_index 0 (formal_row done) f.name) e in
+    let w = index_sound 0 (formal_row done) f.name n.0 n.1 in
     let g = formal_row_get done w.0 f.name w.2 in
     let there : IsFormalAt m w.0 g.0 = ap (λ (xs : List Formal). slice_get xs w.0) (sym whole) ∙ behind_get done (f ∷ fs) w.0 g.0 g.1 in
     four (length done) w.0 f g.0 here (get_within done w.0 g.0 g.1) there g.2)
@@ -248,13 +248,13 @@ method_only : (p : List Class) (c : ClassId) (ds : List ClassId) (here : Place) 
 method_only p c ds here k m at =
     let P = λ (f : ClassFault). IsFeatureFault p c ds here f.kind f.at in
     let own = features_of p c in
-    let twice = not (is_place k (first_method 0 own m.name)) in
+    let twice = not (is_index k (first_method 0 own m.name)) in
     let otherwise = redefines_otherwise p m (implementation p ds m.name) in
     let formals = formals_faults p [] m.formals in
     let result = type_faults p m.result in
     all_both P (noted twice F1 m.at) (noted otherwise F7 m.at ++ (formals ++ result))
     (noted_only P twice F1 m.at (λ e.
-    let w = earlier_place (map method_name own) k m.name (row_method own k m at) (ap (λ (o : Option ℕ). not (is_place k o)) (first_method_place 0 own m.name) ∙ e) in
+    let w = earlier_place (map method_name own) k m.name (row_method own k m at) (ap (λ (o : Option ℕ). not (is_index k o)) (first_method_index 0 own m.name) ∙ e) in
     let n = method_row own w.0 m.name w.2 in
     rows.method_twice k w.0 m n.0 at w.1 n.1 n.2))
     (all_both P (noted otherwise F7 m.at) (formals ++ result)
@@ -279,7 +279,7 @@ attribute_only p c ds here k a at =
     (noted_only P self F3 a.at (λ e. rows.attribute_self k a at ((bytes_eq-Decides a.name (codes "self")).0 e)))
     (all_both P (noted doubled F2 a.at) (type_faults p a.declared)
     (noted_only P doubled F2 a.at (λ e.
-    elim (or_cases (not (is_place k (first_place 0 (map attribute_name own) a.name))) (have_attribute p ds a.name) e) [
+    elim (or_cases (not (is_index k (first_index 0 (map attribute_name own) a.name))) (have_attribute p ds a.name) e) [
       | inl twice ↦
           let w = earlier_place (map attribute_name own) k a.name (row_attribute own k a at) twice in
           let b = attribute_row own w.0 a.name w.2 in
@@ -328,16 +328,16 @@ main_only p c ds here e = by (first_method 0 own main) refl both.1
 
     by : (o : Option ℕ) → first_method 0 (features_of p c) (codes "main") ≡ o → lacks_main_at (features_of p c) o ≡ true → IsFeatureFault p c ds here F8 here
     by None is t = rows.no_main named (λ i m at same.
-        let w = place_found 0 (map method_name (features_of p c)) i (codes "main") (row_method (features_of p c) i m at ∙ ap (λ (f : List ℕ). Some (Some f)) same) in
-        none-some (0 + w.0) (sym is ∙ sym (first_method_place 0 (features_of p c) (codes "main")) ∙ w.1))
+        let w = index_found 0 (map method_name (features_of p c)) i (codes "main") (row_method (features_of p c) i m at ∙ ap (λ (f : List ℕ). Some (Some f)) same) in
+        none-some (0 + w.0) (sym is ∙ sym (first_method_index 0 (features_of p c) (codes "main")) ∙ w.1))
     by (Some k) is t =
-        let found = first_method_place 0 (features_of p c) (codes "main") ∙ is in
-        let w = place_sound 0 (map method_name (features_of p c)) (codes "main") k found in
+        let found = first_method_index 0 (features_of p c) (codes "main") ∙ is in
+        let w = index_sound 0 (map method_name (features_of p c)) (codes "main") k found in
         let n = method_row (features_of p c) w.0 (codes "main") w.2 in
         let at : slice_get (features_of p c) k ≡ Some (Method n.0) = ap (slice_get (features_of p c)) (let z : k ≡ w.0 = (let e' = w.1 in omega arith) in z) ∙ n.1 in
         rows.main_formals k n.0 named at n.2
         (λ j m less at_j same.
-        let v = place_found 0 (map method_name (features_of p c)) j (codes "main") (row_method (features_of p c) j m at_j ∙ ap (λ (f : List ℕ). Some (Some f)) same) in
+        let v = index_found 0 (map method_name (features_of p c)) j (codes "main") (row_method (features_of p c) j m at_j ∙ ap (λ (f : List ℕ). Some (Some f)) same) in
         let l = v.2 in
         let both_are : 0 + v.0 ≡ k = same_Some (0 + v.0) k (sym v.1 ∙ found) in absurd (omega arith))
         (formals_there n.0.formals (sym (ap (λ (o : Option Feature). has_formals (formals_in o)) at) ∙ t))
@@ -379,7 +379,7 @@ own_have p c ds here i x f e there =
 method_formal_has : (p : List Class) (c : ClassId) (ds : List ClassId) (here : Place) (i j : ℕ) (m : MethodDef) (g : Formal) (f : ClassFault) → IsMethodAt p c i m → IsFormalAt m j g
     → Contains (formal_faults p (formal_row (take j m.formals)) g) f → Contains (class_faults p c ds here) f
 method_formal_has p c ds here i j m g f at is there =
-    let twice = noted (not (is_place i (first_method 0 (features_of p c) m.name))) F1 m.at in
+    let twice = noted (not (is_index i (first_method 0 (features_of p c) m.name))) F1 m.at in
     let otherwise = noted (redefines_otherwise p m (implementation p ds m.name)) F7 m.at in
     let formals = formals_faults p [] m.formals in
     own_have p c ds here i (Method m) f at
@@ -390,20 +390,20 @@ method_formal_has p c ds here i j m g f at is there =
 row_there : (p : List Class) (c : ClassId) (ds : List ClassId) (here : Place) (kind : ClassKind) (at : Place) → IsFeatureFault p c ds here kind at → Contains (class_faults p c ds here) (fault kind at)
 row_there p c ds here kind at (rows.method_twice i j m n is less also same) =
     let own = features_of p c in
-    let twice = not (is_place i (first_method 0 own m.name)) in
-    let e : twice ≡ true = ap (λ (o : Option ℕ). not (is_place i o)) (sym (first_method_place 0 own m.name))
+    let twice = not (is_index i (first_method 0 own m.name)) in
+    let e : twice ≡ true = ap (λ (o : Option ℕ). not (is_index i o)) (sym (first_method_index 0 own m.name))
     ∙ place_earlier (map method_name own) i j m.name less (row_method own j n also ∙ ap (λ (f : List ℕ). Some (Some f)) same) in
     own_have p c ds here i (Method m) (fault F1 m.at) is (has_left (noted twice F1 m.at) _ (fault F1 m.at) (noted_in twice F1 m.at e))
 row_there p c ds here kind at (rows.attribute_twice i j a b is less also same) =
     let own = features_of p c in
-    let first = not (is_place i (first_place 0 (map attribute_name own) a.name)) in
+    let first = not (is_index i (first_index 0 (map attribute_name own) a.name)) in
     let e = place_earlier (map attribute_name own) i j a.name less (row_attribute own j b also ∙ ap (λ (f : List ℕ). Some (Some f)) same) in
     let doubled = is_doubled p c ds i a.name in
     own_have p c ds here i (Attribute a) (fault F2 a.at) is
     (has_right (noted (bytes_eq a.name (codes "self")) F3 a.at) _ (fault F2 a.at) (has_left (noted doubled F2 a.at) _ (fault F2 a.at) (noted_in doubled F2 a.at (or_left first (have_attribute p ds a.name) e))))
 row_there p c ds here kind at (rows.attribute_inherited i j a b d is there also same) =
     let own = features_of p c in
-    let first = not (is_place i (first_place 0 (map attribute_name own) a.name)) in
+    let first = not (is_index i (first_index 0 (map attribute_name own) a.name)) in
     let e = ap (have_attribute p ds) (sym same) ∙ above_attribute p ds d j b there also in
     let doubled = is_doubled p c ds i a.name in
     own_have p c ds here i (Attribute a) (fault F2 a.at) is
@@ -416,24 +416,24 @@ row_there p c ds here kind at (rows.formal_self i j m f is also same) =
     (has_left (noted (bytes_eq f.name (codes "self")) F3 f.at) _ (fault F3 f.at) (noted_in (bytes_eq f.name (codes "self")) F3 f.at ((bytes_eq-Decides f.name (codes "self")).1 same)))
 row_there p c ds here kind at (rows.formal_twice i j k m f g is also less earlier same) =
     let row = formal_row (take j m.formals) in
-    let w = place_found 0 row k f.name (row_formal (take j m.formals) k g (take_get m.formals j k g less earlier) ∙ ap (λ (x : List ℕ). Some (Some x)) same) in
-    let double = is_some (first_place 0 row f.name) in
+    let w = index_found 0 row k f.name (row_formal (take j m.formals) k g (take_get m.formals j k g less earlier) ∙ ap (λ (x : List ℕ). Some (Some x)) same) in
+    let double = is_some (first_index 0 row f.name) in
     method_formal_has p c ds here i j m f (fault F4 f.at) is also
     (has_right (noted (bytes_eq f.name (codes "self")) F3 f.at) _ (fault F4 f.at) (has_left (noted double F4 f.at) _ (fault F4 f.at) (noted_in double F4 f.at (ap (λ (o : Option ℕ). is_some o) w.1))))
 row_there p c ds here kind at (rows.formal_self_type i j m f is also same) =
     let row = formal_row (take j m.formals) in
     let self = bytes_eq f.declared.name self_type in
     method_formal_has p c ds here i j m f (fault F5 f.declared.at) is also
-    (has_right (noted (bytes_eq f.name (codes "self")) F3 f.at) _ (fault F5 f.declared.at) (has_right (noted (is_some (first_place 0 row f.name)) F4 f.at) _ (fault F5 f.declared.at)
+    (has_right (noted (bytes_eq f.name (codes "self")) F3 f.at) _ (fault F5 f.declared.at) (has_right (noted (is_some (first_index 0 row f.name)) F4 f.at) _ (fault F5 f.declared.at)
     (has_left (noted self F5 f.declared.at) _ (fault F5 f.declared.at) (noted_in self F5 f.declared.at ((bytes_eq-Decides f.declared.name self_type).1 same)))))
 row_there p c ds here kind at (rows.formal_unknown i j m f is also none) =
     let row = formal_row (take j m.formals) in
     let unknown = not (bytes_eq f.declared.name self_type || is_class p f.declared.name) in
     method_formal_has p c ds here i j m f (fault F6 f.declared.at) is also
-    (has_right (noted (bytes_eq f.name (codes "self")) F3 f.at) _ (fault F6 f.declared.at) (has_right (noted (is_some (first_place 0 row f.name)) F4 f.at) _ (fault F6 f.declared.at)
+    (has_right (noted (bytes_eq f.name (codes "self")) F3 f.at) _ (fault F6 f.declared.at) (has_right (noted (is_some (first_index 0 row f.name)) F4 f.at) _ (fault F6 f.declared.at)
     (has_right (noted (bytes_eq f.declared.name self_type) F5 f.declared.at) _ (fault F6 f.declared.at) (noted_in unknown F6 f.declared.at (type_no p f.declared.name none)))))
 row_there p c ds here kind at (rows.result_unknown i m is none) =
-    let twice = noted (not (is_place i (first_method 0 (features_of p c) m.name))) F1 m.at in
+    let twice = noted (not (is_index i (first_method 0 (features_of p c) m.name))) F1 m.at in
     let otherwise = noted (redefines_otherwise p m (implementation p ds m.name)) F7 m.at in
     let unknown = not (bytes_eq m.result.name self_type || is_class p m.result.name) in
     own_have p c ds here i (Method m) (fault F6 m.result.at) is
@@ -445,7 +445,7 @@ row_there p c ds here kind at (rows.attribute_unknown i a is none) =
     (has_right (noted (bytes_eq a.name (codes "self")) F3 a.at) _ (fault F6 a.declared.at) (has_right (noted (is_doubled p c ds i a.name) F2 a.at) _ (fault F6 a.declared.at)
     (noted_in unknown F6 a.declared.at (type_no p a.declared.name none))))
 row_there p c ds here kind at (rows.other_signature i m q is above other) =
-    let twice = noted (not (is_place i (first_method 0 (features_of p c) m.name))) F1 m.at in
+    let twice = noted (not (is_index i (first_method 0 (features_of p c) m.name))) F1 m.at in
     let otherwise = redefines_otherwise p m (implementation p ds m.name) in
     let e : otherwise ≡ true = ap (redefines_otherwise p m) above ∙ is_other_signature p m q other in
     own_have p c ds here i (Method m) (fault F7 m.at) is (has_right twice _ (fault F7 m.at) (has_left (noted otherwise F7 m.at) _ (fault F7 m.at) (noted_in otherwise F7 m.at e)))
@@ -453,20 +453,20 @@ row_there p c ds here kind at (rows.no_main named none) =
     let own = features_of p c in
     let lacks = lacks_main p c in
     let e : lacks ≡ true = and_both (bytes_eq (name_of p c) (codes "Main")) (lacks_main_at own (first_method 0 own (codes "main"))) ((bytes_eq-Decides (name_of p c) (codes "Main")).1 named)
-    (nowhere (first_method 0 own (codes "main")) (first_method_place 0 own (codes "main"))) in
+    (nowhere (first_method 0 own (codes "main")) (first_method_index 0 own (codes "main"))) in
     has_right (features_faults p c ds 0 own) _ (fault F8 here) (has_left (noted lacks F8 here) _ (fault F8 here) (noted_in lacks F8 here e))
   where
-    nowhere : (o : Option ℕ) → first_place 0 (map method_name (features_of p c)) (codes "main") ≡ o → lacks_main_at (features_of p c) o ≡ true
+    nowhere : (o : Option ℕ) → first_index 0 (map method_name (features_of p c)) (codes "main") ≡ o → lacks_main_at (features_of p c) o ≡ true
     nowhere None is = refl
     nowhere (Some k) is =
-        let w = place_sound 0 (map method_name (features_of p c)) (codes "main") k is in
+        let w = index_sound 0 (map method_name (features_of p c)) (codes "main") k is in
         let n = method_row (features_of p c) w.0 (codes "main") w.2 in absurd (none w.0 n.0 n.1 n.2)
 row_there p c ds here kind at (rows.main_formals i m named is same none some) =
     let own = features_of p c in
     let lacks = lacks_main p c in
-    let w = place_found 0 (map method_name own) i (codes "main") (row_method own i m is ∙ ap (λ (f : List ℕ). Some (Some f)) same) in
+    let w = index_found 0 (map method_name own) i (codes "main") (row_method own i m is ∙ ap (λ (f : List ℕ). Some (Some f)) same) in
     let n = method_row own w.0 (codes "main") w.3 in
-    let first : first_method 0 own (codes "main") ≡ Some i = sym (first_method_place 0 own (codes "main")) ∙ w.1 ∙ ap Some (at_end w.0 i w.2 (λ less. none w.0 n.0 less n.1 n.2)) in
+    let first : first_method 0 own (codes "main") ≡ Some i = sym (first_method_index 0 own (codes "main")) ∙ w.1 ∙ ap Some (at_end w.0 i w.2 (λ less. none w.0 n.0 less n.1 n.2)) in
     let e : lacks ≡ true = and_both (bytes_eq (name_of p c) (codes "Main")) (lacks_main_at own (first_method 0 own (codes "main"))) ((bytes_eq-Decides (name_of p c) (codes "Main")).1 named)
     (ap (lacks_main_at own) first ∙ ap (λ (o : Option Feature). has_formals (formals_in o)) is ∙ there_formals m.formals some) in
     has_right (features_faults p c ds 0 own) _ (fault F8 here) (has_left (noted lacks F8 here) _ (fault F8 here) (noted_in lacks F8 here e))

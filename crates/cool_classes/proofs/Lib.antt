@@ -17,14 +17,14 @@ pub mod FaultsJoined
 pub mod FaultsLeft
 pub mod FeatureRowsExact
 pub mod FeaturesChecked
-pub mod FirstPlaces
+pub mod FirstIndexes
 pub mod GroundedByDepths
 pub mod LawfulByFaults
 pub mod Lineages
 pub mod MainMethods
 pub mod Methods
 pub mod MethodsNamed
-pub mod NamePlaces
+pub mod NameIndexes
 pub mod NamesOfDefinitions
 pub mod NamesOfFeatures
 pub mod NewMethods

@@ -12,7 +12,7 @@ use Rattle.cool_classes.specs.declared.method.MethodRef.{MethodRef}
 use Rattle.cool_classes.specs.declared.method.MethodRef.TheVariants.{Basic}
 use Rattle.cool_classes.specs.Chains.{Class, features_of}
 use Rattle.cool_classes.specs.Features.{NamedMethod, basic_methods, method_among, first_method, user_method, own_method, first_of, implementation}
-use Rattle.cool_classes.specs.FirstNames.{is_place}
+use Rattle.cool_classes.specs.FirstNames.{is_index}
 use Rattle.cool_classes.specs.Limits.{AreDifferent, IsImplemented}
 use Rattle.cool_classes.specs.MethodNames.{is_new, new_name, new_among, basic_names, new_methods, methods_of}
 
@@ -114,8 +114,8 @@ new_there p above own k j (Method m ∷ fs) f h first none = by (bytes_eq m.name
 
     new : m.name ≡ f → k ≡ j → is_new p above own k m.name ≡ true
     new same place =
-        ap (λ (n : List ℕ). is_place k (first_method 0 own n) && is_none (implementation p above n)) same
-        ∙ ap (λ (o : Option ℕ). is_place k o && is_none (implementation p above f)) first
+        ap (λ (n : List ℕ). is_index k (first_method 0 own n) && is_none (implementation p above n)) same
+        ∙ ap (λ (o : Option ℕ). is_index k o && is_none (implementation p above f)) first
         ∙ ap (λ (o : Option MethodRef). nat_eq j k && is_none o) none
         ∙ ap (λ (b : Bool). b && true) (eq-eqb j k (sym place))
 

@@ -7,10 +7,10 @@ use Rattle.std.proofs.Math.Seq.{take-length}
 use Rattle.cool_syntax.specs.declared.file_tree.ClassDef.{ClassDef}
 use Rattle.cool_classes.specs.declared.class_id.ClassId.{ClassId}
 use Rattle.cool_classes.specs.Chains.{class_number}
-use Rattle.cool_classes.specs.FirstNames.{first_place, places_shown, FindsPlaces, AreFirst}
+use Rattle.cool_classes.specs.FirstNames.{first_index, shown_names, FindsFirst, FindsNames}
 use Rattle.cool_classes.specs.Names.{first_named, self_type}
 use Rattle.cool_classes.specs.Settled.{basic_names, names_in, names_with_basic, IsNamedAnew, AreNamedAnew}
-use Rattle.cool_classes.proofs.NamePlaces.{class_at_place}
+use Rattle.cool_classes.proofs.NameIndexes.{class_at_index}
 
 -- the name of a definition at a position
 pub name_there : (ds : List ClassDef) (k : ℕ) (d : ClassDef) → k < length ds → d ≡ get_or ds k d → get_or (names_in ds) k [] ≡ d.name
@@ -37,13 +37,13 @@ number_next ds k within =
     omega (arith, long, both, row)
 
 -- a map finds one name more
-pub finds_more : (entries : List (Vec ℕ × ℕ)) (before next : List (List ℕ)) (name : List ℕ) → before ++ name ∷ [] ≡ next → FindsPlaces (places_shown entries) (map Some before ++ Some name ∷ [])
-    → AreFirst entries next
-finds_more entries before next name is finds = subst (FindsPlaces (places_shown entries)) (sym (map-append Some before (name ∷ [])) ∙ ap (map Some) is) finds
+pub finds_more : (entries : List (Vec ℕ × ℕ)) (before next : List (List ℕ)) (name : List ℕ) → before ++ name ∷ [] ≡ next → FindsFirst (shown_names entries) (map Some before ++ Some name ∷ [])
+    → FindsNames entries next
+finds_more entries before next name is finds = subst (FindsFirst (shown_names entries)) (sym (map-append Some before (name ∷ [])) ∙ ap (map Some) is) finds
 
 -- whether a class has a name
-pub known_there : (names : List (List ℕ)) (f : List ℕ) (known : Bool) (o : Option ℕ) → known ≡ is_some o → o ≡ first_place 0 (map Some names) f → known ≡ is_some (first_named 0 names f)
-known_there names f known o is first = is ∙ ap is_some first ∙ sym (some_number (first_place 0 (map Some names) f)) ∙ ap is_some (class_at_place 0 names f)
+pub known_there : (names : List (List ℕ)) (f : List ℕ) (known : Bool) (o : Option ℕ) → known ≡ is_some o → o ≡ first_index 0 (map Some names) f → known ≡ is_some (first_named 0 names f)
+known_there names f known o is first = is ∙ ap is_some first ∙ sym (some_number (first_index 0 (map Some names) f)) ∙ ap is_some (class_at_index 0 names f)
   where
     some_number : (p : Option ℕ) → is_some (option_map class_number p) ≡ is_some p
     some_number None = refl

@@ -15,7 +15,7 @@ use Rattle.cool_classes.specs.declared.method.AttributeRef.{AttributeRef}
 use Rattle.cool_classes.specs.Chains.{Class, parent_of, features_of, IsChain}
 use Rattle.cool_classes.specs.FeatureFaults.{noted, type_faults, redefines_otherwise, have_attribute, is_doubled, formal_faults, formals_faults, one_feature_faults, attribute_faults, features_faults}
 use Rattle.cool_classes.specs.Features.{first_method, implementation, own_attributes, attributes_of, name_in, attribute_name as name_at}
-use Rattle.cool_classes.specs.FirstNames.{first_place, is_place, attribute_name}
+use Rattle.cool_classes.specs.FirstNames.{first_index, is_index, attribute_name}
 use Rattle.cool_classes.specs.LawfulTables.{HasDifferentFormals, method_names}
 use Rattle.cool_classes.specs.Limits.{AreDifferent}
 use Rattle.cool_classes.specs.Tables.{IsWholeTable}
@@ -40,17 +40,17 @@ is_some_not None h = refl
 is_some_not (Some k) h = absurd (cc)
 
 -- a name that stands in a row stands in a longer one
-kept : (k : ℕ) (row more : List (Option (List ℕ))) (n : List ℕ) → first_place k row n ≢ None → first_place k (row ++ more) n ≢ None
+kept : (k : ℕ) (row more : List (Option (List ℕ))) (n : List ℕ) → first_index k row n ≢ None → first_index k (row ++ more) n ≢ None
 kept k [] more n h = absurd (h refl)
 kept k (None ∷ row) more n h = kept (k + 1) row more n h
 kept k (Some m ∷ row) more n h = by (bytes_eq n m) h (kept (k + 1) row more n)
   where
-    by : (b : Bool) → cond b (Some k) (first_place (k + 1) row n) ≢ None → (first_place (k + 1) row n ≢ None → first_place (k + 1) (row ++ more) n ≢ None) → cond b (Some k) (first_place (k + 1) (row ++ more) n) ≢ None
+    by : (b : Bool) → cond b (Some k) (first_index (k + 1) row n) ≢ None → (first_index (k + 1) row n ≢ None → first_index (k + 1) (row ++ more) n ≢ None) → cond b (Some k) (first_index (k + 1) (row ++ more) n) ≢ None
     by true h rest = λ e. cc
     by false h rest = rest h
 
 -- the last name of a row stands in it
-last_there : (k : ℕ) (row : List (Option (List ℕ))) (n : List ℕ) → first_place k (row ++ Some n ∷ []) n ≢ None
+last_there : (k : ℕ) (row : List (Option (List ℕ))) (n : List ℕ) → first_index k (row ++ Some n ∷ []) n ≢ None
 last_there k [] n = λ e. absurd (some_none (sym (ap (λ (b : Bool). cond b (Some k) None) (same_name n n refl)) ∙ e))
   where
     some_none : Some k ≡ None → ⊥
@@ -58,7 +58,7 @@ last_there k [] n = λ e. absurd (some_none (sym (ap (λ (b : Bool). cond b (Som
 last_there k (None ∷ row) n = last_there (k + 1) row n
 last_there k (Some m ∷ row) n = by (bytes_eq n m) (last_there (k + 1) row n)
   where
-    by : (b : Bool) → first_place (k + 1) (row ++ Some n ∷ []) n ≢ None → cond b (Some k) (first_place (k + 1) (row ++ Some n ∷ []) n) ≢ None
+    by : (b : Bool) → first_index (k + 1) (row ++ Some n ∷ []) n ≢ None → cond b (Some k) (first_index (k + 1) (row ++ Some n ∷ []) n) ≢ None
     by true rest = λ e. cc
     by false rest = rest
 
@@ -75,9 +75,9 @@ not_false false h = absurd (cc)
 equal_number : (m n : ℕ) → nat_eq m n ≡ true → m ≡ n
 equal_number m n h = grind arith
 
-place_is : (k : ℕ) (o : Option ℕ) → is_place k o ≡ true → o ≡ Some k
-place_is k None h = absurd (cc)
-place_is k (Some j) h = ap Some (equal_number j k h)
+index_is : (k : ℕ) (o : Option ℕ) → is_index k o ≡ true → o ≡ Some k
+index_is k None h = absurd (cc)
+index_is k (Some j) h = ap Some (equal_number j k h)
 
 different_append : (xs ys : List (List ℕ)) → AreDifferent xs → AreDifferent ys → AllByRecursion (λ (n : List ℕ). AllByRecursion (λ (o : List ℕ). o ≢ n) xs) ys → AreDifferent (xs ++ ys)
 different_append [] ys h g both = g
@@ -98,14 +98,14 @@ module _ (p : List Class) where
   formal_names fs = map (λ (f : Formal). f.name) fs
 
   -- no formal has a name that stands before it
-  formal_new : (before : List (Option (List ℕ))) (f : Formal) → formal_faults p before f ≡ [] → first_place 0 before f.name ≡ None
-  formal_new before f h = is_some_not (first_place 0 before f.name) (not_noted (is_some (first_place 0 before f.name)) F4 f.at (none_both (noted (is_some (first_place 0 before f.name)) F4 f.at) _ (none_both (noted _ F3 f.at) _ h).1).0)
+  formal_new : (before : List (Option (List ℕ))) (f : Formal) → formal_faults p before f ≡ [] → first_index 0 before f.name ≡ None
+  formal_new before f h = is_some_not (first_index 0 before f.name) (not_noted (is_some (first_index 0 before f.name)) F4 f.at (none_both (noted (is_some (first_index 0 before f.name)) F4 f.at) _ (none_both (noted _ F3 f.at) _ h).1).0)
 
-  later_new : (before : List (Option (List ℕ))) (n : List ℕ) (fs : List Formal) → first_place 0 before n ≢ None → formals_faults p before fs ≡ [] → AllByRecursion (λ (o : List ℕ). o ≢ n) (formal_names fs)
+  later_new : (before : List (Option (List ℕ))) (n : List ℕ) (fs : List Formal) → first_index 0 before n ≢ None → formals_faults p before fs ≡ [] → AllByRecursion (λ (o : List ℕ). o ≢ n) (formal_names fs)
   later_new before n [] there h = tt
   later_new before n (f ∷ fs) there h =
       let both = none_both (formal_faults p before f) (formals_faults p (before ++ Some f.name ∷ []) fs) h in
-      ((λ same. there (subst (λ (o : List ℕ). first_place 0 before o ≡ None) same (formal_new before f both.0))), later_new (before ++ Some f.name ∷ []) n fs (kept 0 before (Some f.name ∷ []) n there) both.1)
+      ((λ same. there (subst (λ (o : List ℕ). first_index 0 before o ≡ None) same (formal_new before f both.0))), later_new (before ++ Some f.name ∷ []) n fs (kept 0 before (Some f.name ∷ []) n there) both.1)
 
   formals_different : (before : List (Option (List ℕ))) (fs : List Formal) → formals_faults p before fs ≡ [] → AreDifferent (formal_names fs)
   formals_different before [] h = tt
@@ -141,13 +141,13 @@ module _ (p : List Class) where
       λ i. first i ∷ rest i
 
   -- a name that is that of no attribute
-  none_own : (k : ℕ) (fs : List Feature) (n : List ℕ) → first_place k (map attribute_name fs) n ≡ None → AllByRecursion (λ (o : List ℕ). o ≢ n) (own_names fs)
+  none_own : (k : ℕ) (fs : List Feature) (n : List ℕ) → first_index k (map attribute_name fs) n ≡ None → AllByRecursion (λ (o : List ℕ). o ≢ n) (own_names fs)
   unfolding own_names
   none_own k [] n h = tt
   none_own k (Method m ∷ fs) n h = none_own (k + 1) fs n h
   none_own k (Attribute a ∷ fs) n h = by (bytes_eq n a.name) refl h (none_own (k + 1) fs n)
     where
-      by : (b : Bool) → bytes_eq n a.name ≡ b → cond b (Some k) (first_place (k + 1) (map attribute_name fs) n) ≡ None → (first_place (k + 1) (map attribute_name fs) n ≡ None → AllByRecursion (λ (o : List ℕ). o ≢ n) (own_names fs))
+      by : (b : Bool) → bytes_eq n a.name ≡ b → cond b (Some k) (first_index (k + 1) (map attribute_name fs) n) ≡ None → (first_index (k + 1) (map attribute_name fs) n ≡ None → AllByRecursion (λ (o : List ℕ). o ≢ n) (own_names fs))
           → (a.name ≢ n) × AllByRecursion (λ (o : List ℕ). o ≢ n) (own_names fs)
       by true e h rest = absurd (cc)
       by false e h rest = ((λ same. true_false (sym (same_name n a.name (sym same)) ∙ e)), rest h)
@@ -155,18 +155,18 @@ module _ (p : List Class) where
           true_false : true ≡ false → ⊥
           true_false e = cc
 
-  -- the attributes among features, from a place on, are each the first of its name in a row
+  -- the attributes among features, from an index on, are each the first of its name in a row
   abbrev AreFirst : List (Option (List ℕ)) → ℕ → List Feature → Type 0
   AreFirst row k [] = Unit {0}
   AreFirst row k (Method m ∷ fs) = AreFirst row (k + 1) fs
-  AreFirst row k (Attribute a ∷ fs) = (first_place 0 row a.name ≡ Some k) × AreFirst row (k + 1) fs
+  AreFirst row k (Attribute a ∷ fs) = (first_index 0 row a.name ≡ Some k) × AreFirst row (k + 1) fs
 
-  later_own : (row : List (Option (List ℕ))) (k j : ℕ) (n : List ℕ) (fs : List Feature) → first_place 0 row n ≡ Some j → j < k → AreFirst row k fs → AllByRecursion (λ (o : List ℕ). o ≢ n) (own_names fs)
+  later_own : (row : List (Option (List ℕ))) (k j : ℕ) (n : List ℕ) (fs : List Feature) → first_index 0 row n ≡ Some j → j < k → AreFirst row k fs → AllByRecursion (λ (o : List ℕ). o ≢ n) (own_names fs)
   unfolding own_names
   later_own row k j n [] e less h = tt
   later_own row k j n (Method m ∷ fs) e less h = later_own row (k + 1) j n fs e (omega arith) h
   later_own row k j n (Attribute a ∷ fs) e less h =
-      ((λ same. apart (sym (subst (λ (o : List ℕ). first_place 0 row o ≡ Some k) same h.0) ∙ e)), later_own row (k + 1) j n fs e (omega arith) h.1)
+      ((λ same. apart (sym (subst (λ (o : List ℕ). first_index 0 row o ≡ Some k) same h.0) ∙ e)), later_own row (k + 1) j n fs e (omega arith) h.1)
     where
       apart : Some k ≡ Some j → ⊥
       apart same = let is : k ≡ j = cc in omega arith
@@ -184,17 +184,17 @@ module _ (p : List Class) where
   above_names : (ds : List ClassId) (n : List ℕ) → have_attribute p ds n ≡ false → AllByRecursion (λ (o : List ℕ). o ≢ n) (names (attributes_of p ds))
   above_names [] n h = tt
   above_names (d ∷ ds) n h =
-      let both = neither (is_some (first_place 0 (map attribute_name (features_of p d)) n)) (have_attribute p ds n) h in
+      let both = neither (is_some (first_index 0 (map attribute_name (features_of p d)) n)) (have_attribute p ds n) h in
       subst (AllByRecursion (λ (o : List ℕ). o ≢ n)) (sym (names_append (attributes_of p ds) (own_attributes d 0 (features_of p d))))
       (all_append (λ (o : List ℕ). o ≢ n) (names (attributes_of p ds)) (names (own_attributes d 0 (features_of p d))) (above_names ds n both.1)
-      (subst (AllByRecursion (λ (o : List ℕ). o ≢ n)) (sym (own_named d 0 (features_of p d) (whole_at d))) (none_own 0 (features_of p d) n (is_some_not (first_place 0 (map attribute_name (features_of p d)) n) both.0))))
+      (subst (AllByRecursion (λ (o : List ℕ). o ≢ n)) (sym (own_named d 0 (features_of p d) (whole_at d))) (none_own 0 (features_of p d) n (is_some_not (first_index 0 (map attribute_name (features_of p d)) n) both.0))))
 
   -- an attribute without fault is the first of its name, and has none above it
-  not_doubled : (d : ClassId) (up : List ClassId) (k : ℕ) (a : AttributeDef) → attribute_faults p d up k a ≡ [] → (first_place 0 (map attribute_name (features_of p d)) a.name ≡ Some k) × (have_attribute p up a.name ≡ false)
+  not_doubled : (d : ClassId) (up : List ClassId) (k : ℕ) (a : AttributeDef) → attribute_faults p d up k a ≡ [] → (first_index 0 (map attribute_name (features_of p d)) a.name ≡ Some k) × (have_attribute p up a.name ≡ false)
   not_doubled d up k a h =
       let doubled = not_noted (is_doubled p d up k a.name) F2 a.at (none_both (noted (is_doubled p d up k a.name) F2 a.at) _ (none_both (noted _ F3 a.at) _ h).1).0 in
-      let both = neither (not (is_place k (first_place 0 (map attribute_name (features_of p d)) a.name))) (have_attribute p up a.name) doubled in
-      (place_is k (first_place 0 (map attribute_name (features_of p d)) a.name) (not_false (is_place k (first_place 0 (map attribute_name (features_of p d)) a.name)) both.0), both.1)
+      let both = neither (not (is_index k (first_index 0 (map attribute_name (features_of p d)) a.name))) (have_attribute p up a.name) doubled in
+      (index_is k (first_index 0 (map attribute_name (features_of p d)) a.name) (not_false (is_index k (first_index 0 (map attribute_name (features_of p d)) a.name)) both.0), both.1)
 
   firsts : (d : ClassId) (up : List ClassId) (k : ℕ) (fs : List Feature) → features_faults p d up k fs ≡ [] → AreFirst (map attribute_name (features_of p d)) k fs
   firsts d up k [] h = tt
@@ -244,7 +244,7 @@ module _ (p : List Class) where
   formals_of_features c up k [] h = tt
   formals_of_features c up k (Method m ∷ fs) h =
       let both = none_both (one_feature_faults p c up k (Method m)) (features_faults p c up (k + 1) fs) h in
-      let anew = none_both (noted (not (is_place k (first_method 0 (features_of p c) m.name))) F1 m.at) _ both.0 in
+      let anew = none_both (noted (not (is_index k (first_method 0 (features_of p c) m.name))) F1 m.at) _ both.0 in
       let redefined = none_both (noted (redefines_otherwise p m (implementation p up m.name)) F7 m.at) _ anew.1 in
       (formals_different [] m.formals (none_both (formals_faults p [] m.formals) (type_faults p m.result) redefined.1).0, formals_of_features c up (k + 1) fs both.1)
   formals_of_features c up k (Attribute a ∷ fs) h = (tt, formals_of_features c up (k + 1) fs (none_both (one_feature_faults p c up k (Attribute a)) (features_faults p c up (k + 1) fs) h).1)
@@ -262,7 +262,7 @@ module _ (p : List Class) where
 
   -- Methods
 
-  -- the methods among features, from a place on, are each the first of its name
+  -- the methods among features, from an index on, are each the first of its name
   abbrev AreFirstMethods : List Feature → ℕ → List Feature → Type 0
   AreFirstMethods all k [] = Unit {0}
   AreFirstMethods all k (Method m ∷ fs) = (first_method 0 all m.name ≡ Some k) × AreFirstMethods all (k + 1) fs
@@ -286,8 +286,8 @@ module _ (p : List Class) where
   first_methods d up k [] h = tt
   first_methods d up k (Method m ∷ fs) h =
       let both = none_both (one_feature_faults p d up k (Method m)) (features_faults p d up (k + 1) fs) h in
-      let twice = not_noted (not (is_place k (first_method 0 (features_of p d) m.name))) F1 m.at (none_both (noted (not (is_place k (first_method 0 (features_of p d) m.name))) F1 m.at) _ both.0).0 in
-      (place_is k (first_method 0 (features_of p d) m.name) (not_false (is_place k (first_method 0 (features_of p d) m.name)) twice), first_methods d up (k + 1) fs both.1)
+      let twice = not_noted (not (is_index k (first_method 0 (features_of p d) m.name))) F1 m.at (none_both (noted (not (is_index k (first_method 0 (features_of p d) m.name))) F1 m.at) _ both.0).0 in
+      (index_is k (first_method 0 (features_of p d) m.name) (not_false (is_index k (first_method 0 (features_of p d) m.name)) twice), first_methods d up (k + 1) fs both.1)
   first_methods d up k (Attribute a ∷ fs) h = first_methods d up (k + 1) fs (none_both (one_feature_faults p d up k (Attribute a)) (features_faults p d up (k + 1) fs) h).1
 
   -- where the features of no class have a fault, the methods of each have different names

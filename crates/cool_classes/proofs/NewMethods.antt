@@ -9,7 +9,7 @@ use Rattle.cool_syntax.specs.declared.file_tree.MethodDef.{MethodDef}
 use Rattle.cool_classes.specs.declared.class_id.ClassId.{ClassId}
 use Rattle.cool_classes.specs.Chains.{Class, class_number, parent_of, features_of, IsChain}
 use Rattle.cool_classes.specs.Features.{first_method, implementation, own_attributes}
-use Rattle.cool_classes.specs.FirstNames.{is_place}
+use Rattle.cool_classes.specs.FirstNames.{is_index}
 use Rattle.cool_classes.specs.Lineages.{AreCounted}
 use Rattle.cool_classes.specs.MethodNames.{new_name, new_methods}
 
@@ -20,10 +20,10 @@ turned s false e = sym (ap not e)
 
 -- a method is new where both tests hold
 pub new_counts : (p : List Class) (above : List ClassId) (own : List Feature) (k : ℕ) (x : Feature) (m : MethodDef) (a b : Bool) → x ≡ Method m
-    → a ≡ is_place k (first_method 0 own m.name) → b ≡ is_none (implementation p above m.name) → cond (a && b) 1 0 ≡ length (new_name p above own k x)
+    → a ≡ is_index k (first_method 0 own m.name) → b ≡ is_none (implementation p above m.name) → cond (a && b) 1 0 ≡ length (new_name p above own k x)
 new_counts p above own k x m a b is here there =
-    ap (λ (t : Bool). cond (t && b) 1 0) here ∙ ap (λ (t : Bool). cond (is_place k (first_method 0 own m.name) && t) 1 0) there
-    ∙ by (is_place k (first_method 0 own m.name) && is_none (implementation p above m.name))
+    ap (λ (t : Bool). cond (t && b) 1 0) here ∙ ap (λ (t : Bool). cond (is_index k (first_method 0 own m.name) && t) 1 0) there
+    ∙ by (is_index k (first_method 0 own m.name) && is_none (implementation p above m.name))
     ∙ sym (ap (λ (y : Feature). length (new_name p above own k y)) is)
   where
     by : (t : Bool) → cond t 1 0 ≡ length (cond t (m.name ∷ []) [])

@@ -14,38 +14,38 @@ use Rattle.cool_syntax.specs.declared.file_tree.AttributeDef.{AttributeDef}
 use Rattle.cool_classes.specs.declared.class_id.ClassId.{ClassId}
 use Rattle.cool_classes.specs.declared.entry.Entry.{Entry}
 use Rattle.cool_classes.specs.declared.own_names.OwnNames.{OwnNames}
-use Rattle.cool_classes.specs.declared.own_names.Scope.{Scope}
+use Rattle.cool_classes.specs.declared.own_names.TableNames.{TableNames}
 use Rattle.cool_classes.specs.declared.method.MethodRef.TheVariants.{Basic}
 use Rattle.cool_classes.specs.Chains.{Class, class_number, features_of}
-use Rattle.cool_classes.specs.Entries.{classes, class_of}
+use Rattle.cool_classes.specs.Entries.{classes, as_class}
 use Rattle.cool_classes.specs.Features.{first_method, own_method, user_method, method_among, basic_methods}
-use Rattle.cool_classes.specs.FirstNames.{first_place, places_shown, FindsPlaces, method_name, attribute_name}
-use Rattle.cool_classes.specs.OwnNames.{AreOwn, AreAllOwn, AreNamed, IsScope}
+use Rattle.cool_classes.specs.FirstNames.{first_index, shown_names, FindsFirst, method_name, attribute_name}
+use Rattle.cool_classes.specs.OwnNames.{AreOwn, AreAllOwn, AreNamed, AreTableNames}
 use Rattle.cool_classes.specs.FeatureFaults.{have_attribute}
-use Rattle.cool_classes.proofs.NamePlaces.{finds_none}
+use Rattle.cool_classes.proofs.NameIndexes.{finds_none}
 
 -- a row of one more feature
 row_next : (name : Feature → Option (List ℕ)) (fs : List Feature) (x : Feature) (o : Option (List ℕ)) → name x ≡ o → (entries : List (List ℕ × ℕ))
-    → FindsPlaces entries (map name fs ++ o ∷ []) → FindsPlaces entries (map name (fs ++ x ∷ []))
+    → FindsFirst entries (map name fs ++ o ∷ []) → FindsFirst entries (map name (fs ++ x ∷ []))
 row_next name fs x o e entries finds =
-    subst (FindsPlaces entries) (ap (λ (y : Option (List ℕ)). map name fs ++ y ∷ []) (sym e) ∙ sym (map-append name fs (x ∷ []))) finds
+    subst (FindsFirst entries) (ap (λ (y : Option (List ℕ)). map name fs ++ y ∷ []) (sym e) ∙ sym (map-append name fs (x ∷ []))) finds
 
 -- one more method
 pub own_method_next : (own : OwnNames) (methods : List (Vec ℕ × ℕ)) (fs : List Feature) (x : Feature) (m : MethodDef) → x ≡ Method m → AreOwn own fs
-    → FindsPlaces (places_shown methods) (map method_name fs ++ Some m.name ∷ [])
-    → FindsPlaces (places_shown methods) (map method_name (fs ++ x ∷ [])) × FindsPlaces (places_shown own.attributes.entries) (map attribute_name (fs ++ x ∷ []))
+    → FindsFirst (shown_names methods) (map method_name fs ++ Some m.name ∷ [])
+    → FindsFirst (shown_names methods) (map method_name (fs ++ x ∷ [])) × FindsFirst (shown_names own.attributes.entries) (map attribute_name (fs ++ x ∷ []))
 own_method_next own methods fs x m is have finds = (
-  row_next method_name fs x (Some m.name) (ap method_name is) (places_shown methods) finds,
-  row_next attribute_name fs x None (ap attribute_name is) (places_shown own.attributes.entries) (finds_none (places_shown own.attributes.entries) (map attribute_name fs) have.attributes),
+  row_next method_name fs x (Some m.name) (ap method_name is) (shown_names methods) finds,
+  row_next attribute_name fs x None (ap attribute_name is) (shown_names own.attributes.entries) (finds_none (shown_names own.attributes.entries) (map attribute_name fs) have.attributes),
 )
 
 -- one more attribute
 pub own_attribute_next : (own : OwnNames) (attributes : List (Vec ℕ × ℕ)) (fs : List Feature) (x : Feature) (a : AttributeDef) → x ≡ Attribute a → AreOwn own fs
-    → FindsPlaces (places_shown attributes) (map attribute_name fs ++ Some a.name ∷ [])
-    → FindsPlaces (places_shown own.methods.entries) (map method_name (fs ++ x ∷ [])) × FindsPlaces (places_shown attributes) (map attribute_name (fs ++ x ∷ []))
+    → FindsFirst (shown_names attributes) (map attribute_name fs ++ Some a.name ∷ [])
+    → FindsFirst (shown_names own.methods.entries) (map method_name (fs ++ x ∷ [])) × FindsFirst (shown_names attributes) (map attribute_name (fs ++ x ∷ []))
 own_attribute_next own attributes fs x a is have finds = (
-  row_next method_name fs x None (ap method_name is) (places_shown own.methods.entries) (finds_none (places_shown own.methods.entries) (map method_name fs) have.methods),
-  row_next attribute_name fs x (Some a.name) (ap attribute_name is) (places_shown attributes) finds,
+  row_next method_name fs x None (ap method_name is) (shown_names own.methods.entries) (finds_none (shown_names own.methods.entries) (map method_name fs) have.methods),
+  row_next attribute_name fs x (Some a.name) (ap attribute_name is) (shown_names attributes) finds,
 )
 
 -- the names of one more class's features
@@ -70,12 +70,12 @@ all_own_next k all p own have here = record {
 bytes_eq_turned : (x y : List ℕ) → bytes_eq x y ≡ bytes_eq y x
 bytes_eq_turned x y = let d = bytes_eq-Decides y x in same_from_decides (bytes_eq x y) (bytes_eq y x) (bytes_eq-Decides x y) (λ h. sym (d.0 h), λ h. d.1 (sym h))
 
--- the first method of a name is at the first place of the name
-pub first_method_place : (k : ℕ) (fs : List Feature) (f : List ℕ) → first_place k (map method_name fs) f ≡ first_method k fs f
-first_method_place k [] f = refl
-first_method_place k (Method m ∷ fs) f =
-    ap (λ (b : Bool). cond b (Some k) (first_place (k + 1) (map method_name fs) f)) (bytes_eq_turned f m.name) ∙ ap (cond (bytes_eq m.name f) (Some k)) (first_method_place (k + 1) fs f)
-first_method_place k (Attribute a ∷ fs) f = first_method_place (k + 1) fs f
+-- the first method of a name is at the first index of the name
+pub first_method_index : (k : ℕ) (fs : List Feature) (f : List ℕ) → first_index k (map method_name fs) f ≡ first_method k fs f
+first_method_index k [] f = refl
+first_method_index k (Method m ∷ fs) f =
+    ap (λ (b : Bool). cond b (Some k) (first_index (k + 1) (map method_name fs) f)) (bytes_eq_turned f m.name) ∙ ap (cond (bytes_eq m.name f) (Some k)) (first_method_index (k + 1) fs f)
+first_method_index k (Attribute a ∷ fs) f = first_method_index (k + 1) fs f
 
 -- the method that a class of the program has of its own
 pub own_of_user : (p : List Class) (c : ClassId) (f : List ℕ) (o : Option ℕ) → 5 ≤ c.0 → o ≡ first_method 0 (features_of p c) f → user_method c o ≡ own_method p c f
@@ -86,20 +86,20 @@ own_of_user p c f o past e =
 pub own_at : (count : ℕ) (all : List OwnNames) (p : List Class) (c : ClassId) (own : OwnNames) → AreAllOwn count all p → c.0 < count → own ≡ get_or all c.0 own → AreOwn own (features_of p c)
 own_at count all p c own have within read = subst (λ (o : OwnNames). AreOwn o (features_of p c)) (sym read) (have.own c.0 own within)
 
--- the names of a class of a scope
-pub own_there : (scope : Scope) (c : ClassId) (own : OwnNames) → IsScope scope → c.0 < length scope.entries.now → own ≡ get_or scope.own.items c.0 own
-    → AreOwn own (features_of (classes scope.entries.now) c)
-own_there scope c own is within read = own_at (length scope.entries.now) scope.own.items (classes scope.entries.now) c own is.own within read
+-- the names of a class of a table
+pub own_there : (table : TableNames) (c : ClassId) (own : OwnNames) → AreTableNames table → c.0 < length table.entries.now → own ≡ get_or table.own.items c.0 own
+    → AreOwn own (features_of (classes table.entries.now) c)
+own_there table c own is within read = own_at (length table.entries.now) table.own.items (classes table.entries.now) c own is.own within read
 
 -- a class that has an attribute, among others
 pub attribute_here : (p : List Class) (ds : List ClassId) (k : ℕ) (d : ClassId) (f : List ℕ) → k < length ds
-    → is_some (first_place 0 (map attribute_name (features_of p (get_or ds k d))) f) ≡ true → have_attribute p (drop k ds) f ≡ true
+    → is_some (first_index 0 (map attribute_name (features_of p (get_or ds k d))) f) ≡ true → have_attribute p (drop k ds) f ≡ true
 attribute_here p ds k d f within h =
     at_drop_more (λ (xs : List ClassId). have_attribute p xs f) ds k d within ∙ ap (λ (b : Bool). b || have_attribute p (drop (k + 1) ds) f) h
 
 -- a class that has no such attribute leaves the matter to the others
 pub attribute_later : (p : List Class) (ds : List ClassId) (k : ℕ) (d : ClassId) (f : List ℕ) → k < length ds
-    → is_some (first_place 0 (map attribute_name (features_of p (get_or ds k d))) f) ≡ false → have_attribute p (drop (k + 1) ds) f ≡ have_attribute p (drop k ds) f
+    → is_some (first_index 0 (map attribute_name (features_of p (get_or ds k d))) f) ≡ false → have_attribute p (drop (k + 1) ds) f ≡ have_attribute p (drop k ds) f
 attribute_later p ds k d f within h =
     sym (at_drop_more (λ (xs : List ClassId). have_attribute p xs f) ds k d within ∙ ap (λ (b : Bool). b || have_attribute p (drop (k + 1) ds) f) h)
 

@@ -15,7 +15,7 @@ use Rattle.cool_classes.specs.declared.entry.Entry.{Entry}
 use Rattle.cool_classes.specs.Chains.{Class, class_number, class_at, name_of, parent_of, features_of, nothing}
 use Rattle.cool_classes.specs.Definitions.{AreFew, HasFewFeatures, HasFewFormals, InheritsAs, AreDefinedBy, IsTableOf}
 use Rattle.cool_classes.specs.Tables.{basic_classes, IsGrounded}
-use Rattle.cool_classes.specs.Entries.{class_of, classes, no_entry, depth_at, AreWhole}
+use Rattle.cool_classes.specs.Entries.{as_class, classes, no_entry, depth_at, AreWhole}
 use Rattle.cool_classes.specs.Names.{first_named, self_type}
 use Rattle.cool_classes.specs.Depths.{parents_with_basic, HasDepth, AreDepths}
 use Rattle.cool_classes.specs.Resolved.{AreResolved, AreGood, ArePlaced}
@@ -36,7 +36,7 @@ abbrev pub classes_meant : List ClassDef → List Class
 classes_meant ds = basic_classes ++ map (class_meant (names_with_basic ds)) ds
 
 -- entries are seen as the classes that their definitions make
-entries_seen : (names : List (List ℕ)) (ds : List ClassDef) (os : List (Option ℕ)) → length os ≡ length ds → map class_of (entries_meant names ds os) ≡ map (class_meant names) ds
+entries_seen : (names : List (List ℕ)) (ds : List ClassDef) (os : List (Option ℕ)) → length os ≡ length ds → map as_class (entries_meant names ds os) ≡ map (class_meant names) ds
 entries_seen names [] os long = refl
 entries_seen names (d ∷ ds) [] long = absurd (omega arith)
 entries_seen names (d ∷ ds) (o ∷ os) long = ap (λ (cs : List Class). class_meant names d ∷ cs) (entries_seen names ds os (omega arith))
@@ -209,7 +209,7 @@ placed_by n ds os settled all =
 pub entries_long : (ds : List ClassDef) (os : List (Option ℕ)) → AreSettled ds os → length ds + 5 ≡ length (entries_of ds os)
 entries_long ds os settled =
     let seen = ap (λ (p : List Class). length p) (all_seen ds os (depths_long ds os settled)) in
-    let many : length (classes (entries_of ds os)) ≡ length (entries_of ds os) = length-map (entries_of ds os) class_of in
+    let many : length (classes (entries_of ds os)) ≡ length (entries_of ds os) = length-map (entries_of ds os) as_class in
     let long = classes_long ds in
     omega arith
 

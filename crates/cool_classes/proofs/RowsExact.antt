@@ -34,7 +34,7 @@ use Rattle.cool_classes.proofs.CyclesCaught.{one_of}
 use Rattle.cool_classes.proofs.FaultPlaces.{all_both}
 use Rattle.cool_classes.proofs.SameMembers.{same_members}
 use Rattle.cool_classes.proofs.FeatureRowsExact.{fault, class_rows, bytes_other, some_value, false_from}
-use Rattle.cool_classes.proofs.FirstPlaces.{get_within, seam_get, has_left, has_right}
+use Rattle.cool_classes.proofs.FirstIndexes.{get_within, seam_get, has_left, has_right}
 use Rattle.cool_classes.proofs.ParentsOfDefinitions.{parents_long}
 
 -- a stronger property of all

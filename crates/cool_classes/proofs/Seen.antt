@@ -7,13 +7,13 @@ use Rattle.std.specs.Prelude.{bytes_eq}
 use Rattle.cool_classes.specs.declared.class_id.ClassId.{ClassId}
 use Rattle.cool_classes.specs.declared.entry.Entry.{Entry}
 use Rattle.cool_classes.specs.Chains.{class_at, nothing}
-use Rattle.cool_classes.specs.Entries.{classes, class_of, no_entry}
+use Rattle.cool_classes.specs.Entries.{classes, as_class, no_entry}
 
 pub within_classes : (es : List Entry) (c : ClassId) → c.0 < length es → c.0 < length (classes es)
-within_classes es c h = subst (λ (n : ℕ). c.0 < n) (sym (length-map es class_of)) h
+within_classes es c h = subst (λ (n : ℕ). c.0 < n) (sym (length-map es as_class)) h
 
 pub within_entries : (es : List Entry) (c : ClassId) → c.0 < length (classes es) → c.0 < length es
-within_entries es c h = subst (λ (n : ℕ). c.0 < n) (length-map es class_of) h
+within_entries es c h = subst (λ (n : ℕ). c.0 < n) (length-map es as_class) h
 
 -- a test of two numbers of classes
 pub same_class : (r : Bool) (a b : ClassId) → r ≡ not (eqb a.0 b.0) → r ≡ false → a ≡ b
@@ -27,14 +27,14 @@ other_class r a b is h e =
     true≢false (sym h ∙ is ∙ ap not t)
 
 -- the entry of a class
-pub entry_there : (es : List Entry) (c : ClassId) → c.0 < length es → class_at (classes es) c ≡ class_of (get_or es c.0 no_entry)
-entry_there es c h = get_or-map class_of es c.0 no_entry nothing h
+pub entry_there : (es : List Entry) (c : ClassId) → c.0 < length es → class_at (classes es) c ≡ as_class (get_or es c.0 no_entry)
+entry_there es c h = get_or-map as_class es c.0 no_entry nothing h
 
-pub class_here : (es : List Entry) (c : ClassId) (e : Entry) → c.0 < length es → e ≡ get_or es c.0 e → class_at (classes es) c ≡ class_of e
-class_here es c e h is = get_or-map class_of es c.0 e nothing h ∙ ap class_of (sym is)
+pub class_here : (es : List Entry) (c : ClassId) (e : Entry) → c.0 < length es → e ≡ get_or es c.0 e → class_at (classes es) c ≡ as_class e
+class_here es c e h is = get_or-map as_class es c.0 e nothing h ∙ ap as_class (sym is)
 
-pub class_read : (es : List Entry) (c : ClassId) (d : Entry) → c.0 < length es → class_at (classes es) c ≡ class_of (get_or es c.0 d)
-class_read es c d h = get_or-map class_of es c.0 d nothing h
+pub class_read : (es : List Entry) (c : ClassId) (d : Entry) → c.0 < length es → class_at (classes es) c ≡ as_class (get_or es c.0 d)
+class_read es c d h = get_or-map as_class es c.0 d nothing h
 
 -- a test of two names
 pub same_name : (r : Bool) (xs ys : List ℕ) → r ≡ bytes_eq xs ys → r ≡ true → xs ≡ ys

@@ -5,11 +5,11 @@ use Rattle.cool_classes.specs.declared.entry.Entry.{Entry}
 use Rattle.cool_classes.specs.Chains.{Class, class_number}
 use Rattle.cool_classes.specs.Tables.{IsTable, IsGrounded, basic_classes}
 
-abbrev pub class_of : Entry → Class
-class_of e = record { name = e.name; parent = e.parent; features = e.features }
+abbrev pub as_class : Entry → Class
+as_class e = record { name = e.name; parent = e.parent; features = e.features }
 
 abbrev pub classes : List Entry → List Class
-classes es = map class_of es
+classes es = map as_class es
 
 abbrev pub no_entry : Entry
 no_entry = record { name = []; parent = None; depth = 0; features = [] }

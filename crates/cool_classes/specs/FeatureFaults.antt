@@ -15,7 +15,7 @@ use Rattle.cool_classes.specs.declared.fault.ClassKind.TheVariants.{F1, F2, F3, 
 use Rattle.cool_classes.specs.declared.method.MethodRef.{MethodRef}
 use Rattle.cool_classes.specs.Chains.{Class, name_of, features_of}
 use Rattle.cool_classes.specs.Features.{first_method, implementation, attributes_of, formals_in, formals_of, result_of}
-use Rattle.cool_classes.specs.FirstNames.{first_place, is_place, attribute_name}
+use Rattle.cool_classes.specs.FirstNames.{first_index, is_index, attribute_name}
 use Rattle.cool_classes.specs.MethodNames.{methods_of}
 use Rattle.cool_classes.specs.Names.{self_type}
 
@@ -24,7 +24,7 @@ abbrev pub noted : Bool → ClassKind → Place → List ClassFault
 noted b kind at = if b then record { kind = kind; at = at } ∷ [] else []
 
 abbrev pub is_class : List Class → List ℕ → Bool
-is_class p name = is_some (first_place 0 (map (λ (c : Class). Some c.name) p) name)
+is_class p name = is_some (first_index 0 (map (λ (c : Class). Some c.name) p) name)
 
 -- F6
 abbrev pub type_faults : List Class → TypeRef → List ClassFault
@@ -34,7 +34,7 @@ type_faults p r = noted (not (bytes_eq r.name self_type || is_class p r.name)) F
 abbrev pub formal_faults : List Class → List (Option (List ℕ)) → Formal → List ClassFault
 formal_faults p before f =
     noted (bytes_eq f.name (codes "self")) F3 f.at
-    ++ (noted (is_some (first_place 0 before f.name)) F4 f.at
+    ++ (noted (is_some (first_index 0 before f.name)) F4 f.at
     ++ (noted (bytes_eq f.declared.name self_type) F5 f.declared.at ++ type_faults p f.declared))
 
 -- the names of formals
@@ -66,20 +66,20 @@ redefines_otherwise p m (Some above) = declares_otherwise p m above
 -- the classes have an attribute of this name
 abbrev pub have_attribute : List Class → List ClassId → List ℕ → Bool
 have_attribute p [] f = false
-have_attribute p (d ∷ ds) f = is_some (first_place 0 (map attribute_name (features_of p d)) f) || have_attribute p ds f
+have_attribute p (d ∷ ds) f = is_some (first_index 0 (map attribute_name (features_of p d)) f) || have_attribute p ds f
 
--- the method at this place of a class below these: F1, F7, and the faults of its formals and its result
+-- the method at this index of a class below these: F1, F7, and the faults of its formals and its result
 abbrev pub method_faults : List Class → ClassId → List ClassId → ℕ → MethodDef → List ClassFault
 method_faults p c above k m =
-    noted (not (is_place k (first_method 0 (features_of p c) m.name))) F1 m.at
+    noted (not (is_index k (first_method 0 (features_of p c) m.name))) F1 m.at
     ++ (noted (redefines_otherwise p m (implementation p above m.name)) F7 m.at
     ++ (formals_faults p [] m.formals ++ type_faults p m.result))
 
--- an earlier attribute of the class, or one of the classes above, has the name of the one at this place
+-- an earlier attribute of the class, or one of the classes above, has the name of the one at this index
 abbrev pub is_doubled : List Class → ClassId → List ClassId → ℕ → List ℕ → Bool
-is_doubled p c above k name = not (is_place k (first_place 0 (map attribute_name (features_of p c)) name)) || have_attribute p above name
+is_doubled p c above k name = not (is_index k (first_index 0 (map attribute_name (features_of p c)) name)) || have_attribute p above name
 
--- the attribute at this place: F3, F2, and the fault of its type
+-- the attribute at this index: F3, F2, and the fault of its type
 abbrev pub attribute_faults : List Class → ClassId → List ClassId → ℕ → AttributeDef → List ClassFault
 attribute_faults p c above k a =
     noted (bytes_eq a.name (codes "self")) F3 a.at

@@ -60,7 +60,7 @@ abbrev pub is_method_named : List ℕ → Feature → Bool
 is_method_named f (Method m) = bytes_eq m.name f
 is_method_named f (Attribute a) = false
 
--- the place of the first method of a name among features, which begin at a place
+-- the index of the first method of a name among features, which begin at a number
 abbrev pub first_method : ℕ → List Feature → List ℕ → Option ℕ
 first_method k fs f = first_with (is_method_named f) (λ (n : ℕ). n) k fs
 

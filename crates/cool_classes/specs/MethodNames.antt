@@ -5,18 +5,18 @@ use Rattle.cool_syntax.specs.declared.file_tree.Feature.TheVariants.{Method, Att
 use Rattle.cool_classes.specs.declared.class_id.ClassId.{ClassId}
 use Rattle.cool_classes.specs.Chains.{Class, class_number, features_of}
 use Rattle.cool_classes.specs.Features.{NamedMethod, basic_methods, first_method, implementation}
-use Rattle.cool_classes.specs.FirstNames.{is_place}
+use Rattle.cool_classes.specs.FirstNames.{is_index}
 
--- the method at a place is the first of its name in its class, and the classes above have none of that name
+-- the method at an index is the first of its name in its class, and the classes above have none of that name
 abbrev pub is_new : List Class → List ClassId → List Feature → ℕ → List ℕ → Bool
-is_new p above own k name = is_place k (first_method 0 own name) && is_none (implementation p above name)
+is_new p above own k name = is_index k (first_method 0 own name) && is_none (implementation p above name)
 
 -- the name of a new method
 abbrev pub new_name : List Class → List ClassId → List Feature → ℕ → Feature → List (List ℕ)
 new_name p above own k (Method m) = if is_new p above own k m.name then m.name ∷ [] else []
 new_name p above own k (Attribute a) = []
 
--- the names of the new methods among features, which begin at a place
+-- the names of the new methods among features, which begin at an index
 abbrev pub new_among : List Class → List ClassId → List Feature → ℕ → List Feature → List (List ℕ)
 new_among p above own k [] = []
 new_among p above own k (x ∷ fs) = new_name p above own k x ++ new_among p above own (k + 1) fs

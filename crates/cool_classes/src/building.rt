@@ -19,7 +19,7 @@ use crate::entry::Entry;
 use crate::fault::TableError;
 use crate::fault_list::refuse_faults;
 use crate::feature_phase::feature_faults;
-use crate::own_names::{Scope, scope_of};
+use crate::own_names::{TableNames, names_of};
 use cool_syntax::{ClassDef, FileTree, Place};
 use std::alloc::{AllocError, Global};
 
@@ -108,13 +108,13 @@ pub fn table(alloc: Global, files: Vec<FileTree>) -> Result<ClassTable, TableErr
     let ancestry = settle_classes(alloc, &definitions)?;
     let places = places_of(alloc, &definitions)?;
     let entries = entries_of(alloc, definitions, &ancestry)?;
-    let scope = scope_of(alloc, &entries, ancestry.names)?;
-    let faults = feature_faults(alloc, &scope, &places)?;
+    let names = names_of(alloc, &entries, ancestry.names)?;
+    let faults = feature_faults(alloc, &names, &places)?;
     refuse_faults(faults)?;
-    let Scope {
+    let TableNames {
         entries: _,
         classes,
         own,
-    } = scope;
+    } = names;
     Ok(ClassTable::from_entries(entries, classes, own))
 }

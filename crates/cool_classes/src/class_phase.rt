@@ -7,7 +7,7 @@ ghost use Rattle.cool_syntax.specs.TreesWithinLimits.{IsTypeWithin, AreClassesWi
 ghost use Rattle.cool_syntax.specs.declared.file_tree.ClassDef as tree;
 ghost use Rattle.cool_classes.specs.ClassFaults.{name_kind, names_faults, is_barred, parent_kind, parent_faults, parents_faults, cycle_faults, main_faults, number_faults, HasClassPhase, HasClassFaults};
 ghost use Rattle.cool_classes.specs.FaultLists.{rank, IsRefusal, IsPlacedRefusal};
-ghost use Rattle.cool_classes.specs.FirstNames.{AreFirst};
+ghost use Rattle.cool_classes.specs.FirstNames.{FindsNames};
 ghost use Rattle.cool_classes.specs.Names.{self_type};
 ghost use Rattle.cool_classes.specs.Settled.{basic_names, names_with_basic, parent_meant, parents_meant, IsParentKnown, AreNamedAnew, AreSettled, AddsFaults};
 
@@ -17,7 +17,7 @@ use crate::class_id::{BOOL, ClassId, INT, IO, OBJECT, STRING};
 use crate::depths::depths;
 use crate::fault::{ClassFault, ClassKind, TableError};
 use crate::fault_list::{add_fault, refuse_faults};
-use crate::first_names::{FirstNames, add_place, first_place};
+use crate::first_names::{FirstNames, add_name, first_index};
 use crate::lookup::class_named;
 use crate::self_type::is_self_type;
 use cool_syntax::{ClassDef, Place, TypeRef};
@@ -33,14 +33,14 @@ pub(crate) struct Ancestry {
 
 /// The names of the basic classes. `Err` comes only for want of memory.
 fn basic_names(alloc: Global) -> Result<FirstNames, AllocError>
-    ensures { IfOk result (λ names. AreFirst names.entries basic_names) }
+    ensures { IfOk result (λ names. FindsNames names.entries basic_names) }
 {
     let mut names = FirstNames::new(alloc);
-    add_place(alloc, &mut names, b"Object", OBJECT.0)?;
-    add_place(alloc, &mut names, b"IO", IO.0)?;
-    add_place(alloc, &mut names, b"Int", INT.0)?;
-    add_place(alloc, &mut names, b"Bool", BOOL.0)?;
-    add_place(alloc, &mut names, b"String", STRING.0)?;
+    add_name(alloc, &mut names, b"Object", OBJECT.0)?;
+    add_name(alloc, &mut names, b"IO", IO.0)?;
+    add_name(alloc, &mut names, b"Int", INT.0)?;
+    add_name(alloc, &mut names, b"Bool", BOOL.0)?;
+    add_name(alloc, &mut names, b"String", STRING.0)?;
     Ok(names)
 }
 
@@ -68,7 +68,7 @@ fn find_names(
     faults: &mut Vec<ClassFault>,
 ) -> Result<FirstNames, AllocError>
     requires few { length definitions.now < 2 ^ 32 - 5 }
-    ensures finds { IfOk result (λ names. AreFirst names.entries (names_with_basic definitions.now)) }
+    ensures finds { IfOk result (λ names. FindsNames names.entries (names_with_basic definitions.now)) }
     ensures adds { OnOk result (AddsFaults (λ n. AreClassesWithin n definitions.now) faults.old.items faults.new.items) }
     ensures exact { OnOk result (faults.new.items ≡ faults.old.items ++ names_faults basic_names definitions.now) }
     ensures anew { OnOk result (faults.new.items ≡ [] → AreNamedAnew definitions.now (length definitions.now)) }
@@ -77,8 +77,8 @@ fn find_names(
     for index in 0..definitions.len() {
         let definition = &definitions[index];
         let name = definition.name.as_slice();
-        let known = first_place(&names, name).is_some();
-        add_place(alloc, &mut names, name, index as u32 + BASIC_CLASSES)?;
+        let known = first_index(&names, name).is_some();
+        add_name(alloc, &mut names, name, index as u32 + BASIC_CLASSES)?;
         add_fault(faults, name_fault(name, known), definition.at)?;
     }
     Ok(names)
@@ -115,10 +115,10 @@ fn find_parent(
     parent: &Option<TypeRef>,
     faults: &mut Vec<ClassFault>,
 ) -> Result<ClassId, AllocError>
-    ensures parent { IfOk result (λ class. (all : List (List ℕ)) → AreFirst names.now.entries all → class ≡ parent_meant all parent.now) }
+    ensures parent { IfOk result (λ class. (all : List (List ℕ)) → FindsNames names.now.entries all → class ≡ parent_meant all parent.now) }
     ensures adds { OnOk result (AddsFaults (λ n. IfSome parent.now (IsTypeWithin n)) faults.old.items faults.new.items) }
-    ensures exact { OnOk result ((all : List (List ℕ)) → AreFirst names.now.entries all → faults.new.items ≡ faults.old.items ++ parent_faults all parent.now) }
-    ensures known { OnOk result (faults.new.items ≡ [] → (all : List (List ℕ)) → AreFirst names.now.entries all → IsParentKnown all parent.now) }
+    ensures exact { OnOk result ((all : List (List ℕ)) → FindsNames names.now.entries all → faults.new.items ≡ faults.old.items ++ parent_faults all parent.now) }
+    ensures known { OnOk result (faults.new.items ≡ [] → (all : List (List ℕ)) → FindsNames names.now.entries all → IsParentKnown all parent.now) }
 {
     match parent {
         None => Ok(OBJECT),
@@ -137,7 +137,7 @@ fn find_parents(
     names: &FirstNames,
     faults: &mut Vec<ClassFault>,
 ) -> Result<Vec<ClassId>, AllocError>
-    requires finds { AreFirst names.now.entries (names_with_basic definitions.now) }
+    requires finds { FindsNames names.now.entries (names_with_basic definitions.now) }
     ensures parents { IfOk result (λ parents. parents.items ≡ parents_meant (names_with_basic definitions.now) definitions.now) }
     ensures adds { OnOk result (AddsFaults (λ n. AreClassesWithin n definitions.now) faults.old.items faults.new.items) }
     ensures exact { OnOk result (faults.new.items ≡ faults.old.items ++ parents_faults (names_with_basic definitions.now) definitions.now) }
@@ -165,7 +165,7 @@ fn check_number(definitions: &[ClassDef], faults: &mut Vec<ClassFault>) -> Resul
 
 /// Adds C6 where no class is named Main. `Err` comes only for want of memory.
 fn check_main(names: &FirstNames, faults: &mut Vec<ClassFault>) -> Result<(), AllocError>
-    ensures exact { OnOk result ((all : List (List ℕ)) → AreFirst names.now.entries all → faults.new.items ≡ faults.old.items ++ main_faults all) }
+    ensures exact { OnOk result ((all : List (List ℕ)) → FindsNames names.now.entries all → faults.new.items ≡ faults.old.items ++ main_faults all) }
     ensures adds { OnOk result (AddsFaults (λ n. 0 < n) faults.old.items faults.new.items) }
 {
     if class_named(names, b"Main").is_none() {
@@ -203,7 +203,7 @@ pub(crate) fn settle_classes(
     definitions: &[ClassDef],
 ) -> Result<Ancestry, TableError>
     requires few { length definitions.now < 2 ^ 32 - 5 }
-    ensures names { IfOk result (λ found. AreFirst found.names.entries (names_with_basic definitions.now)) }
+    ensures names { IfOk result (λ found. FindsNames found.names.entries (names_with_basic definitions.now)) }
     ensures parents { IfOk result (λ found. found.parents.items ≡ parents_meant (names_with_basic definitions.now) definitions.now) }
     ensures settled { IfOk result (λ found. AreSettled definitions.now found.depths.items) }
     ensures faultless { OnOk result (HasClassPhase definitions.now []) }

@@ -8,14 +8,14 @@ ghost use Rattle.cool_classes.specs.Features.{own_attributes, basic_methods};
 ghost use Rattle.cool_classes.specs.Entries.{classes};
 ghost use Rattle.cool_classes.specs.Lineages.{IsLineage, AreWithin, AreCounts, sum_at};
 ghost use Rattle.cool_classes.specs.MethodNames.{new_name, new_methods, basic_names};
-ghost use Rattle.cool_classes.specs.OwnNames.{IsScope};
+ghost use Rattle.cool_classes.specs.OwnNames.{AreTableNames};
 ghost use Rattle.cool_classes.specs.FeatureFaults.{is_over_limit};
 
 use crate::basic::BASIC_CLASSES;
 use crate::class_id::ClassId;
 use crate::first_names::is_first_at;
 use crate::lineage::{Lineage, lineage_of};
-use crate::own_names::{Scope, nearest_method};
+use crate::own_names::{TableNames, nearest_method};
 use crate::{MOST_ATTRIBUTES, MOST_METHODS};
 use cool_syntax::Feature;
 use std::alloc::{AllocError, Global};
@@ -52,36 +52,36 @@ fn basic_method_count(class: u32) -> usize
 }
 
 /// Whether a feature is a method, the first of its name in its class, with none of that name above.
-fn is_new(scope: &Scope<'_>, lineage: &Lineage, feature: &Feature, index: u32) -> bool
-    requires scope { IsScope scope.now }
-    requires lineage { IsLineage scope.now.entries.now lineage.now }
-    ensures { (if result then 1 else 0) ≡ length (new_name (classes scope.now.entries.now) lineage.now.above.items (features_of (classes scope.now.entries.now) lineage.now.class) index feature.now) }
+fn is_new(table: &TableNames<'_>, lineage: &Lineage, feature: &Feature, index: u32) -> bool
+    requires table { AreTableNames table.now }
+    requires lineage { IsLineage table.now.entries.now lineage.now }
+    ensures { (if result then 1 else 0) ≡ length (new_name (classes table.now.entries.now) lineage.now.above.items (features_of (classes table.now.entries.now) lineage.now.class) index feature.now) }
 {
     match feature {
         Feature::Method(method) => {
             let name = method.name.as_slice();
-            let own = &scope.own[lineage.class.0 as usize];
+            let own = &table.own[lineage.class.0 as usize];
             is_first_at(&own.methods, name, index)
-                && nearest_method(scope, lineage.above.as_slice(), name).is_none()
+                && nearest_method(table, lineage.above.as_slice(), name).is_none()
         }
         Feature::Attribute(_) => false,
     }
 }
 
 /// How many names of methods a class adds to those of the classes above it.
-fn new_method_count(scope: &Scope<'_>, lineage: &Lineage) -> usize
-    requires scope { IsScope scope.now }
-    requires lineage { IsLineage scope.now.entries.now lineage.now }
-    ensures { result ≡ length (new_methods (classes scope.now.entries.now) lineage.now.above.items lineage.now.class) }
+fn new_method_count(table: &TableNames<'_>, lineage: &Lineage) -> usize
+    requires table { AreTableNames table.now }
+    requires lineage { IsLineage table.now.entries.now lineage.now }
+    ensures { result ≡ length (new_methods (classes table.now.entries.now) lineage.now.above.items lineage.now.class) }
 {
     let class = lineage.class.0;
     if class < BASIC_CLASSES {
         return basic_method_count(class);
     }
-    let features = scope.entries[class as usize].features.as_slice();
+    let features = table.entries[class as usize].features.as_slice();
     let mut count = 0;
     for index in 0..features.len() {
-        if is_new(scope, lineage, &features[index], index as u32) {
+        if is_new(table, lineage, &features[index], index as u32) {
             count += 1;
         }
     }
@@ -89,17 +89,17 @@ fn new_method_count(scope: &Scope<'_>, lineage: &Lineage) -> usize
 }
 
 /// What each class adds to the classes above it. `Err` comes only for want of memory.
-pub(crate) fn counts_of(alloc: Global, scope: &Scope<'_>) -> Result<Counts, AllocError>
-    requires scope { IsScope scope.now }
-    ensures { IfOk result (λ counts. AreCounts (length scope.now.entries.now) (classes scope.now.entries.now) counts) }
+pub(crate) fn counts_of(alloc: Global, table: &TableNames<'_>) -> Result<Counts, AllocError>
+    requires table { AreTableNames table.now }
+    ensures { IfOk result (λ counts. AreCounts (length table.now.entries.now) (classes table.now.entries.now) counts) }
 {
-    let entries = scope.entries;
+    let entries = table.entries;
     let mut attributes = Vec::new(alloc);
     let mut methods = Vec::new(alloc);
     for index in 0..entries.len() {
         let lineage = lineage_of(alloc, entries, ClassId(index as u32))?;
         attributes.push(attribute_count(entries[index].features.as_slice()))?;
-        methods.push(new_method_count(scope, &lineage))?;
+        methods.push(new_method_count(table, &lineage))?;
     }
     Ok(Counts {
         attributes,
@@ -126,11 +126,11 @@ fn exceed(counts: &[usize], lineage: &Lineage, most: usize) -> bool
 }
 
 /// Whether a class has more attributes or methods than a class may have.
-pub(crate) fn is_over_limit(scope: &Scope<'_>, counts: &Counts, lineage: &Lineage) -> bool
-    requires lineage { IsLineage scope.now.entries.now lineage.now }
-    requires counts { AreCounts (length scope.now.entries.now) (classes scope.now.entries.now) counts.now }
-    requires scope { IsScope scope.now }
-    ensures { result ≡ is_over_limit (classes scope.now.entries.now) (lineage.now.class ∷ lineage.now.above.items) }
+pub(crate) fn is_over_limit(table: &TableNames<'_>, counts: &Counts, lineage: &Lineage) -> bool
+    requires lineage { IsLineage table.now.entries.now lineage.now }
+    requires counts { AreCounts (length table.now.entries.now) (classes table.now.entries.now) counts.now }
+    requires table { AreTableNames table.now }
+    ensures { result ≡ is_over_limit (classes table.now.entries.now) (lineage.now.class ∷ lineage.now.above.items) }
 {
     exceed(counts.attributes.as_slice(), lineage, MOST_ATTRIBUTES)
         || exceed(counts.methods.as_slice(), lineage, MOST_METHODS)

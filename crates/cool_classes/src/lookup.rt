@@ -5,7 +5,7 @@ ghost use Rattle.cool_classes.specs.declared.class_id.ClassId as number;
 ghost use Rattle.cool_classes.specs.declared.entry.Entry as entry;
 ghost use Rattle.cool_classes.specs.Chains.{IsChain};
 ghost use Rattle.cool_classes.specs.Features.{implementation, HasMethod};
-ghost use Rattle.cool_classes.specs.FirstNames.{AreFirst};
+ghost use Rattle.cool_classes.specs.FirstNames.{FindsNames};
 ghost use Rattle.cool_classes.specs.Names.{first_named};
 ghost use Rattle.cool_classes.specs.Tables.{IsNamed};
 ghost use Rattle.cool_classes.specs.Entries.{classes, AreWhole};
@@ -14,16 +14,16 @@ ghost use Rattle.cool_classes.specs.OwnNames.{AreAllOwn, AreNamed};
 use crate::class_id::ClassId;
 use crate::climbing::parent;
 use crate::entry::Entry;
-use crate::first_names::{FirstNames, first_place};
+use crate::first_names::{FirstNames, first_index};
 use crate::method::MethodRef;
 use crate::own_names::{OwnNames, own_method};
 
 /// The class of a name, if there is one.
 pub(crate) fn class_named(names: &FirstNames, name: &[u8]) -> Option<ClassId>
     ensures named { (es : List entry.Entry) → AreNamed names.now.entries es → IsNamed (classes es) name.now result }
-    ensures first { (all : List (List ℕ)) → AreFirst names.now.entries all → result ≡ first_named 0 all name.now }
+    ensures first { (all : List (List ℕ)) → FindsNames names.now.entries all → result ≡ first_named 0 all name.now }
 {
-    let place = first_place(names, name)?;
+    let place = first_index(names, name)?;
     Some(ClassId(place))
 }
 

@@ -9,19 +9,19 @@ ghost use Rattle.cool_classes.specs.declared.method.MethodRef.TheVariants.{User}
 ghost use Rattle.cool_classes.specs.Features.{own_method, implementation, HasMethod};
 ghost use Rattle.cool_classes.specs.Entries.{classes};
 ghost use Rattle.cool_classes.specs.Resolved.{AreResolved};
-ghost use Rattle.cool_classes.specs.OwnNames.{AreOwn, AreAllOwn, AreNamed, IsScope};
+ghost use Rattle.cool_classes.specs.OwnNames.{AreOwn, AreAllOwn, AreNamed, AreTableNames};
 ghost use Rattle.cool_classes.specs.FeatureFaults.{is_class, have_attribute};
 ghost use Rattle.cool_classes.specs.Chains.{Class, features_of};
 
 use crate::basic::{BASIC_CLASSES, basic_method};
 use crate::class_id::ClassId;
 use crate::entry::Entry;
-use crate::first_names::{FirstNames, add_place, first_place};
+use crate::first_names::{FirstNames, add_name, first_index};
 use crate::method::MethodRef;
 use cool_syntax::{Feature, MethodDef};
 use std::alloc::{AllocError, Global};
 
-/// The names of the methods and attributes that a class has of its own, each with the place of its first feature.
+/// The names of the methods and attributes that a class has of its own, each with the index of its first feature.
 #[derive(Drop)]
 pub(crate) struct OwnNames {
     pub(crate) methods: FirstNames,
@@ -30,7 +30,7 @@ pub(crate) struct OwnNames {
 
 /// The classes of entries by name, and the names of their features.
 #[derive(Drop)]
-pub(crate) struct Scope<'a> {
+pub(crate) struct TableNames<'a> {
     pub(crate) entries: &'a [Entry],
     pub(crate) classes: FirstNames,
     pub(crate) own: Vec<OwnNames>,
@@ -41,19 +41,14 @@ fn add_feature(
     alloc: Global,
     own: &mut OwnNames,
     feature: &Feature,
-    place: u32,
+    index: u32,
 ) -> Result<(), AllocError>
-    ensures { OnOk result ((fs : List AnyFeature) → place ≡ length fs → AreOwn own.old fs → AreOwn own.new (fs ++ feature.now ∷ [])) }
+    ensures { OnOk result ((fs : List AnyFeature) → index ≡ length fs → AreOwn own.old fs → AreOwn own.new (fs ++ feature.now ∷ [])) }
 {
     match feature {
-        Feature::Method(method) => add_place(
-            alloc,
-            &mut own.methods,
-            method.name.as_slice(),
-            place,
-        ),
+        Feature::Method(method) => add_name(alloc, &mut own.methods, method.name.as_slice(), index),
         Feature::Attribute(attribute) => {
-            add_place(alloc, &mut own.attributes, attribute.name.as_slice(), place)
+            add_name(alloc, &mut own.attributes, attribute.name.as_slice(), index)
         }
     }
 }
@@ -86,17 +81,17 @@ fn all_own_names(alloc: Global, entries: &[Entry]) -> Result<Vec<OwnNames>, Allo
 }
 
 /// The names of classes and of their features. `Err` comes only for want of memory.
-pub(crate) fn scope_of<'a>(
+pub(crate) fn names_of<'a>(
     alloc: Global,
     entries: &'a [Entry],
     classes: FirstNames,
-) -> Result<Scope<'a>, AllocError>
+) -> Result<TableNames<'a>, AllocError>
     requires resolved { AreResolved entries.now }
     requires named { AreNamed classes.entries entries.now }
-    ensures scope { IfOk result (λ scope. IsScope scope) }
-    ensures entries { IfOk result (λ scope. scope.entries.now ≡ entries.now) }
+    ensures table { IfOk result (λ table. AreTableNames table) }
+    ensures entries { IfOk result (λ table. table.entries.now ≡ entries.now) }
 {
-    Ok(Scope {
+    Ok(TableNames {
         entries,
         classes,
         own: all_own_names(alloc, entries)?,
@@ -104,11 +99,11 @@ pub(crate) fn scope_of<'a>(
 }
 
 /// Whether a class has this name.
-pub(crate) fn is_class(scope: &Scope<'_>, name: &[u8]) -> bool
-    requires scope { IsScope scope.now }
-    ensures { result ≡ is_class (classes scope.now.entries.now) name.now }
+pub(crate) fn is_class(table: &TableNames<'_>, name: &[u8]) -> bool
+    requires table { AreTableNames table.now }
+    ensures { result ≡ is_class (classes table.now.entries.now) name.now }
 {
-    first_place(&scope.classes, name).is_some()
+    first_index(&table.classes, name).is_some()
 }
 
 /// The method of a name that a class has of its own, the first where there are several.
@@ -118,22 +113,26 @@ pub(crate) fn own_method(own: &OwnNames, c: ClassId, name: &[u8]) -> Option<Meth
     if c.0 < BASIC_CLASSES {
         return basic_method(c.0, name).map(MethodRef::Basic);
     }
-    match first_place(&own.methods, name) {
+    match first_index(&own.methods, name) {
         Some(index) => Some(MethodRef::User { owner: c, index }),
         None => None,
     }
 }
 
 /// The method of a name that these classes have, the first of them first.
-pub(crate) fn nearest_method(scope: &Scope<'_>, above: &[ClassId], name: &[u8]) -> Option<MethodRef>
-    requires scope { IsScope scope.now }
-    requires within { AllByRecursion (λ c. c.0 < length scope.now.entries.now) above.now }
-    ensures nearest { result ≡ implementation (classes scope.now.entries.now) above.now name.now }
-    ensures has { IfSome result (λ m. HasMethod (classes scope.now.entries.now) m) }
+pub(crate) fn nearest_method(
+    table: &TableNames<'_>,
+    above: &[ClassId],
+    name: &[u8],
+) -> Option<MethodRef>
+    requires table { AreTableNames table.now }
+    requires within { AllByRecursion (λ c. c.0 < length table.now.entries.now) above.now }
+    ensures nearest { result ≡ implementation (classes table.now.entries.now) above.now name.now }
+    ensures has { IfSome result (λ m. HasMethod (classes table.now.entries.now) m) }
 {
     for index in 0..above.len() {
         let class = above[index];
-        if let Some(method) = own_method(&scope.own[class.0 as usize], class, name) {
+        if let Some(method) = own_method(&table.own[class.0 as usize], class, name) {
             return Some(method);
         }
     }
@@ -141,27 +140,27 @@ pub(crate) fn nearest_method(scope: &Scope<'_>, above: &[ClassId], name: &[u8]) 
 }
 
 /// Whether one of these classes has an attribute of this name.
-pub(crate) fn have_attribute(scope: &Scope<'_>, above: &[ClassId], name: &[u8]) -> bool
-    requires scope { IsScope scope.now }
-    requires within { AllByRecursion (λ c. c.0 < length scope.now.entries.now) above.now }
-    ensures { result ≡ have_attribute (classes scope.now.entries.now) above.now name.now }
+pub(crate) fn have_attribute(table: &TableNames<'_>, above: &[ClassId], name: &[u8]) -> bool
+    requires table { AreTableNames table.now }
+    requires within { AllByRecursion (λ c. c.0 < length table.now.entries.now) above.now }
+    ensures { result ≡ have_attribute (classes table.now.entries.now) above.now name.now }
 {
     for index in 0..above.len() {
         let class = above[index];
-        if first_place(&scope.own[class.0 as usize].attributes, name).is_some() {
+        if first_index(&table.own[class.0 as usize].attributes, name).is_some() {
             return true;
         }
     }
     false
 }
 
-/// The method at a place of a class.
-pub(crate) fn method_at<'a>(scope: &Scope<'a>, owner: ClassId, index: u32) -> &'a MethodDef
-    requires within { owner.0 < length scope.now.entries.now }
-    requires has { HasMethod (classes scope.now.entries.now) (User owner index) }
-    ensures { slice_get (features_of (classes scope.now.entries.now) owner) index ≡ Some (IsMethod result.now) }
+/// The method at an index of a class.
+pub(crate) fn method_at<'a>(table: &TableNames<'a>, owner: ClassId, index: u32) -> &'a MethodDef
+    requires within { owner.0 < length table.now.entries.now }
+    requires has { HasMethod (classes table.now.entries.now) (User owner index) }
+    ensures { slice_get (features_of (classes table.now.entries.now) owner) index ≡ Some (IsMethod result.now) }
 {
-    match &scope.entries[owner.0 as usize].features.as_slice()[index as usize] {
+    match &table.entries[owner.0 as usize].features.as_slice()[index as usize] {
         Feature::Method(method) => method,
         Feature::Attribute(_) => unreachable!(),
     }

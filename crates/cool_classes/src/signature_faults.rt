@@ -3,14 +3,14 @@
 ghost use Rattle.std.specs.Prelude.{◌≡◌, ℕ, ◌<◌, ◌^◌, ◌++◌, List, [], ◌∷◌, length, Option, OnOk};
 ghost use Rattle.cool_classes.specs.Features.{HasMethod, basic_formals, basic_result};
 ghost use Rattle.cool_classes.specs.Entries.{classes};
-ghost use Rattle.cool_classes.specs.OwnNames.{IsScope};
-ghost use Rattle.cool_classes.specs.FirstNames.{FindsPlaces, places_shown};
+ghost use Rattle.cool_classes.specs.OwnNames.{AreTableNames};
+ghost use Rattle.cool_classes.specs.FirstNames.{FindsFirst, shown_names};
 ghost use Rattle.cool_classes.specs.FeatureFaults.{noted, type_faults, formal_faults, formals_faults, same_types, declared_types, declares_otherwise};
 
 use crate::fault::{ClassFault, ClassKind};
-use crate::first_names::{FirstNames, add_place, first_place};
+use crate::first_names::{FirstNames, add_name, first_index};
 use crate::method::{BasicMethod, MethodRef};
-use crate::own_names::{Scope, is_class, method_at};
+use crate::own_names::{TableNames, is_class, method_at};
 use crate::self_type::{is_self_type, self_type};
 use cool_syntax::{Formal, MethodDef, Place, TypeRef};
 use std::alloc::{AllocError, Global};
@@ -33,52 +33,52 @@ pub(crate) fn note(
 /// Notes a type that is neither a class nor `SELF_TYPE` (F6). `Err` comes only for want of memory.
 pub(crate) fn note_type(
     faults: &mut Vec<ClassFault>,
-    scope: &Scope<'_>,
+    table: &TableNames<'_>,
     declared: &TypeRef,
 ) -> Result<(), AllocError>
-    requires scope { IsScope scope.now }
-    ensures { OnOk result (faults.new.items ≡ faults.old.items ++ type_faults (classes scope.now.entries.now) declared.now) }
+    requires table { AreTableNames table.now }
+    ensures { OnOk result (faults.new.items ≡ faults.old.items ++ type_faults (classes table.now.entries.now) declared.now) }
 {
     let name = declared.name.as_slice();
-    let known = is_self_type(name) || is_class(scope, name);
+    let known = is_self_type(name) || is_class(table, name);
     note(faults, !known, ClassKind::F6, declared.at)
 }
 
 /// Notes the faults of a formal behind those of these names (F3 to F6). `Err` comes only for want of memory.
 fn note_formal(
     faults: &mut Vec<ClassFault>,
-    scope: &Scope<'_>,
+    table: &TableNames<'_>,
     before: &FirstNames,
     formal: &Formal,
 ) -> Result<(), AllocError>
-    requires scope { IsScope scope.now }
-    ensures { OnOk result ((row : List (Option (List ℕ))) → FindsPlaces (places_shown before.now.entries) row → faults.new.items ≡ faults.old.items ++ formal_faults (classes scope.now.entries.now) row formal.now) }
+    requires table { AreTableNames table.now }
+    ensures { OnOk result ((row : List (Option (List ℕ))) → FindsFirst (shown_names before.now.entries) row → faults.new.items ≡ faults.old.items ++ formal_faults (classes table.now.entries.now) row formal.now) }
 {
     let name = formal.name.as_slice();
     note(faults, name == b"self".as_slice(), ClassKind::F3, formal.at)?;
-    let doubled = first_place(before, name).is_some();
+    let doubled = first_index(before, name).is_some();
     note(faults, doubled, ClassKind::F4, formal.at)?;
     let self_typed = is_self_type(formal.declared.name.as_slice());
     note(faults, self_typed, ClassKind::F5, formal.declared.at)?;
-    note_type(faults, scope, &formal.declared)
+    note_type(faults, table, &formal.declared)
 }
 
 /// Notes the faults of formals. `Err` comes only for want of memory.
 pub(crate) fn note_formals(
     alloc: Global,
     faults: &mut Vec<ClassFault>,
-    scope: &Scope<'_>,
+    table: &TableNames<'_>,
     formals: &[Formal],
 ) -> Result<(), AllocError>
-    requires scope { IsScope scope.now }
+    requires table { AreTableNames table.now }
     requires few { length formals.now < 2 ^ 32 }
-    ensures { OnOk result (faults.new.items ≡ faults.old.items ++ formals_faults (classes scope.now.entries.now) [] formals.now) }
+    ensures { OnOk result (faults.new.items ≡ faults.old.items ++ formals_faults (classes table.now.entries.now) [] formals.now) }
 {
     let mut before = FirstNames::new(alloc);
     for index in 0..formals.len() {
         let formal = &formals[index];
-        note_formal(faults, scope, &before, formal)?;
-        add_place(alloc, &mut before, formal.name.as_slice(), index as u32)?;
+        note_formal(faults, table, &before, formal)?;
+        add_name(alloc, &mut before, formal.name.as_slice(), index as u32)?;
     }
     Ok(())
 }
@@ -152,10 +152,14 @@ fn basic_result_name(basic: BasicMethod) -> &'static [u8]
 }
 
 /// Whether a method declares other formals or another result than the one above it.
-pub(crate) fn declares_otherwise(scope: &Scope<'_>, method: &MethodDef, above: MethodRef) -> bool
-    requires scope { IsScope scope.now }
-    requires has { HasMethod (classes scope.now.entries.now) above }
-    ensures { result ≡ declares_otherwise (classes scope.now.entries.now) method.now above }
+pub(crate) fn declares_otherwise(
+    table: &TableNames<'_>,
+    method: &MethodDef,
+    above: MethodRef,
+) -> bool
+    requires table { AreTableNames table.now }
+    requires has { HasMethod (classes table.now.entries.now) above }
+    ensures { result ≡ declares_otherwise (classes table.now.entries.now) method.now above }
 {
     let formals = method.formals.as_slice();
     let result = method.result.name.as_slice();
@@ -164,7 +168,7 @@ pub(crate) fn declares_otherwise(scope: &Scope<'_>, method: &MethodDef, above: M
             !(fit_basic(formals, basic) && result == basic_result_name(basic))
         }
         MethodRef::User { owner, index } => {
-            let other = method_at(scope, owner, index);
+            let other = method_at(table, owner, index);
             !(same_formals(formals, other.formals.as_slice())
                 && result == other.result.name.as_slice())
         }

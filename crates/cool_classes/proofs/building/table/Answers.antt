@@ -10,7 +10,7 @@ use Rattle.cool_classes.specs.ClassRows.{HasRows}
 use Rattle.cool_classes.specs.Definitions.{definitions, AreFew, IsTableOf}
 use Rattle.cool_classes.specs.Entries.{classes, depth_at}
 use Rattle.cool_classes.specs.FaultLists.{IsPlacedRefusal}
-use Rattle.cool_classes.specs.FirstNames.{AreFirst}
+use Rattle.cool_classes.specs.FirstNames.{FindsNames}
 use Rattle.cool_classes.specs.LawfulTables.{IsLawful}
 use Rattle.cool_classes.specs.OwnNames.{AreNamed, AreAllOwn}
 use Rattle.cool_classes.specs.Resolved.{AreResolved, AreGood, ArePlaced}
@@ -28,21 +28,21 @@ returns-in_err-ancestry-clause-places c n some all =
     let placed : IsPlacedRefusal n c.in_err-ancestry.field-0.0 = c.in_err-ancestry.ensures.places n some here in
     search rules
 
-pub scope_of-requires-clause-resolved : goal.scope_of-requires-clause-resolved
-scope_of-requires-clause-resolved c =
+pub names_of-requires-clause-resolved : goal.names_of-requires-clause-resolved
+names_of-requires-clause-resolved c =
     let ds = c.in_ok-definitions.definitions.items in
     let os = c.in_ok-ancestry.ancestry.depths.items in
     let settled = subst (λ (xs : List ClassDef). AreSettled xs os) c.deref.ensures.value c.in_ok-ancestry.ensures.settled in
     let few = subst AreFew (sym c.in_ok-definitions.ensures) c.requires.few in
     subst AreResolved (sym (c.deref-3.ensures.value ∙ c.in_ok-entries.ensures)) (resolved_by ds os few settled)
 
-pub scope_of-requires-clause-named : goal.scope_of-requires-clause-named
-scope_of-requires-clause-named c =
+pub names_of-requires-clause-named : goal.names_of-requires-clause-named
+names_of-requires-clause-named c =
     let ds = c.in_ok-definitions.definitions.items in
     let os = c.in_ok-ancestry.ancestry.depths.items in
     let names = c.in_ok-ancestry.ancestry.names.entries in
     let settled = subst (λ (xs : List ClassDef). AreSettled xs os) c.deref.ensures.value c.in_ok-ancestry.ensures.settled in
-    let first = subst (λ (xs : List ClassDef). AreFirst names (names_with_basic xs)) c.deref.ensures.value c.in_ok-ancestry.ensures.names in
+    let first = subst (λ (xs : List ClassDef). FindsNames names (names_with_basic xs)) c.deref.ensures.value c.in_ok-ancestry.ensures.names in
     subst (AreNamed names) (sym (c.deref-3.ensures.value ∙ c.in_ok-entries.ensures)) (entries_named ds os names settled first)
 
 pub feature_faults-requires-clause-places : goal.feature_faults-requires-clause-places
@@ -52,7 +52,7 @@ feature_faults-requires-clause-places c =
     let settled = subst (λ (xs : List ClassDef). AreSettled xs os) c.deref.ensures.value c.in_ok-ancestry.ensures.settled in
     let places : length c.deref-4.result.now ≡ length ds =
     ap length (c.deref-4.ensures.value ∙ c.in_ok-places.ensures) ∙ length-map c.deref-2.result.now (λ (d : ClassDef). d.at) ∙ ap length c.deref-2.ensures.value in
-    let entries : length c.in_ok-scope.scope.entries.now ≡ length (entries_of ds os) = ap length (c.in_ok-scope.ensures.entries ∙ c.deref-3.ensures.value ∙ c.in_ok-entries.ensures) in
+    let entries : length c.in_ok-names.names.entries.now ≡ length (entries_of ds os) = ap length (c.in_ok-names.ensures.entries ∙ c.deref-3.ensures.value ∙ c.in_ok-entries.ensures) in
     ap (λ (n : ℕ). n + 5) places ∙ entries_long ds os settled ∙ sym entries
 
 pub returns-in_err-refuse_faults-clause-places : goal.returns-in_err-refuse_faults-clause-places
@@ -61,7 +61,7 @@ returns-in_err-refuse_faults-clause-places c n some all =
     let os = c.in_ok-ancestry.ancestry.depths.items in
     let settled = subst (λ (xs : List ClassDef). AreSettled xs os) c.deref.ensures.value c.in_ok-ancestry.ensures.settled in
     let here = subst (AreClassesWithin n) (sym c.in_ok-definitions.ensures) all in
-    let entries = sym (c.in_ok-scope.ensures.entries ∙ c.deref-3.ensures.value ∙ c.in_ok-entries.ensures) in
+    let entries = sym (c.in_ok-names.ensures.entries ∙ c.deref-3.ensures.value ∙ c.in_ok-entries.ensures) in
     let places = sym (c.deref-4.ensures.value ∙ c.in_ok-places.ensures ∙ ap (map (λ (d : ClassDef). d.at)) c.deref-2.ensures.value) in
     let there = subst (λ (es : List Entry). ArePlaced n es c.deref-4.result.now) entries (subst (λ (ps : List Place). ArePlaced n (entries_of ds os) ps) places (placed_by n ds os settled here)) in
     let placed : IsPlacedRefusal n c.in_err-refuse_faults.field-0.0 = c.in_err-refuse_faults.ensures.places n (c.in_ok-faults.ensures.places n there) in
@@ -74,23 +74,23 @@ from_entries-requires c =
     let settled = subst (λ (xs : List ClassDef). AreSettled xs os) c.deref.ensures.value c.in_ok-ancestry.ensures.settled in
     let few = subst AreFew (sym c.in_ok-definitions.ensures) c.requires.few in
     let resolved = subst AreResolved (sym c.in_ok-entries.ensures) (resolved_by ds os few settled) in
-    let good = subst (λ (es : List Entry). AreGood (classes es)) (c.in_ok-scope.ensures.entries ∙ c.deref-3.ensures.value) (c.in_ok-faults.ensures.good c.in_ok-refuse_faults.ensures.none) in
+    let good = subst (λ (es : List Entry). AreGood (classes es)) (c.in_ok-names.ensures.entries ∙ c.deref-3.ensures.value) (c.in_ok-faults.ensures.good c.in_ok-refuse_faults.ensures.none) in
     let none = subst (λ (xs : List ClassDef). HasClassPhase xs []) c.deref.ensures.value c.in_ok-ancestry.ensures.faultless in
-    let meant : classes c.in_ok-scope.scope.entries.now ≡ classes_meant ds = ap classes (c.in_ok-scope.ensures.entries ∙ c.deref-3.ensures.value ∙ c.in_ok-entries.ensures) ∙ entries_are_meant ds os settled in
+    let meant : classes c.in_ok-names.names.entries.now ≡ classes_meant ds = ap classes (c.in_ok-names.ensures.entries ∙ c.deref-3.ensures.value ∙ c.in_ok-entries.ensures) ∙ entries_are_meant ds os settled in
     let stand : c.deref-4.result.now ≡ places ds = c.deref-4.ensures.value ∙ c.in_ok-places.ensures ∙ ap places c.deref-2.ensures.value in
     let free : feature_phase ds ≡ [] = sym (c.in_ok-faults.ensures.exact ∙ (λ i. features_from (meant i) 5 (stand i))) ∙ c.in_ok-refuse_faults.ensures.none in
     let seen : classes c.in_ok-entries.entries.items ≡ classes_meant ds = ap classes c.in_ok-entries.ensures ∙ entries_are_meant ds os settled in
     let whole = whole_by c.in_ok-entries.entries.items resolved good in
     let table : IsWholeTable (classes c.in_ok-entries.entries.items) = record { table = whole.table; depth = depth_at c.in_ok-entries.entries.items; grounded = whole.grounded } in
     let lawful = subst IsLawful (sym seen) (lawful_meant ds (subst IsWholeTable seen table) none free) in
-    let there = c.in_ok-scope.ensures.entries ∙ c.deref-3.ensures.value in
-    let named = c.in_ok-scope.scope in
+    let there = c.in_ok-names.ensures.entries ∙ c.deref-3.ensures.value in
+    let named = c.in_ok-names.names in
     record {
       indexed = record {
         whole = whole;
         lawful = lawful;
-        names = subst (AreNamed named.classes.entries) there c.in_ok-scope.ensures.scope.names;
-        own = subst (λ (es : List Entry). AreAllOwn (length es) named.own.items (classes es)) there c.in_ok-scope.ensures.scope.own;
+        names = subst (AreNamed named.classes.entries) there c.in_ok-names.ensures.table.names;
+        own = subst (λ (es : List Entry). AreAllOwn (length es) named.own.items (classes es)) there c.in_ok-names.ensures.table.own;
       };
     }
 
@@ -115,7 +115,7 @@ returns-clause-faultless c =
     let os = c.in_ok-ancestry.ancestry.depths.items in
     let settled = subst (λ (xs : List ClassDef). AreSettled xs os) c.deref.ensures.value c.in_ok-ancestry.ensures.settled in
     let none = subst (λ (xs : List ClassDef). HasClassPhase xs []) (c.deref.ensures.value ∙ c.in_ok-definitions.ensures) c.in_ok-ancestry.ensures.faultless in
-    let meant : classes c.in_ok-scope.scope.entries.now ≡ classes_meant ds = ap classes (c.in_ok-scope.ensures.entries ∙ c.deref-3.ensures.value ∙ c.in_ok-entries.ensures) ∙ entries_are_meant ds os settled in
+    let meant : classes c.in_ok-names.names.entries.now ≡ classes_meant ds = ap classes (c.in_ok-names.ensures.entries ∙ c.deref-3.ensures.value ∙ c.in_ok-entries.ensures) ∙ entries_are_meant ds os settled in
     let stand : c.deref-4.result.now ≡ places ds = c.deref-4.ensures.value ∙ c.in_ok-places.ensures ∙ ap places c.deref-2.ensures.value in
     let is : c.in_ok-faults.faults.items ≡ feature_phase (definitions c.args.files.items) =
     c.in_ok-faults.ensures.exact ∙ (λ i. features_from (meant i) 5 (stand i)) ∙ ap feature_phase c.in_ok-definitions.ensures in
@@ -127,7 +127,7 @@ returns-in_err-refuse_faults-clause-exact c =
     let os = c.in_ok-ancestry.ancestry.depths.items in
     let settled = subst (λ (xs : List ClassDef). AreSettled xs os) c.deref.ensures.value c.in_ok-ancestry.ensures.settled in
     let none = subst (λ (xs : List ClassDef). HasClassPhase xs []) (c.deref.ensures.value ∙ c.in_ok-definitions.ensures) c.in_ok-ancestry.ensures.faultless in
-    let meant : classes c.in_ok-scope.scope.entries.now ≡ classes_meant ds = ap classes (c.in_ok-scope.ensures.entries ∙ c.deref-3.ensures.value ∙ c.in_ok-entries.ensures) ∙ entries_are_meant ds os settled in
+    let meant : classes c.in_ok-names.names.entries.now ≡ classes_meant ds = ap classes (c.in_ok-names.ensures.entries ∙ c.deref-3.ensures.value ∙ c.in_ok-entries.ensures) ∙ entries_are_meant ds os settled in
     let stand : c.deref-4.result.now ≡ places ds = c.deref-4.ensures.value ∙ c.in_ok-places.ensures ∙ ap places c.deref-2.ensures.value in
     let is : c.in_ok-faults.faults.items ≡ feature_phase (definitions c.args.files.items) =
     c.in_ok-faults.ensures.exact ∙ (λ i. features_from (meant i) 5 (stand i)) ∙ ap feature_phase c.in_ok-definitions.ensures in
@@ -141,7 +141,7 @@ returns-in_err-refuse_faults-clause-rows c =
     let os = c.in_ok-ancestry.ancestry.depths.items in
     let settled = subst (λ (xs : List ClassDef). AreSettled xs os) c.deref.ensures.value c.in_ok-ancestry.ensures.settled in
     let none = subst (λ (xs : List ClassDef). HasClassPhase xs []) (c.deref.ensures.value ∙ c.in_ok-definitions.ensures) c.in_ok-ancestry.ensures.faultless in
-    let meant : classes c.in_ok-scope.scope.entries.now ≡ classes_meant ds = ap classes (c.in_ok-scope.ensures.entries ∙ c.deref-3.ensures.value ∙ c.in_ok-entries.ensures) ∙ entries_are_meant ds os settled in
+    let meant : classes c.in_ok-names.names.entries.now ≡ classes_meant ds = ap classes (c.in_ok-names.ensures.entries ∙ c.deref-3.ensures.value ∙ c.in_ok-entries.ensures) ∙ entries_are_meant ds os settled in
     let stand : c.deref-4.result.now ≡ places ds = c.deref-4.ensures.value ∙ c.in_ok-places.ensures ∙ ap places c.deref-2.ensures.value in
     let is : c.in_ok-faults.faults.items ≡ feature_phase (definitions c.args.files.items) =
     c.in_ok-faults.ensures.exact ∙ (λ i. features_from (meant i) 5 (stand i)) ∙ ap feature_phase c.in_ok-definitions.ensures in
@@ -156,7 +156,7 @@ returns-clause-no_rows c =
     let os = c.in_ok-ancestry.ancestry.depths.items in
     let settled = subst (λ (xs : List ClassDef). AreSettled xs os) c.deref.ensures.value c.in_ok-ancestry.ensures.settled in
     let none = subst (λ (xs : List ClassDef). HasClassPhase xs []) (c.deref.ensures.value ∙ c.in_ok-definitions.ensures) c.in_ok-ancestry.ensures.faultless in
-    let meant : classes c.in_ok-scope.scope.entries.now ≡ classes_meant ds = ap classes (c.in_ok-scope.ensures.entries ∙ c.deref-3.ensures.value ∙ c.in_ok-entries.ensures) ∙ entries_are_meant ds os settled in
+    let meant : classes c.in_ok-names.names.entries.now ≡ classes_meant ds = ap classes (c.in_ok-names.ensures.entries ∙ c.deref-3.ensures.value ∙ c.in_ok-entries.ensures) ∙ entries_are_meant ds os settled in
     let stand : c.deref-4.result.now ≡ places ds = c.deref-4.ensures.value ∙ c.in_ok-places.ensures ∙ ap places c.deref-2.ensures.value in
     let is : c.in_ok-faults.faults.items ≡ feature_phase (definitions c.args.files.items) =
     c.in_ok-faults.ensures.exact ∙ (λ i. features_from (meant i) 5 (stand i)) ∙ ap feature_phase c.in_ok-definitions.ensures in

@@ -6,7 +6,7 @@ use Rattle.cool_classes.specs.declared.fault.ClassFault.{ClassFault}
 use Rattle.cool_classes.specs.declared.fault.ClassKind.{ClassKind}
 use Rattle.cool_classes.specs.ClassFaults.{name_kind}
 use Rattle.cool_classes.specs.Names.{first_named, self_type}
-use Rattle.cool_classes.specs.FirstNames.{AreFirst}
+use Rattle.cool_classes.specs.FirstNames.{FindsNames}
 use Rattle.cool_classes.specs.Settled.{basic_names, names_in, AddsFaults}
 use Rattle.cool_classes.proofs.AllOfLists.{class_within}
 use Rattle.cool_classes.proofs.FaultsLeft.{names_next}
@@ -30,10 +30,10 @@ loop-index-preserved c =
     let before = basic_names ++ take i (names_in ds) in
     let slice = c.as_slice-name.ensures in
     let more = ap (λ (n : List ℕ). before ++ n ∷ []) (sym slice) ∙ names_more ds i name within at_name in
-    let known = known_there before name c.is_some-known.result c.first_place.result c.is_some-known.ensures (c.first_place.ensures (map Some before) c.loop-index.invariant.finds) in
+    let known = known_there before name c.is_some-known.result c.first_index.result c.is_some-known.ensures (c.first_index.ensures (map Some before) c.loop-index.invariant.finds) in
     let kind_is = c.name_fault.ensures.exact ∙ ap (name_kind name) known ∙ ap (λ (n : List ℕ). name_kind n (is_some (first_named 0 before n))) slice in
     record {
-      finds = finds_more c.add_place.new.names.entries before (basic_names ++ take (i + 1) (names_in ds)) name (names_more ds i name within at_name) (c.in_ok-add_place.ensures (map Some before) (number_next ds i within) c.loop-index.invariant.finds);
+      finds = finds_more c.add_name.new.names.entries before (basic_names ++ take (i + 1) (names_in ds)) name (names_more ds i name within at_name) (c.in_ok-add_name.ensures (map Some before) (number_next ds i within) c.loop-index.invariant.finds);
       adds = adds_both (λ (n : ℕ). AreClassesWithin n ds) c.args.faults.now.items faults c.add_fault.new.faults.items c.loop-index.invariant.adds one;
       exact = names_next ds i d before (basic_names ++ take (i + 1) (names_in ds)) faults c.add_fault.new.faults.items kind within c.index-definitions-index.is more kind_is c.in_ok-add_fault.ensures
           ∙ c.loop-index.invariant.exact;
@@ -49,4 +49,4 @@ pub returns-clause-finds : goal.returns-clause-finds
 returns-clause-finds c =
     let ds = c.args.definitions.now in
     let all : length ds ≡ c.loop-index.index = let t = c.loop-index-test.false in let e = c.loop-index.auto.index-end in omega arith in
-    subst (AreFirst c.loop-index.names.entries) (all_names ds c.loop-index.index all) c.loop-index.invariant.finds
+    subst (FindsNames c.loop-index.names.entries) (all_names ds c.loop-index.index all) c.loop-index.invariant.finds

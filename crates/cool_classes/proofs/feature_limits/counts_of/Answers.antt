@@ -14,7 +14,7 @@ use Rattle.cool_classes.proofs.feature_limits.counts_of.Goals as goal
 
 pub loop-index-preserved : goal.loop-index-preserved
 loop-index-preserved c =
-    let es = c.args.scope.now.entries.now in
+    let es = c.args.table.now.entries.now in
     let p = classes es in
     let k = c.loop-index.index in
     let id = class_number k in

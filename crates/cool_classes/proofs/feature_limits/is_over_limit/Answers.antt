@@ -12,7 +12,7 @@ use Rattle.cool_classes.proofs.feature_limits.is_over_limit.Goals as goal
 
 pub returns-then-exceed : goal.returns-then-exceed
 returns-then-exceed c =
-    let es = c.args.scope.now.entries.now in
+    let es = c.args.table.now.entries.now in
     let p = classes es in
     let ds = c.args.lineage.now.class ∷ c.args.lineage.now.above.items in
     let gs = c.args.counts.now.attributes.items in
@@ -25,7 +25,7 @@ returns-then-exceed c =
 
 pub returns-else-exceed : goal.returns-else-exceed
 returns-else-exceed c =
-    let es = c.args.scope.now.entries.now in
+    let es = c.args.table.now.entries.now in
     let p = classes es in
     let ds = c.args.lineage.now.class ∷ c.args.lineage.now.above.items in
     let gs = c.args.counts.now.attributes.items in

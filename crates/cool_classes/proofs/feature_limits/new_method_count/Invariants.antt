@@ -6,6 +6,6 @@ use Rattle.cool_classes.proofs.feature_limits.new_method_count.Given as goal
 
 abbrev pub invariant-loop-index : goal.invariant-loop-index
 invariant-loop-index l = record {
-  counted : l.count + length (new_among (classes l.scope.entries.now) l.lineage.above.items l.features l.index (drop l.index l.features)) ≡ length (new_among (classes l.scope.entries.now) l.lineage.above.items l.features 0 l.features);
+  counted : l.count + length (new_among (classes l.table.entries.now) l.lineage.above.items l.features l.index (drop l.index l.features)) ≡ length (new_among (classes l.table.entries.now) l.lineage.above.items l.features 0 l.features);
   below : l.count ≤ l.index;
 }

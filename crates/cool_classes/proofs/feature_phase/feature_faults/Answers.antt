@@ -12,7 +12,7 @@ use Rattle.cool_classes.proofs.feature_phase.feature_faults.Goals as goal
 
 pub loop-index-preserved : goal.loop-index-preserved
 loop-index-preserved c =
-    let es = c.args.scope.now.entries.now in
+    let es = c.args.table.now.entries.now in
     let k = c.loop-index.index in
     let faults = c.loop-index.faults.items in
     let above = c.in_ok-lineage.lineage.above.items in
@@ -27,11 +27,11 @@ loop-index-preserved c =
     ∙ ap (λ (x : ClassId). faults ++ class_faults (classes es) x above at) class in
     let chain = subst (λ (x : ClassId). IsChain (classes es) (parent_of (classes es) x) above) class c.in_ok-lineage.ensures.lineage.chain in
     record {
-      are = faults_next es c.args.places.now k faults c.note_class.new.faults.items above at c.requires.scope.resolved within (λ n h. all_at (IsPlaced n) c.args.places.now k none less h) chain c.loop-index.invariant.are is;
+      are = faults_next es c.args.places.now k faults c.note_class.new.faults.items above at c.requires.table.resolved within (λ n h. all_at (IsPlaced n) c.args.places.now k none less h) chain c.loop-index.invariant.are is;
       exact = features_next (classes es) c.args.places.now k faults c.note_class.new.faults.items above none less chain is ∙ c.loop-index.invariant.exact;
     }
 
 pub returns-clause-good : goal.returns-clause-good
 returns-clause-good c none =
     let past : length c.args.places.now ≤ c.loop-index.index = omega arith in
-    all_good c.args.scope.now.entries.now (length c.args.places.now) c.requires.scope.resolved c.requires.places (λ k less. c.loop-index.invariant.are.good none k (omega arith))
+    all_good c.args.table.now.entries.now (length c.args.places.now) c.requires.table.resolved c.requires.places (λ k less. c.loop-index.invariant.are.good none k (omega arith))

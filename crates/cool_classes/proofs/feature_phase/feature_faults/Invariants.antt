@@ -7,6 +7,6 @@ use Rattle.cool_classes.proofs.feature_phase.feature_faults.Given as goal
 
 abbrev pub invariant-loop-index : goal.invariant-loop-index
 invariant-loop-index l = record {
-  are : AreFaults l.scope.entries.now l.places l.index l.faults.items;
-  exact : l.faults.items ++ features_from (classes l.scope.entries.now) (5 + l.index) (drop l.index l.places) ≡ features_from (classes l.scope.entries.now) 5 l.places;
+  are : AreFaults l.table.entries.now l.places l.index l.faults.items;
+  exact : l.faults.items ++ features_from (classes l.table.entries.now) (5 + l.index) (drop l.index l.places) ≡ features_from (classes l.table.entries.now) 5 l.places;
 }

@@ -13,7 +13,7 @@ three old a b t = simp append_assoc
 
 pub returns : goal.returns
 returns c =
-    let p = classes c.args.scope.now.entries.now in
+    let p = classes c.args.table.now.entries.now in
     let d = c.args.lineage.now.class in
     let ds = c.args.lineage.now.above.items in
     let a = c.args.attribute.now in

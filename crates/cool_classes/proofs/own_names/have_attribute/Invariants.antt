@@ -7,6 +7,6 @@ use Rattle.cool_classes.proofs.own_names.have_attribute.Given as goal
 
 abbrev pub invariant-loop-index : goal.invariant-loop-index
 invariant-loop-index l = record {
-  have : have_attribute (classes l.scope.entries.now) (drop l.index l.above) l.name ≡ have_attribute (classes l.scope.entries.now) l.above l.name;
-  within : AllByRecursion (λ c. c.0 < length l.scope.entries.now) (drop l.index l.above);
+  have : have_attribute (classes l.table.entries.now) (drop l.index l.above) l.name ≡ have_attribute (classes l.table.entries.now) l.above l.name;
+  within : AllByRecursion (λ c. c.0 < length l.table.entries.now) (drop l.index l.above);
 }

@@ -9,7 +9,7 @@ use Rattle.cool_syntax.specs.declared.file_tree.Feature.TheVariants.{Method, Att
 use Rattle.cool_syntax.specs.declared.file_tree.Formal.{Formal}
 use Rattle.cool_syntax.specs.declared.file_tree.MethodDef.{MethodDef}
 use Rattle.cool_classes.specs.Chains.{Class, class_number, name_of}
-use Rattle.cool_classes.specs.FirstNames.{first_place, method_name, attribute_name}
+use Rattle.cool_classes.specs.FirstNames.{first_index, method_name, attribute_name}
 
 -- what stands at a position of a list stands there behind others, and before others
 pub behind_get : {X : Type 0} (xs ys : List X) (k : ℕ) (x : X) → slice_get xs k ≡ Some x → slice_get (xs ++ ys) k ≡ Some x
@@ -42,33 +42,33 @@ pub has_right : {X : Type 0} (xs ys : List X) (x : X) → Contains ys x → Cont
 has_right [] ys x there = there
 has_right (z ∷ xs) ys x there = let w = has_right xs ys x there in (suc w.0, (let l = w.1 in omega arith), w.2)
 
--- a name that stands in a row has a first place there, no later
-pub place_found : (k : ℕ) (row : List (Option (List ℕ))) (i : ℕ) (f : List ℕ) → slice_get row i ≡ Some (Some f)
-    → (j : ℕ) × (first_place k row f ≡ Some (k + j)) × (j ≤ i) × (slice_get row j ≡ Some (Some f))
-place_found k [] i f e = absurd (none-some (Some f) e)
-place_found k (None ∷ row) zero f e = absurd (none-some f (same_Some None (Some f) e))
-place_found k (None ∷ row) (suc i) f e =
-    let w = place_found (k + 1) row i f e in
+-- a name that stands in a row has a first index there, no later
+pub index_found : (k : ℕ) (row : List (Option (List ℕ))) (i : ℕ) (f : List ℕ) → slice_get row i ≡ Some (Some f)
+    → (j : ℕ) × (first_index k row f ≡ Some (k + j)) × (j ≤ i) × (slice_get row j ≡ Some (Some f))
+index_found k [] i f e = absurd (none-some (Some f) e)
+index_found k (None ∷ row) zero f e = absurd (none-some f (same_Some None (Some f) e))
+index_found k (None ∷ row) (suc i) f e =
+    let w = index_found (k + 1) row i f e in
     (suc w.0, w.1 ∙ ap Some (let n : k + 1 + w.0 ≡ k + suc w.0 = omega arith in n), (let l = w.2 in omega arith), w.3)
-place_found k (Some name ∷ row) zero f e =
+index_found k (Some name ∷ row) zero f e =
     let same : name ≡ f = same_Some name f (same_Some (Some name) (Some f) e) in
     let b : bytes_eq f name ≡ true = (bytes_eq-Decides f name).1 (sym same) in
-    (zero, ap (λ (t : Bool). if t then Some k else first_place (k + 1) row f) b ∙ ap Some (let n : k ≡ k + 0 = omega arith in n), omega arith, e)
-place_found k (Some name ∷ row) (suc i) f e = by (bytes_eq f name) refl (place_found (k + 1) row i f e)
+    (zero, ap (λ (t : Bool). if t then Some k else first_index (k + 1) row f) b ∙ ap Some (let n : k ≡ k + 0 = omega arith in n), omega arith, e)
+index_found k (Some name ∷ row) (suc i) f e = by (bytes_eq f name) refl (index_found (k + 1) row i f e)
   where
-    by : (b : Bool) → bytes_eq f name ≡ b → (j : ℕ) × (first_place (k + 1) row f ≡ Some (k + 1 + j)) × (j ≤ i) × (slice_get row j ≡ Some (Some f))
-        → (j : ℕ) × ((if b then Some k else first_place (k + 1) row f) ≡ Some (k + j)) × (j ≤ suc i) × (slice_get (Some name ∷ row) j ≡ Some (Some f))
+    by : (b : Bool) → bytes_eq f name ≡ b → (j : ℕ) × (first_index (k + 1) row f ≡ Some (k + 1 + j)) × (j ≤ i) × (slice_get row j ≡ Some (Some f))
+        → (j : ℕ) × ((if b then Some k else first_index (k + 1) row f) ≡ Some (k + j)) × (j ≤ suc i) × (slice_get (Some name ∷ row) j ≡ Some (Some f))
     by true t w = (zero, ap Some (let n : k ≡ k + 0 = omega arith in n), omega arith, ap (λ (x : List ℕ). Some (Some x)) (sym ((bytes_eq-Decides f name).0 t)))
     by false t w = (suc w.0, w.1 ∙ ap Some (let n : k + 1 + w.0 ≡ k + suc w.0 = omega arith in n), (let l = w.2 in omega arith), w.3)
 
--- a first place has the name
-pub place_sound : (k : ℕ) (row : List (Option (List ℕ))) (f : List ℕ) (m : ℕ) → first_place k row f ≡ Some m → (j : ℕ) × (m ≡ k + j) × (slice_get row j ≡ Some (Some f))
-place_sound k [] f m e = absurd (none-some m e)
-place_sound k (None ∷ row) f m e = let w = place_sound (k + 1) row f m e in (suc w.0, (let n = w.1 in omega arith), w.2)
-place_sound k (Some name ∷ row) f m e = by (bytes_eq f name) refl e (λ h. place_sound (k + 1) row f m h)
+-- a first index has the name
+pub index_sound : (k : ℕ) (row : List (Option (List ℕ))) (f : List ℕ) (m : ℕ) → first_index k row f ≡ Some m → (j : ℕ) × (m ≡ k + j) × (slice_get row j ≡ Some (Some f))
+index_sound k [] f m e = absurd (none-some m e)
+index_sound k (None ∷ row) f m e = let w = index_sound (k + 1) row f m e in (suc w.0, (let n = w.1 in omega arith), w.2)
+index_sound k (Some name ∷ row) f m e = by (bytes_eq f name) refl e (λ h. index_sound (k + 1) row f m h)
   where
-    by : (b : Bool) → bytes_eq f name ≡ b → (if b then Some k else first_place (k + 1) row f) ≡ Some m
-        → (first_place (k + 1) row f ≡ Some m → (j : ℕ) × (m ≡ k + 1 + j) × (slice_get row j ≡ Some (Some f)))
+    by : (b : Bool) → bytes_eq f name ≡ b → (if b then Some k else first_index (k + 1) row f) ≡ Some m
+        → (first_index (k + 1) row f ≡ Some m → (j : ℕ) × (m ≡ k + 1 + j) × (slice_get row j ≡ Some (Some f)))
         → (j : ℕ) × (m ≡ k + j) × (slice_get (Some name ∷ row) j ≡ Some (Some f))
     by true t h more = (zero, (let n : k ≡ m = same_Some k m h in omega arith), ap (λ (x : List ℕ). Some (Some x)) (sym ((bytes_eq-Decides f name).0 t)))
     by false t h more = let w = more h in (suc w.0, (let n = w.1 in omega arith), w.2)

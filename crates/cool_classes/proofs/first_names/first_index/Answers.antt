@@ -1,7 +1,7 @@
--- A look-up finds the first place.
+-- A look-up finds the first index.
 use Rattle.std.proofs.Common.{◌∙◌}
-use Rattle.cool_classes.proofs.NamePlaces.{shown_lookup}
-use Rattle.cool_classes.proofs.first_names.first_place.Goals as goal
+use Rattle.cool_classes.proofs.NameIndexes.{shown_lookup}
+use Rattle.cool_classes.proofs.first_names.first_index.Goals as goal
 
 pub returns : goal.returns
 returns c row finds = c.copied.ensures ∙ c.get.ensures.value ∙ shown_lookup c.args.name.now c.args.names.now.entries ∙ finds c.args.name.now
