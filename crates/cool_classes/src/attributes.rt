@@ -14,26 +14,6 @@ use crate::method::AttributeRef;
 use cool_syntax::{Feature, Name};
 use std::alloc::{AllocError, Global};
 
-/// Adds the attributes that a class has of its own, in textual order. `Err` comes only for want of memory.
-fn add_own(
-    attributes: &mut Vec<AttributeRef>,
-    owner: ClassId,
-    features: &[Feature],
-) -> Result<(), AllocError>
-    requires few { length features.now < 2 ^ 32 }
-    ensures { OnOk result (attributes.new.items ≡ attributes.old.items ++ own_attributes owner 0 features.now) }
-{
-    for index in 0..features.len() {
-        if let Feature::Attribute(_) = &features[index] {
-            attributes.push(AttributeRef {
-                owner,
-                index: index as u32,
-            })?;
-        }
-    }
-    Ok(())
-}
-
 /// The attributes of a class, from the greatest ancestor down, in textual order. `Err` comes only for want of memory.
 pub(crate) fn attributes(
     alloc: Global,
@@ -56,6 +36,26 @@ pub(crate) fn attributes(
         )?;
     }
     Ok(attributes)
+}
+
+/// Adds the attributes that a class has of its own, in textual order. `Err` comes only for want of memory.
+fn add_own(
+    attributes: &mut Vec<AttributeRef>,
+    owner: ClassId,
+    features: &[Feature],
+) -> Result<(), AllocError>
+    requires few { length features.now < 2 ^ 32 }
+    ensures { OnOk result (attributes.new.items ≡ attributes.old.items ++ own_attributes owner 0 features.now) }
+{
+    for index in 0..features.len() {
+        if let Feature::Attribute(_) = &features[index] {
+            attributes.push(AttributeRef {
+                owner,
+                index: index as u32,
+            })?;
+        }
+    }
+    Ok(())
 }
 
 /// The name of an attribute.

@@ -8,6 +8,19 @@ use crate::entry::Entry;
 use cool_syntax::{Listed, Name};
 use std::alloc::{AllocError, Global};
 
+/// The five basic classes. `Err` comes only for want of memory.
+pub(crate) fn basic_entries(alloc: Global) -> Result<Vec<Entry>, AllocError>
+    ensures { IfOk result (λ entries. entries.items ≡ basic_entries) }
+{
+    let mut entries = Vec::new(alloc);
+    entries.push(basic_entry(alloc, b"Object", None, 0)?)?;
+    entries.push(basic_entry(alloc, b"IO", Some(OBJECT), 1)?)?;
+    entries.push(basic_entry(alloc, b"Int", Some(OBJECT), 1)?)?;
+    entries.push(basic_entry(alloc, b"Bool", Some(OBJECT), 1)?)?;
+    entries.push(basic_entry(alloc, b"String", Some(OBJECT), 1)?)?;
+    Ok(entries)
+}
+
 /// A basic class. `Err` comes only for want of memory.
 fn basic_entry(
     alloc: Global,
@@ -23,17 +36,4 @@ fn basic_entry(
         depth,
         features: Listed::new(Vec::new(alloc)),
     })
-}
-
-/// The five basic classes. `Err` comes only for want of memory.
-pub(crate) fn basic_entries(alloc: Global) -> Result<Vec<Entry>, AllocError>
-    ensures { IfOk result (λ entries. entries.items ≡ basic_entries) }
-{
-    let mut entries = Vec::new(alloc);
-    entries.push(basic_entry(alloc, b"Object", None, 0)?)?;
-    entries.push(basic_entry(alloc, b"IO", Some(OBJECT), 1)?)?;
-    entries.push(basic_entry(alloc, b"Int", Some(OBJECT), 1)?)?;
-    entries.push(basic_entry(alloc, b"Bool", Some(OBJECT), 1)?)?;
-    entries.push(basic_entry(alloc, b"String", Some(OBJECT), 1)?)?;
-    Ok(entries)
 }

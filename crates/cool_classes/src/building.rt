@@ -23,70 +23,6 @@ use crate::own_names::{TableNames, names_of};
 use cool_syntax::{ClassDef, FileTree, Place};
 use std::alloc::{AllocError, Global};
 
-/// The definitions of all files, in order. `Err` comes only for want of memory.
-fn definitions_of(alloc: Global, files: Vec<FileTree>) -> Result<Vec<ClassDef>, AllocError>
-    ensures { IfOk result (λ all. all.items ≡ definitions files.items) }
-{
-    let mut all = Vec::new(alloc);
-    for file in files {
-        all.append(&mut file.classes.into_vec())?;
-    }
-    Ok(all)
-}
-
-/// Where the names of definitions stand. `Err` comes only for want of memory.
-fn places_of(alloc: Global, definitions: &[ClassDef]) -> Result<Vec<Place>, AllocError>
-    ensures { IfOk result (λ places. places.items ≡ map (λ (d : tree.ClassDef). d.at) definitions.now) }
-{
-    let mut places = Vec::new(alloc);
-    for definition in definitions {
-        places.push(definition.at)?;
-    }
-    Ok(places)
-}
-
-/// The entry of a definition, below this parent and this deep.
-fn entry_of(definition: ClassDef, parent: ClassId, depth: u32) -> Entry
-    ensures { result ≡ record { name = definition.name; parent = Some parent; depth = depth; features = definition.features } }
-{
-    let ClassDef {
-        name,
-        at: _,
-        parent: _,
-        features,
-    } = definition;
-    Entry {
-        name,
-        parent: Some(parent),
-        depth,
-        features,
-    }
-}
-
-/// The entries of the basic classes and of definitions without faults. `Err` comes only for want of memory.
-fn entries_of(
-    alloc: Global,
-    definitions: Vec<ClassDef>,
-    ancestry: &Ancestry,
-) -> Result<Vec<Entry>, AllocError>
-    requires parents { ancestry.now.parents.items ≡ parents_meant (names_with_basic definitions.items) definitions.items }
-    requires settled { AreSettled definitions.items ancestry.now.depths.items }
-    ensures { IfOk result (λ entries. entries.items ≡ entries_of definitions.items ancestry.now.depths.items) }
-{
-    let mut entries = basic_entries(alloc)?;
-    let mut index = 0;
-    for definition in definitions {
-        let depth = match ancestry.depths[index] {
-            Some(depth) => depth,
-            None => unreachable!(),
-        };
-        let parent = ancestry.parents[index];
-        entries.push(entry_of(definition, parent, depth))?;
-        index += 1;
-    }
-    Ok(entries)
-}
-
 /// The table of the classes that these files define (the Cool manual, sections 3 to 8).
 ///
 /// `Err` comes for want of memory, and with faults. They are the faults C1 to C7 of the classes where there are any, else
@@ -117,4 +53,68 @@ pub fn table(alloc: Global, files: Vec<FileTree>) -> Result<ClassTable, TableErr
         own,
     } = names;
     Ok(ClassTable::from_entries(entries, classes, own))
+}
+
+/// The definitions of all files, in order. `Err` comes only for want of memory.
+fn definitions_of(alloc: Global, files: Vec<FileTree>) -> Result<Vec<ClassDef>, AllocError>
+    ensures { IfOk result (λ all. all.items ≡ definitions files.items) }
+{
+    let mut all = Vec::new(alloc);
+    for file in files {
+        all.append(&mut file.classes.into_vec())?;
+    }
+    Ok(all)
+}
+
+/// Where the names of definitions stand. `Err` comes only for want of memory.
+fn places_of(alloc: Global, definitions: &[ClassDef]) -> Result<Vec<Place>, AllocError>
+    ensures { IfOk result (λ places. places.items ≡ map (λ (d : tree.ClassDef). d.at) definitions.now) }
+{
+    let mut places = Vec::new(alloc);
+    for definition in definitions {
+        places.push(definition.at)?;
+    }
+    Ok(places)
+}
+
+/// The entries of the basic classes and of definitions without faults. `Err` comes only for want of memory.
+fn entries_of(
+    alloc: Global,
+    definitions: Vec<ClassDef>,
+    ancestry: &Ancestry,
+) -> Result<Vec<Entry>, AllocError>
+    requires parents { ancestry.now.parents.items ≡ parents_meant (names_with_basic definitions.items) definitions.items }
+    requires settled { AreSettled definitions.items ancestry.now.depths.items }
+    ensures { IfOk result (λ entries. entries.items ≡ entries_of definitions.items ancestry.now.depths.items) }
+{
+    let mut entries = basic_entries(alloc)?;
+    let mut index = 0;
+    for definition in definitions {
+        let depth = match ancestry.depths[index] {
+            Some(depth) => depth,
+            None => unreachable!(),
+        };
+        let parent = ancestry.parents[index];
+        entries.push(entry_of(definition, parent, depth))?;
+        index += 1;
+    }
+    Ok(entries)
+}
+
+/// The entry of a definition, below this parent and this deep.
+fn entry_of(definition: ClassDef, parent: ClassId, depth: u32) -> Entry
+    ensures { result ≡ record { name = definition.name; parent = Some parent; depth = depth; features = definition.features } }
+{
+    let ClassDef {
+        name,
+        at: _,
+        parent: _,
+        features,
+    } = definition;
+    Entry {
+        name,
+        parent: Some(parent),
+        depth,
+        features,
+    }
 }

@@ -31,6 +31,60 @@ pub(crate) struct Ancestry {
     pub(crate) depths: Vec<Option<u32>>,
 }
 
+/// Where the definitions stand. `Err` comes with the faults C1 to C7 in their order where there are any, and for want of
+/// memory.
+pub(crate) fn settle_classes(
+    alloc: Global,
+    definitions: &[ClassDef],
+) -> Result<Ancestry, TableError>
+    requires few { length definitions.now < 2 ^ 32 - 5 }
+    ensures names { IfOk result (λ found. FindsNames found.names.entries (names_with_basic definitions.now)) }
+    ensures parents { IfOk result (λ found. found.parents.items ≡ parents_meant (names_with_basic definitions.now) definitions.now) }
+    ensures settled { IfOk result (λ found. AreSettled definitions.now found.depths.items) }
+    ensures faultless { OnOk result (HasClassPhase definitions.now []) }
+    ensures exact { IfErr result (HasClassFaults definitions.now) }
+    ensures refusal { IfErr result IsRefusal }
+    ensures places { (n : ℕ) → 0 < n → AreClassesWithin n definitions.now → IfErr result (IsPlacedRefusal n) }
+{
+    let mut faults = Vec::new(alloc);
+    let names = find_names(alloc, definitions, &mut faults)?;
+    let parents = find_parents(alloc, definitions, &names, &mut faults)?;
+    let found = depths(alloc, &parents)?;
+    add_cyclic(definitions, &found.cyclic, &mut faults)?;
+    check_main(&names, &mut faults)?;
+    check_number(definitions, &mut faults)?;
+    refuse_faults(faults)?;
+    Ok(Ancestry {
+        names,
+        parents,
+        depths: found.known,
+    })
+}
+
+/// The first class of each name, the basic classes first. Adds C1 and C2 for the names of definitions. `Err` comes only for
+/// want of memory.
+fn find_names(
+    alloc: Global,
+    definitions: &[ClassDef],
+    faults: &mut Vec<ClassFault>,
+) -> Result<FirstNames, AllocError>
+    requires few { length definitions.now < 2 ^ 32 - 5 }
+    ensures finds { IfOk result (λ names. FindsNames names.entries (names_with_basic definitions.now)) }
+    ensures adds { OnOk result (AddsFaults (λ n. AreClassesWithin n definitions.now) faults.old.items faults.new.items) }
+    ensures exact { OnOk result (faults.new.items ≡ faults.old.items ++ names_faults basic_names definitions.now) }
+    ensures anew { OnOk result (faults.new.items ≡ [] → AreNamedAnew definitions.now (length definitions.now)) }
+{
+    let mut names = basic_names(alloc)?;
+    for index in 0..definitions.len() {
+        let definition = &definitions[index];
+        let name = definition.name.as_slice();
+        let known = first_index(&names, name).is_some();
+        add_name(alloc, &mut names, name, index as u32 + BASIC_CLASSES)?;
+        add_fault(faults, name_fault(name, known), definition.at)?;
+    }
+    Ok(names)
+}
+
 /// The names of the basic classes. `Err` comes only for want of memory.
 fn basic_names(alloc: Global) -> Result<FirstNames, AllocError>
     ensures { IfOk result (λ names. FindsNames names.entries basic_names) }
@@ -60,28 +114,47 @@ fn name_fault(name: &[u8], known: bool) -> Option<ClassKind>
     }
 }
 
-/// The first class of each name, the basic classes first. Adds C1 and C2 for the names of definitions. `Err` comes only for
-/// want of memory.
-fn find_names(
+/// The parent of each definition. Adds C2, C3 and C4 for their names. `Err` comes only for want of memory.
+fn find_parents(
     alloc: Global,
     definitions: &[ClassDef],
+    names: &FirstNames,
     faults: &mut Vec<ClassFault>,
-) -> Result<FirstNames, AllocError>
-    requires few { length definitions.now < 2 ^ 32 - 5 }
-    ensures finds { IfOk result (λ names. FindsNames names.entries (names_with_basic definitions.now)) }
+) -> Result<Vec<ClassId>, AllocError>
+    requires finds { FindsNames names.now.entries (names_with_basic definitions.now) }
+    ensures parents { IfOk result (λ parents. parents.items ≡ parents_meant (names_with_basic definitions.now) definitions.now) }
     ensures adds { OnOk result (AddsFaults (λ n. AreClassesWithin n definitions.now) faults.old.items faults.new.items) }
-    ensures exact { OnOk result (faults.new.items ≡ faults.old.items ++ names_faults basic_names definitions.now) }
-    ensures anew { OnOk result (faults.new.items ≡ [] → AreNamedAnew definitions.now (length definitions.now)) }
+    ensures exact { OnOk result (faults.new.items ≡ faults.old.items ++ parents_faults (names_with_basic definitions.now) definitions.now) }
+    ensures known { OnOk result (faults.new.items ≡ [] → AllByRecursion (λ (d : tree.ClassDef). IsParentKnown (names_with_basic definitions.now) d.parent) definitions.now) }
 {
-    let mut names = basic_names(alloc)?;
-    for index in 0..definitions.len() {
-        let definition = &definitions[index];
-        let name = definition.name.as_slice();
-        let known = first_index(&names, name).is_some();
-        add_name(alloc, &mut names, name, index as u32 + BASIC_CLASSES)?;
-        add_fault(faults, name_fault(name, known), definition.at)?;
+    let mut parents = Vec::new(alloc);
+    for definition in definitions {
+        let parent = find_parent(names, &definition.parent, faults)?;
+        parents.push(parent)?;
     }
-    Ok(names)
+    Ok(parents)
+}
+
+/// The parent of a definition: Object where it names none or no class. Adds C2, C3 or C4. `Err` comes only for want of
+/// memory.
+fn find_parent(
+    names: &FirstNames,
+    parent: &Option<TypeRef>,
+    faults: &mut Vec<ClassFault>,
+) -> Result<ClassId, AllocError>
+    ensures parent { IfOk result (λ class. (all : List (List ℕ)) → FindsNames names.now.entries all → class ≡ parent_meant all parent.now) }
+    ensures adds { OnOk result (AddsFaults (λ n. IfSome parent.now (IsTypeWithin n)) faults.old.items faults.new.items) }
+    ensures exact { OnOk result ((all : List (List ℕ)) → FindsNames names.now.entries all → faults.new.items ≡ faults.old.items ++ parent_faults all parent.now) }
+    ensures known { OnOk result (faults.new.items ≡ [] → (all : List (List ℕ)) → FindsNames names.now.entries all → IsParentKnown all parent.now) }
+{
+    match parent {
+        None => Ok(OBJECT),
+        Some(named) => {
+            let class = class_named(names, named.name.as_slice());
+            add_fault(faults, parent_fault(named.name.as_slice(), class), named.at)?;
+            Ok(class.unwrap_or(OBJECT))
+        }
+    }
 }
 
 /// The fault of a parent of this name: C2 where it is `SELF_TYPE`, C3 where no class has it, C4 where it is one of the
@@ -108,57 +181,19 @@ fn is_barred(class: ClassId) -> bool
     class == INT || class == BOOL || class == STRING
 }
 
-/// The parent of a definition: Object where it names none or no class. Adds C2, C3 or C4. `Err` comes only for want of
-/// memory.
-fn find_parent(
-    names: &FirstNames,
-    parent: &Option<TypeRef>,
-    faults: &mut Vec<ClassFault>,
-) -> Result<ClassId, AllocError>
-    ensures parent { IfOk result (λ class. (all : List (List ℕ)) → FindsNames names.now.entries all → class ≡ parent_meant all parent.now) }
-    ensures adds { OnOk result (AddsFaults (λ n. IfSome parent.now (IsTypeWithin n)) faults.old.items faults.new.items) }
-    ensures exact { OnOk result ((all : List (List ℕ)) → FindsNames names.now.entries all → faults.new.items ≡ faults.old.items ++ parent_faults all parent.now) }
-    ensures known { OnOk result (faults.new.items ≡ [] → (all : List (List ℕ)) → FindsNames names.now.entries all → IsParentKnown all parent.now) }
-{
-    match parent {
-        None => Ok(OBJECT),
-        Some(named) => {
-            let class = class_named(names, named.name.as_slice());
-            add_fault(faults, parent_fault(named.name.as_slice(), class), named.at)?;
-            Ok(class.unwrap_or(OBJECT))
-        }
-    }
-}
-
-/// The parent of each definition. Adds C2, C3 and C4 for their names. `Err` comes only for want of memory.
-fn find_parents(
-    alloc: Global,
+/// Adds C5 for each of these definitions, which stand on cycles. `Err` comes only for want of memory.
+fn add_cyclic(
     definitions: &[ClassDef],
-    names: &FirstNames,
+    cyclic: &[usize],
     faults: &mut Vec<ClassFault>,
-) -> Result<Vec<ClassId>, AllocError>
-    requires finds { FindsNames names.now.entries (names_with_basic definitions.now) }
-    ensures parents { IfOk result (λ parents. parents.items ≡ parents_meant (names_with_basic definitions.now) definitions.now) }
+) -> Result<(), AllocError>
+    requires within { AllByRecursion (λ (k : ℕ). k < length definitions.now) cyclic.now }
     ensures adds { OnOk result (AddsFaults (λ n. AreClassesWithin n definitions.now) faults.old.items faults.new.items) }
-    ensures exact { OnOk result (faults.new.items ≡ faults.old.items ++ parents_faults (names_with_basic definitions.now) definitions.now) }
-    ensures known { OnOk result (faults.new.items ≡ [] → AllByRecursion (λ (d : tree.ClassDef). IsParentKnown (names_with_basic definitions.now) d.parent) definitions.now) }
+    ensures exact { OnOk result (faults.new.items ≡ faults.old.items ++ cycle_faults definitions.now cyclic.now) }
+    ensures none { OnOk result (faults.new.items ≡ [] → cyclic.now ≡ []) }
 {
-    let mut parents = Vec::new(alloc);
-    for definition in definitions {
-        let parent = find_parent(names, &definition.parent, faults)?;
-        parents.push(parent)?;
-    }
-    Ok(parents)
-}
-
-/// Adds C7 for the definition past the most, where there is one. `Err` comes only for want of memory.
-fn check_number(definitions: &[ClassDef], faults: &mut Vec<ClassFault>) -> Result<(), AllocError>
-    ensures adds { OnOk result (AddsFaults (λ n. AreClassesWithin n definitions.now) faults.old.items faults.new.items) }
-    ensures exact { OnOk result (faults.new.items ≡ faults.old.items ++ number_faults definitions.now) }
-    ensures few { OnOk result (faults.new.items ≡ [] → length definitions.now ≤ MOST_CLASSES) }
-{
-    if definitions.len() > MOST_CLASSES {
-        add_fault(faults, Some(ClassKind::C7), definitions[MOST_CLASSES].at)?;
+    for class in cyclic {
+        add_fault(faults, Some(ClassKind::C5), definitions[*class].at)?;
     }
     Ok(())
 }
@@ -179,49 +214,14 @@ fn check_main(names: &FirstNames, faults: &mut Vec<ClassFault>) -> Result<(), Al
     Ok(())
 }
 
-/// Adds C5 for each of these definitions, which stand on cycles. `Err` comes only for want of memory.
-fn add_cyclic(
-    definitions: &[ClassDef],
-    cyclic: &[usize],
-    faults: &mut Vec<ClassFault>,
-) -> Result<(), AllocError>
-    requires within { AllByRecursion (λ (k : ℕ). k < length definitions.now) cyclic.now }
+/// Adds C7 for the definition past the most, where there is one. `Err` comes only for want of memory.
+fn check_number(definitions: &[ClassDef], faults: &mut Vec<ClassFault>) -> Result<(), AllocError>
     ensures adds { OnOk result (AddsFaults (λ n. AreClassesWithin n definitions.now) faults.old.items faults.new.items) }
-    ensures exact { OnOk result (faults.new.items ≡ faults.old.items ++ cycle_faults definitions.now cyclic.now) }
-    ensures none { OnOk result (faults.new.items ≡ [] → cyclic.now ≡ []) }
+    ensures exact { OnOk result (faults.new.items ≡ faults.old.items ++ number_faults definitions.now) }
+    ensures few { OnOk result (faults.new.items ≡ [] → length definitions.now ≤ MOST_CLASSES) }
 {
-    for class in cyclic {
-        add_fault(faults, Some(ClassKind::C5), definitions[*class].at)?;
+    if definitions.len() > MOST_CLASSES {
+        add_fault(faults, Some(ClassKind::C7), definitions[MOST_CLASSES].at)?;
     }
     Ok(())
-}
-
-/// Where the definitions stand. `Err` comes with the faults C1 to C7 in their order where there are any, and for want of
-/// memory.
-pub(crate) fn settle_classes(
-    alloc: Global,
-    definitions: &[ClassDef],
-) -> Result<Ancestry, TableError>
-    requires few { length definitions.now < 2 ^ 32 - 5 }
-    ensures names { IfOk result (λ found. FindsNames found.names.entries (names_with_basic definitions.now)) }
-    ensures parents { IfOk result (λ found. found.parents.items ≡ parents_meant (names_with_basic definitions.now) definitions.now) }
-    ensures settled { IfOk result (λ found. AreSettled definitions.now found.depths.items) }
-    ensures faultless { OnOk result (HasClassPhase definitions.now []) }
-    ensures exact { IfErr result (HasClassFaults definitions.now) }
-    ensures refusal { IfErr result IsRefusal }
-    ensures places { (n : ℕ) → 0 < n → AreClassesWithin n definitions.now → IfErr result (IsPlacedRefusal n) }
-{
-    let mut faults = Vec::new(alloc);
-    let names = find_names(alloc, definitions, &mut faults)?;
-    let parents = find_parents(alloc, definitions, &names, &mut faults)?;
-    let found = depths(alloc, &parents)?;
-    add_cyclic(definitions, &found.cyclic, &mut faults)?;
-    check_main(&names, &mut faults)?;
-    check_number(definitions, &mut faults)?;
-    refuse_faults(faults)?;
-    Ok(Ancestry {
-        names,
-        parents,
-        depths: found.known,
-    })
 }

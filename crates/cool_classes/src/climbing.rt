@@ -26,19 +26,6 @@ pub(crate) fn depth(entries: &[Entry], c: ClassId) -> u32
     entries[c.0 as usize].depth
 }
 
-/// The parent of a class that has classes above it.
-fn parent_of_lower(entries: &[Entry], c: ClassId) -> ClassId
-    requires within { c.0 < length entries.now }
-    requires grounded { IsGrounded (classes entries.now) (depth_at entries.now) }
-    requires lower { 0 < depth_at entries.now c }
-    ensures { parent_of (classes entries.now) c ≡ Some result }
-{
-    match parent(entries, c) {
-        Some(above) => above,
-        None => unreachable!(),
-    }
-}
-
 /// Whether a class is another one or has it above it.
 pub(crate) fn is_below(entries: &[Entry], a: ClassId, b: ClassId) -> bool
     requires within { a.0 < length entries.now }
@@ -93,4 +80,17 @@ pub(crate) fn chain(
     }
     ids.push(class)?;
     Ok(ids)
+}
+
+/// The parent of a class that has classes above it.
+fn parent_of_lower(entries: &[Entry], c: ClassId) -> ClassId
+    requires within { c.0 < length entries.now }
+    requires grounded { IsGrounded (classes entries.now) (depth_at entries.now) }
+    requires lower { 0 < depth_at entries.now c }
+    ensures { parent_of (classes entries.now) c ≡ Some result }
+{
+    match parent(entries, c) {
+        Some(above) => above,
+        None => unreachable!(),
+    }
 }

@@ -36,13 +36,46 @@ pub(crate) enum Above {
     Lost,
 }
 
-/// How many classes stand above a basic class.
-fn basic_depth(class: ClassId) -> u32
-    requires { class.0 < 5 }
-    ensures depth { (parents : List number.ClassId) → HasDepth (parents_with_basic parents) class.0 result }
-    ensures low { result < 2 }
+/// The depth of each definition that has a chain, and the definitions on cycles. `Err` comes only for want of memory.
+pub(crate) fn depths(alloc: Global, parents: &[ClassId]) -> Result<Hierarchy, AllocError>
+    requires parents { AllByRecursion (λ q. q.0 < length parents.now + 5) parents.now }
+    requires few { length parents.now < 2 ^ 32 - 5 }
+    ensures cyclic { IfOk result (λ found. AllByRecursion (λ k. k < length parents.now) found.cyclic.items) }
+    ensures cycles { IfOk result (λ found. AreCycles parents.now found.cyclic.items) }
+    ensures known { IfOk result (λ found. found.cyclic.items ≡ [] → AreDepths parents.now found.known.items) }
 {
-    if class == OBJECT { 0 } else { 1 }
+    let mut found = Hierarchy {
+        known: Vec::from_elem(alloc, None, parents.len())?,
+        cyclic: Vec::new(alloc),
+    };
+    let mut passed = Vec::from_elem(alloc, None, parents.len())?;
+    for start in 0..parents.len() {
+        walk(alloc, parents, &mut found, &mut passed, start)?;
+    }
+    Ok(found)
+}
+
+/// Finds the depth of a definition and of all above it, or a cycle that they lead to. `Err` comes only for want of memory.
+fn walk(
+    alloc: Global,
+    parents: &[ClassId],
+    found: &mut Hierarchy,
+    passed: &mut [Option<usize>],
+    start: usize,
+) -> Result<(), AllocError>
+    requires within { start < length parents.now }
+    requires parents { AllByRecursion (λ q. q.0 < length parents.now + 5) parents.now }
+    requires few { length parents.now < 2 ^ 32 - 5 }
+    requires walked { AreWalked parents.now start found.old.known.items found.old.cyclic.items passed.old }
+    ensures { OnOk result (AreWalked parents.now (start + 1) found.new.known.items found.new.cyclic.items passed.new) }
+{
+    let mut path = Path::new(alloc);
+    match climb(parents, &found.known, passed, &mut path, start)? {
+        Above::Known(depth) => settle(&mut found.known, path, depth),
+        Above::Cycle(first) => note_cycle(&mut found.cyclic, path, first)?,
+        Above::Lost => {}
+    }
+    Ok(())
 }
 
 /// Climbs from a definition to a class whose depth is known, or to a definition that was passed. `Err` comes only for want
@@ -83,6 +116,15 @@ fn climb(
     }
 }
 
+/// How many classes stand above a basic class.
+fn basic_depth(class: ClassId) -> u32
+    requires { class.0 < 5 }
+    ensures depth { (parents : List number.ClassId) → HasDepth (parents_with_basic parents) class.0 result }
+    ensures low { result < 2 }
+{
+    if class == OBJECT { 0 } else { 1 }
+}
+
 /// Notes the depths of the definitions of a path, below a class of this depth.
 fn settle(known: &mut [Option<u32>], mut path: Path, above: u32)
     requires within { AllByRecursion (λ k. k < length known.old) path }
@@ -107,46 +149,4 @@ fn note_cycle(cyclic: &mut Vec<usize>, mut path: Path, first: usize) -> Result<(
         }
     }
     Ok(())
-}
-
-/// Finds the depth of a definition and of all above it, or a cycle that they lead to. `Err` comes only for want of memory.
-fn walk(
-    alloc: Global,
-    parents: &[ClassId],
-    found: &mut Hierarchy,
-    passed: &mut [Option<usize>],
-    start: usize,
-) -> Result<(), AllocError>
-    requires within { start < length parents.now }
-    requires parents { AllByRecursion (λ q. q.0 < length parents.now + 5) parents.now }
-    requires few { length parents.now < 2 ^ 32 - 5 }
-    requires walked { AreWalked parents.now start found.old.known.items found.old.cyclic.items passed.old }
-    ensures { OnOk result (AreWalked parents.now (start + 1) found.new.known.items found.new.cyclic.items passed.new) }
-{
-    let mut path = Path::new(alloc);
-    match climb(parents, &found.known, passed, &mut path, start)? {
-        Above::Known(depth) => settle(&mut found.known, path, depth),
-        Above::Cycle(first) => note_cycle(&mut found.cyclic, path, first)?,
-        Above::Lost => {}
-    }
-    Ok(())
-}
-
-/// The depth of each definition that has a chain, and the definitions on cycles. `Err` comes only for want of memory.
-pub(crate) fn depths(alloc: Global, parents: &[ClassId]) -> Result<Hierarchy, AllocError>
-    requires parents { AllByRecursion (λ q. q.0 < length parents.now + 5) parents.now }
-    requires few { length parents.now < 2 ^ 32 - 5 }
-    ensures cyclic { IfOk result (λ found. AllByRecursion (λ k. k < length parents.now) found.cyclic.items) }
-    ensures cycles { IfOk result (λ found. AreCycles parents.now found.cyclic.items) }
-    ensures known { IfOk result (λ found. found.cyclic.items ≡ [] → AreDepths parents.now found.known.items) }
-{
-    let mut found = Hierarchy {
-        known: Vec::from_elem(alloc, None, parents.len())?,
-        cyclic: Vec::new(alloc),
-    };
-    let mut passed = Vec::from_elem(alloc, None, parents.len())?;
-    for start in 0..parents.len() {
-        walk(alloc, parents, &mut found, &mut passed, start)?;
-    }
-    Ok(found)
 }

@@ -3,6 +3,33 @@
 use cool_syntax::{Listed, Place};
 use std::alloc::AllocError;
 
+/// Why there is no table.
+#[derive(Debug, Drop)]
+pub enum TableError {
+    /// Want of memory.
+    Memory,
+    /// The faults of the classes, or where there are none those of the features.
+    Faults(Listed<ClassFault>),
+}
+
+impl From<AllocError> for TableError {
+    ghost use Rattle.std.specs.Prelude.{◌≡◌};
+    ghost use Rattle.cool_classes.specs.declared.fault.TableError.TheVariants as error;
+
+    ghost from_gives = { λ _ e. e ≡ error.Memory };
+
+    fn from(_error: AllocError) -> TableError {
+        TableError::Memory
+    }
+}
+
+/// A fault, and the place where it stands.
+#[derive(Clone, Copy, Debug, PartialEq, Eq)]
+pub struct ClassFault {
+    pub kind: ClassKind,
+    pub at: Place,
+}
+
 /// A kind of fault. The faults of the classes are C1 to C7, those of their features F1 to F9. A list of faults has those of
 /// the classes alone, or where there are none those of the features.
 #[derive(Clone, Copy, Debug, PartialEq, Eq, PartialOrd, Ord)]
@@ -39,31 +66,4 @@ pub enum ClassKind {
     F8,
     /// A class with over 2,000 attributes or methods, inherited ones too. At its name.
     F9,
-}
-
-/// A fault, and the place where it stands.
-#[derive(Clone, Copy, Debug, PartialEq, Eq)]
-pub struct ClassFault {
-    pub kind: ClassKind,
-    pub at: Place,
-}
-
-/// Why there is no table.
-#[derive(Debug, Drop)]
-pub enum TableError {
-    /// Want of memory.
-    Memory,
-    /// The faults of the classes, or where there are none those of the features.
-    Faults(Listed<ClassFault>),
-}
-
-impl From<AllocError> for TableError {
-    ghost use Rattle.std.specs.Prelude.{◌≡◌};
-    ghost use Rattle.cool_classes.specs.declared.fault.TableError.TheVariants as error;
-
-    ghost from_gives = { λ _ e. e ≡ error.Memory };
-
-    fn from(_error: AllocError) -> TableError {
-        TableError::Memory
-    }
 }

@@ -27,15 +27,6 @@ pub(crate) fn add_fault(
     Ok(())
 }
 
-/// Puts faults in the order of their files, their bytes, their kinds and their lines. `Err` comes only for want of memory.
-fn sort_faults(faults: &mut Vec<ClassFault>) -> Result<(), AllocError>
-    ensures order { OnOk result (AreInOrder standing_of faults.new.items) }
-    ensures same { IsPermutation faults.old.items faults.new.items }
-{
-    faults.sort_by_key(|fault| (fault.at.file, fault.at.byte, fault.kind, fault.at.line))?;
-    Ok(())
-}
-
 /// Refuses where there are faults, with them in order. `Err` comes then, and for want of memory.
 pub(crate) fn refuse_faults(mut faults: Vec<ClassFault>) -> Result<(), TableError>
     requires phase { AllByRecursion IsOfClasses faults.items ⊎ AllByRecursion IsOfFeatures faults.items }
@@ -49,4 +40,13 @@ pub(crate) fn refuse_faults(mut faults: Vec<ClassFault>) -> Result<(), TableErro
     }
     sort_faults(&mut faults)?;
     Err(TableError::Faults(Listed::new(faults)))
+}
+
+/// Puts faults in the order of their files, their bytes, their kinds and their lines. `Err` comes only for want of memory.
+fn sort_faults(faults: &mut Vec<ClassFault>) -> Result<(), AllocError>
+    ensures order { OnOk result (AreInOrder standing_of faults.new.items) }
+    ensures same { IsPermutation faults.old.items faults.new.items }
+{
+    faults.sort_by_key(|fault| (fault.at.file, fault.at.byte, fault.kind, fault.at.line))?;
+    Ok(())
 }

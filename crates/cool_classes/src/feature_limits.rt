@@ -27,6 +27,25 @@ pub(crate) struct Counts {
     methods: Vec<usize>,
 }
 
+/// What each class adds to the classes above it. `Err` comes only for want of memory.
+pub(crate) fn counts_of(alloc: Global, table: &TableNames<'_>) -> Result<Counts, AllocError>
+    requires table { AreTableNames table.now }
+    ensures { IfOk result (λ counts. AreCounts (length table.now.entries.now) (classes table.now.entries.now) counts) }
+{
+    let entries = table.entries;
+    let mut attributes = Vec::new(alloc);
+    let mut methods = Vec::new(alloc);
+    for index in 0..entries.len() {
+        let lineage = lineage_of(alloc, entries, ClassId(index as u32))?;
+        attributes.push(attribute_count(entries[index].features.as_slice()))?;
+        methods.push(new_method_count(table, &lineage))?;
+    }
+    Ok(Counts {
+        attributes,
+        methods,
+    })
+}
+
 /// How many attributes there are among features.
 fn attribute_count(features: &[Feature]) -> usize
     ensures { (c : number.ClassId) → result ≡ length (own_attributes c 0 features.now) }
@@ -34,6 +53,26 @@ fn attribute_count(features: &[Feature]) -> usize
     let mut count = 0;
     for index in 0..features.len() {
         if let Feature::Attribute(_) = &features[index] {
+            count += 1;
+        }
+    }
+    count
+}
+
+/// How many names of methods a class adds to those of the classes above it.
+fn new_method_count(table: &TableNames<'_>, lineage: &Lineage) -> usize
+    requires table { AreTableNames table.now }
+    requires lineage { IsLineage table.now.entries.now lineage.now }
+    ensures { result ≡ length (new_methods (classes table.now.entries.now) lineage.now.above.items lineage.now.class) }
+{
+    let class = lineage.class.0;
+    if class < BASIC_CLASSES {
+        return basic_method_count(class);
+    }
+    let features = table.entries[class as usize].features.as_slice();
+    let mut count = 0;
+    for index in 0..features.len() {
+        if is_new(table, lineage, &features[index], index as u32) {
             count += 1;
         }
     }
@@ -68,43 +107,15 @@ fn is_new(table: &TableNames<'_>, lineage: &Lineage, feature: &Feature, index: u
     }
 }
 
-/// How many names of methods a class adds to those of the classes above it.
-fn new_method_count(table: &TableNames<'_>, lineage: &Lineage) -> usize
-    requires table { AreTableNames table.now }
+/// Whether a class has more attributes or methods than a class may have.
+pub(crate) fn is_over_limit(table: &TableNames<'_>, counts: &Counts, lineage: &Lineage) -> bool
     requires lineage { IsLineage table.now.entries.now lineage.now }
-    ensures { result ≡ length (new_methods (classes table.now.entries.now) lineage.now.above.items lineage.now.class) }
-{
-    let class = lineage.class.0;
-    if class < BASIC_CLASSES {
-        return basic_method_count(class);
-    }
-    let features = table.entries[class as usize].features.as_slice();
-    let mut count = 0;
-    for index in 0..features.len() {
-        if is_new(table, lineage, &features[index], index as u32) {
-            count += 1;
-        }
-    }
-    count
-}
-
-/// What each class adds to the classes above it. `Err` comes only for want of memory.
-pub(crate) fn counts_of(alloc: Global, table: &TableNames<'_>) -> Result<Counts, AllocError>
+    requires counts { AreCounts (length table.now.entries.now) (classes table.now.entries.now) counts.now }
     requires table { AreTableNames table.now }
-    ensures { IfOk result (λ counts. AreCounts (length table.now.entries.now) (classes table.now.entries.now) counts) }
+    ensures { result ≡ is_over_limit (classes table.now.entries.now) (lineage.now.class ∷ lineage.now.above.items) }
 {
-    let entries = table.entries;
-    let mut attributes = Vec::new(alloc);
-    let mut methods = Vec::new(alloc);
-    for index in 0..entries.len() {
-        let lineage = lineage_of(alloc, entries, ClassId(index as u32))?;
-        attributes.push(attribute_count(entries[index].features.as_slice()))?;
-        methods.push(new_method_count(table, &lineage))?;
-    }
-    Ok(Counts {
-        attributes,
-        methods,
-    })
+    exceed(counts.attributes.as_slice(), lineage, MOST_ATTRIBUTES)
+        || exceed(counts.methods.as_slice(), lineage, MOST_METHODS)
 }
 
 /// Whether a class and those above it have more than so many, by what is counted for each.
@@ -123,15 +134,4 @@ fn exceed(counts: &[usize], lineage: &Lineage, most: usize) -> bool
         left -= count;
     }
     left < counts[lineage.class.0 as usize]
-}
-
-/// Whether a class has more attributes or methods than a class may have.
-pub(crate) fn is_over_limit(table: &TableNames<'_>, counts: &Counts, lineage: &Lineage) -> bool
-    requires lineage { IsLineage table.now.entries.now lineage.now }
-    requires counts { AreCounts (length table.now.entries.now) (classes table.now.entries.now) counts.now }
-    requires table { AreTableNames table.now }
-    ensures { result ≡ is_over_limit (classes table.now.entries.now) (lineage.now.class ∷ lineage.now.above.items) }
-{
-    exceed(counts.attributes.as_slice(), lineage, MOST_ATTRIBUTES)
-        || exceed(counts.methods.as_slice(), lineage, MOST_METHODS)
 }

@@ -18,19 +18,6 @@ pub(crate) struct Lineage {
     pub(crate) above: Vec<ClassId>,
 }
 
-/// The classes above a class. `Err` comes only for want of memory.
-fn above(alloc: Global, entries: &[Entry], class: ClassId) -> Result<Vec<ClassId>, AllocError>
-    requires within { class.0 < length entries.now }
-    requires grounded { IsGrounded (classes entries.now) (depth_at entries.now) }
-    ensures within { IfOk result (λ ids. AreWithin entries.now ids.items) }
-    ensures chain { IfOk result (λ ids. IsChain (classes entries.now) (parent_of (classes entries.now) class) ids.items) }
-{
-    match parent(entries, class) {
-        Some(parent) => chain(alloc, entries, parent),
-        None => Ok(Vec::new(alloc)),
-    }
-}
-
 /// The lineage of a class. `Err` comes only for want of memory.
 pub(crate) fn lineage_of(
     alloc: Global,
@@ -46,4 +33,17 @@ pub(crate) fn lineage_of(
         class,
         above: above(alloc, entries, class)?,
     })
+}
+
+/// The classes above a class. `Err` comes only for want of memory.
+fn above(alloc: Global, entries: &[Entry], class: ClassId) -> Result<Vec<ClassId>, AllocError>
+    requires within { class.0 < length entries.now }
+    requires grounded { IsGrounded (classes entries.now) (depth_at entries.now) }
+    ensures within { IfOk result (λ ids. AreWithin entries.now ids.items) }
+    ensures chain { IfOk result (λ ids. IsChain (classes entries.now) (parent_of (classes entries.now) class) ids.items) }
+{
+    match parent(entries, class) {
+        Some(parent) => chain(alloc, entries, parent),
+        None => Ok(Vec::new(alloc)),
+    }
 }

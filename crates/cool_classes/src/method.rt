@@ -2,6 +2,22 @@
 
 use crate::class_id::ClassId;
 
+/// A method: one of a basic class, or the one at an index among the features of its owner.
+#[derive(Clone, Copy, Debug, PartialEq, Eq)]
+pub enum MethodRef {
+    /// A method of a basic class.
+    Basic(BasicMethod),
+    /// The method that stands at this position among the features of its class.
+    User { owner: ClassId, index: u32 },
+}
+
+/// The attribute at an index among the features of its owner.
+#[derive(Clone, Copy, Debug, PartialEq, Eq)]
+pub struct AttributeRef {
+    pub owner: ClassId,
+    pub index: u32,
+}
+
 /// A method of a basic class (the Cool manual, section 8).
 #[derive(Clone, Copy, Debug, PartialEq, Eq)]
 pub enum BasicMethod {
@@ -25,20 +41,4 @@ pub enum BasicMethod {
     Concat,
     /// `String.substr(i : Int, l : Int) : String`
     Substr,
-}
-
-/// A method: one of a basic class, or the one at an index among the features of its owner.
-#[derive(Clone, Copy, Debug, PartialEq, Eq)]
-pub enum MethodRef {
-    /// A method of a basic class.
-    Basic(BasicMethod),
-    /// The method that stands at this position among the features of its class.
-    User { owner: ClassId, index: u32 },
-}
-
-/// The attribute at an index among the features of its owner.
-#[derive(Clone, Copy, Debug, PartialEq, Eq)]
-pub struct AttributeRef {
-    pub owner: ClassId,
-    pub index: u32,
 }

@@ -21,13 +21,6 @@ use crate::method::MethodRef;
 use cool_syntax::{Feature, MethodDef};
 use std::alloc::{AllocError, Global};
 
-/// The names of the methods and attributes that a class has of its own, each with the index of its first feature.
-#[derive(Drop)]
-pub(crate) struct OwnNames {
-    pub(crate) methods: FirstNames,
-    pub(crate) attributes: FirstNames,
-}
-
 /// The classes of entries by name, and the names of their features.
 #[derive(Drop)]
 pub(crate) struct TableNames<'a> {
@@ -36,48 +29,11 @@ pub(crate) struct TableNames<'a> {
     pub(crate) own: Vec<OwnNames>,
 }
 
-/// Notes the name of the next feature. `Err` comes only for want of memory.
-fn add_feature(
-    alloc: Global,
-    own: &mut OwnNames,
-    feature: &Feature,
-    index: u32,
-) -> Result<(), AllocError>
-    ensures { OnOk result ((fs : List AnyFeature) → index ≡ length fs → AreOwn own.old fs → AreOwn own.new (fs ++ feature.now ∷ [])) }
-{
-    match feature {
-        Feature::Method(method) => add_name(alloc, &mut own.methods, method.name.as_slice(), index),
-        Feature::Attribute(attribute) => {
-            add_name(alloc, &mut own.attributes, attribute.name.as_slice(), index)
-        }
-    }
-}
-
-/// The names of the features of a class. `Err` comes only for want of memory.
-fn own_names(alloc: Global, features: &[Feature]) -> Result<OwnNames, AllocError>
-    requires few { length features.now < 2 ^ 32 }
-    ensures { IfOk result (λ own. AreOwn own features.now) }
-{
-    let mut own = OwnNames {
-        methods: FirstNames::new(alloc),
-        attributes: FirstNames::new(alloc),
-    };
-    for index in 0..features.len() {
-        add_feature(alloc, &mut own, &features[index], index as u32)?;
-    }
-    Ok(own)
-}
-
-/// The names of the features of each class. `Err` comes only for want of memory.
-fn all_own_names(alloc: Global, entries: &[Entry]) -> Result<Vec<OwnNames>, AllocError>
-    requires few_features { (c : number.ClassId) → c.0 < length (classes entries.now) → length (features_of (classes entries.now) c) < 2 ^ 32 }
-    ensures { IfOk result (λ all. AreAllOwn (length entries.now) all.items (classes entries.now)) }
-{
-    let mut all = Vec::new(alloc);
-    for index in 0..entries.len() {
-        all.push(own_names(alloc, entries[index].features.as_slice())?)?;
-    }
-    Ok(all)
+/// The names of the methods and attributes that a class has of its own, each with the index of its first feature.
+#[derive(Drop)]
+pub(crate) struct OwnNames {
+    pub(crate) methods: FirstNames,
+    pub(crate) attributes: FirstNames,
 }
 
 /// The names of classes and of their features. `Err` comes only for want of memory.
@@ -98,25 +54,56 @@ pub(crate) fn names_of<'a>(
     })
 }
 
+/// The names of the features of each class. `Err` comes only for want of memory.
+fn all_own_names(alloc: Global, entries: &[Entry]) -> Result<Vec<OwnNames>, AllocError>
+    requires few_features { (c : number.ClassId) → c.0 < length (classes entries.now) → length (features_of (classes entries.now) c) < 2 ^ 32 }
+    ensures { IfOk result (λ all. AreAllOwn (length entries.now) all.items (classes entries.now)) }
+{
+    let mut all = Vec::new(alloc);
+    for index in 0..entries.len() {
+        all.push(own_names(alloc, entries[index].features.as_slice())?)?;
+    }
+    Ok(all)
+}
+
+/// The names of the features of a class. `Err` comes only for want of memory.
+fn own_names(alloc: Global, features: &[Feature]) -> Result<OwnNames, AllocError>
+    requires few { length features.now < 2 ^ 32 }
+    ensures { IfOk result (λ own. AreOwn own features.now) }
+{
+    let mut own = OwnNames {
+        methods: FirstNames::new(alloc),
+        attributes: FirstNames::new(alloc),
+    };
+    for index in 0..features.len() {
+        add_feature(alloc, &mut own, &features[index], index as u32)?;
+    }
+    Ok(own)
+}
+
+/// Notes the name of the next feature. `Err` comes only for want of memory.
+fn add_feature(
+    alloc: Global,
+    own: &mut OwnNames,
+    feature: &Feature,
+    index: u32,
+) -> Result<(), AllocError>
+    ensures { OnOk result ((fs : List AnyFeature) → index ≡ length fs → AreOwn own.old fs → AreOwn own.new (fs ++ feature.now ∷ [])) }
+{
+    match feature {
+        Feature::Method(method) => add_name(alloc, &mut own.methods, method.name.as_slice(), index),
+        Feature::Attribute(attribute) => {
+            add_name(alloc, &mut own.attributes, attribute.name.as_slice(), index)
+        }
+    }
+}
+
 /// Whether a class has this name.
 pub(crate) fn is_class(table: &TableNames<'_>, name: &[u8]) -> bool
     requires table { AreTableNames table.now }
     ensures { result ≡ is_class (classes table.now.entries.now) name.now }
 {
     first_index(&table.classes, name).is_some()
-}
-
-/// The method of a name that a class has of its own, the first where there are several.
-pub(crate) fn own_method(own: &OwnNames, c: ClassId, name: &[u8]) -> Option<MethodRef>
-    ensures { (p : List Class) → AreOwn own.now (features_of p c) → result ≡ own_method p c name.now }
-{
-    if c.0 < BASIC_CLASSES {
-        return basic_method(c.0, name).map(MethodRef::Basic);
-    }
-    match first_index(&own.methods, name) {
-        Some(index) => Some(MethodRef::User { owner: c, index }),
-        None => None,
-    }
 }
 
 /// The method of a name that these classes have, the first of them first.
@@ -137,6 +124,19 @@ pub(crate) fn nearest_method(
         }
     }
     None
+}
+
+/// The method of a name that a class has of its own, the first where there are several.
+pub(crate) fn own_method(own: &OwnNames, c: ClassId, name: &[u8]) -> Option<MethodRef>
+    ensures { (p : List Class) → AreOwn own.now (features_of p c) → result ≡ own_method p c name.now }
+{
+    if c.0 < BASIC_CLASSES {
+        return basic_method(c.0, name).map(MethodRef::Basic);
+    }
+    match first_index(&own.methods, name) {
+        Some(index) => Some(MethodRef::User { owner: c, index }),
+        None => None,
+    }
 }
 
 /// Whether one of these classes has an attribute of this name.

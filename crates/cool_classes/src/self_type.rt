@@ -3,16 +3,16 @@
 ghost use Rattle.std.specs.Prelude.{◌≡◌, bytes_eq};
 ghost use Rattle.cool_classes.specs.Names.{self_type};
 
-/// The word for the type of the object itself.
-pub(crate) fn self_type() -> &'static [u8]
-    ensures { result.now ≡ self_type }
-{
-    b"SELF_TYPE"
-}
-
 /// Whether a name is that word.
 pub(crate) fn is_self_type(name: &[u8]) -> bool
     ensures { result ≡ bytes_eq name.now self_type }
 {
     name == self_type()
+}
+
+/// The word for the type of the object itself.
+pub(crate) fn self_type() -> &'static [u8]
+    ensures { result.now ≡ self_type }
+{
+    b"SELF_TYPE"
 }

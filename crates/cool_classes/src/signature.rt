@@ -16,20 +16,6 @@ use crate::method::{AttributeRef, MethodRef};
 use crate::self_type::is_self_type;
 use cool_syntax::Feature;
 
-/// The type of this name.
-fn type_named(names: &FirstNames, name: &[u8]) -> Ty
-    requires known { (es : List entry.Entry) × AreNamed names.now.entries es × IsTypeName (classes es) name.now }
-    ensures { (es : List entry.Entry) → AreNamed names.now.entries es → Denotes (classes es) name.now result }
-{
-    if is_self_type(name) {
-        return Ty::SelfType;
-    }
-    match class_named(names, name) {
-        Some(class) => Ty::Class(class),
-        None => unreachable!(),
-    }
-}
-
 /// How many formals a method has.
 pub(crate) fn formal_count(entries: &[Entry], method: MethodRef) -> u32
     requires whole { AreWhole entries.now }
@@ -98,5 +84,19 @@ pub(crate) fn attribute_type(entries: &[Entry], names: &FirstNames, attribute: A
     match &features[attribute.index as usize] {
         Feature::Attribute(found) => type_named(names, found.declared.name.as_slice()),
         Feature::Method(_) => unreachable!(),
+    }
+}
+
+/// The type of this name.
+fn type_named(names: &FirstNames, name: &[u8]) -> Ty
+    requires known { (es : List entry.Entry) × AreNamed names.now.entries es × IsTypeName (classes es) name.now }
+    ensures { (es : List entry.Entry) → AreNamed names.now.entries es → Denotes (classes es) name.now result }
+{
+    if is_self_type(name) {
+        return Ty::SelfType;
+    }
+    match class_named(names, name) {
+        Some(class) => Ty::Class(class),
+        None => unreachable!(),
     }
 }

@@ -44,25 +44,6 @@ pub(crate) fn note_type(
     note(faults, !known, ClassKind::F6, declared.at)
 }
 
-/// Notes the faults of a formal behind those of these names (F3 to F6). `Err` comes only for want of memory.
-fn note_formal(
-    faults: &mut Vec<ClassFault>,
-    table: &TableNames<'_>,
-    before: &FirstNames,
-    formal: &Formal,
-) -> Result<(), AllocError>
-    requires table { AreTableNames table.now }
-    ensures { OnOk result ((row : List (Option (List ℕ))) → FindsFirst (shown_names before.now.entries) row → faults.new.items ≡ faults.old.items ++ formal_faults (classes table.now.entries.now) row formal.now) }
-{
-    let name = formal.name.as_slice();
-    note(faults, name == b"self".as_slice(), ClassKind::F3, formal.at)?;
-    let doubled = first_index(before, name).is_some();
-    note(faults, doubled, ClassKind::F4, formal.at)?;
-    let self_typed = is_self_type(formal.declared.name.as_slice());
-    note(faults, self_typed, ClassKind::F5, formal.declared.at)?;
-    note_type(faults, table, &formal.declared)
-}
-
 /// Notes the faults of formals. `Err` comes only for want of memory.
 pub(crate) fn note_formals(
     alloc: Global,
@@ -83,6 +64,49 @@ pub(crate) fn note_formals(
     Ok(())
 }
 
+/// Notes the faults of a formal behind those of these names (F3 to F6). `Err` comes only for want of memory.
+fn note_formal(
+    faults: &mut Vec<ClassFault>,
+    table: &TableNames<'_>,
+    before: &FirstNames,
+    formal: &Formal,
+) -> Result<(), AllocError>
+    requires table { AreTableNames table.now }
+    ensures { OnOk result ((row : List (Option (List ℕ))) → FindsFirst (shown_names before.now.entries) row → faults.new.items ≡ faults.old.items ++ formal_faults (classes table.now.entries.now) row formal.now) }
+{
+    let name = formal.name.as_slice();
+    note(faults, name == b"self".as_slice(), ClassKind::F3, formal.at)?;
+    let doubled = first_index(before, name).is_some();
+    note(faults, doubled, ClassKind::F4, formal.at)?;
+    let self_typed = is_self_type(formal.declared.name.as_slice());
+    note(faults, self_typed, ClassKind::F5, formal.declared.at)?;
+    note_type(faults, table, &formal.declared)
+}
+
+/// Whether a method declares other formals or another result than the one above it.
+pub(crate) fn declares_otherwise(
+    table: &TableNames<'_>,
+    method: &MethodDef,
+    above: MethodRef,
+) -> bool
+    requires table { AreTableNames table.now }
+    requires has { HasMethod (classes table.now.entries.now) above }
+    ensures { result ≡ declares_otherwise (classes table.now.entries.now) method.now above }
+{
+    let formals = method.formals.as_slice();
+    let result = method.result.name.as_slice();
+    match above {
+        MethodRef::Basic(basic) => {
+            !(fit_basic(formals, basic) && result == basic_result_name(basic))
+        }
+        MethodRef::User { owner, index } => {
+            let other = method_at(table, owner, index);
+            !(same_formals(formals, other.formals.as_slice())
+                && result == other.result.name.as_slice())
+        }
+    }
+}
+
 /// Whether two lists of formals declare the same types.
 fn same_formals(left: &[Formal], right: &[Formal]) -> bool
     ensures { result ≡ same_types (declared_types left.now) (declared_types right.now) }
@@ -97,6 +121,23 @@ fn same_formals(left: &[Formal], right: &[Formal]) -> bool
         }
     }
     true
+}
+
+/// Whether formals declare the types of those of a basic method (the Cool manual, section 8).
+fn fit_basic(formals: &[Formal], basic: BasicMethod) -> bool
+    ensures { result ≡ same_types (declared_types formals.now) (basic_formals basic) }
+{
+    match basic {
+        BasicMethod::OutString | BasicMethod::Concat => is_one_of(formals, b"String"),
+        BasicMethod::OutInt => is_one_of(formals, b"Int"),
+        BasicMethod::Substr => are_two_of(formals, b"Int"),
+        BasicMethod::Abort
+        | BasicMethod::TypeName
+        | BasicMethod::Copy
+        | BasicMethod::InString
+        | BasicMethod::InInt
+        | BasicMethod::Length => formals.is_empty(),
+    }
 }
 
 /// Whether there is one formal, and it is of this type.
@@ -121,23 +162,6 @@ fn are_two_of(formals: &[Formal], name: &[u8]) -> bool
     }
 }
 
-/// Whether formals declare the types of those of a basic method (the Cool manual, section 8).
-fn fit_basic(formals: &[Formal], basic: BasicMethod) -> bool
-    ensures { result ≡ same_types (declared_types formals.now) (basic_formals basic) }
-{
-    match basic {
-        BasicMethod::OutString | BasicMethod::Concat => is_one_of(formals, b"String"),
-        BasicMethod::OutInt => is_one_of(formals, b"Int"),
-        BasicMethod::Substr => are_two_of(formals, b"Int"),
-        BasicMethod::Abort
-        | BasicMethod::TypeName
-        | BasicMethod::Copy
-        | BasicMethod::InString
-        | BasicMethod::InInt
-        | BasicMethod::Length => formals.is_empty(),
-    }
-}
-
 /// The name of the type of a basic method's result (the Cool manual, section 8).
 fn basic_result_name(basic: BasicMethod) -> &'static [u8]
     ensures { result.now ≡ basic_result basic }
@@ -148,29 +172,5 @@ fn basic_result_name(basic: BasicMethod) -> &'static [u8]
         BasicMethod::InInt | BasicMethod::Length => b"Int",
         BasicMethod::TypeName | BasicMethod::InString | BasicMethod::Concat | BasicMethod::Substr =>
             b"String",
-    }
-}
-
-/// Whether a method declares other formals or another result than the one above it.
-pub(crate) fn declares_otherwise(
-    table: &TableNames<'_>,
-    method: &MethodDef,
-    above: MethodRef,
-) -> bool
-    requires table { AreTableNames table.now }
-    requires has { HasMethod (classes table.now.entries.now) above }
-    ensures { result ≡ declares_otherwise (classes table.now.entries.now) method.now above }
-{
-    let formals = method.formals.as_slice();
-    let result = method.result.name.as_slice();
-    match above {
-        MethodRef::Basic(basic) => {
-            !(fit_basic(formals, basic) && result == basic_result_name(basic))
-        }
-        MethodRef::User { owner, index } => {
-            let other = method_at(table, owner, index);
-            !(same_formals(formals, other.formals.as_slice())
-                && result == other.result.name.as_slice())
-        }
     }
 }
