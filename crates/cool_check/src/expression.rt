@@ -17,7 +17,7 @@ ghost use Rattle.cool_check.specs.declared.fault.TypeKind.TheVariants as kind;
 ghost use Rattle.cool_classes.specs.declared.class_id.Ty.TheVariants.{Class as IsClass};
 
 use crate::binding::type_of_binding;
-use crate::called::type_of_call;
+use crate::dispatch::type_of_call;
 use crate::fault::{CheckError, TypeKind};
 use crate::operator::{type_of_binary, type_of_unary};
 use crate::setting::Setting;

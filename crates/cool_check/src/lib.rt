@@ -5,8 +5,8 @@
 #![tactic(auto)]
 
 mod binding;
-mod called;
 mod checking;
+mod dispatch;
 mod expression;
 mod fault;
 mod feature;

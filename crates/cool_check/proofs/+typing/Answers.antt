@@ -26,14 +26,14 @@ binding::type_of_binding-returns-in_err-bound-in-Let-clause-places t c = λ n h.
     let same : c.from_residual-in_err-bound-in-Let.result ≡ Err c.in_err-bound-in-Let.field-0.0 = search rules in
     subst (λ r. IfErr r (IsPlacedError n)) (sym same) (c.in_err-bound-in-Let.ensures.places n parts.0 parts.2.1)
 
-pub called::type_of_call-returns-in_err-class-in-StaticDispatch-clause-places : goal.called::type_of_call-returns-in_err-class-in-StaticDispatch-clause-places
-called::type_of_call-returns-in_err-class-in-StaticDispatch-clause-places t c = λ n h.
+pub dispatch::type_of_call-returns-in_err-class-in-StaticDispatch-clause-places : goal.dispatch::type_of_call-returns-in_err-class-in-StaticDispatch-clause-places
+dispatch::type_of_call-returns-in_err-class-in-StaticDispatch-clause-places t c = λ n h.
     let parts = subst (λ m. IsTreeWithin n (made (all_trees c.args.setting.now.body.now) m)) c.in-StaticDispatch.is h in
     let same : c.from_residual-in_err-class-in-StaticDispatch.result ≡ Err c.in_err-class-in-StaticDispatch.field-0.0 = search rules in
     subst (λ r. IfErr r (IsPlacedError n)) (sym same) (c.in_err-class-in-StaticDispatch.ensures.places n parts.2.1)
 
-pub called::type_of_call-type_of_result-requires-in-StaticDispatch-clause-args : goal.called::type_of_call-type_of_result-requires-in-StaticDispatch-clause-args
-called::type_of_call-type_of_result-requires-in-StaticDispatch-clause-args t c =
+pub dispatch::type_of_call-type_of_result-requires-in-StaticDispatch-clause-args : goal.dispatch::type_of_call-type_of_result-requires-in-StaticDispatch-clause-args
+dispatch::type_of_call-type_of_result-requires-in-StaticDispatch-clause-args t c =
     let parts = subst (HasPartsBelow c.args.id.0) c.in-StaticDispatch.is c.requires.parts in
     subst (AllByRecursion (λ arg. arg.0 < _)) (sym c.as_slice-in-StaticDispatch-2.ensures) (ids_below c.args.id.0 _ c.in-StaticDispatch.args c.requires.below parts.1)
 

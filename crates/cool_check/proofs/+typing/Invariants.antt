@@ -15,8 +15,8 @@ decreases-expression::type_of l = 8 * l.id.0 + 4
 abbrev pub decreases-expression::type_of_control : goal.decreases-expression::type_of_control
 decreases-expression::type_of_control l = 8 * l.id.0 + 3
 
-abbrev pub decreases-called::type_of_call : goal.decreases-called::type_of_call
-decreases-called::type_of_call l = 8 * l.id.0 + 3
+abbrev pub decreases-dispatch::type_of_call : goal.decreases-dispatch::type_of_call
+decreases-dispatch::type_of_call l = 8 * l.id.0 + 3
 
 abbrev pub decreases-binding::type_of_binding : goal.decreases-binding::type_of_binding
 decreases-binding::type_of_binding l = 8 * l.id.0 + 3

@@ -5,7 +5,7 @@ use Rattle.cool_syntax.specs.NodeLists.{all_trees, at_id}
 use Rattle.cool_classes.specs.Features.{formals_of}
 use Rattle.cool_check.specs.Contexts.{context}
 use Rattle.cool_check.specs.FirstFaults.{misfit}
-use Rattle.cool_check.proofs.called.misfit.Given as goal
+use Rattle.cool_check.proofs.dispatch.misfit.Given as goal
 
 abbrev pub invariant-loop-index : goal.invariant-loop-index
 invariant-loop-index l =

@@ -7,7 +7,7 @@ use Rattle.cool_classes.specs.Features.{formals_of}
 use Rattle.cool_check.specs.Contexts.{context}
 use Rattle.cool_check.proofs.Misfits.{misfit_later}
 use Rattle.cool_check.proofs.PlacesOfParts.{tree_within, place_within}
-use Rattle.cool_check.proofs.called.misfit.Goals as goal
+use Rattle.cool_check.proofs.dispatch.misfit.Goals as goal
 
 pub returns-then-not-conforms-clause-places : goal.returns-then-not-conforms-clause-places
 returns-then-not-conforms-clause-places c = λ n h.
