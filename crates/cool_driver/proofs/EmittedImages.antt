@@ -2,7 +2,7 @@
 use Rattle.std.proofs.Common.{◌≡◌, ◌∙◌, ap, arith, refl, ℕ, ◌+◌, ◌*◌, ◌%◌, ◌^◌, ◌<◌, ◌≤◌, List, [], ◌∷◌, length}
 use Rattle.std.specs.List.{AllByRecursion, concat}
 use Rattle.std.proofs.Math.ListN.{length-append}
-use Rattle.mips_isa.specs.declared.address_map.TheConstants.{TEXT_START}
+use Rattle.mips_isa.specs.declared.address_map.TheConstants.{DATA_START, TEXT_START}
 use Rattle.mips_isa.specs.ImageBounds.{ImageParts, IsImage}
 use Rattle.mips_isa.specs.Calls.{State, Exited}
 use Rattle.mips_isa.specs.Run.{run, start}
@@ -21,7 +21,7 @@ length-prints address (string ∷ strings) = omega (arith, length-prints (addres
 
 -- the text has five words for each string, and three more
 pub length-text_of : (strings : List (List ℕ)) → length (text_of strings) ≡ 5 * length strings + 3
-length-text_of strings = omega (arith, length-append (prints 0x10000000 strings) exit_words, length-prints 0x10000000 strings)
+length-text_of strings = omega (arith, length-append (prints DATA_START strings) exit_words, length-prints DATA_START strings)
 
 -- the words and the data of strings that are not too many have an image's bounds
 pub made_is_image : (image : ImageParts) (strings : List (List ℕ)) → image.entry ≡ TEXT_START → image.text ≡ text_of strings → image.bytes ≡ data_of strings

@@ -10,7 +10,6 @@ use Rattle.mips_isa.specs.declared.address_map.TheConstants.{TEXT_START, DATA_ST
 use Rattle.mips_isa.specs.ImageBounds.{ImageParts}
 use Rattle.mips_isa.specs.Bytes.{Bytes, Segments, lies, segments_of, bytes_of_image}
 use Rattle.mips_isa.specs.Decoding.{decoded}
-use Rattle.mips_isa.specs.Words.{fields, InRange}
 use Rattle.mips_isa.specs.declared.instr.Instr.TheVariants.{Imm, Lui, Syscall}
 use Rattle.mips_isa.specs.declared.instr.ImmOp.TheVariants.{Ori}
 use Rattle.mips_isa.specs.Machine.{Core, On, Call, Registers, set_register, step}
@@ -18,20 +17,7 @@ use Rattle.mips_isa.specs.Calls.{State, Outcome, Exited, string_at, up_to_zero, 
 use Rattle.mips_isa.specs.Run.{run, start}
 use Rattle.mips_isa.proofs.WordsAreDecoded.{decoded-word_of}
 use Rattle.mips_isa.proofs.WalkingText.{drop_one_more, text_step, run_on, run_call}
-use Rattle.cool_driver.specs.Emitted.{HasNoZero, print_words, exit_words, prints, data_of, text_of}
-
--- the words of these instructions
-lui_word : (k n : ℕ) → k < 32 → n < 65536 → decoded (1006632960 + k * 65536 + n) ≡ Some (Lui k (pos n))
-lui_word k n low small =
-    let range : InRange (Lui k (pos n)) = (low, small) in
-    let same : 1006632960 + k * 65536 + n ≡ fields 15 0 k (n % 65536) = omega (arith, small) in
-    ap decoded same ∙ decoded-word_of (Lui k (pos n)) range
-
-ori_word : (k n : ℕ) → k < 32 → n < 65536 → decoded (872415232 + k * 2097152 + k * 65536 + n) ≡ Some (Imm Ori k k (pos n))
-ori_word k n low small =
-    let range : InRange (Imm Ori k k (pos n)) = (low, low, small) in
-    let same : 872415232 + k * 2097152 + k * 65536 + n ≡ fields 13 k k (n % 65536) = omega (arith, small) in
-    ap decoded same ∙ decoded-word_of (Imm Ori k k (pos n)) range
+use Rattle.cool_driver.specs.Emitted.{HasNoZero, number_words, print_words, exit_words, prints, data_of, text_of}
 
 syscall_word : decoded 12 ≡ Some Syscall
 unfolding decoded
@@ -54,13 +40,13 @@ abbrev with_register : ℕ → ℕ → State → State
 with_register i v s = record s { core = record s.core { registers = set_register s.core.registers i v; pc = s.core.pc + 4 } }
 
 number_loaded : (text rest : List ℕ) (b : Segments) (n k i lower : ℕ) (s : State) → 0 < i → i < 32 → n < 4294967296
-    → b.text_end ≡ TEXT_START + 4 * length text → drop k text ≡ (1006632960 + i * 65536 + n / 65536) ∷ (872415232 + i * 2097152 + i * 65536 + n % 65536) ∷ rest
+    → b.text_end ≡ TEXT_START + 4 * length text → drop k text ≡ number_words i n ++ rest
     → s.core.pc ≡ TEXT_START + 4 * k → run text b (suc (suc lower)) s ≡ run text b lower (with_number i n s)
 number_loaded text rest b n k i lower s some low small end there at =
     let upper = n / 65536 * 65536 % 4294967296 in
     let half = with_register i upper s in
-    let first : step text b s.core ≡ On half.core = text_step text k _ _ b s.core (Lui i (pos (n / 65536))) end there at (lui_word i (n / 65536) low (omega (arith, small))) in
-    let second = text_step text (suc k) _ _ b half.core (Imm Ori i i (pos (n % 65536))) end (drop_one_more k text _ _ there) (omega (arith, at)) (ori_word i (n % 65536) low (omega arith)) in
+    let first : step text b s.core ≡ On half.core = text_step text k _ _ b s.core (Lui i (pos (n / 65536))) end there at (decoded-word_of (Lui i (pos (n / 65536))) (low, omega (arith, small))) in
+    let second = text_step text (suc k) _ _ b half.core (Imm Ori i i (pos (n % 65536))) end (drop_one_more k text _ _ there) (omega (arith, at)) (decoded-word_of (Imm Ori i i (pos (n % 65536))) (low, low, omega arith)) in
     let value : bit_or (half.core.registers i) (n % 65536) ≡ n = rw (set_same s.core.registers i upper some) (halves n small) in
     run_on text b (suc lower) s half.core first ∙ run_on text b lower half _ second ∙ ap (λ v. run text b lower (with_register i v half)) value
 

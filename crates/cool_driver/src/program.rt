@@ -6,34 +6,16 @@ ghost use Rattle.cool_words.specs.declared.plan.RunLimits.{RunLimits};
 ghost use Rattle.cool_driver.specs.declared.TheConstants.{SIMPLE_STEPS};
 ghost use Rattle.cool_driver.specs.Tasks.{Prints};
 ghost use Rattle.cool_driver.specs.SimpleReading.{texts};
-ghost use Rattle.cool_driver.specs.Emitted.{HasNoZero, print_words, text_of, data_of};
+ghost use Rattle.cool_driver.specs.Emitted.{HasNoZero, call_words, number_words, print_words, text_of, data_of};
 
 use crate::simple_form::MOST_CALLS;
-use mips_isa::{DATA_START, Image, TEXT_START};
+use mips_isa::register::{A0, V0};
+use mips_isa::system_call::{EXIT, PRINT_STRING};
+use mips_isa::{DATA_START, Image, ImmOp, Instr, Reg, TEXT_START, encode};
 use std::alloc::{AllocError, Global};
 
 /// The most strings of a program: those of its calls, and the end text.
 const MOST_STRINGS: usize = MOST_CALLS + 1;
-
-/// `lui $a0, 0`
-const LUI_A0: u32 = 0x3c04_0000;
-
-/// `ori $a0, $a0, 0`
-const ORI_A0: u32 = 0x3484_0000;
-
-/// `lui $v0, 0`
-const LUI_V0: u32 = 0x3c02_0000;
-
-/// `ori $v0, $v0, 0`
-const ORI_V0: u32 = 0x3442_0000;
-
-const SYSCALL: u32 = 12;
-
-/// The system call that prints a string.
-const PRINT_STRING: u32 = 4;
-
-/// The system call that ends the run.
-const EXIT: u32 = 10;
 
 /// The image of a program that prints these strings in order, and exits. `Err` comes only for want of memory.
 pub fn compile(alloc: Global, strings: &[Vec<u8>]) -> Result<Image, AllocError>
@@ -52,7 +34,7 @@ pub fn compile(alloc: Global, strings: &[Vec<u8>]) -> Result<Image, AllocError>
         push_print(&mut text, address)?;
         push_string(&mut bytes, string)?;
     }
-    text.extend_from_slice(&[LUI_V0, ORI_V0 | EXIT, SYSCALL])?;
+    push_call(&mut text, EXIT)?;
     Ok(Image {
         entry: TEXT_START,
         text,
@@ -64,14 +46,36 @@ pub fn compile(alloc: Global, strings: &[Vec<u8>]) -> Result<Image, AllocError>
 fn push_print(text: &mut Vec<u32>, address: u32) -> Result<(), AllocError>
     ensures { OnOk result (text.new.items ≡ text.old.items ++ print_words address) }
 {
-    let words = [
-        LUI_A0 | address >> 16,
-        ORI_A0 | address & 0xffff,
-        LUI_V0,
-        ORI_V0 | PRINT_STRING,
-        SYSCALL,
-    ];
-    text.extend_from_slice(&words)
+    push_number(text, A0, address)?;
+    push_call(text, PRINT_STRING)
+}
+
+/// Adds the words of the system call of this number.
+fn push_call(text: &mut Vec<u32>, number: u32) -> Result<(), AllocError>
+    ensures { OnOk result (text.new.items ≡ text.old.items ++ call_words number) }
+{
+    push_number(text, V0, number)?;
+    text.push(encode(Instr::Syscall))?;
+    Ok(())
+}
+
+/// Adds the words that put a number into a register: its upper half, and then its lower one.
+fn push_number(text: &mut Vec<u32>, register: u32, number: u32) -> Result<(), AllocError>
+    requires { register < 32 }
+    ensures { OnOk result (text.new.items ≡ text.old.items ++ number_words register number) }
+{
+    let register = Reg::new(register);
+    let upper = Instr::Lui {
+        rt: register,
+        imm: (number >> 16) as i32,
+    };
+    let lower = Instr::Imm {
+        op: ImmOp::Ori,
+        rt: register,
+        rs: register,
+        imm: (number & 0xffff) as i32,
+    };
+    text.extend_from_slice(&[encode(upper), encode(lower)])
 }
 
 /// Adds a string and a zero.

@@ -1,4 +1,5 @@
 use Rattle.std.proofs.Common.{◌≡◌, ◌+◌, ◌++◌, length, drop}
+use Rattle.mips_isa.specs.declared.address_map.TheConstants.{DATA_START}
 use Rattle.cool_driver.specs.SimpleReading.{texts}
 use Rattle.cool_driver.specs.Emitted.{prints, data_of}
 use Rattle.cool_driver.proofs.program.compile.Given as goal
@@ -8,6 +9,6 @@ abbrev pub invariant-loop-string : goal.invariant-loop-string
 invariant-loop-string l =
     let more = texts (drop l.string-index l.strings) in
     record {
-      text : l.text.items ++ prints (0x10000000 + length l.bytes.items) more ≡ prints 0x10000000 (texts l.strings);
+      text : l.text.items ++ prints (DATA_START + length l.bytes.items) more ≡ prints DATA_START (texts l.strings);
       bytes : l.bytes.items ++ data_of more ≡ data_of (texts l.strings);
     }
