@@ -8,13 +8,9 @@ use Rattle.cool_faults.specs.Verdicts.{IsAccepted, IsRefused}
 use Rattle.mips_isa.specs.Assembly.{image_of}
 use Rattle.mips_isa.specs.Calls.{Outcome}
 use Rattle.cool_emit.specs.Programs.{program_lines}
-use Rattle.cool_words.specs.declared.plan.RunLimits.{RunLimits}
+use Rattle.cool_words.specs.Plans.{usual_limits}
 use Rattle.cool_driver.specs.Execution.{run_of, left_by, status_of}
 use Rattle.cool_driver.specs.declared.TheConstants.{MOST_BIG_OUTPUT}
-
--- the limits of a command line that sets none
-abbrev pub usual_limits : RunLimits
-usual_limits = record { heap_kib = 32768; stack_kib = 8192; steps = 1000000000 }
 
 -- its one file, and the file's name
 abbrev pub big_files : ℕ → List (List ℕ)

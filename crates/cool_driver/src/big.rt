@@ -4,7 +4,8 @@ ghost use Rattle.std.specs.Prelude.{◌≡◌, ◌≤◌, ℕ, [], ◌∷◌, le
 ghost use Rattle.cool_faults.specs.Files.{total};
 ghost use Rattle.cool_syntax.specs.declared.TheConstants.{MOST_FILES, MOST_SOURCE_BYTES};
 ghost use Rattle.cool_words.specs.Numbers.{IsWithin};
-ghost use Rattle.cool_driver.specs.Big.{usual_limits, big_names, ComesOut, RunsTo, IsBigLine};
+ghost use Rattle.cool_words.specs.Plans.{usual_limits};
+ghost use Rattle.cool_driver.specs.Big.{ComesOut, RunsTo, IsBigLine};
 ghost use Rattle.cool_driver.specs.Execution.{run_of};
 ghost use Rattle.cool_driver.specs.SimpleReading.{texts};
 ghost use Rattle.cool_driver.specs.Tasks.{code_of};
@@ -17,17 +18,10 @@ use cool_big::big_program;
 use cool_emit::build;
 use cool_faults::{Verdict, accept};
 use cool_ports::SureSource;
-use cool_words::RunLimits;
+use cool_words::USUAL_LIMITS;
 use mips_isa::Image;
 use spim_machine::{Halt, Machine};
 use std::alloc::{AllocError, Global};
-
-/// The limits of a command line that sets none.
-const USUAL_LIMITS: RunLimits = RunLimits {
-    heap_kib: 32_768,
-    stack_kib: 8_192,
-    steps: 1_000_000_000,
-};
 
 /// How a program came out.
 #[derive(Clone, Copy)]

@@ -75,12 +75,16 @@ file_in rows = option_and_then if_name (first_of (codes "FILE") rows)
 abbrev pub value_in : Text → ℕ → ℕ → Option ℕ → List Row → Option ℕ
 value_in name low high default rows = option_map_or (number_in low high) (first_of name rows) default
 
+-- the limits where the words do not say
+abbrev pub usual_limits : RunLimits
+usual_limits = record { heap_kib = 32768; stack_kib = 8192; steps = 1000000000 }
+
 abbrev pub limits_in : List Row → Option RunLimits
 limits_in rows =
     option_and_then (λ heap. option_and_then (λ stack. option_map (λ steps. record { heap_kib = heap; stack_kib = stack; steps = steps })
-    (value_in (codes "steps") 1 4611686018427387904 (Some 1000000000) rows))
-    (value_in (codes "stack") 4 65536 (Some 8192) rows))
-    (value_in (codes "heap") 4 262144 (Some 32768) rows)
+    (value_in (codes "steps") 1 4611686018427387904 (Some usual_limits.steps) rows))
+    (value_in (codes "stack") 4 65536 (Some usual_limits.stack_kib) rows))
+    (value_in (codes "heap") 4 262144 (Some usual_limits.heap_kib) rows)
 
 -- ---- plans
 
@@ -112,7 +116,7 @@ on_literals = tt
 
 -- worked examples
 abbrev limits : ℕ → RunLimits
-limits heap_kib = record { heap_kib = heap_kib; stack_kib = 8192; steps = 1000000000 }
+limits heap_kib = record usual_limits { heap_kib = heap_kib }
 
 run_with_heap : plan_of (codes "run" ∷ codes "--heap=64" ∷ codes "hello.cl" ∷ []) ≡ Some (run (codes "hello.cl" ∷ []) (limits 64))
 unfolding on_literals

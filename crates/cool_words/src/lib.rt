@@ -12,6 +12,6 @@ mod reading;
 mod words_error;
 
 pub use command_word::CommandWord;
-pub use plan::{Plan, RunLimits};
+pub use plan::{Plan, RunLimits, USUAL_LIMITS};
 pub use reading::read_words;
 pub use words_error::WordsError;

@@ -11,6 +11,13 @@ pub struct RunLimits {
     pub steps: u64,
 }
 
+/// The limits of a run where the words do not say.
+pub const USUAL_LIMITS: RunLimits = RunLimits {
+    heap_kib: 32_768,
+    stack_kib: 8_192,
+    steps: 1_000_000_000,
+};
+
 /// What a command line asks for. Names are those of files, as the words have them.
 #[derive(Drop)]
 pub enum Plan {

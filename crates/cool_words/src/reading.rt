@@ -8,7 +8,7 @@ ghost use Rattle.cool_words.specs.Plans.{Answers, HasFileNames, IsBounded, IsWit
 use crate::command_word::{CommandWord, command_of};
 use crate::names::{are_file_names, copy_names, is_file_name};
 use crate::numbers::read_number;
-use crate::{Plan, RunLimits, WordsError};
+use crate::{Plan, RunLimits, USUAL_LIMITS, WordsError};
 use clap::ArgMatches;
 use clap::error::ErrorKind;
 use std::alloc::Global;
@@ -19,20 +19,11 @@ const LEAST_KIB: u64 = 4;
 /// The most KiB of a heap.
 const MOST_HEAP_KIB: u64 = 262_144;
 
-/// The KiB of a heap where the words do not say.
-const USUAL_HEAP_KIB: u64 = 32_768;
-
 /// The most KiB of a stack.
 const MOST_STACK_KIB: u64 = 65_536;
 
-/// The KiB of a stack where the words do not say.
-const USUAL_STACK_KIB: u64 = 8_192;
-
 /// The most steps of a run, 2 to the 62.
 const MOST_STEPS: u64 = 4_611_686_018_427_387_904;
-
-/// The steps of a run where the words do not say.
-const USUAL_STEPS: u64 = 1_000_000_000;
 
 /// The most that the size of a big program may be.
 const MOST_SIZE: u64 = 300;
@@ -140,16 +131,16 @@ fn limits_of(matches: &ArgMatches<'_>) -> Result<RunLimits, WordsError>
         "heap",
         LEAST_KIB,
         MOST_HEAP_KIB,
-        Some(USUAL_HEAP_KIB),
+        Some(USUAL_LIMITS.heap_kib as u64),
     )?;
     let stack = value_of(
         matches,
         "stack",
         LEAST_KIB,
         MOST_STACK_KIB,
-        Some(USUAL_STACK_KIB),
+        Some(USUAL_LIMITS.stack_kib as u64),
     )?;
-    let steps = value_of(matches, "steps", 1, MOST_STEPS, Some(USUAL_STEPS))?;
+    let steps = value_of(matches, "steps", 1, MOST_STEPS, Some(USUAL_LIMITS.steps))?;
     Ok(RunLimits {
         heap_kib: heap as u32,
         stack_kib: stack as u32,

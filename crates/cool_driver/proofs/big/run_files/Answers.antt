@@ -4,7 +4,8 @@ use Rattle.cool_faults.specs.Verdicts.{IsAccepted, IsRefused}
 use Rattle.mips_isa.specs.Assembly.{image_of}
 use Rattle.mips_isa.specs.ImageBounds.{ImageParts}
 use Rattle.cool_emit.specs.Programs.{program_lines}
-use Rattle.cool_driver.specs.Big.{usual_limits, big_names, RunsTo}
+use Rattle.cool_words.specs.Plans.{usual_limits}
+use Rattle.cool_driver.specs.Big.{big_names, RunsTo}
 use Rattle.cool_driver.specs.Big.ComesOut.{refused, ran}
 use Rattle.cool_driver.specs.Execution.{run_of}
 use Rattle.cool_driver.specs.SimpleReading.{texts}
