@@ -6,7 +6,8 @@ use Rattle.std.proofs.Math.ListN.{length-append}
 use Rattle.std.proofs.lemmas.Bool.{and_parts, cond_both}
 use Rattle.std.proofs.lemmas.Option.{cond_some, option_and_then_some}
 use Rattle.cool_driver.specs.declared.simple_form.TheConstants.{MOST_CALLS}
-use Rattle.cool_driver.specs.SimpleForm.{Simple, is_blank, AreBlanks, call, head, tail}
+use Rattle.cool_syntax.specs.Lexemes.{is_white}
+use Rattle.cool_driver.specs.SimpleForm.{Simple, AreBlanks, call, head, tail}
 use Rattle.cool_words.specs.declared.plan.RunLimits.{RunLimits}
 use Rattle.cool_driver.specs.SimpleFiles.{IsBlankFile, AreSimple, RunOtherwise}
 use Rattle.cool_driver.specs.SimpleReading.{lexemes_at, calls_at, program_at, is_blank_file, programs_at}
@@ -15,10 +16,10 @@ use Rattle.cool_driver.proofs.ReadingLexemes.{front_ends, lexemes_found, lexemes
 use Rattle.cool_driver.proofs.SpelledCalls.{AreCalls, calls_found, calls_read}
 
 -- where the parts of a program are read, the bytes are a program
-program_found : (bytes front rest : List ℕ) (strings : List (List ℕ)) (read : List (List ℕ) × List ℕ) → lexemes_at head bytes ≡ Some front → AreCalls front tail MOST_CALLS read → lexemes_at tail read.1 ≡ Some rest → (if nat_le 1 (length read.0) && nat_le (length rest) (prefix_len is_blank rest) then Some read.0 else None) ≡ Some strings → Simple bytes strings
+program_found : (bytes front rest : List ℕ) (strings : List (List ℕ)) (read : List (List ℕ) × List ℕ) → lexemes_at head bytes ≡ Some front → AreCalls front tail MOST_CALLS read → lexemes_at tail read.1 ≡ Some rest → (if nat_le 1 (length read.0) && nat_le (length rest) (prefix_len is_white rest) then Some read.0 else None) ≡ Some strings → Simple bytes strings
 program_found bytes front rest strings read headed called tailed e =
-    let end = cond_some (nat_le 1 (length read.0) && nat_le (length rest) (prefix_len is_blank rest)) read.0 strings e in
-    let tests = and_parts (nat_le 1 (length read.0)) (nat_le (length rest) (prefix_len is_blank rest)) end.0 in
+    let end = cond_some (nat_le 1 (length read.0) && nat_le (length rest) (prefix_len is_white rest)) read.0 strings e in
+    let tests = and_parts (nat_le 1 (length read.0)) (nat_le (length rest) (prefix_len is_white rest)) end.0 in
     let blanks = AreBlanks-from_len rest (leb-true _ _ tests.1) in
     let calls = called (lexemes_found tail [] read.1 rest tailed blanks) in
     rw (← end.1) (record { spelled = lexemes_found head _ bytes front headed calls.0; plain = calls.1; some = leb-true _ _ tests.0; most = calls.2 })
@@ -27,7 +28,7 @@ program_found bytes front rest strings read headed called tailed e =
 program_read : (bytes front mid rest : List ℕ) (strings : List (List ℕ)) → lexemes_at head bytes ≡ Some front → calls_at MOST_CALLS front ≡ (strings, mid) → lexemes_at tail mid ≡ Some rest → AreBlanks rest → 1 ≤ length strings → program_at bytes ≡ Some strings
 unfolding program_at
 program_read bytes front mid rest strings headed called tailed blanks some =
-    rw (headed, called, tailed, le-leb 1 (length strings) some, le-leb (length rest) (prefix_len is_blank rest) (prefix_len-blanks rest blanks))
+    rw (headed, called, tailed, le-leb 1 (length strings) some, le-leb (length rest) (prefix_len is_white rest) (prefix_len-blanks rest blanks))
 
 -- bytes that are read are the program that writes the strings that were read
 pub program_is_simple : (bytes : List ℕ) (strings : List (List ℕ)) → program_at bytes ≡ Some strings → Simple bytes strings
@@ -66,11 +67,11 @@ files_are_blank [] h = refl
 files_are_blank (bytes ∷ files) h = rw (file_is_blank bytes h.0, files_are_blank files h.1)
 
 -- blanks do not reach over the first lexeme of a program
-begins_solid : (bytes : List ℕ) (strings : List (List ℕ)) → Simple bytes strings → length bytes ≤ prefix_len is_blank bytes → ⊥
+begins_solid : (bytes : List ℕ) (strings : List (List ℕ)) → Simple bytes strings → length bytes ≤ prefix_len is_white bytes → ⊥
 begins_solid bytes strings simple h =
     let (gap, rest, split, blanks, enough, later) = simple.spelled in
-    let ends : prefix_len is_blank (gap ++ 99 ∷ (codes "lass" ++ rest)) ≡ length gap = front_ends is_blank gap 99 (codes "lass" ++ rest) blanks refl in
-    let reach : prefix_len is_blank bytes ≡ length gap = ap (prefix_len is_blank) split ∙ ends in
+    let ends : prefix_len is_white (gap ++ 99 ∷ (codes "lass" ++ rest)) ≡ length gap = front_ends is_white gap 99 (codes "lass" ++ rest) blanks refl in
+    let reach : prefix_len is_white bytes ≡ length gap = ap (prefix_len is_white) split ∙ ends in
     let long : length bytes ≡ length gap + length (codes "class" ++ rest) = ap length split ∙ length-append gap (codes "class" ++ rest) in
     omega (arith, h, reach, long)
 

@@ -4,7 +4,8 @@ use Rattle.std.specs.List.{AllByRecursion, prefix_len}
 use Rattle.std.proofs.lemmas.Bool.{leb-true, le-leb}
 use Rattle.std.proofs.lemmas.Option.{cond_some, option_and_then_some}
 use Rattle.cool_syntax.specs.declared.TheConstants.{MOST_BYTES}
-use Rattle.cool_driver.specs.SimpleForm.{Spaced, Spells, close, call, tail, quoted, escaped, is_plain, is_blank, IsPlainString}
+use Rattle.cool_syntax.specs.Lexemes.{is_white}
+use Rattle.cool_driver.specs.SimpleForm.{Spaced, Spells, close, call, tail, quoted, escaped, is_plain, IsPlainString}
 use Rattle.cool_driver.specs.SimpleReading.{lexeme_at, lexemes_at, string_at, call_head, call_tail, call_at, call_and, calls_at}
 use Rattle.cool_driver.proofs.ReadingLexemes.{lexeme_found, lexeme_read, lexeme_apart, last_lexeme, front_passes, lexemes_found, lexemes_read, lexemes_at-append}
 use Rattle.cool_driver.proofs.ReadingStrings.{string_found, string_read}
@@ -20,11 +21,11 @@ quote_mark = close (codes "\"")
 -- a string that was read behind its opening quote had its constant there
 constant_found : (bytes quote string rest : List ℕ) (more : List Spaced) → lexeme_at 0 (codes "\"") bytes ≡ Some quote → string_at false quote ≡ Some (string, rest) → Spells rest more → Spells bytes (close (quoted string) ∷ more) × AllByRecursion (λ b. IsTrue (is_plain b)) string
 constant_found bytes quote string rest more e f spelled =
-    let gap = take (prefix_len is_blank bytes) bytes in
+    let gap = take (prefix_len is_white bytes) bytes in
     let here = lexeme_found 0 (codes "\"") bytes quote e in
     let constant = string_found false quote string rest f in
     let joined : quote ≡ (flat_map escaped string ++ 34 ∷ []) ++ rest = constant.0 ∙ sym (append_assoc (flat_map escaped string) (34 ∷ []) rest) in
-    ((gap, rest, here.0 ∙ ap (λ xs. gap ++ 34 ∷ xs) joined, front_passes is_blank bytes, omega arith, spelled), constant.1)
+    ((gap, rest, here.0 ∙ ap (λ xs. gap ++ 34 ∷ xs) joined, front_passes is_white bytes, omega arith, spelled), constant.1)
 
 -- a constant that is spelled has its opening quote, and then its string is read
 constant_read : (bytes string : List ℕ) (more : List Spaced) → AllByRecursion (λ b. IsTrue (is_plain b)) string → Spells bytes (close (quoted string) ∷ more) → (quote rest : List ℕ) × (lexeme_at 0 (codes "\"") bytes ≡ Some quote) × (string_at false quote ≡ Some (string, rest)) × Spells rest more

@@ -1,12 +1,13 @@
 -- Files that are a program of the simple form: one of them is, and all others are blank.
 use Rattle.std.specs.Prelude.{ℕ, ◌≤◌, ◌⊎◌, IsTrue, List, [], ◌∷◌}
 use Rattle.std.specs.List.{AllByRecursion}
-use Rattle.cool_driver.specs.SimpleForm.{Simple, is_blank}
+use Rattle.cool_syntax.specs.Lexemes.{is_white}
+use Rattle.cool_driver.specs.SimpleForm.{Simple}
 use Rattle.cool_words.specs.declared.plan.RunLimits.{RunLimits}
 use Rattle.cool_driver.specs.declared.TheConstants.{SIMPLE_STEPS}
 
 abbrev pub IsBlankFile : List ℕ → Type 0
-IsBlankFile bytes = AllByRecursion (λ b. IsTrue (is_blank b)) bytes
+IsBlankFile bytes = AllByRecursion (λ b. IsTrue (is_white b)) bytes
 
 abbrev pub AreSimple : List (List ℕ) → List (List ℕ) → Type 0
 AreSimple [] strings = ⊥

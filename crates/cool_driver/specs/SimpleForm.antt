@@ -2,15 +2,12 @@
 -- (section 10). It says which bytes are such a program and which strings they write.
 use Rattle.std.specs.Prelude.{◌≡◌, ℕ, ◌≤◌, Bool, not, ◌&&◌, ◌||◌, ◌==◌, nat_le, if◌then◌else◌, List, [], ◌∷◌, ◌++◌, length, replicate, codes, IsTrue, flat_map, refl}
 use Rattle.std.specs.List.{AllByRecursion}
+use Rattle.cool_syntax.specs.Lexemes.{is_white}
 use Rattle.cool_syntax.specs.declared.TheConstants.{MOST_BYTES}
 use Rattle.cool_driver.specs.declared.simple_form.TheConstants.{MOST_CALLS}
 
--- white space: space, newline, form feed, carriage return, tab, vertical tab
-abbrev pub is_blank : ℕ → Bool
-is_blank b = b == 32 || (b == 10 || (b == 12 || (b == 13 || (b == 9 || b == 11))))
-
 abbrev pub AreBlanks : List ℕ → Type 0
-AreBlanks = AllByRecursion (λ b. IsTrue (is_blank b))
+AreBlanks = AllByRecursion (λ b. IsTrue (is_white b))
 
 -- a lexeme, and the least number of blanks before it
 pub record Spaced : Type 0 where

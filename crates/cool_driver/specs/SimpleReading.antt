@@ -5,7 +5,8 @@ use Rattle.std.specs.Global.{Vec}
 use Rattle.std.specs.List.{list_all, prefix_len}
 use Rattle.cool_syntax.specs.declared.TheConstants.{MOST_BYTES}
 use Rattle.cool_driver.specs.declared.simple_form.TheConstants.{MOST_CALLS}
-use Rattle.cool_driver.specs.SimpleForm.{Spaced, is_blank, close, head, tail}
+use Rattle.cool_syntax.specs.Lexemes.{is_white}
+use Rattle.cool_driver.specs.SimpleForm.{Spaced, close, head, tail}
 use Rattle.cool_driver.specs.declared.simple_form.SimpleError.{SimpleError}
 use Rattle.cool_driver.specs.declared.simple_form.SimpleError.TheVariants.{Memory, NotSimple}
 
@@ -22,7 +23,7 @@ read >>= next = option_and_then next read
 -- what is left behind a lexeme, and the blanks before it, of which there are at least so many
 unfoldable pub lexeme_at : ℕ → List ℕ → List ℕ → Option (List ℕ)
 lexeme_at blanks lexeme bytes =
-    let gap = prefix_len is_blank bytes in
+    let gap = prefix_len is_white bytes in
     let rest = drop gap bytes in
     if nat_le blanks gap && bytes_eq (take (length lexeme) rest) lexeme then Some (drop (length lexeme) rest) else None
 
@@ -78,10 +79,10 @@ unfoldable pub program_at : List ℕ → Option (List (List ℕ))
 program_at bytes = do
   front ← lexemes_at head bytes
   rest ← lexemes_at tail (calls_at MOST_CALLS front).1
-  if nat_le 1 (length (calls_at MOST_CALLS front).0) && nat_le (length rest) (prefix_len is_blank rest) then Some (calls_at MOST_CALLS front).0 else None
+  if nat_le 1 (length (calls_at MOST_CALLS front).0) && nat_le (length rest) (prefix_len is_white rest) then Some (calls_at MOST_CALLS front).0 else None
 
 abbrev pub is_blank_file : List ℕ → Bool
-is_blank_file bytes = nat_le (length bytes) (prefix_len is_blank bytes)
+is_blank_file bytes = nat_le (length bytes) (prefix_len is_white bytes)
 
 -- the strings of the first file that is not blank, where all behind it are
 abbrev pub programs_at : List (List ℕ) → Option (List (List ℕ))

@@ -2,7 +2,8 @@
 
 ghost use Rattle.std.specs.Prelude.{◌≡◌, ◌≤◌, length, true, false, option_copied, Some};
 ghost use Rattle.std.specs.List.{list_all, prefix_len};
-ghost use Rattle.cool_driver.specs.SimpleForm.{is_blank, head, tail};
+ghost use Rattle.cool_syntax.specs.Lexemes.{is_white};
+ghost use Rattle.cool_driver.specs.SimpleForm.{head, tail};
 ghost use Rattle.cool_driver.specs.SimpleReading.{Gives, lexeme_at, lexemes_at, string_at, call_head, call_tail, call_at, calls_at, is_blank_file, program_at, programs_at, texts};
 ghost use Rattle.cool_driver.specs.declared.simple_form.SimpleError.TheVariants.{Memory};
 
@@ -37,17 +38,17 @@ impl<T: Drop> From<AllocFailed<T>> for SimpleError {
     }
 }
 
-fn is_blank(byte: u8) -> bool
-    ensures { result ≡ is_blank byte }
+fn is_white(byte: u8) -> bool
+    ensures { result ≡ is_white byte }
 {
     matches!(byte, b' ' | b'\n' | 12 | b'\r' | b'\t' | 11)
 }
 
 fn leading_blanks(bytes: &[u8]) -> usize
-    ensures count { result ≡ prefix_len is_blank bytes.now }
+    ensures count { result ≡ prefix_len is_white bytes.now }
     ensures within { result ≤ length bytes.now }
 {
-    bytes.iter().take_while(|byte| is_blank(**byte)).count()
+    bytes.iter().take_while(|byte| is_white(**byte)).count()
 }
 
 /// What is left behind a lexeme, and the blanks before it, of which there are at least so many.

@@ -2,7 +2,7 @@ use Rattle.std.proofs.Common.{◌≡◌, ◌+◌, Bool, true, false, cond, List,
 use Rattle.std.specs.Prelude.{Option, MatchOption, option_copied, nat_le, bytes_eq}
 use Rattle.std.specs.Borrow.{Bor}
 use Rattle.std.specs.List.{prefix_len}
-use Rattle.cool_driver.specs.SimpleForm.{is_blank}
+use Rattle.cool_syntax.specs.Lexemes.{is_white}
 use Rattle.cool_driver.specs.SimpleReading.{lexeme_at}
 use Rattle.cool_driver.proofs.simple_form.skip_lexeme.Goals as goal
 
@@ -12,7 +12,7 @@ stripped None b rest n m h = sym (ap (λ t. cond t (Some rest) None) h)
 stripped (Some x) b rest n m h = ap Some h.1 ∙ sym (ap (λ t. cond t (Some rest) None) h.0)
 
 -- behind enough blanks only the lexeme counts
-behind_blanks : (blanks gap : ℕ) (lexeme bytes rest : List ℕ) (found : Option (List ℕ)) → gap ≡ prefix_len is_blank bytes → rest ≡ drop gap bytes → nat_le blanks gap ≡ true → found ≡ cond (bytes_eq (take (length lexeme) rest) lexeme) (Some (drop (length lexeme) rest)) None → found ≡ lexeme_at blanks lexeme bytes
+behind_blanks : (blanks gap : ℕ) (lexeme bytes rest : List ℕ) (found : Option (List ℕ)) → gap ≡ prefix_len is_white bytes → rest ≡ drop gap bytes → nat_le blanks gap ≡ true → found ≡ cond (bytes_eq (take (length lexeme) rest) lexeme) (Some (drop (length lexeme) rest)) None → found ≡ lexeme_at blanks lexeme bytes
 unfolding lexeme_at
 behind_blanks blanks gap lexeme bytes rest found g r t e = rw (← g, ← r, t) e
 
