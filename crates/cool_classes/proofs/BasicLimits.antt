@@ -12,7 +12,7 @@ use Rattle.cool_classes.specs.Tables.{basic_classes}
 use Rattle.cool_classes.proofs.Climbs.{chain_unique}
 
 -- a basic class is what it is in every table
-class_there : (p : List Class) (n : ℕ) → take 5 p ≡ basic_classes → n < 5 → class_at p (class_number n) ≡ class_at basic_classes (class_number n)
+pub class_there : (p : List Class) (n : ℕ) → take 5 p ≡ basic_classes → n < 5 → class_at p (class_number n) ≡ class_at basic_classes (class_number n)
 class_there p n basic h = sym (get_or-take 5 p n nothing h) ∙ ap (λ (q : List Class). get_or q n nothing) basic
 
 no_features : (n : ℕ) → n < 5 → features_of basic_classes (class_number n) ≡ []

@@ -2,6 +2,7 @@ pub mod AllOfLists
 pub mod AttributesOfChains
 pub mod BasicDepths
 pub mod BasicLimits
+pub mod BasicNames
 pub mod ChainsOfTables
 pub mod ClassesNamed
 pub mod Climbs

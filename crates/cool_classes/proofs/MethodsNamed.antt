@@ -14,7 +14,7 @@ use Rattle.cool_classes.specs.Chains.{Class, features_of}
 use Rattle.cool_classes.specs.Features.{NamedMethod, basic_methods, method_among, first_method, user_method, own_method, first_of, implementation}
 use Rattle.cool_classes.specs.FirstNames.{is_index}
 use Rattle.cool_classes.specs.Limits.{AreDifferent, IsImplemented}
-use Rattle.cool_classes.specs.MethodNames.{is_new, new_name, new_among, basic_names, new_methods, methods_of}
+use Rattle.cool_classes.specs.MethodNames.{is_new, new_name, new_among, method_names, new_methods, methods_of}
 
 -- a name stands in a list
 abbrev pub Among : List ℕ → List (List ℕ) → Type 0
@@ -92,12 +92,12 @@ different_fit (m ∷ ms) ns d h =
     let one = length_without m ns d in
     omega arith
 
-basic_among : (ms : List NamedMethod) (f : List ℕ) → option_map Basic (method_among ms f) ≢ None → Among f (basic_names ms)
+basic_among : (ms : List NamedMethod) (f : List ℕ) → option_map Basic (method_among ms f) ≢ None → Among f (method_names ms)
 basic_among [] f h = absurd (h refl)
 basic_among (m ∷ ms) f h = by (bytes_eq m.name f) refl h (basic_among ms f)
   where
-    by : (b : Bool) → bytes_eq m.name f ≡ b → option_map Basic (cond b (Some m.method) (method_among ms f)) ≢ None → (option_map Basic (method_among ms f) ≢ None → Among f (basic_names ms))
-        → (m.name ≡ f) ⊎ Among f (basic_names ms)
+    by : (b : Bool) → bytes_eq m.name f ≡ b → option_map Basic (cond b (Some m.method) (method_among ms f)) ≢ None → (option_map Basic (method_among ms f) ≢ None → Among f (method_names ms))
+        → (m.name ≡ f) ⊎ Among f (method_names ms)
     by true e k more = inl ((bytes_eq-Decides m.name f).0 e)
     by false e k more = inr (more k)
 
@@ -136,7 +136,7 @@ own_new : (p : List Class) (above : List ClassId) (c : ClassId) (f : List ℕ) �
 own_new p above c f h none = by (nat_lt c.0 5) h
   where
     by : (b : Bool) → cond b (option_map Basic (method_among (basic_methods c.0) f)) (user_method c (first_method 0 (features_of p c) f)) ≢ None
-        → Among f (cond b (basic_names (basic_methods c.0)) (new_among p above (features_of p c) 0 (features_of p c)))
+        → Among f (cond b (method_names (basic_methods c.0)) (new_among p above (features_of p c) 0 (features_of p c)))
     by true k = basic_among (basic_methods c.0) f k
     by false k = user_new p above c f (first_method 0 (features_of p c) f) refl k none
 

@@ -4,8 +4,6 @@ use Rattle.std.specs.Prelude.{bytes_eq, ◌==◌}
 use Rattle.std.proofs.Math.Dec.{eqb-suc-zero}
 use Rattle.std.proofs.lemmas.List.{length-map}
 use Rattle.cool_syntax.specs.declared.file_tree.Formal.{Formal}
-use Rattle.cool_classes.specs.declared.method.BasicMethod.{BasicMethod}
-use Rattle.cool_classes.specs.Features.{basic_formals}
 use Rattle.cool_classes.specs.FeatureFaults.{same_types, declared_types, has_formals}
 
 none_and : (b : Bool) → false ≡ (b && false)
@@ -21,15 +19,6 @@ types_differ (t ∷ ts) (u ∷ us) h = none_and (bytes_eq t u) ∙ ap (λ (b : B
 -- as many types as there are others, or they differ
 pub formals_differ : (fs : List Formal) (us : List (List ℕ)) → length fs ≢ length us → false ≡ same_types (declared_types fs) us
 formals_differ fs us h = types_differ (declared_types fs) us (λ e. h (sym (length-map fs (λ (f : Formal). f.declared.name)) ∙ e))
-
--- no formals declare the types of none
-pub none_declared : (fs : List Formal) → (length fs == 0) ≡ same_types (declared_types fs) []
-none_declared [] = refl
-none_declared (f ∷ fs) = eqb-suc-zero (length fs)
-
--- no formals declare the types of a basic method that has none
-pub none_fit : (fs : List Formal) (b x : BasicMethod) → b ≡ x → basic_formals x ≡ [] → (length fs == 0) ≡ same_types (declared_types fs) (basic_formals b)
-none_fit fs b x is none = none_declared fs ∙ ap (same_types (declared_types fs)) (sym (ap basic_formals is ∙ none))
 
 -- there are formals where their types are some
 pub some_declared : (fs : List Formal) → not (length fs == 0) ≡ has_formals (declared_types fs)

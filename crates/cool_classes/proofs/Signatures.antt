@@ -1,5 +1,5 @@
 -- The types that the methods of a whole table declare.
-use Rattle.std.proofs.Common.{◌≡◌, ℕ, zero, suc, ◌<◌, List, [], ◌∷◌, length, map, get_or, slice_get, Some, ap, sym, ◌∙◌, refl, subst, arith}
+use Rattle.std.proofs.Common.{◌≡◌, ℕ, zero, suc, ◌<◌, ◌≤◌, List, [], ◌∷◌, length, map, take, get_or, slice_get, Some, ap, sym, ◌∙◌, refl, subst, arith}
 use Rattle.std.specs.List.{AllByRecursion}
 use Rattle.std.proofs.lemmas.Option.{slice_get-get_or}
 use Rattle.std.proofs.lemmas.List.{get_or-map, length-map}
@@ -8,12 +8,30 @@ use Rattle.cool_syntax.specs.declared.file_tree.Feature.TheVariants.{Method}
 use Rattle.cool_syntax.specs.declared.file_tree.MethodDef.{MethodDef}
 use Rattle.cool_syntax.specs.declared.file_tree.Formal.{Formal}
 use Rattle.cool_classes.specs.declared.class_id.ClassId.{ClassId}
-use Rattle.cool_classes.specs.declared.class_id.Ty.TheVariants.{Class as IsClass}
+use Rattle.cool_classes.specs.declared.class_id.Ty.{Ty}
+use Rattle.cool_classes.specs.declared.class_id.Ty.TheVariants.{Class as IsClass, SelfType}
 use Rattle.cool_classes.specs.declared.method.MethodRef.{MethodRef}
 use Rattle.cool_classes.specs.declared.method.MethodRef.TheVariants.{User}
 use Rattle.cool_classes.specs.Chains.{Class, features_of}
-use Rattle.cool_classes.specs.Features.{formals_in, result_in, formals_of, result_of, IsMethod}
-use Rattle.cool_classes.specs.Tables.{IsTable, IsTyped, IsClassName, IsTypeName}
+use Rattle.cool_classes.specs.Features.{Denotes, formals_in, result_in, formals_of, result_of, IsMethod}
+use Rattle.cool_classes.specs.Tables.{basic_classes, IsTable, IsTyped, IsClassName, IsTypeName}
+use Rattle.cool_classes.proofs.BasicLimits.{class_there}
+
+five : (p : List Class) → length (take 5 p) ≡ 5 → 5 ≤ length p
+five [] e = absurd (omega (arith, e))
+five (a ∷ []) e = absurd (omega (arith, e))
+five (a ∷ b ∷ []) e = absurd (omega (arith, e))
+five (a ∷ b ∷ c ∷ []) e = absurd (omega (arith, e))
+five (a ∷ b ∷ c ∷ d ∷ []) e = absurd (omega (arith, e))
+five (a ∷ b ∷ c ∷ d ∷ f ∷ p) e = omega arith
+
+-- what a name denotes among the basic classes it denotes in every table
+pub denotes_there : (p : List Class) (name : List ℕ) (t : Ty) → take 5 p ≡ basic_classes → Denotes basic_classes name t → Denotes p name t
+denotes_there p name (IsClass c) basic (within, is) =
+    let low : c.0 < 5 = within in
+    let all : 5 ≤ length p = five p (ap length basic) in
+    (omega arith, ap (λ (x : Class). x.name) (class_there p c.0 basic low) ∙ is)
+denotes_there p name SelfType basic is = is
 
 all_at : {X : Type 0} (P : X → Type 0) (xs : List X) (k : ℕ) (d : X) → AllByRecursion P xs → k < length xs → P (get_or xs k d)
 all_at P [] k d h within = absurd (omega arith)

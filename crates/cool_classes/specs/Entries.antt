@@ -1,8 +1,8 @@
 -- How the entries of a table are seen: as classes, with the number of classes above each.
-use Rattle.std.specs.Prelude.{◌≡◌, ℕ, List, [], ◌∷◌, map, get_or, Some, None, codes, refl}
+use Rattle.std.specs.Prelude.{◌≡◌, ℕ, List, [], map, get_or, Option, Some, None, refl}
 use Rattle.cool_classes.specs.declared.class_id.ClassId.{ClassId}
 use Rattle.cool_classes.specs.declared.entry.Entry.{Entry}
-use Rattle.cool_classes.specs.Chains.{Class, class_number}
+use Rattle.cool_classes.specs.Chains.{Class}
 use Rattle.cool_classes.specs.Tables.{IsTable, IsGrounded, basic_classes}
 
 abbrev pub as_class : Entry → Class
@@ -22,15 +22,17 @@ pub record AreWhole (es : List Entry) : Type 0 where
   pub table : IsTable (classes es)
   pub grounded : IsGrounded (classes es) (depth_at es)
 
+-- the depth of a basic class: none stands deeper than right below Object
+abbrev pub basic_depth : Option ClassId → ℕ
+basic_depth None = 0
+basic_depth (Some object) = 1
+
+abbrev pub basic_entry : Class → Entry
+basic_entry c = record { name = c.name; parent = c.parent; depth = basic_depth c.parent; features = c.features }
+
 -- the entries of the basic classes
 abbrev pub basic_entries : List Entry
-basic_entries =
-    record { name = codes "Object"; parent = None; depth = 0; features = [] }
-    ∷ record { name = codes "IO"; parent = Some (class_number 0); depth = 1; features = [] }
-    ∷ record { name = codes "Int"; parent = Some (class_number 0); depth = 1; features = [] }
-    ∷ record { name = codes "Bool"; parent = Some (class_number 0); depth = 1; features = [] }
-    ∷ record { name = codes "String"; parent = Some (class_number 0); depth = 1; features = [] }
-    ∷ []
+basic_entries = map basic_entry basic_classes
 
 -- Worked example: they are seen as the basic classes.
 basic_entries_seen : classes basic_entries ≡ basic_classes

@@ -1,3 +1,4 @@
+pub mod BasicMethods
 pub mod Chains
 pub mod ClassFaults
 pub mod ClassRows

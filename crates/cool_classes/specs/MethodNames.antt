@@ -21,12 +21,12 @@ abbrev pub new_among : List Class → List ClassId → List Feature → ℕ → 
 new_among p above own k [] = []
 new_among p above own k (x ∷ fs) = new_name p above own k x ++ new_among p above own (k + 1) fs
 
-abbrev pub basic_names : List NamedMethod → List (List ℕ)
-basic_names = map (λ m. m.name)
+abbrev pub method_names : List NamedMethod → List (List ℕ)
+method_names = map (λ m. m.name)
 
 -- the names that a class adds to those of the classes above it
 abbrev pub new_methods : List Class → List ClassId → ClassId → List (List ℕ)
-new_methods p above c = if nat_lt c.0 5 then basic_names (basic_methods c.0) else new_among p above (features_of p c) 0 (features_of p c)
+new_methods p above c = if nat_lt c.0 5 then method_names (basic_methods c.0) else new_among p above (features_of p c) 0 (features_of p c)
 
 -- the names of the methods of a chain
 abbrev pub methods_of : List Class → List ClassId → List (List ℕ)

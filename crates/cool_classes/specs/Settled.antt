@@ -1,5 +1,5 @@
 -- Definitions whose classes have no fault, and the entries of a table that they make (the Cool manual, section 3).
-use Rattle.std.specs.Prelude.{◌≡◌, ◌≢◌, ℕ, ◌≤◌, ◌<◌, List, [], ◌∷◌, ◌++◌, map, take, length, get_or, Option, Some, None, IsSome, codes}
+use Rattle.std.specs.Prelude.{◌≡◌, ◌≢◌, ℕ, ◌≤◌, ◌<◌, List, [], ◌∷◌, ◌++◌, map, take, length, get_or, Option, Some, None, IsSome}
 use Rattle.std.specs.List.{AllByRecursion}
 use Rattle.cool_syntax.specs.declared.place.Place.{Place}
 use Rattle.cool_syntax.specs.declared.type_ref.TypeRef.{TypeRef}
@@ -10,14 +10,15 @@ use Rattle.cool_classes.specs.declared.class_id.ClassId.{ClassId}
 use Rattle.cool_classes.specs.declared.entry.Entry.{Entry}
 use Rattle.cool_classes.specs.declared.fault.ClassFault.{ClassFault}
 use Rattle.cool_classes.specs.declared.fault.ClassKind.{ClassKind}
-use Rattle.cool_classes.specs.Chains.{class_number}
+use Rattle.cool_classes.specs.Chains.{Class, class_number}
 use Rattle.cool_classes.specs.Entries.{basic_entries}
 use Rattle.cool_classes.specs.Names.{first_named, self_type}
+use Rattle.cool_classes.specs.Tables.{basic_classes}
 use Rattle.cool_classes.specs.Depths.{AreDepths}
 use Rattle.cool_classes.specs.FaultLists.{IsOfClasses}
 
 abbrev pub basic_names : List (List ℕ)
-basic_names = codes "Object" ∷ codes "IO" ∷ codes "Int" ∷ codes "Bool" ∷ codes "String" ∷ []
+basic_names = map (λ (c : Class). c.name) basic_classes
 
 abbrev pub names_in : List ClassDef → List (List ℕ)
 names_in definitions = map (λ (d : ClassDef). d.name) definitions

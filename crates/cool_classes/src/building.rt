@@ -11,7 +11,7 @@ ghost use Rattle.cool_classes.specs.Limits.{KeepsLimits};
 ghost use Rattle.cool_classes.specs.Tables.{IsTable};
 ghost use Rattle.cool_classes.specs.Settled.{names_with_basic, parents_meant, entries_of, AreSettled};
 
-use crate::basic_entries::basic_entries;
+use crate::basic_classes::basic_entries;
 use crate::class_id::ClassId;
 use crate::class_phase::{Ancestry, settle_classes};
 use crate::class_table::ClassTable;

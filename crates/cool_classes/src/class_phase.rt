@@ -12,8 +12,8 @@ ghost use Rattle.cool_classes.specs.Names.{self_type};
 ghost use Rattle.cool_classes.specs.Settled.{basic_names, names_with_basic, parent_meant, parents_meant, IsParentKnown, AreNamedAnew, AreSettled, AddsFaults};
 
 use crate::MOST_CLASSES;
-use crate::basic::BASIC_CLASSES;
-use crate::class_id::{BOOL, ClassId, INT, IO, OBJECT, STRING};
+use crate::basic_classes::{BASIC_CLASSES, basic_names};
+use crate::class_id::{BOOL, ClassId, INT, OBJECT, STRING};
 use crate::depths::depths;
 use crate::fault::{ClassFault, ClassKind, TableError};
 use crate::fault_list::{add_fault, refuse_faults};
@@ -82,19 +82,6 @@ fn find_names(
         add_name(alloc, &mut names, name, index as u32 + BASIC_CLASSES)?;
         add_fault(faults, name_fault(name, known), definition.at)?;
     }
-    Ok(names)
-}
-
-/// The names of the basic classes. `Err` comes only for want of memory.
-fn basic_names(alloc: Global) -> Result<FirstNames, AllocError>
-    ensures { IfOk result (λ names. FindsNames names.entries basic_names) }
-{
-    let mut names = FirstNames::new(alloc);
-    add_name(alloc, &mut names, b"Object", OBJECT.0)?;
-    add_name(alloc, &mut names, b"IO", IO.0)?;
-    add_name(alloc, &mut names, b"Int", INT.0)?;
-    add_name(alloc, &mut names, b"Bool", BOOL.0)?;
-    add_name(alloc, &mut names, b"String", STRING.0)?;
     Ok(names)
 }
 

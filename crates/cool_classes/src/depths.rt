@@ -11,7 +11,7 @@ ghost use Rattle.cool_classes.specs.Cycles.{AreCycles};
 ghost use Rattle.cool_classes.specs.Depths.{parents_with_basic, HasDepth, AreDepths};
 ghost use Rattle.cool_classes.specs.Walks.{settled, cycle_of, IsClimb, AreWalked};
 
-use crate::basic::BASIC_CLASSES;
+use crate::basic_classes::BASIC_CLASSES;
 use crate::class_id::{ClassId, OBJECT};
 use crate::path::Path;
 use std::alloc::{AllocError, Global};

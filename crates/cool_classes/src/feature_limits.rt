@@ -4,14 +4,15 @@ ghost use Rattle.std.specs.Prelude.{◌≡◌, ◌<◌, ◌^◌, ◌∷◌, leng
 ghost use Rattle.std.specs.List.{AllByRecursion};
 ghost use Rattle.cool_classes.specs.declared.class_id.ClassId as number;
 ghost use Rattle.cool_classes.specs.Chains.{features_of};
-ghost use Rattle.cool_classes.specs.Features.{own_attributes, basic_methods};
+ghost use Rattle.cool_classes.specs.Features.{own_attributes};
 ghost use Rattle.cool_classes.specs.Entries.{classes};
 ghost use Rattle.cool_classes.specs.Lineages.{IsLineage, AreWithin, AreCounts, sum_at};
-ghost use Rattle.cool_classes.specs.MethodNames.{new_name, new_methods, basic_names};
+ghost use Rattle.cool_classes.specs.MethodNames.{new_name, new_methods};
 ghost use Rattle.cool_classes.specs.OwnNames.{AreTableNames};
 ghost use Rattle.cool_classes.specs.FeatureFaults.{is_over_limit};
 
-use crate::basic::BASIC_CLASSES;
+use crate::basic_classes::BASIC_CLASSES;
+use crate::basic_methods::basic_method_count;
 use crate::class_id::ClassId;
 use crate::first_names::is_first_at;
 use crate::lineage::{Lineage, lineage_of};
@@ -77,17 +78,6 @@ fn new_method_count(table: &TableNames<'_>, lineage: &Lineage) -> usize
         }
     }
     count
-}
-
-/// How many methods a basic class has of its own (the Cool manual, section 8).
-fn basic_method_count(class: u32) -> usize
-    ensures { result ≡ length (basic_names (basic_methods class)) }
-{
-    match class {
-        0 | 4 => 3,
-        1 => 4,
-        _ => 0,
-    }
 }
 
 /// Whether a feature is a method, the first of its name in its class, with none of that name above.

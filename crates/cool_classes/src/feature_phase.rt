@@ -14,7 +14,7 @@ ghost use Rattle.cool_classes.specs.Features.{implementation};
 ghost use Rattle.cool_classes.specs.Chains.{features_of};
 ghost use Rattle.cool_classes.specs.FeatureFaults.{redefines_otherwise, is_doubled, method_faults, attribute_faults, one_feature_faults, features_faults, lacks_main, class_faults};
 
-use crate::basic::BASIC_CLASSES;
+use crate::basic_classes::BASIC_CLASSES;
 use crate::class_id::ClassId;
 use crate::fault::{ClassFault, ClassKind};
 use crate::feature_limits::{Counts, counts_of, is_over_limit};

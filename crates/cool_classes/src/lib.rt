@@ -5,8 +5,8 @@
 #![tactic(auto)]
 
 mod attributes;
-mod basic;
-mod basic_entries;
+mod basic_classes;
+mod basic_methods;
 mod building;
 mod class_id;
 mod class_phase;

@@ -13,7 +13,8 @@ ghost use Rattle.cool_classes.specs.OwnNames.{AreOwn, AreAllOwn, AreNamed, AreTa
 ghost use Rattle.cool_classes.specs.FeatureFaults.{is_class, have_attribute};
 ghost use Rattle.cool_classes.specs.Chains.{Class, features_of};
 
-use crate::basic::{BASIC_CLASSES, basic_method};
+use crate::basic_classes::BASIC_CLASSES;
+use crate::basic_methods::basic_method;
 use crate::class_id::ClassId;
 use crate::entry::Entry;
 use crate::first_names::{FirstNames, add_name, first_index};

@@ -7,7 +7,7 @@ ghost use Rattle.cool_classes.specs.Tables.{IsTypeName};
 ghost use Rattle.cool_classes.specs.Entries.{classes, AreWhole};
 ghost use Rattle.cool_classes.specs.OwnNames.{AreNamed};
 
-use crate::basic::{basic_formal, basic_formal_count, basic_result};
+use crate::basic_methods::{basic_formal, basic_formal_count, basic_result};
 use crate::class_id::Ty;
 use crate::entry::Entry;
 use crate::first_names::FirstNames;
@@ -42,7 +42,7 @@ pub(crate) fn formal(entries: &[Entry], names: &FirstNames, method: MethodRef, i
     ensures { Denotes (classes entries.now) (get_or (formals_of (classes entries.now) method) i []) result }
 {
     match method {
-        MethodRef::Basic(basic) => Ty::Class(basic_formal(basic)),
+        MethodRef::Basic(basic) => Ty::Class(basic_formal(basic, i)),
         MethodRef::User { owner, index } => {
             match &entries[owner.0 as usize].features.as_slice()[index as usize] {
                 Feature::Method(found) => {

@@ -1,17 +1,18 @@
 //! The faults of what features declare: types, formals, and methods that are defined again (the Cool manual, sections 5 and 6).
 
 ghost use Rattle.std.specs.Prelude.{◌≡◌, ℕ, ◌<◌, ◌^◌, ◌++◌, List, [], ◌∷◌, length, Option, OnOk};
-ghost use Rattle.cool_classes.specs.Features.{HasMethod, basic_formals, basic_result};
+ghost use Rattle.cool_classes.specs.Features.{HasMethod};
 ghost use Rattle.cool_classes.specs.Entries.{classes};
 ghost use Rattle.cool_classes.specs.OwnNames.{AreTableNames};
 ghost use Rattle.cool_classes.specs.FirstNames.{FindsFirst, shown_names};
 ghost use Rattle.cool_classes.specs.FeatureFaults.{noted, type_faults, formal_faults, formals_faults, same_types, declared_types, declares_otherwise};
 
+use crate::basic_methods::{basic_result_name, fit_basic};
 use crate::fault::{ClassFault, ClassKind};
 use crate::first_names::{FirstNames, add_name, first_index};
-use crate::method::{BasicMethod, MethodRef};
+use crate::method::MethodRef;
 use crate::own_names::{TableNames, is_class, method_at};
-use crate::self_type::{is_self_type, self_type};
+use crate::self_type::is_self_type;
 use cool_syntax::{Formal, MethodDef, Place, TypeRef};
 use std::alloc::{AllocError, Global};
 
@@ -121,56 +122,4 @@ fn same_formals(left: &[Formal], right: &[Formal]) -> bool
         }
     }
     true
-}
-
-/// Whether formals declare the types of those of a basic method (the Cool manual, section 8).
-fn fit_basic(formals: &[Formal], basic: BasicMethod) -> bool
-    ensures { result ≡ same_types (declared_types formals.now) (basic_formals basic) }
-{
-    match basic {
-        BasicMethod::OutString | BasicMethod::Concat => is_one_of(formals, b"String"),
-        BasicMethod::OutInt => is_one_of(formals, b"Int"),
-        BasicMethod::Substr => are_two_of(formals, b"Int"),
-        BasicMethod::Abort
-        | BasicMethod::TypeName
-        | BasicMethod::Copy
-        | BasicMethod::InString
-        | BasicMethod::InInt
-        | BasicMethod::Length => formals.is_empty(),
-    }
-}
-
-/// Whether there is one formal, and it is of this type.
-fn is_one_of(formals: &[Formal], name: &[u8]) -> bool
-    ensures { result ≡ same_types (declared_types formals.now) (name.now ∷ []) }
-{
-    match formals {
-        [formal] => formal.declared.name.as_slice() == name,
-        _ => false,
-    }
-}
-
-/// Whether there are two formals, both of this type.
-fn are_two_of(formals: &[Formal], name: &[u8]) -> bool
-    ensures { result ≡ same_types (declared_types formals.now) (name.now ∷ name.now ∷ []) }
-{
-    match formals {
-        [first, second] => {
-            first.declared.name.as_slice() == name && second.declared.name.as_slice() == name
-        }
-        _ => false,
-    }
-}
-
-/// The name of the type of a basic method's result (the Cool manual, section 8).
-fn basic_result_name(basic: BasicMethod) -> &'static [u8]
-    ensures { result.now ≡ basic_result basic }
-{
-    match basic {
-        BasicMethod::Abort => b"Object",
-        BasicMethod::Copy | BasicMethod::OutString | BasicMethod::OutInt => self_type(),
-        BasicMethod::InInt | BasicMethod::Length => b"Int",
-        BasicMethod::TypeName | BasicMethod::InString | BasicMethod::Concat | BasicMethod::Substr =>
-            b"String",
-    }
 }

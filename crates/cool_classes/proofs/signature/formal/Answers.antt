@@ -1,13 +1,21 @@
 -- The type of a formal is the one that its name denotes.
-use Rattle.std.proofs.Common.{◌≡◌, List, ap, sym, ◌∙◌, subst, ℕ}
+use Rattle.std.proofs.Common.{◌≡◌, List, [], get_or, ap, sym, ◌∙◌, subst, ℕ}
 use Rattle.cool_syntax.specs.declared.file_tree.Feature.TheVariants.{Method}
+use Rattle.cool_classes.specs.declared.class_id.Ty.TheVariants.{Class as IsClass}
+use Rattle.cool_classes.specs.declared.method.MethodRef.{MethodRef}
 use Rattle.cool_classes.specs.declared.method.MethodRef.TheVariants.{User}
 use Rattle.cool_classes.specs.Chains.{Class, features_of}
-use Rattle.cool_classes.specs.Features.{Denotes, HasMethod}
+use Rattle.cool_classes.specs.Features.{Denotes, HasMethod, basic_formals, formals_of}
 use Rattle.cool_classes.specs.Entries.{classes}
 use Rattle.cool_classes.proofs.Seen.{class_read, within_entries}
-use Rattle.cool_classes.proofs.Signatures.{method_within, feature_there, method_typed, formal_typed, formal_named, formal_within}
+use Rattle.cool_classes.proofs.Signatures.{denotes_there, method_within, feature_there, method_typed, formal_typed, formal_named, formal_within}
 use Rattle.cool_classes.proofs.signature.formal.Goals as goal
+
+pub returns-in-Basic : goal.returns-in-Basic
+returns-in-Basic c =
+    let p = classes c.args.entries.now in
+    let there = denotes_there p (get_or (basic_formals c.in-Basic.basic) c.args.i []) (IsClass c.basic_formal.result) c.requires.whole.table.basic c.basic_formal.ensures in
+    subst (λ (m : MethodRef). Denotes p (get_or (formals_of p m) c.args.i []) (IsClass c.basic_formal.result)) (sym c.in-Basic.is) there
 
 pub type_named-requires : goal.type_named-requires
 type_named-requires c =
