@@ -1,27 +1,14 @@
 -- Classes whose names no earlier class has have names of their own.
-use Rattle.std.proofs.Common.{◌≡◌, ◌≢◌, inl, inr, ℕ, zero, suc, ◌+◌, ◌<◌, List, [], ◌∷◌, length, take, get_or, Some, None, Bool, true, false, cond, sym, ap, ◌∙◌, refl, arith}
-use Rattle.std.specs.Prelude.{bytes_eq, codes}
+use Rattle.std.proofs.Common.{◌≡◌, ◌≢◌, inl, inr, ℕ, zero, suc, ◌+◌, ◌<◌, List, [], length, take, get_or, Some, None, sym, ap, ◌∙◌, refl, arith}
+use Rattle.std.specs.Prelude.{codes}
 use Rattle.std.proofs.lemmas.List.{length-take-le, get_or-take}
 use Rattle.std.proofs.lemmas.Bool.{cases_order}
-use Rattle.std.proofs.lemmas.Slice.Eq.{bytes_eq-Decides}
+use Rattle.std.proofs.lemmas.Option.{none-some, slice_get-get_or}
 use Rattle.cool_syntax.specs.declared.file_tree.ClassDef.{ClassDef}
-use Rattle.cool_classes.specs.Chains.{class_number}
 use Rattle.cool_classes.specs.Names.{first_named, self_type}
 use Rattle.cool_classes.specs.Settled.{names_with_basic, AreNamedAnew}
+use Rattle.cool_classes.proofs.FirstIndexes.{named_found}
 use Rattle.cool_classes.proofs.NamesOfDefinitions.{names_long}
-
--- a name that is there is found
-found_there : (j : ℕ) (names : List (List ℕ)) (k : ℕ) (f : List ℕ) → k < length names → get_or names k [] ≡ f → first_named j names f ≢ None
-found_there j [] k f within is e = absurd (omega arith)
-found_there j (name ∷ names) zero f within is e =
-    let same : bytes_eq f name ≡ true = (bytes_eq-Decides f name).1 (sym is) in
-    let here : first_named j (name ∷ names) f ≡ Some (class_number j) = ap (λ (b : Bool). cond b (Some (class_number j)) (first_named (j + 1) names f)) same in
-    absurd (cc)
-found_there j (name ∷ names) (suc k) f within is e = by (bytes_eq f name) e (found_there (j + 1) names k f (omega arith) is)
-  where
-    by : (b : Bool) → cond b (Some (class_number j)) (first_named (j + 1) names f) ≡ None → first_named (j + 1) names f ≢ None → ⊥
-    by true h more = absurd (cc)
-    by false h more = more h
 
 -- each name is new where it stands
 abbrev AreNew : List (List ℕ) → Type 0
@@ -31,7 +18,9 @@ AreNew names = (k : ℕ) → k < length names → first_named 0 (take k names) (
 not_before : (names : List (List ℕ)) → AreNew names → (j k : ℕ) → k < length names → j < k → get_or names j [] ≢ get_or names k []
 not_before names new j k within less same =
     let long : length (take k names) ≡ k = length-take-le k names (omega arith) in
-    found_there 0 (take k names) j (get_or names k []) (omega arith) (get_or-take k names j [] less ∙ same) (new k within)
+    let there = slice_get-get_or (take k names) j [] (omega arith) ∙ ap Some (get_or-take k names j [] less ∙ same) in
+    let found = named_found 0 (take k names) j (get_or names k []) there in
+    none-some found.0 (sym (new k within) ∙ found.1)
 
 -- two places with one name are one
 pub same_place : (names : List (List ℕ)) → AreNew names → (j k : ℕ) → j < length names → k < length names → get_or names j [] ≡ get_or names k [] → j ≡ k

@@ -1,5 +1,5 @@
 -- Where names stand first, and what stands at positions of lists.
-use Rattle.std.proofs.Common.{◌≡◌, ℕ, zero, suc, ◌+◌, ◌<◌, ◌≤◌, List, [], ◌∷◌, ◌++◌, length, map, take, Option, Some, None, Contains, Bool, true, false, sym, ap, ◌∙◌, refl, arith}
+use Rattle.std.proofs.Common.{◌≡◌, ℕ, zero, suc, ◌+◌, ◌<◌, ◌≤◌, List, [], ◌∷◌, ◌++◌, length, map, take, Option, Some, None, Contains, Bool, true, false, sym, ap, ◌∙◌, refl, arith, true≢false}
 use Rattle.std.specs.Prelude.{slice_get, bytes_eq, if◌then◌else◌}
 use Rattle.std.proofs.lemmas.Option.{none-some, same_Some}
 use Rattle.std.proofs.lemmas.Slice.Eq.{bytes_eq-Decides}
@@ -8,8 +8,10 @@ use Rattle.cool_syntax.specs.declared.file_tree.Feature.{Feature}
 use Rattle.cool_syntax.specs.declared.file_tree.Feature.TheVariants.{Method, Attribute}
 use Rattle.cool_syntax.specs.declared.file_tree.Formal.{Formal}
 use Rattle.cool_syntax.specs.declared.file_tree.MethodDef.{MethodDef}
+use Rattle.cool_classes.specs.declared.class_id.ClassId.{ClassId}
 use Rattle.cool_classes.specs.Chains.{Class, class_number, name_of}
-use Rattle.cool_classes.specs.FirstNames.{first_index, method_name, attribute_name}
+use Rattle.cool_classes.specs.FirstNames.{first_with, first_index, is_named, method_name, attribute_name}
+use Rattle.cool_classes.specs.Names.{first_named}
 
 -- what stands at a position of a list stands there behind others, and before others
 pub behind_get : {X : Type 0} (xs ys : List X) (k : ℕ) (x : X) → slice_get xs k ≡ Some x → slice_get (xs ++ ys) k ≡ Some x
@@ -42,36 +44,55 @@ pub has_right : {X : Type 0} (xs ys : List X) (x : X) → Contains ys x → Cont
 has_right [] ys x there = there
 has_right (z ∷ xs) ys x there = let w = has_right xs ys x there in (suc w.0, (let l = w.1 in omega arith), w.2)
 
+-- an item for which a test holds is the first one, or comes after it
+pub first_found : {X Y : Type 0} (has : X → Bool) (at : ℕ → Y) (k : ℕ) (xs : List X) (i : ℕ) (x : X) → slice_get xs i ≡ Some x → has x ≡ true
+    → (j : ℕ) × (z : X) × (first_with has at k xs ≡ Some (at (k + j))) × (j ≤ i) × (slice_get xs j ≡ Some z) × (has z ≡ true)
+first_found {X} has at k [] i x e holds = absurd (none-some x e)
+first_found {X} has at k (z ∷ xs) zero x e holds =
+    let t : has z ≡ true = ap has (same_Some z x e) ∙ holds in
+    (zero, z, ap (λ (b : Bool). if b then Some (at k) else first_with has at (k + 1) xs) t ∙ ap (λ (n : ℕ). Some (at n)) (let n : k ≡ k + 0 = omega arith in n), omega arith, refl, t)
+first_found {X} has at k (z ∷ xs) (suc i) x e holds = by (has z) refl (first_found has at (k + 1) xs i x e holds)
+  where
+    by : (b : Bool) → has z ≡ b → (j : ℕ) × (y : X) × (first_with has at (k + 1) xs ≡ Some (at (k + 1 + j))) × (j ≤ i) × (slice_get xs j ≡ Some y) × (has y ≡ true)
+        → (j : ℕ) × (y : X) × ((if b then Some (at k) else first_with has at (k + 1) xs) ≡ Some (at (k + j))) × (j ≤ suc i) × (slice_get (z ∷ xs) j ≡ Some y) × (has y ≡ true)
+    by true t w = (zero, z, ap (λ (n : ℕ). Some (at n)) (let n : k ≡ k + 0 = omega arith in n), omega arith, refl, t)
+    by false t w = (suc w.0, w.1, w.2 ∙ ap (λ (n : ℕ). Some (at n)) (let n : k + 1 + w.0 ≡ k + suc w.0 = omega arith in n), (let l = w.3 in omega arith), w.4, w.5)
+
+-- for the first item the test holds
+pub first_holds : {X Y : Type 0} (has : X → Bool) (at : ℕ → Y) (k : ℕ) (xs : List X) (y : Y) → first_with has at k xs ≡ Some y
+    → (j : ℕ) × (z : X) × (y ≡ at (k + j)) × (slice_get xs j ≡ Some z) × (has z ≡ true)
+first_holds {X} has at k [] y e = absurd (none-some y e)
+first_holds {X} has at k (x ∷ xs) y e = by (has x) refl e (first_holds has at (k + 1) xs y)
+  where
+    by : (b : Bool) → has x ≡ b → (if b then Some (at k) else first_with has at (k + 1) xs) ≡ Some y
+        → (first_with has at (k + 1) xs ≡ Some y → (j : ℕ) × (z : X) × (y ≡ at (k + 1 + j)) × (slice_get xs j ≡ Some z) × (has z ≡ true))
+        → (j : ℕ) × (z : X) × (y ≡ at (k + j)) × (slice_get (x ∷ xs) j ≡ Some z) × (has z ≡ true)
+    by true t h more = (zero, x, sym (same_Some (at k) y h) ∙ ap at (let n : k ≡ k + 0 = omega arith in n), refl, t)
+    by false t h more = let w = more h in (suc w.0, w.1, w.2 ∙ ap at (let n : k + 1 + w.0 ≡ k + suc w.0 = omega arith in n), w.3, w.4)
+
+same_name : (f : List ℕ) → bytes_eq f f ≡ true
+same_name f = (bytes_eq-Decides f f).1 refl
+
+named_so : (f : List ℕ) (o : Option (List ℕ)) → is_named f o ≡ true → o ≡ Some f
+named_so f None e = absurd (true≢false (sym e))
+named_so f (Some name) e = ap Some (sym ((bytes_eq-Decides f name).0 e))
+
 -- a name that stands in a row has a first index there, no later
 pub index_found : (k : ℕ) (row : List (Option (List ℕ))) (i : ℕ) (f : List ℕ) → slice_get row i ≡ Some (Some f)
     → (j : ℕ) × (first_index k row f ≡ Some (k + j)) × (j ≤ i) × (slice_get row j ≡ Some (Some f))
-index_found k [] i f e = absurd (none-some (Some f) e)
-index_found k (None ∷ row) zero f e = absurd (none-some f (same_Some None (Some f) e))
-index_found k (None ∷ row) (suc i) f e =
-    let w = index_found (k + 1) row i f e in
-    (suc w.0, w.1 ∙ ap Some (let n : k + 1 + w.0 ≡ k + suc w.0 = omega arith in n), (let l = w.2 in omega arith), w.3)
-index_found k (Some name ∷ row) zero f e =
-    let same : name ≡ f = same_Some name f (same_Some (Some name) (Some f) e) in
-    let b : bytes_eq f name ≡ true = (bytes_eq-Decides f name).1 (sym same) in
-    (zero, ap (λ (t : Bool). if t then Some k else first_index (k + 1) row f) b ∙ ap Some (let n : k ≡ k + 0 = omega arith in n), omega arith, e)
-index_found k (Some name ∷ row) (suc i) f e = by (bytes_eq f name) refl (index_found (k + 1) row i f e)
-  where
-    by : (b : Bool) → bytes_eq f name ≡ b → (j : ℕ) × (first_index (k + 1) row f ≡ Some (k + 1 + j)) × (j ≤ i) × (slice_get row j ≡ Some (Some f))
-        → (j : ℕ) × ((if b then Some k else first_index (k + 1) row f) ≡ Some (k + j)) × (j ≤ suc i) × (slice_get (Some name ∷ row) j ≡ Some (Some f))
-    by true t w = (zero, ap Some (let n : k ≡ k + 0 = omega arith in n), omega arith, ap (λ (x : List ℕ). Some (Some x)) (sym ((bytes_eq-Decides f name).0 t)))
-    by false t w = (suc w.0, w.1 ∙ ap Some (let n : k + 1 + w.0 ≡ k + suc w.0 = omega arith in n), (let l = w.2 in omega arith), w.3)
+index_found k row i f e = let w = first_found (is_named f) (λ (n : ℕ). n) k row i (Some f) e (same_name f) in (w.0, w.2, w.3, w.4 ∙ ap Some (named_so f w.1 w.5))
 
 -- a first index has the name
 pub index_sound : (k : ℕ) (row : List (Option (List ℕ))) (f : List ℕ) (m : ℕ) → first_index k row f ≡ Some m → (j : ℕ) × (m ≡ k + j) × (slice_get row j ≡ Some (Some f))
-index_sound k [] f m e = absurd (none-some m e)
-index_sound k (None ∷ row) f m e = let w = index_sound (k + 1) row f m e in (suc w.0, (let n = w.1 in omega arith), w.2)
-index_sound k (Some name ∷ row) f m e = by (bytes_eq f name) refl e (λ h. index_sound (k + 1) row f m h)
-  where
-    by : (b : Bool) → bytes_eq f name ≡ b → (if b then Some k else first_index (k + 1) row f) ≡ Some m
-        → (first_index (k + 1) row f ≡ Some m → (j : ℕ) × (m ≡ k + 1 + j) × (slice_get row j ≡ Some (Some f)))
-        → (j : ℕ) × (m ≡ k + j) × (slice_get (Some name ∷ row) j ≡ Some (Some f))
-    by true t h more = (zero, (let n : k ≡ m = same_Some k m h in omega arith), ap (λ (x : List ℕ). Some (Some x)) (sym ((bytes_eq-Decides f name).0 t)))
-    by false t h more = let w = more h in (suc w.0, (let n = w.1 in omega arith), w.2)
+index_sound k row f m e = let w = first_holds (is_named f) (λ (n : ℕ). n) k row m e in (w.0, w.2, w.3 ∙ ap Some (named_so f w.1 w.4))
+
+-- a name that is there is found
+pub named_found : (k : ℕ) (names : List (List ℕ)) (i : ℕ) (f : List ℕ) → slice_get names i ≡ Some f → (c : ClassId) × (first_named k names f ≡ Some c)
+named_found k names i f e = let w = first_found (bytes_eq f) class_number k names i f e (same_name f) in (class_number (k + w.0), w.2)
+
+-- the class that a name finds first has it
+pub named_sound : (k : ℕ) (names : List (List ℕ)) (f : List ℕ) (c : ClassId) → first_named k names f ≡ Some c → (j : ℕ) × (c ≡ class_number (k + j)) × (slice_get names j ≡ Some f)
+named_sound k names f c e = let w = first_holds (bytes_eq f) class_number k names c e in (w.0, w.2, w.3 ∙ ap Some (sym ((bytes_eq-Decides f w.1).0 w.4)))
 
 -- the rows of names
 pub method_row : (fs : List Feature) (j : ℕ) (f : List ℕ) → slice_get (map method_name fs) j ≡ Some (Some f) → (n : MethodDef) × (slice_get fs j ≡ Some (Method n)) × (n.name ≡ f)

@@ -1,24 +1,23 @@
 -- The classes that definitions name as their parents.
-use Rattle.std.proofs.Common.{◌≡◌, ℕ, ◌+◌, ◌<◌, ◌≤◌, List, [], ◌∷◌, ◌++◌, length, take, get_or, Option, Some, None, Bool, true, false, cond, sym, ap, ◌∙◌, refl, subst, arith}
-use Rattle.std.specs.Prelude.{bytes_eq}
+use Rattle.std.proofs.Common.{◌≡◌, ℕ, ◌+◌, ◌<◌, ◌≤◌, List, [], ◌∷◌, ◌++◌, length, take, get_or, Option, Some, None, sym, ap, ◌∙◌, refl, subst, arith}
 use Rattle.std.specs.List.{AllByRecursion}
 use Rattle.std.proofs.lemmas.List.{length-append, length-map, map-append, take_more}
+use Rattle.std.proofs.lemmas.Option.{slice_get_within}
 use Rattle.cool_syntax.specs.declared.type_ref.TypeRef.{TypeRef}
 use Rattle.cool_syntax.specs.declared.file_tree.ClassDef.{ClassDef}
 use Rattle.cool_classes.specs.declared.class_id.ClassId.{ClassId}
-use Rattle.cool_classes.specs.Chains.{class_number}
 use Rattle.cool_classes.specs.Names.{first_named}
 use Rattle.cool_classes.specs.Settled.{basic_names, names_in, names_with_basic, parent_meant, parents_meant, or_object, IsParentKnown}
 use Rattle.cool_classes.proofs.AllOfLists.{all_with}
+use Rattle.cool_classes.proofs.FirstIndexes.{named_sound}
 
 -- a class that is found is one of the classes
 pub found_within : (j : ℕ) (names : List (List ℕ)) (f : List ℕ) (c : ClassId) → first_named j names f ≡ Some c → c.0 < j + length names
-found_within j [] f c e = absurd (cc)
-found_within j (name ∷ names) f c e = by (bytes_eq f name) e (found_within (j + 1) names f c)
-  where
-    by : (b : Bool) → cond b (Some (class_number j)) (first_named (j + 1) names f) ≡ Some c → (first_named (j + 1) names f ≡ Some c → c.0 < j + 1 + length names) → c.0 < j + length (name ∷ names)
-    by true here more = let same : class_number j ≡ c = cc in let number : j ≡ c.0 = ap (λ (x : ClassId). x.0) same in omega arith
-    by false rest more = let less : c.0 < j + 1 + length names = more rest in omega arith
+found_within j names f c e =
+    let w = named_sound j names f c e in
+    let number : c.0 ≡ j + w.0 = ap (λ (x : ClassId). x.0) w.1 in
+    let less = slice_get_within names w.0 f w.2 in
+    omega arith
 
 -- a class that is found, or Object, is one of the classes
 found_low : (m : ℕ) (o : Option ClassId) → 0 < m → ((c : ClassId) → o ≡ Some c → c.0 < m) → (or_object o).0 < m

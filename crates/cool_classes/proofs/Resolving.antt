@@ -1,10 +1,10 @@
 -- Definitions whose classes have no fault make the classes of a table, all but the types of features.
-use Rattle.std.proofs.Common.{◌≡◌, ◌≢◌, ℕ, zero, suc, ◌+◌, ◌<◌, ◌≤◌, ◌^◌, List, [], ◌∷◌, ◌++◌, length, take, map, get_or, Option, Some, None, Bool, true, false, cond, sym, ap, ◌∙◌, refl, subst, arith, true≢false}
-use Rattle.std.specs.Prelude.{bytes_eq, IsSome}
+use Rattle.std.proofs.Common.{◌≡◌, ◌≢◌, ℕ, zero, suc, ◌+◌, ◌<◌, ◌≤◌, ◌^◌, List, [], ◌∷◌, ◌++◌, length, take, map, get_or, Option, Some, None, true, false, sym, ap, ◌∙◌, refl, subst, arith, true≢false}
+use Rattle.std.specs.Prelude.{IsSome}
 use Rattle.std.specs.List.{AllByRecursion}
 use Rattle.std.proofs.lemmas.List.{length-map}
 use Rattle.std.proofs.Math.ListN.{get_or-map as get_or-map_same}
-use Rattle.std.proofs.lemmas.Slice.Eq.{bytes_eq-Decides}
+use Rattle.std.proofs.lemmas.Option.{get_or_from_slice_get}
 use Rattle.cool_syntax.specs.declared.type_ref.TypeRef.{TypeRef}
 use Rattle.cool_syntax.specs.declared.file_tree.ClassDef.{ClassDef}
 use Rattle.cool_syntax.specs.TokenFacts.{IsPlaced}
@@ -25,6 +25,7 @@ use Rattle.cool_classes.proofs.BasicDepths.{basic_top, basic_below}
 use Rattle.cool_classes.proofs.GroundedByDepths.{grounded_by}
 use Rattle.cool_classes.proofs.Climbs.{chain_there}
 use Rattle.cool_classes.proofs.DistinctNames.{same_place, all_new, no_self_types}
+use Rattle.cool_classes.proofs.FirstIndexes.{named_sound}
 use Rattle.cool_classes.proofs.ParentsOfDefinitions.{parents_long, parents_within, all_names_long, found_within}
 
 -- the class that a definition makes
@@ -156,27 +157,17 @@ resolved_by ds os few settled =
           (all_then HasFewFeatures (λ (d : ClassDef). AllByRecursion HasFewFormals d.features) ds (λ d h. h.1) few.1));
     }
 
--- a class that is found has the name
-found_named : (j : ℕ) (names : List (List ℕ)) (f : List ℕ) (c : ClassId) → first_named j names f ≡ Some c → (k : ℕ) × (c.0 ≡ j + k) × (get_or names k [] ≡ f)
-found_named j [] f c e = absurd (cc)
-found_named j (name ∷ names) f c e = by (bytes_eq f name) refl e (found_named (j + 1) names f c)
-  where
-    by : (b : Bool) → bytes_eq f name ≡ b → cond b (Some (class_number j)) (first_named (j + 1) names f) ≡ Some c
-        → (first_named (j + 1) names f ≡ Some c → (k : ℕ) × (c.0 ≡ j + 1 + k) × (get_or names k [] ≡ f)) → (k : ℕ) × (c.0 ≡ j + k) × (get_or (name ∷ names) k [] ≡ f)
-    by true same here more = let is : class_number j ≡ c = cc in let number : j ≡ c.0 = ap (λ (x : ClassId). x.0) is in (zero, omega arith, sym ((bytes_eq-Decides f name).0 same))
-    by false other rest more = let r = more rest in let number : c.0 ≡ j + 1 + r.0 = r.1 in (suc r.0, omega arith, r.2)
-
 -- a class that is found is the one that the parent names
 inherits_by : (ds : List ClassDef) (r : TypeRef) (o : Option ClassId) → first_named 0 (names_with_basic ds) r.name ≡ o → IsSome o
     → ((or_object o).0 < length (classes_meant ds)) × (name_of (classes_meant ds) (or_object o) ≡ r.name)
 inherits_by ds r None is some = absurd (true≢false (sym some))
 inherits_by ds r (Some q) is some =
-    let n = found_named 0 (names_with_basic ds) r.name q is in
-    let number : q.0 ≡ n.0 = let e : q.0 ≡ 0 + n.0 = n.1 in omega arith in
+    let n = named_sound 0 (names_with_basic ds) r.name q is in
+    let number : q.0 ≡ n.0 = let e : q.0 ≡ 0 + n.0 = ap (λ (c : ClassId). c.0) n.1 in omega arith in
     let low : q.0 < 0 + length (names_with_basic ds) = found_within 0 (names_with_basic ds) r.name q is in
     let all = all_names_long ds in
     let long = classes_long ds in
-    (omega arith, name_seen ds q ∙ ap (λ (k : ℕ). get_or (names_with_basic ds) k []) number ∙ n.2)
+    (omega arith, name_seen ds q ∙ ap (λ (k : ℕ). get_or (names_with_basic ds) k []) number ∙ get_or_from_slice_get (names_with_basic ds) n.0 r.name [] n.2)
 
 -- a class inherits from the class that its definition names
 inherits : (ds : List ClassDef) (r : Option TypeRef) → IsParentKnown (names_with_basic ds) r → InheritsAs (classes_meant ds) r (Some (parent_meant (names_with_basic ds) r))

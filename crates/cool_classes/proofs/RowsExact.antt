@@ -6,7 +6,7 @@ use Rattle.std.specs.List.Sorted.{IsPermutation}
 use Rattle.std.proofs.lemmas.Bool.{eqb-true}
 use Rattle.std.proofs.lemmas.List.{map-append}
 use Rattle.std.proofs.lemmas.List.Sorted.{Contains-permutation, IsPermutation-append_left, IsPermutation-append_right, IsPermutation-map}
-use Rattle.std.proofs.lemmas.Option.{none-some, same_Some}
+use Rattle.std.proofs.lemmas.Option.{none-some, same_Some, slice_get-get_or, get_or_from_slice_get}
 use Rattle.std.proofs.lemmas.Slice.Eq.{bytes_eq-Decides}
 use Rattle.cool_syntax.specs.declared.place.Place.{Place}
 use Rattle.cool_syntax.specs.declared.type_ref.TypeRef.{TypeRef}
@@ -34,7 +34,7 @@ use Rattle.cool_classes.proofs.CyclesCaught.{one_of}
 use Rattle.cool_classes.proofs.FaultPlaces.{all_both}
 use Rattle.cool_classes.proofs.SameMembers.{same_members}
 use Rattle.cool_classes.proofs.FeatureRowsExact.{fault, class_rows, bytes_other, some_value, false_from}
-use Rattle.cool_classes.proofs.FirstIndexes.{get_within, seam_get, has_left, has_right}
+use Rattle.cool_classes.proofs.FirstIndexes.{get_within, seam_get, has_left, has_right, named_found, named_sound}
 use Rattle.cool_classes.proofs.ParentsOfDefinitions.{parents_long}
 
 -- a stronger property of all
@@ -87,32 +87,15 @@ kind_in : (o : Option ClassKind) (kind : ClassKind) (at : Place) → o ≡ Some 
 kind_in None kind at e = absurd (none-some kind e)
 kind_in (Some other) kind at e = (zero, omega arith, ap (λ (k : ClassKind). fault k at) (same_Some other kind e))
 
--- the class that a name finds first has it
-named_sound : (k : ℕ) (names : List (List ℕ)) (f : List ℕ) (c : ClassId) → first_named k names f ≡ Some c → (j : ℕ) × (c ≡ class_number (k + j)) × (slice_get names j ≡ Some f)
-named_sound k [] f c e = absurd (none-some c e)
-named_sound k (name ∷ names) f c e = by (bytes_eq f name) refl e (λ h. named_sound (k + 1) names f c h)
-  where
-    by : (b : Bool) → bytes_eq f name ≡ b → (if b then Some (class_number k) else first_named (k + 1) names f) ≡ Some c
-        → (first_named (k + 1) names f ≡ Some c → (j : ℕ) × (c ≡ class_number (k + 1 + j)) × (slice_get names j ≡ Some f)) → (j : ℕ) × (c ≡ class_number (k + j)) × (slice_get (name ∷ names) j ≡ Some f)
-    by true t h more = (zero, sym (same_Some (class_number k) c h) ∙ ap class_number (let z : k ≡ k + 0 = omega arith in z), ap (λ (x : List ℕ). Some x) (sym ((bytes_eq-Decides f name).0 t)))
-    by false t h more = let w = more h in (suc w.0, w.1 ∙ ap class_number (let z : k + 1 + w.0 ≡ k + suc w.0 = omega arith in z), w.2)
-
-named_found : (k : ℕ) (names : List (List ℕ)) (f : List ℕ) → Contains names f → is_some (first_named k names f) ≡ true
-named_found k [] f (i, less, e) = absurd (omega arith)
-named_found k (name ∷ names) f (zero, less, e) = ap (λ (b : Bool). is_some (if b then Some (class_number k) else first_named (k + 1) names f)) ((bytes_eq-Decides f name).1 (sym e))
-named_found k (name ∷ names) f (suc i, less, e) = by (bytes_eq f name) (named_found (k + 1) names f (i, omega arith, e))
-  where
-    by : (b : Bool) → is_some (first_named (k + 1) names f) ≡ true → is_some (if b then Some (class_number k) else first_named (k + 1) names f) ≡ true
-    by true h = refl
-    by false h = h
-
-get_contains : (names : List (List ℕ)) (j : ℕ) (f : List ℕ) → slice_get names j ≡ Some f → Contains names f
-get_contains [] j f e = absurd (none-some f e)
-get_contains (name ∷ names) zero f e = (zero, omega arith, same_Some name f e)
-get_contains (name ∷ names) (suc j) f e = let w = get_contains names j f e in (suc w.0, (let l = w.1 in omega arith), w.2)
+-- a name is found exactly where it is one of the names
+named_there : (names : List (List ℕ)) (f : List ℕ) → Contains names f → is_some (first_named 0 names f) ≡ true
+named_there names f (i, less, e) = ap (λ (o : Option ClassId). is_some o) (named_found 0 names i f (slice_get-get_or names i f less ∙ ap Some e)).1
 
 found_named : (names : List (List ℕ)) (f : List ℕ) → is_some (first_named 0 names f) ≡ true → Contains names f
-found_named names f e = let c = some_value (first_named 0 names f) e in let w = named_sound 0 names f c.0 c.1 in get_contains names w.0 f w.2
+found_named names f e =
+    let c = some_value (first_named 0 names f) e in
+    let w = named_sound 0 names f c.0 c.1 in
+    (w.0, get_within names w.0 f w.2, get_or_from_slice_get names w.0 f f w.2)
 
 none_is : {X : Type 0} (o : Option X) → is_some o ≡ false → o ≡ None
 none_is None e = refl
@@ -197,7 +180,7 @@ parent_cases ds k r kind has o found e = by (bytes_eq r.name self_type) refl o f
     by : (b : Bool) → bytes_eq r.name self_type ≡ b → (o : Option ClassId) → first_named 0 (names_with_basic ds) r.name ≡ o → (if b then Some C2 else class_kind o) ≡ Some kind → IsClassFault ds kind r.at
     by true s o f h = subst (λ (x : ClassKind). IsClassFault ds x r.at) (same_Some C2 kind h) (rows.parent_self_type k r has ((bytes_eq-Decides r.name self_type).0 s))
     by false s None f h = subst (λ (x : ClassKind). IsClassFault ds x r.at) (same_Some C3 kind h)
-        (rows.no_parent k r has (bytes_other r.name self_type s) (λ there. true≢false (sym (named_found 0 (names_with_basic ds) r.name there) ∙ ap (λ (x : Option ClassId). is_some x) f)))
+        (rows.no_parent k r has (bytes_other r.name self_type s) (λ there. true≢false (sym (named_there (names_with_basic ds) r.name there) ∙ ap (λ (x : Option ClassId). is_some x) f)))
     by false s (Some c) f h = barred c f (is_barred c) refl h
 
 parents_only : (all ds : List ClassDef) (n : ℕ) → ((i : ℕ) (d : ClassDef) → slice_get ds i ≡ Some d → slice_get all (n + i) ≡ Some d)
@@ -278,7 +261,7 @@ main_only ds = by (first_named 0 (names_with_basic ds) (codes "Main")) refl
   where
     by : (o : Option ClassId) → first_named 0 (names_with_basic ds) (codes "Main") ≡ o
         → AllByRecursion (λ (f : ClassFault). IsClassFault ds f.kind f.at) (of_kind (if is_none o then Some C6 else None) (record { file = 0; line = 1; byte = 0 }))
-    by None e = (rows.no_main (λ there. true≢false (sym (named_found 0 (names_with_basic ds) (codes "Main") there) ∙ ap (λ (x : Option ClassId). is_some x) e)), tt)
+    by None e = (rows.no_main (λ there. true≢false (sym (named_there (names_with_basic ds) (codes "Main") there) ∙ ap (λ (x : Option ClassId). is_some x) e)), tt)
     by (Some c) e = tt
 
 main_has : (ds : List ClassDef) → IsUnnamed ds (codes "Main") → Contains (main_faults (names_with_basic ds)) (fault C6 (record { file = 0; line = 1; byte = 0 }))
@@ -316,7 +299,7 @@ phase_there ds cyclic on kind at (rows.twice k d is other there) =
     let before = basic_names ++ take k (names_in ds) in
     in_names ds cyclic (fault C1 d.at)
     (names_have basic_names ds k d (fault C1 d.at) is
-    (kind_in (name_kind d.name (is_some (first_named 0 before d.name))) C1 d.at (kind_known d.name (is_some (first_named 0 before d.name)) other (named_found 0 before d.name there))))
+    (kind_in (name_kind d.name (is_some (first_named 0 before d.name))) C1 d.at (kind_known d.name (is_some (first_named 0 before d.name)) other (named_there before d.name there))))
   where
     kind_known : (name : List ℕ) (known : Bool) → name ≢ self_type → known ≡ true → name_kind name known ≡ Some C1
     kind_known name known o k =
