@@ -33,6 +33,7 @@ pub use class_id::{BOOL, ClassId, INT, IO, OBJECT, STRING, Ty};
 pub use class_table::ClassTable;
 pub use fault::{ClassFault, ClassKind, TableError};
 pub use method::{AttributeRef, BasicMethod, MethodRef};
+pub use self_type::is_self_type;
 
 /// The most classes of a program, besides the basic ones.
 pub const MOST_CLASSES: usize = 1_000;

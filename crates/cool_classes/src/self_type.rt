@@ -4,7 +4,7 @@ ghost use Rattle.std.specs.Prelude.{◌≡◌, bytes_eq};
 ghost use Rattle.cool_classes.specs.Names.{self_type};
 
 /// Whether a name is that word.
-pub(crate) fn is_self_type(name: &[u8]) -> bool
+pub fn is_self_type(name: &[u8]) -> bool
     ensures { result ≡ bytes_eq name.now self_type }
 {
     name == self_type()

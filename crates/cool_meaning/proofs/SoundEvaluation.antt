@@ -17,6 +17,7 @@ use Rattle.cool_classes.proofs.Methods.{found_has}
 use Rattle.cool_rules.specs.Conformance.{Conforms, class_of as class_meant}
 use Rattle.cool_rules.specs.Scopes.{Binding, found}
 use Rattle.cool_rules.specs.Typing.{type_in_scope, IsCall, IsImplementation, result_on, int_type, bool_type, object_type, with_name, HasType, HaveTypes, HaveItems, HasInit, HaveBranches, IsJoinOfBranches}
+use Rattle.cool_classes.specs.Names.{self_type}
 use Rattle.cool_classes.specs.LawfulTables.{MayInherit}
 use Rattle.cool_rules.specs.TypedTables.{IsTypedTable}
 use Rattle.cool_meaning.specs.Values.{Value, Void, Int, Bool as Truth, Str, Environment, class_of, location_of, default_of}
@@ -163,12 +164,12 @@ module _ (p : List Class) (typed : IsTypedTable p) (calls : Calls) (b : ℕ) (ca
   new_sound : (w : World) (scope : List Binding) (env : Environment) (name : List ℕ) (t : Ty) → Scene p w c k self scope env → Denotes p name t → Sound p b w (IsOf t) (make p calls (class_made p self name))
   new_sound w scope env name SelfType scene is =
       subst (λ (o : Option ClassId). Sound p b w (IsOf SelfType) (make p calls o))
-      (sym (ap (λ (x : Bool). if x then class_of self else class_named p name) (bytes_same name (codes "SELF_TYPE") is) ∙ scene.class))
+      (sym (ap (λ (x : Bool). if x then class_of self else class_named p name) (bytes_same name self_type is) ∙ scene.class))
       (make_sound p typed calls b calls_sound w k scene.k_within)
   new_sound w scope env name (IsClass d) scene (within, is) =
-      let other : name ≢ codes "SELF_TYPE" = λ same. typed.whole.table.no_self_type d within (is ∙ same) in
+      let other : name ≢ self_type = λ same. typed.whole.table.no_self_type d within (is ∙ same) in
       subst (λ (o : Option ClassId). Sound p b w (IsOf (IsClass d)) (make p calls o))
-      (sym (ap (λ (x : Bool). if x then class_of self else class_named p name) (bytes_differ name (codes "SELF_TYPE") other) ∙ class_by_name p typed.whole.table d name within is))
+      (sym (ap (λ (x : Bool). if x then class_of self else class_named p name) (bytes_differ name self_type other) ∙ class_by_name p typed.whole.table d name within is))
       (make_sound p typed calls b calls_sound w d within)
 
   object_plain : MayInherit (class_number 0)

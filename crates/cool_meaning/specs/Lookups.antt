@@ -1,5 +1,5 @@
 -- What a running program asks of its class table: methods, attributes and their initial values.
-use Rattle.std.specs.Prelude.{ℕ, List, [], ◌∷◌, map, slice_get, Option, Some, None, codes, bytes_eq, if◌then◌else◌}
+use Rattle.std.specs.Prelude.{ℕ, List, [], ◌∷◌, map, slice_get, Option, Some, None, bytes_eq, if◌then◌else◌}
 use Rattle.cool_syntax.specs.declared.file_tree.Feature.{Feature}
 use Rattle.cool_syntax.specs.declared.file_tree.Feature.TheVariants.{Method, Attribute}
 use Rattle.cool_syntax.specs.declared.file_tree.MethodDef.{MethodDef}
@@ -10,12 +10,13 @@ use Rattle.cool_classes.specs.declared.method.AttributeRef.{AttributeRef}
 use Rattle.cool_classes.specs.Chains.{Class, features_of}
 use Rattle.cool_classes.specs.Features.{attributes_of, attribute_name, attribute_type}
 use Rattle.cool_classes.specs.ClimbedChains.{chain}
+use Rattle.cool_classes.specs.Names.{self_type}
 use Rattle.cool_rules.specs.Rules.{class_named}
 use Rattle.cool_meaning.specs.Values.{Value, Void, Int, Bool, Str, Obj, class_of, default_of, Environment}
 
 -- the class that `new` makes in a method of an object: for SELF_TYPE the object's own
 abbrev pub class_made : List Class → Value → List ℕ → Option ClassId
-class_made p self name = if bytes_eq name (codes "SELF_TYPE") then class_of self else class_named p name
+class_made p self name = if bytes_eq name self_type then class_of self else class_named p name
 
 -- the method at an index among the features of a class
 abbrev pub method_in : Option Feature → Option MethodDef

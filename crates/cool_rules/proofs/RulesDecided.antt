@@ -1,7 +1,7 @@
 -- The functions of the rules of types decide them, in whole tables: what names denote, and joins. Two types that conform to one another
 -- are one.
 use Rattle.std.proofs.Common.{◌≡◌, inl, inr, ◌<◌, ℕ, List, [], ◌∷◌, length, Option, Some, None, Bool, true, false, ap, sym, ◌∙◌, refl, subst, arith, true≢false}
-use Rattle.std.specs.Prelude.{Contains, if◌then◌else◌, bytes_eq, codes, option_map, nat_eq}
+use Rattle.std.specs.Prelude.{Contains, if◌then◌else◌, bytes_eq, option_map, nat_eq}
 use Rattle.std.proofs.lemmas.Bool.{eqb-true, eq-eqb}
 use Rattle.std.proofs.lemmas.Slice.Eq.{bytes_eq-Decides}
 use Rattle.cool_classes.specs.declared.class_id.ClassId.{ClassId}
@@ -10,6 +10,7 @@ use Rattle.cool_classes.specs.declared.class_id.Ty.TheVariants.{Class as IsClass
 use Rattle.cool_classes.specs.Chains.{Class, class_number, parent_of, IsChain, Below}
 use Rattle.cool_classes.specs.ClimbedChains.{chain}
 use Rattle.cool_classes.specs.Features.{Denotes}
+use Rattle.cool_classes.specs.Names.{self_type}
 use Rattle.cool_classes.specs.Tables.{IsWholeTable}
 use Rattle.cool_classes.proofs.ChainsOfTables.{chain_is}
 use Rattle.cool_classes.proofs.ClassesNamed.{named_back}
@@ -38,14 +39,14 @@ module _ (p : List Class) (whole : IsWholeTable p) where
   -- names
   pub named_denotes : (name : List ℕ) (t : Ty) → type_of_name p name ≡ Some t → Denotes p name t
   unfolding type_of_name
-  named_denotes name t e = by (bytes_eq name (codes "SELF_TYPE")) refl e
+  named_denotes name t e = by (bytes_eq name self_type) refl e
     where
       some : (o : Option ClassId) → class_named p name ≡ o → option_map IsClass o ≡ Some t → Denotes p name t
       some None is e = absurd (cc)
       some (Some c) is e = let same : IsClass c ≡ t = cc in subst (λ (u : Ty). Denotes p name u) same (named_back p name c is)
 
-      by : (b : Bool) → bytes_eq name (codes "SELF_TYPE") ≡ b → (if b then Some SelfType else option_map IsClass (class_named p name)) ≡ Some t → Denotes p name t
-      by true is e = let same : SelfType ≡ t = cc in subst (λ (u : Ty). Denotes p name u) same ((bytes_eq-Decides name (codes "SELF_TYPE")).0 is)
+      by : (b : Bool) → bytes_eq name self_type ≡ b → (if b then Some SelfType else option_map IsClass (class_named p name)) ≡ Some t → Denotes p name t
+      by true is e = let same : SelfType ≡ t = cc in subst (λ (u : Ty). Denotes p name u) same ((bytes_eq-Decides name self_type).0 is)
       by false is e = some (class_named p name) refl e
 
   pub denoted : (name : List ℕ) (t : Ty) → Denotes p name t → type_of_name p name ≡ Some t

@@ -1,6 +1,6 @@
 -- The rules of types as functions: of a whole table, what fits the definitions of conformance, joins and names is what the functions give.
 use Rattle.std.proofs.Common.{◌≡◌, ◌≢◌, ℕ, zero, suc, ◌+◌, ◌<◌, ◌≤◌, ◌⊎◌, inl, inr, List, [], ◌∷◌, length, Option, Some, None, Bool, true, false, ap, sym, ◌∙◌, refl, subst, arith}
-use Rattle.std.specs.Prelude.{Contains, IsTrue, ◌↔◌, bytes_eq, if◌then◌else◌, option_map, unwrap_or, codes}
+use Rattle.std.specs.Prelude.{Contains, IsTrue, ◌↔◌, bytes_eq, if◌then◌else◌, option_map, unwrap_or}
 use Rattle.std.proofs.lemmas.Slice.Eq.{bytes_eq-Decides}
 use Rattle.cool_classes.specs.declared.class_id.ClassId.{ClassId}
 use Rattle.cool_classes.specs.declared.class_id.Ty.{Ty}
@@ -8,6 +8,7 @@ use Rattle.cool_classes.specs.declared.class_id.Ty.TheVariants.{Class as IsClass
 use Rattle.cool_classes.specs.Chains.{Class, class_number, name_of, parent_of, IsChain, Below, IsJoin}
 use Rattle.cool_classes.specs.Features.{Denotes, implementation}
 use Rattle.cool_classes.specs.declared.method.MethodRef.{MethodRef}
+use Rattle.cool_classes.specs.Names.{self_type}
 use Rattle.cool_classes.specs.Tables.{IsTable}
 use Rattle.cool_classes.proofs.Climbs.{chain_unique}
 use Rattle.cool_rules.specs.Conformance.{IsType, IsTypeNamed, Conforms, IsJoinOfTypes}
@@ -114,15 +115,15 @@ pub type_of_name_is : (p : List Class) (name : List ℕ) (r : Option Ty) → IsT
 unfolding type_of_name
 type_of_name_is p name None h none =
     by (class_named p name) refl
-    ∙ sym (ap (λ (b : Bool). if b then Some SelfType else option_map IsClass (class_named p name)) (bytes_differ name (codes "SELF_TYPE") (λ e. none SelfType e)))
+    ∙ sym (ap (λ (b : Bool). if b then Some SelfType else option_map IsClass (class_named p name)) (bytes_differ name self_type (λ e. none SelfType e)))
   where
     by : (o : Option ClassId) → class_named p name ≡ o → None ≡ option_map IsClass (class_named p name)
     by None e = sym (ap (option_map IsClass) e)
     by (Some c) e = absurd (none (IsClass c) (named_back p name c e))
 type_of_name_is p name (Some SelfType) h is =
-    sym (ap (λ (b : Bool). if b then Some SelfType else option_map IsClass (class_named p name)) (bytes_same name (codes "SELF_TYPE") is))
+    sym (ap (λ (b : Bool). if b then Some SelfType else option_map IsClass (class_named p name)) (bytes_same name self_type is))
 type_of_name_is p name (Some (IsClass c)) h (within, is) =
-    sym (ap (λ (b : Bool). if b then Some SelfType else option_map IsClass (class_named p name)) (bytes_differ name (codes "SELF_TYPE") (λ e. h.no_self_type c within (is ∙ e)))
+    sym (ap (λ (b : Bool). if b then Some SelfType else option_map IsClass (class_named p name)) (bytes_differ name self_type (λ e. h.no_self_type c within (is ∙ e)))
     ∙ ap (option_map IsClass) (class_by_name p h c name within is))
 
 pub type_meant_is : (p : List Class) (name : List ℕ) (a : Ty) → IsTable p → Denotes p name a → a ≡ type_meant p name

@@ -1,6 +1,6 @@
 -- The rules of types as functions of a table: conformance, joins, and the types and methods that names mean (the Cool manual, sections 4,
 -- 7 and 12).
-use Rattle.std.specs.Prelude.{ℕ, List, [], ◌∷◌, map, Bool, true, false, ◌||◌, nat_eq, bytes_eq, if◌then◌else◌, Option, Some, option_map, unwrap_or, codes}
+use Rattle.std.specs.Prelude.{ℕ, List, [], ◌∷◌, map, Bool, true, false, ◌||◌, nat_eq, bytes_eq, if◌then◌else◌, Option, Some, option_map, unwrap_or}
 use Rattle.cool_syntax.specs.declared.file_tree.Formal.{Formal}
 use Rattle.cool_classes.specs.declared.class_id.ClassId.{ClassId}
 use Rattle.cool_classes.specs.declared.class_id.Ty.{Ty}
@@ -10,7 +10,7 @@ use Rattle.cool_classes.specs.declared.method.AttributeRef.{AttributeRef}
 use Rattle.cool_classes.specs.Chains.{Class, class_number}
 use Rattle.cool_classes.specs.ClimbedChains.{chain}
 use Rattle.cool_classes.specs.Features.{implementation, attribute_name, attribute_type}
-use Rattle.cool_classes.specs.Names.{first_named}
+use Rattle.cool_classes.specs.Names.{first_named, self_type}
 use Rattle.cool_rules.specs.Scopes.{Binding}
 
 -- a class is among some
@@ -50,7 +50,7 @@ class_named p name = first_named 0 (map (λ (c : Class). c.name) p) name
 
 -- the type of a name, if it has one
 unfoldable pub type_of_name : List Class → List ℕ → Option Ty
-type_of_name p name = if bytes_eq name (codes "SELF_TYPE") then Some SelfType else option_map IsClass (class_named p name)
+type_of_name p name = if bytes_eq name self_type then Some SelfType else option_map IsClass (class_named p name)
 
 -- the type that a name of the table means
 unfoldable pub type_meant : List Class → List ℕ → Ty

@@ -3,7 +3,7 @@
 ghost use Rattle.std.specs.Prelude.{◌≡◌, ◌<◌, length, IfSome};
 ghost use Rattle.cool_rules.specs.Conformance.{IsType, IsTypeNamed, class_of};
 
-use cool_classes::{ClassId, ClassTable, Ty};
+use cool_classes::{ClassId, ClassTable, Ty, is_self_type};
 use cool_syntax::Name;
 
 /// The type of this name: a class, or `SELF_TYPE`. None where it is neither.
@@ -11,7 +11,7 @@ pub fn type_named(t: &ClassTable, name: &Name) -> Option<Ty>
     ensures named { IsTypeNamed t.now name.now result }
     ensures is_type { IfSome result (IsType t.now) }
 {
-    if name.as_slice() == b"SELF_TYPE".as_slice() {
+    if is_self_type(name.as_slice()) {
         return Some(Ty::SelfType);
     }
     t.id(name).map(Ty::Class)
