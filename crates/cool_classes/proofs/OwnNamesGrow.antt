@@ -1,26 +1,25 @@
 -- The names of features and of classes, when one more is noted, and what they find.
-use Rattle.std.proofs.Common.{◌≡◌, ℕ, ◌+◌, ◌<◌, ◌≤◌, List, [], ◌∷◌, ◌++◌, map, length, get_or, take, drop, Option, Some, None, is_some, ◌||◌, Bool, true, false, cond, ap, sym, ◌∙◌, refl, subst, arith}
+use Rattle.std.proofs.Common.{◌≡◌, ℕ, ◌+◌, ◌<◌, ◌≤◌, List, [], ◌∷◌, ◌++◌, map, length, get_or, drop, Option, Some, None, is_some, ◌||◌, Bool, true, false, cond, ap, sym, ◌∙◌, refl, subst, arith}
 use Rattle.std.specs.Prelude.{bytes_eq, nat_lt, option_map}
 use Rattle.std.specs.Global.{Vec}
 use Rattle.std.specs.List.{AllByRecursion}
 use Rattle.std.proofs.lemmas.Bool.{ltb-true, ltb-false, le-ltb}
 use Rattle.std.proofs.lemmas.Bool.Decides.{same_from_decides}
-use Rattle.std.proofs.lemmas.List.{map-append, length-map, length-append, get_or_append_left, get_or_push, take_more, drop_more, at_drop_more}
+use Rattle.std.proofs.lemmas.List.{map-append, length-append, get_or_append_left, get_or_push, drop_more, at_drop_more}
 use Rattle.std.proofs.lemmas.Slice.Eq.{bytes_eq-Decides}
 use Rattle.cool_syntax.specs.declared.file_tree.Feature.{Feature}
 use Rattle.cool_syntax.specs.declared.file_tree.Feature.TheVariants.{Method, Attribute}
 use Rattle.cool_syntax.specs.declared.file_tree.MethodDef.{MethodDef}
 use Rattle.cool_syntax.specs.declared.file_tree.AttributeDef.{AttributeDef}
 use Rattle.cool_classes.specs.declared.class_id.ClassId.{ClassId}
-use Rattle.cool_classes.specs.declared.entry.Entry.{Entry}
 use Rattle.cool_classes.specs.declared.own_names.OwnNames.{OwnNames}
 use Rattle.cool_classes.specs.declared.own_names.TableNames.{TableNames}
 use Rattle.cool_classes.specs.declared.method.MethodRef.TheVariants.{Basic}
 use Rattle.cool_classes.specs.Chains.{Class, class_number, features_of}
-use Rattle.cool_classes.specs.Entries.{classes, as_class}
+use Rattle.cool_classes.specs.Entries.{classes}
 use Rattle.cool_classes.specs.Features.{first_method, own_method, user_method, method_among, basic_methods}
 use Rattle.cool_classes.specs.FirstNames.{first_index, shown_names, FindsFirst, method_name, attribute_name}
-use Rattle.cool_classes.specs.OwnNames.{AreOwn, AreAllOwn, AreNamed, AreTableNames}
+use Rattle.cool_classes.specs.OwnNames.{AreOwn, AreAllOwn, AreTableNames}
 use Rattle.cool_classes.specs.FeatureFaults.{have_attribute}
 use Rattle.cool_classes.proofs.NameIndexes.{finds_none}
 

@@ -20,7 +20,7 @@ use Rattle.cool_classes.specs.declared.fault.TableError.{TableError}
 use Rattle.cool_classes.specs.declared.fault.TableError.TheVariants as error
 use Rattle.cool_classes.specs.Chains.{Class, class_number}
 use Rattle.cool_classes.specs.ClassFaults.{of_kind, name_kind, names_faults, is_barred, class_kind, parent_kind, parent_faults, parents_faults, main_faults, first_fault, number_faults, places, place_at, cycle_faults, AreOnCycles, class_phase, classes_meant, features_from, feature_phase, HasClassPhase, HasTableFaults}
-use Rattle.cool_classes.specs.ClassRows.{IsClassAt, HasParent, IsNamedBefore, IsUnnamed, IsBarredName, IsClassFault, IsFaultFrom, IsTableFault, HasRows, HasNoRow}
+use Rattle.cool_classes.specs.ClassRows.{IsClassAt, HasParent, IsUnnamed, IsBarredName, IsClassFault, IsFaultFrom, IsTableFault, HasRows, HasNoRow}
 use Rattle.cool_classes.specs.ClassRows as rows
 use Rattle.cool_classes.specs.ClimbedChains.{above}
 use Rattle.cool_classes.specs.Cycles.{IsOnCycle}
