@@ -21,10 +21,10 @@ pub one_more : (p : List Class) (ids : List ClassId) (k : ℕ) (d : ClassId) (al
 one_more p ids k d all above within is =
     ap (λ (xs : List AttributeRef). xs ++ own_attributes (get_or ids (k - 1) d) 0 (features_of p (get_or ids (k - 1) d))) is ∙ ap (attributes_of p) (sym (before ids k d above within))
 
--- what stands behind a front stands at the front's length
-behind : (front fs : List Feature) (x : Feature) → slice_get (front ++ x ∷ fs) (length front) ≡ Some x
-behind [] fs x = refl
-behind (y ∷ front) fs x = behind front fs x
+-- what stands after a front stands at the front's length
+after : (front fs : List Feature) (x : Feature) → slice_get (front ++ x ∷ fs) (length front) ≡ Some x
+after [] fs x = refl
+after (y ∷ front) fs x = after front fs x
 
 longer : (front : List Feature) (x : Feature) → length (front ++ x ∷ []) ≡ length front + 1
 longer [] x = refl
@@ -40,7 +40,7 @@ own_has p c within front (x ∷ fs) e =
     by : (x : Feature) → features_of p c ≡ front ++ x ∷ fs → AllByRecursion (HasAttribute p) (own_attributes c (length front + 1) fs) → AllByRecursion (HasAttribute p) (own_attributes c (length front) (x ∷ fs))
     by (Method m) e rest = rest
     by (Attribute a) e rest =
-        let there : slice_get (features_of p c) (length front) ≡ Some (Attribute a) = ap (λ (gs : List Feature). slice_get gs (length front)) e ∙ behind front fs (Attribute a) in
+        let there : slice_get (features_of p c) (length front) ≡ Some (Attribute a) = ap (λ (gs : List Feature). slice_get gs (length front)) e ∙ after front fs (Attribute a) in
         ((within, subst IsAttribute (sym there) tt), rest)
 
 all_of_both : (p : List Class) (xs ys : List AttributeRef) → AllByRecursion (HasAttribute p) xs → AllByRecursion (HasAttribute p) ys → AllByRecursion (HasAttribute p) (xs ++ ys)

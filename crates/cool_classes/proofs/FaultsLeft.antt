@@ -41,14 +41,14 @@ features_next p places k before now ds d within chain is =
     ∙ (λ i. class_faults p c (above_of p c ds chain i) at ++ features_from p (n i) (drop (k + 1) places)) in
     next_found before (class_faults p c ds at) (features_from p (5 + (k + 1)) (drop (k + 1) places)) (features_from p (5 + k) (drop k places)) now first is
 
--- nothing comes behind a list
-pub nothing_behind : {X : Type 0} (xs : List X) → xs ++ [] ≡ xs
-nothing_behind [] = refl
-nothing_behind (x ∷ xs) = ap (λ ys. x ∷ ys) (nothing_behind xs)
+-- nothing comes after a list
+pub nothing_after : {X : Type 0} (xs : List X) → xs ++ [] ≡ xs
+nothing_after [] = refl
+nothing_after (x ∷ xs) = ap (λ ys. x ∷ ys) (nothing_after xs)
 
 -- a fault that is added where there is one
 pub with_kind : (kind : Option ClassKind) (at : Place) (fs : List ClassFault) → with_fault kind at fs ≡ fs ++ of_kind kind at
-with_kind None at fs = sym (nothing_behind fs)
+with_kind None at fs = sym (nothing_after fs)
 with_kind (Some kind) at fs = refl
 
 -- the fault of the next name

@@ -27,8 +27,8 @@ use Rattle.cool_classes.specs.FeatureRows as rows
 use Rattle.cool_classes.specs.MethodNames.{methods_of}
 use Rattle.cool_classes.specs.Names.{self_type}
 use Rattle.cool_classes.proofs.FaultPlaces.{all_both}
-use Rattle.cool_classes.proofs.FaultsLeft.{nothing_behind}
-use Rattle.cool_classes.proofs.FirstIndexes.{behind_get, seam_get, take_get, get_within, has_left, has_right, index_found, index_sound, method_row, row_method, attribute_row, row_attribute, formal_row_get, row_formal, class_row, row_class}
+use Rattle.cool_classes.proofs.FaultsLeft.{nothing_after}
+use Rattle.cool_classes.proofs.FirstIndexes.{after_get, seam_get, take_get, get_within, has_left, has_right, index_found, index_sound, method_row, row_method, attribute_row, row_attribute, formal_row_get, row_formal, class_row, row_class}
 use Rattle.cool_classes.proofs.OwnNamesGrow.{first_method_index}
 
 abbrev pub fault : ClassKind → Place → ClassFault
@@ -190,7 +190,7 @@ place_earlier row k j f less there =
     let l = w.2 in
     true_not (is_index k (first_index 0 row f)) (ap (is_index k) w.1 ∙ ne_eqb (0 + w.0) k (λ same. omega arith))
 
--- the faults of one formal, behind others of its method
+-- the faults of one formal, after others of its method
 
 formal_only : (p : List Class) (P : ClassFault → Type 0) (before : List (Option (List ℕ))) (f : Formal) → (f.name ≡ codes "self" → P (fault F3 f.at))
     → (is_some (first_index 0 before f.name) ≡ true → P (fault F4 f.at)) → (f.declared.name ≡ self_type → P (fault F5 f.declared.at)) → (IsNoType p f.declared.name → P (fault F6 f.declared.at))
@@ -223,7 +223,7 @@ formals_only p P m done (f ∷ fs) whole three four five six =
     let n = some_value (first_index 0 (formal_row done) f.name) e in
     let w = index_sound 0 (formal_row done) f.name n.0 n.1 in
     let g = formal_row_get done w.0 f.name w.2 in
-    let there : IsFormalAt m w.0 g.0 = ap (λ (xs : List Formal). slice_get xs w.0) (sym whole) ∙ behind_get done (f ∷ fs) w.0 g.0 g.1 in
+    let there : IsFormalAt m w.0 g.0 = ap (λ (xs : List Formal). slice_get xs w.0) (sym whole) ∙ after_get done (f ∷ fs) w.0 g.0 g.1 in
     four (length done) w.0 f g.0 here (get_within done w.0 g.0 g.1) there g.2)
     (five (length done) f here) (six (length done) f here))
     (subst (λ (row : List (Option (List ℕ))). AllByRecursion P (formals_faults p row fs)) more rest)
@@ -234,7 +234,7 @@ formals_have : (p : List Class) (done fs : List Formal) (i : ℕ) (f : Formal) (
 formals_have p done [] i f x e there = absurd (none-some f e)
 formals_have p done (g ∷ fs) zero f x e there =
     let same : g ≡ f = same_Some g f e in
-    let here = subst (λ (h : Formal). Contains (formal_faults p (formal_row done) h) x) (sym same) (subst (λ (xs : List Formal). Contains (formal_faults p (formal_row xs) f) x) (nothing_behind done) there) in
+    let here = subst (λ (h : Formal). Contains (formal_faults p (formal_row done) h) x) (sym same) (subst (λ (xs : List Formal). Contains (formal_faults p (formal_row xs) f) x) (nothing_after done) there) in
     has_left (formal_faults p (formal_row done) g) (formals_faults p (formal_row done ++ Some g.name ∷ []) fs) x here
 formals_have p done (g ∷ fs) (suc i) f x e there =
     let more : formal_row (done ++ g ∷ []) ≡ formal_row done ++ Some g.name ∷ [] = map-append (λ (y : Formal). Some y.name) done (g ∷ []) in

@@ -29,7 +29,7 @@ pub record IsChecked (p : List Class) (c : ClassId) : Type 0 where
   pub types : AllByRecursion (IsTyped p) (features_of p c)
   pub limits : (ds : List ClassId) → IsChain p (Some c) ds → KeepsChain p ds
 
--- the faults of the first classes behind the basic ones
+-- the faults of the first classes after the basic ones
 pub record AreFaults (es : List Entry) (places : List Place) (count : ℕ) (faults : List ClassFault) : Type 0 where
   pub kinds : AllByRecursion IsOfFeatures faults
   pub good : faults ≡ [] → (k : ℕ) → k < count → IsChecked (classes es) (class_number (5 + k))

@@ -13,11 +13,11 @@ use Rattle.cool_classes.specs.Chains.{Class, class_number, name_of}
 use Rattle.cool_classes.specs.FirstNames.{first_with, first_index, is_named, method_name, attribute_name}
 use Rattle.cool_classes.specs.Names.{first_named}
 
--- what stands at a position of a list stands there behind others, and before others
-pub behind_get : {X : Type 0} (xs ys : List X) (k : ℕ) (x : X) → slice_get xs k ≡ Some x → slice_get (xs ++ ys) k ≡ Some x
-behind_get [] ys k x e = absurd (none-some x e)
-behind_get (z ∷ xs) ys zero x e = e
-behind_get (z ∷ xs) ys (suc k) x e = behind_get xs ys k x e
+-- what stands at a position of a list stands there after others, and before others
+pub after_get : {X : Type 0} (xs ys : List X) (k : ℕ) (x : X) → slice_get xs k ≡ Some x → slice_get (xs ++ ys) k ≡ Some x
+after_get [] ys k x e = absurd (none-some x e)
+after_get (z ∷ xs) ys zero x e = e
+after_get (z ∷ xs) ys (suc k) x e = after_get xs ys k x e
 
 pub seam_get : {X : Type 0} (xs ys : List X) (x : X) → slice_get (xs ++ x ∷ ys) (length xs) ≡ Some x
 seam_get [] ys x = refl

@@ -15,18 +15,18 @@ use Rattle.cool_classes.specs.Features.{first_method, user_method, own_method, f
 abbrev IsThere : List Feature → ℕ → ℕ → Type 0
 IsThere fs k j = (i : ℕ) × (j ≡ k + i) × IsMethod (slice_get fs i)
 
-there_behind : (x : Feature) (fs : List Feature) (k j : ℕ) → IsThere fs (k + 1) j → IsThere (x ∷ fs) k j
-there_behind x fs k j (i, e, m) = (suc i, omega arith, m)
+there_after : (x : Feature) (fs : List Feature) (k j : ℕ) → IsThere fs (k + 1) j → IsThere (x ∷ fs) k j
+there_after x fs k j (i, e, m) = (suc i, omega arith, m)
 
 there_by : (x : Feature) (fs : List Feature) (k j : ℕ) (rest : Option ℕ) → IsMethod (Some x) → (b : Bool) → cond b (Some k) rest ≡ Some j → (rest ≡ Some j → IsThere fs (k + 1) j)
     → IsThere (x ∷ fs) k j
 there_by x fs k j rest m true e more = (0, (let s : k ≡ j = cc in omega arith), m)
-there_by x fs k j rest m false e more = there_behind x fs k j (more e)
+there_by x fs k j rest m false e more = there_after x fs k j (more e)
 
 first_is_method : (fs : List Feature) (f : List ℕ) (k j : ℕ) → first_method k fs f ≡ Some j → IsThere fs k j
 first_is_method [] f k j h = absurd (cc)
 first_is_method (Method m ∷ fs) f k j h = there_by (Method m) fs k j (first_method (k + 1) fs f) tt (bytes_eq m.name f) h (first_is_method fs f (k + 1) j)
-first_is_method (Attribute a ∷ fs) f k j h = there_behind (Attribute a) fs k j (first_is_method fs f (k + 1) j h)
+first_is_method (Attribute a ∷ fs) f k j h = there_after (Attribute a) fs k j (first_is_method fs f (k + 1) j h)
 
 -- A climb for a method: the chain of the class now has the method that the chain of the first class has.
 pub Finding : List Class → ClassId → ClassId → List ℕ → Type 0

@@ -28,7 +28,7 @@ pub shown_lookup : (f : List ℕ) (entries : List (Vec ℕ × ℕ)) → lookup (
 shown_lookup f [] = refl
 shown_lookup f (entry ∷ rest) = ap (λ (o : Option ℕ). cond (bytes_eq f entry.0.items) (Some entry.1) o) (shown_lookup f rest)
 
--- a new name comes behind the others
+-- a new name comes after the others
 pub shown_after : {S : Type 0} (m : IndexMap (Vec ℕ) ℕ S) (key : Vec ℕ) (index : ℕ)
     → get same_key m key ≡ None → shown_names (insert_entry same_key m.entries key index) ≡ shown_names m.entries ++ (key.items, index) ∷ []
 shown_after m key index none =

@@ -49,7 +49,7 @@ known_there names f known o is first = is ∙ ap is_some first ∙ sym (some_num
     some_number None = refl
     some_number (Some k) = refl
 
--- behind the last definition all names are there
+-- after the last definition all names are there
 pub all_names : (ds : List ClassDef) (k : ℕ) → length ds ≡ k → basic_names ++ take k (names_in ds) ≡ names_with_basic ds
 all_names ds k e =
     ap (λ (n : ℕ). basic_names ++ take n (names_in ds)) (sym (names_long ds ∙ e)) ∙ ap (λ (xs : List (List ℕ)). basic_names ++ xs) (take-length (names_in ds))

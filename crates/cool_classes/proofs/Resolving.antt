@@ -32,7 +32,7 @@ use Rattle.cool_classes.proofs.ParentsOfDefinitions.{parents_long, parents_withi
 abbrev pub class_meant : List (List ℕ) → ClassDef → Class
 class_meant names d = record { name = d.name; parent = Some (parent_meant names d.parent); features = d.features }
 
--- the classes that definitions make, behind the basic ones
+-- the classes that definitions make, after the basic ones
 abbrev pub classes_meant : List ClassDef → List Class
 classes_meant ds = basic_classes ++ map (class_meant (names_with_basic ds)) ds
 

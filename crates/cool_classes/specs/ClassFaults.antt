@@ -30,7 +30,7 @@ of_kind (Some kind) at = record { kind = kind; at = at } ∷ []
 abbrev pub name_kind : List ℕ → Bool → Option ClassKind
 name_kind name known = if bytes_eq name self_type then Some C2 else (if known then Some C1 else None)
 
--- the faults of the names of definitions behind classes of these names
+-- the faults of the names of definitions after classes of these names
 abbrev pub names_faults : List (List ℕ) → List ClassDef → List ClassFault
 names_faults before [] = []
 names_faults before (d ∷ ds) = of_kind (name_kind d.name (is_some (first_named 0 before d.name))) d.at ++ names_faults (before ++ d.name ∷ []) ds

@@ -1,4 +1,4 @@
--- The table that definitions make: each class behind the basic ones is a definition, in the order of files and text (the Cool manual,
+-- The table that definitions make: each class after the basic ones is a definition, in the order of files and text (the Cool manual,
 -- sections 3 and 11).
 use Rattle.std.specs.Prelude.{◌≡◌, ◌-◌, ◌<◌, ◌^◌, List, [], ◌∷◌, ◌++◌, length, drop, Option, Some, None}
 use Rattle.std.specs.List.{AllByRecursion}

@@ -3,7 +3,7 @@ use Rattle.std.specs.Prelude.{◌≡◌, ℕ, zero, suc, ◌+◌, ◌<◌, List,
 use Rattle.cool_classes.specs.declared.class_id.ClassId.{ClassId}
 use Rattle.cool_classes.specs.Chains.{class_number}
 
--- the parents of the basic classes and, behind them, those of definitions
+-- the parents of the basic classes and, after them, those of definitions
 abbrev pub parents_with_basic : List ClassId → List (Option ClassId)
 parents_with_basic parents =
     None ∷ Some (class_number 0) ∷ Some (class_number 0) ∷ Some (class_number 0) ∷ Some (class_number 0) ∷ map Some parents

@@ -30,7 +30,7 @@ is_class p name = is_some (first_index 0 (map (λ (c : Class). Some c.name) p) n
 abbrev pub type_faults : List Class → TypeRef → List ClassFault
 type_faults p r = noted (not (bytes_eq r.name self_type || is_class p r.name)) F6 r.at
 
--- F3, F4, F5 and F6 of a formal behind those of these names
+-- F3, F4, F5 and F6 of a formal after those of these names
 abbrev pub formal_faults : List Class → List (Option (List ℕ)) → Formal → List ClassFault
 formal_faults p before f =
     noted (bytes_eq f.name (codes "self")) F3 f.at

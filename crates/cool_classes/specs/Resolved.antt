@@ -29,7 +29,7 @@ pub record AreGood (p : List Class) : Type 0 where
   pub types : (c : ClassId) → c.0 < length p → AllByRecursion (IsTyped p) (features_of p c)
   pub limits : KeepsLimits p
 
--- the features of all classes, and the names of the classes behind the basic ones, stand in so many files
+-- the features of all classes, and the names of the classes after the basic ones, stand in so many files
 abbrev pub ArePlaced : ℕ → List Entry → List Place → Type 0
 ArePlaced files es places =
     ((c : ClassId) → c.0 < length (classes es) → AllByRecursion (IsFeatureWithin files) (features_of (classes es) c))

@@ -74,7 +74,7 @@ entries_meant names (d ∷ ds) (o ∷ os) =
 abbrev pub entries_of : List ClassDef → List (Option ℕ) → List Entry
 entries_of definitions depths = basic_entries ++ entries_meant (names_with_basic definitions) definitions depths
 
--- the faults with one of this kind at this place behind them, where there is one
+-- the faults with one of this kind at this place after them, where there is one
 abbrev pub with_fault : Option ClassKind → Place → List ClassFault → List ClassFault
 with_fault None at faults = faults
 with_fault (Some kind) at faults = faults ++ record { kind = kind; at = at } ∷ []

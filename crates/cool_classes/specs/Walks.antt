@@ -46,7 +46,7 @@ pub record AreFresh (before after : List (Option ℕ)) (path : List ℕ) : Type 
   pub apart : AreApart path
   pub kept : (k : ℕ) → IsSome (get_or before k None) → IsSome (get_or after k None)
 
--- what a climb from a definition leaves behind
+-- what a climb from a definition leaves
 pub record IsClimb (parents : List ClassId) (known before : List (Option ℕ)) (start : ℕ) (after : List (Option ℕ)) (path : List ℕ) (above : Above) : Type 0 where
   pub comes_to : IsAbove parents known before start after path above
   pub within : AllByRecursion (λ (k : ℕ). k < length parents) path

@@ -26,7 +26,7 @@ use cool_syntax::{AttributeDef, Feature, MethodDef, Place};
 use std::alloc::{AllocError, Global};
 
 /// The faults of the features of all classes, F1 to F9 as `ClassKind` says them, in no order that is promised. The places
-/// are those of the names of the classes behind the basic ones, in order. `Err` comes only for want of memory. The cost is
+/// are those of the names of the classes after the basic ones, in order. `Err` comes only for want of memory. The cost is
 /// that of climbing from each feature to the first class above it that has its name.
 pub(crate) fn feature_faults(
     alloc: Global,

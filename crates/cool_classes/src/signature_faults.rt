@@ -65,7 +65,7 @@ pub(crate) fn note_formals(
     Ok(())
 }
 
-/// Notes the faults of a formal behind those of these names (F3 to F6). `Err` comes only for want of memory.
+/// Notes the faults of a formal after those of these names (F3 to F6). `Err` comes only for want of memory.
 fn note_formal(
     faults: &mut Vec<ClassFault>,
     table: &TableNames<'_>,

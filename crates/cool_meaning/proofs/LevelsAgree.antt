@@ -70,7 +70,7 @@ if_agree : {A : Type 0} {b : ℕ} (c : Bool) {d d' e e' : Computation A} → Agr
 if_agree true h k = h
 if_agree false h k = k
 
--- a step is spent, and fewer are left behind it
+-- a step is spent, and fewer are left after it
 spent_same : {A : Type 0} (b : ℕ) (d d' : Computation A) → ((m : ℕ) → m < b → Agree m d d') → (s : State) (n : ℕ) → n ≤ b → spend d s n ≡ spend d' s n
 spent_same b d d' h s zero less = refl
 spent_same b d d' h s (suc n) less = (h n (omega arith)).same s n (omega arith)
@@ -139,7 +139,7 @@ below_kept b = record {
 }
 
 agree_spent : (b : ℕ) → IsSpent (λ A. Agree b) (λ A d d'. (m : ℕ) → m < b → Agree m d d')
-agree_spent b = record { before = agree_kept b; behind = below_kept b; spend_kept = λ h. spent_agree h; loop_kept = λ h g. loop_agree h g }
+agree_spent b = record { before = agree_kept b; after = below_kept b; spend_kept = λ h. spent_agree h; loop_kept = λ h g. loop_agree h g }
 
 -- with at most b steps, calls that may have more do the same, however many more
 pub calls_agree : (p : List Class) (a a' b : ℕ) → b < a → b < a' → (call : Call) → Agree b (calls_within p a call) (calls_within p a' call)

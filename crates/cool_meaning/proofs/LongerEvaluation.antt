@@ -57,7 +57,7 @@ alike_kept = record {
 }
 
 alike_spent : IsSpent (λ A. Alike) (λ A. Alike)
-alike_spent = record { before = alike_kept; behind = alike_kept; spend_kept = λ h. spend_alike h; loop_kept = λ h g. loop_alike h g }
+alike_spent = record { before = alike_kept; after = alike_kept; spend_kept = λ h. spend_alike h; loop_kept = λ h g. loop_alike h g }
 
 -- as many steps at most
 same_calls_within : (p : List Class) (n : ℕ) (call : Call) → Alike (calls_within p n call) (calls_within p n call)

@@ -10,7 +10,7 @@ use Rattle.cool_meaning.proofs.Later.{Later, After}
 use Rattle.cool_meaning.proofs.MoreSteps.{Alike, Longer}
 use Rattle.cool_meaning.proofs.LongerEvaluation.{eval_alike}
 
--- what a later state wrote, with a text behind it
+-- what a later state wrote, with a text after it
 ended_later : (s t : State) (x y : End) (text : List ℕ) (w g q w' g' q' : ℕ) → Later s t → w ≤ w' → g ≤ g' → q ≤ q' → Extends (ended s x [] w g q) (ended t y text w' g' q')
 ended_later s t x y text w g q w' g' q' later a b c = record {
   printed = later.printed ++ text;

@@ -72,7 +72,7 @@ string_own p d f m e s = by (nat_lt d.0 5) e
     by true e = known (method_among (basic_methods d.0) f) refl e
     by false e = user (first_method 0 (features_of p d) f) e
 
--- a method of the program is one of a class behind the basic ones, its owner
+-- a method of the program is one of a class after the basic ones, its owner
 pub user_own : (p : List Class) (d owner : ClassId) (k : ℕ) (f : List ℕ) → own_method p d f ≡ Some (User owner k) → (owner ≡ d) × (5 ≤ d.0)
 user_own p d owner k f e = by (nat_lt d.0 5) refl e
   where

@@ -45,10 +45,10 @@ pub record IsKept (R : (A : Type 0) → Computation A → Computation A → Type
   pub print_kept : (bytes : List ℕ) → R _ (print bytes) (print bytes)
   pub take_line_kept : R _ take_line take_line
 
--- A relation that holds behind a step, and one that holds with it; and loops, which spend steps.
+-- A relation that holds after a step, and one that holds with it; and loops, which spend steps.
 pub record IsSpent (R S : (A : Type 0) → Computation A → Computation A → Type 0) : Type 1 where
   pub before : IsKept R
-  pub behind : IsKept S
+  pub after : IsKept S
   pub spend_kept : {A : Type 0} {d d' : Computation A} → S _ d d' → R _ (spend d) (spend d')
   pub loop_kept : {test test' body body' : Computation Value} → R _ test test' → R _ body body' → R _ (loop test body) (loop test' body')
 
@@ -172,23 +172,23 @@ module _ (R : (A : Type 0) → Computation A → Computation A → Type 0) (k : 
 module _ (R S : (A : Type 0) → Computation A → Computation A → Type 0) (h0 : IsSpent R S) where
   module _ (p : List Class) (calls calls' : Calls) (same_calls : (call : Call) → S _ (calls call) (calls' call)) where
     object_kept : (c : ClassId) → S _ (new_object p calls c) (new_object p calls' c)
-    object_kept c = h0.behind.working_kept _ (h0.behind.giving_kept _ (h0.behind.bind_kept (locate_all_kept S h0.behind (default_values p (attributes p c))) (λ ls. h0.behind.bind_kept h0.behind.draw_kept (λ i. h0.behind.then_kept (same_calls (Initials c (Obj c i ls))) (h0.behind.give_kept (Obj c i ls))))))
+    object_kept c = h0.after.working_kept _ (h0.after.giving_kept _ (h0.after.bind_kept (locate_all_kept S h0.after (default_values p (attributes p c))) (λ ls. h0.after.bind_kept h0.after.draw_kept (λ i. h0.after.then_kept (same_calls (Initials c (Obj c i ls))) (h0.after.give_kept (Obj c i ls))))))
 
     make_kept : (o : Option ClassId) → R _ (make p calls o) (make p calls' o)
     make_kept None = h0.before.stuck_kept
     make_kept (Some c) =
-        if_kept R h0.before (c.0 == 2) (rule_kept R h0.before (h0.spend_kept (new_number_kept S h0.behind (pos 0))))
-        (if_kept R h0.before (c.0 == 3) (rule_kept R h0.before (h0.spend_kept (new_truth_kept S h0.behind false)))
-        (if_kept R h0.before (c.0 == 4) (rule_kept R h0.before (h0.spend_kept (new_string_kept S h0.behind [])))
+        if_kept R h0.before (c.0 == 2) (rule_kept R h0.before (h0.spend_kept (new_number_kept S h0.after (pos 0))))
+        (if_kept R h0.before (c.0 == 3) (rule_kept R h0.before (h0.spend_kept (new_truth_kept S h0.after false)))
+        (if_kept R h0.before (c.0 == 4) (rule_kept R h0.before (h0.spend_kept (new_string_kept S h0.after [])))
         (h0.before.working_kept 1 (h0.before.holding_kept _ (h0.spend_kept (object_kept c))))))
 
     invoke_kept : (at : Place) (v : Value) (vs : List Value) (o : Option MethodRef) → S _ (invoke p calls at v vs o) (invoke p calls' at v vs o)
-    invoke_kept at v vs None = h0.behind.stuck_kept
-    invoke_kept at v vs (Some (Basic m)) = basic_kept S h0.behind p m at v vs
+    invoke_kept at v vs None = h0.after.stuck_kept
+    invoke_kept at v vs (Some (Basic m)) = basic_kept S h0.after p m at v vs
     invoke_kept at v vs (Some (User owner k)) = same_calls (Body owner k v vs)
 
     dispatch_kept : (at : Place) (c : ClassId) (name : List ℕ) (v : Value) (vs : List Value) → R _ (dispatch p calls at c name v vs) (dispatch p calls' at c name v vs)
-    dispatch_kept at c name v vs = h0.spend_kept (h0.behind.working_kept _ (invoke_kept at v vs (implementation p (chain_of p c) name)))
+    dispatch_kept at c name v vs = h0.spend_kept (h0.after.working_kept _ (invoke_kept at v vs (implementation p (chain_of p c) name)))
 
     -- Cases
 

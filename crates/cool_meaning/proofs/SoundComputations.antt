@@ -88,7 +88,7 @@ if_sound false h k = k
 pub fewer_sound : {A : Type 0} {p : List Class} {b : ℕ} {w : World} {Q : World → A → Type 0} {d : Computation A} (m : ℕ) → m ≤ b → Sound p b w Q d → Sound p m w Q d
 fewer_sound m below h = record { sound = λ s n less fits. h.sound s n (omega arith) fits }
 
--- a step is spent where one is left, and fewer are left behind it
+-- a step is spent where one is left, and fewer are left after it
 spend_by : {A : Type 0} (p : List Class) (b : ℕ) (w : World) (Q : World → A → Type 0) (d : Computation A) → ((m : ℕ) → m < b → Sound p m w Q d) → (s : State) (n : ℕ) → n ≤ b → AllFit p w s.store w
     → NotStuck p w n Q (spend d s n).outcome
 spend_by p b w Q d h s zero less fits = tt

@@ -45,7 +45,7 @@ holds_formals p w k [] ls scope env made h = h
 holds_formals p w k (f ∷ fs) [] scope env made h = absurd made
 holds_formals p w k (f ∷ fs) (l ∷ ls) scope env made h = (refl, made.0, holds_formals p w k fs ls scope env made.1 h)
 
--- attributes at locations made for their types, with further ones behind them
+-- attributes at locations made for their types, with further ones after them
 holds_attributes : (p : List Class) (w : World) (k : ClassId) (rs more : List AttributeRef) (ls : List ℕ) → AreMade w ls (attribute_classes p k (rs ++ more))
     → Holds w k (attributes_in_scope p rs) (located (attribute_names p (rs ++ more)) ls)
 holds_attributes p w k [] more ls made = tt

@@ -46,7 +46,7 @@ below_trans p a b c (ds, chain, there) (es, chain', there') =
     let same : es ≡ fs = chain_unique p (Some b) es fs chain' end in
     (ds, chain, subst (λ (xs : List ClassId). Contains xs c) (sym is) (contains_later front fs c (subst (λ (xs : List ClassId). Contains xs c) same there')))
 
--- the attributes of a class behind others on a chain are the first of the chain's
+-- the attributes of a class after others on a chain are the first of the chain's
 attributes_first : (p : List Class) (front es : List ClassId) → (more : List AttributeRef) × (attributes_of p (front ++ es) ≡ attributes_of p es ++ more)
 attributes_first p [] es = ([], sym (append-nil (attributes_of p es)))
 attributes_first p (d ∷ front) es =

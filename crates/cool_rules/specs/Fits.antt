@@ -23,6 +23,6 @@ pub record Fits (p : List Class) (count : ℕ) : Type 0 where
   -- names are identifiers, constants keep their limits, and places stand in the files
   pub within : (c : ClassId) → c.0 < length p → AllByRecursion (IsFeatureWithin count) (features_of p c)
   pub names : (c : ClassId) → c.0 < length p → IsTypeName (name_of p c)
-  -- the classes behind the basic ones hold no more than the text may have bytes
+  -- the classes after the basic ones hold no more than the text may have bytes
   pub weight : weight_of (drop 5 p) ≤ MOST_SOURCE_BYTES
   pub files : count ≤ MOST_FILES

@@ -132,7 +132,7 @@ abbrev mutual
   HaveTypes p c scope (More e es) [] = ⊥
   HaveTypes p c scope (More e es) (t ∷ ts) = HasType p c scope e t × HaveTypes p c scope es ts
 
-  -- the last of some items, behind one of a type, has a type
+  -- the last of some items, after one of a type, has a type
   pub HaveItems : List Class → ClassId → List Binding → Ty → Trees → Ty → Type 0
   HaveItems p c scope before Last type = type ≡ before
   HaveItems p c scope before (More e es) type = (t : Ty) × HasType p c scope e t × HaveItems p c scope t es type
@@ -158,7 +158,7 @@ formals_in_scope p fs = map (formal_binding p) fs
 abbrev pub attributes_in_scope : List Class → List AttributeRef → List Binding
 attributes_in_scope p rs = map (attribute_binding p) rs
 
--- an expression conforms to the type that a feature declares, in the scope of its class's attributes behind these names
+-- an expression conforms to the type that a feature declares, in the scope of its class's attributes after these names
 pub record FitsDeclared (p : List Class) (c : ClassId) (inner : List Binding) (e : Tree) (declared : List ℕ) : Type 0 where
   pub chain : List ClassId
   pub is_chain : IsChain p (Some c) chain

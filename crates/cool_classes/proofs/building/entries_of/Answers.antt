@@ -1,4 +1,4 @@
--- The entry of a definition comes behind those before it, and its depth is known.
+-- The entry of a definition comes after those before it, and its depth is known.
 use Rattle.std.proofs.Common.{◌≡◌, ◌∷◌, ◌++◌, ◌+◌, ◌<◌, List, [], length, drop, sym, ap, ◌∙◌, arith}
 use Rattle.cool_classes.specs.Settled.{names_with_basic, entries_meant, entries_of}
 use Rattle.cool_classes.specs.declared.entry.Entry.{Entry}

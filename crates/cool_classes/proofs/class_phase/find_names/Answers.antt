@@ -1,4 +1,4 @@
--- The name of a definition comes behind those before it.
+-- The name of a definition comes after those before it.
 use Rattle.std.proofs.Common.{◌≡◌, ◌≢◌, ◌++◌, ◌<◌, ℕ, List, [], Option, Some, None, false, map, take, length, get_or, sym, ap, ◌∙◌, ◌∷◌, ◌+◌, is_some, subst, arith}
 use Rattle.std.specs.Prelude.{IfNone}
 use Rattle.cool_syntax.specs.TreesWithinLimits.{AreClassesWithin}

@@ -1,4 +1,4 @@
--- The parent of a definition comes behind those before it.
+-- The parent of a definition comes after those before it.
 use Rattle.std.proofs.Common.{◌++◌, ◌∷◌, ◌<◌, ℕ, List, [], take, length, ap, ◌∙◌, arith}
 use Rattle.std.specs.Prelude.{IfSome}
 use Rattle.cool_syntax.specs.TreesWithinLimits.{AreClassesWithin, IsTypeWithin}

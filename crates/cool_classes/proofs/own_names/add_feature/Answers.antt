@@ -1,4 +1,4 @@
--- A feature comes behind the others.
+-- A feature comes after the others.
 use Rattle.std.proofs.Common.{◌++◌, ◌∷◌, [], ℕ, List, map, Some, sym, ◌∙◌, subst}
 use Rattle.std.proofs.lemmas.List.{length-map}
 use Rattle.std.proofs.lemmas.Result.{on_ok_weaker}
