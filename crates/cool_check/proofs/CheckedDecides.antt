@@ -78,10 +78,10 @@ one_by P (Err fault) h a b ha hb = absurd (h a ha)
 one_of : {A : Type 0} {r : Checked A} {P : A → Type 0} → IsDecided r P → (a b : A) → P a → P b → a ≡ b
 one_of {r = r} {P = P} h a b ha hb = one_by P r h.decided a b ha hb
 
--- names in one scope behind another
-pub found_behind : (o scope : List Binding) (name : List ℕ) → option_or (found o name) (found scope name) ≡ found (o ++ scope) name
-found_behind [] scope name = refl
-found_behind (b ∷ o) scope name = by (bytes_eq b.name name) (found_behind o scope name)
+-- names in one scope, with those of another after them
+pub found_after : (o scope : List Binding) (name : List ℕ) → option_or (found o name) (found scope name) ≡ found (o ++ scope) name
+found_after [] scope name = refl
+found_after (b ∷ o) scope name = by (bytes_eq b.name name) (found_after o scope name)
   where
     by : (x : Bool) → option_or (found o name) (found scope name) ≡ found (o ++ scope) name → option_or (cond x (Some b.type) (found o name)) (found scope name) ≡ cond x (Some b.type) (found (o ++ scope) name)
     by true e = refl
@@ -132,7 +132,7 @@ module _ (s : Context) (whole : IsWholeTable s.table) (within : s.class.0 < leng
 
       by : (x : Bool) → IsDecided (if x then Ok SelfType else or_unknown (option_or (found o name) (found s.attributes name)) at) (λ t. (if x then Some SelfType else found (o ++ s.attributes) name) ≡ Some t)
       by true = record { decided = (refl, λ t h. some h) }
-      by false = other (option_or (found o name) (found s.attributes name)) (found_behind o s.attributes name)
+      by false = other (option_or (found o name) (found s.attributes name)) (found_after o s.attributes name)
 
   -- Calls
 
@@ -228,7 +228,7 @@ module _ (s : Context) (whole : IsWholeTable s.table) (within : s.class.0 < leng
       → AllByRecursion (IsType s.table) given → IsDecided (call_checked s at k receiver name es given) (λ t. IsCall s.table s.class k name receiver given t)
   call_decided scope at k name receiver given es k_within have types = called_by scope at k name receiver given es k_within have types (method_of s.table k name) (method_is k name)
 
-  -- the class behind `@`
+  -- the class after `@`
   static_by : (at : Place) (name : List ℕ) (receiver : Ty) → IsType s.table receiver → (o : Option Ty) → type_of_name s.table name ≡ o
       → IsDecided (static_among s at receiver o) (λ k. Denotes s.table name (IsClass k) × Conforms s.table s.class receiver (IsClass k))
   static_by at name receiver h None e = record { decided = λ k w. none (sym e ∙ denoted s.table whole name (IsClass k) w.0) }
@@ -355,7 +355,7 @@ module _ (s : Context) (whole : IsWholeTable s.table) (within : s.class.0 < leng
   denoted_once : (name : List ℕ) (d e : ClassId) → Denotes s.table name (IsClass d) → Denotes s.table name (IsClass e) → d ≡ e
   denoted_once name d e h k = whole.table.names d e h.0 k.0 (h.1 ∙ sym k.1)
 
-  -- among classes with one more behind them
+  -- among classes with one more after them
   among_more : (earlier : List ClassId) (d x : ClassId) → is_among (earlier ++ d ∷ []) x ≡ false → (is_among earlier x ≡ false) × (x ≢ d)
   unfolding is_among
   among_more [] d x e = (refl, λ same. by (nat_eq d.0 x.0) (ap (λ (y : ClassId). y.0) (sym same)) refl e)
@@ -399,21 +399,21 @@ module _ (s : Context) (whole : IsWholeTable s.table) (within : s.class.0 < leng
   branch_classes (CaseOf at name declared e cs) scope [] h = absurd h
   branch_classes (CaseOf at name declared e cs) scope (u ∷ us) ((d, other, denotes, has), have) = ((d, denotes), branch_classes cs scope us have)
 
-  new_behind : (earlier : List ClassId) (d : ClassId) (name : List ℕ) (names : List (List ℕ)) → Denotes s.table name (IsClass d) → DenoteClasses names → NewTo (earlier ++ d ∷ []) names
+  new_after : (earlier : List ClassId) (d : ClassId) (name : List ℕ) (names : List (List ℕ)) → Denotes s.table name (IsClass d) → DenoteClasses names → NewTo (earlier ++ d ∷ []) names
       → AllByRecursion (λ (n : List ℕ). n ≢ name) names × NewTo earlier names
   unfolding DenoteClasses NewTo
-  new_behind earlier d name [] h classes new = (tt, tt)
-  new_behind earlier d name (n ∷ names) h classes new =
-      let rest = new_behind earlier d name names h classes.1 new.1 in
+  new_after earlier d name [] h classes new = (tt, tt)
+  new_after earlier d name (n ∷ names) h classes new =
+      let rest = new_after earlier d name names h classes.1 new.1 in
       let (e, denotes) = classes.0 in
       ((λ same. (among_more earlier d e (new.0 e denotes)).1 (denoted_once n e d denotes (subst (λ (m : List ℕ). Denotes s.table m (IsClass d)) (sym same) h)), rest.0), (λ x k. (among_more earlier d x (new.0 x k)).0, rest.1))
 
-  behind_new : (earlier : List ClassId) (d : ClassId) (name : List ℕ) (names : List (List ℕ)) → Denotes s.table name (IsClass d) → AllByRecursion (λ (n : List ℕ). n ≢ name) names → NewTo earlier names
+  after_new : (earlier : List ClassId) (d : ClassId) (name : List ℕ) (names : List (List ℕ)) → Denotes s.table name (IsClass d) → AllByRecursion (λ (n : List ℕ). n ≢ name) names → NewTo earlier names
       → NewTo (earlier ++ d ∷ []) names
   unfolding NewTo
-  behind_new earlier d name [] h others new = tt
-  behind_new earlier d name (n ∷ names) h others new =
-      ((λ x k. more_among earlier d x (new.0 x k) (λ same. others.0 (sym k.1 ∙ (ap (name_of s.table) same ∙ h.1)))), behind_new earlier d name names h others.1 new.1)
+  after_new earlier d name [] h others new = tt
+  after_new earlier d name (n ∷ names) h others new =
+      ((λ x k. more_among earlier d x (new.0 x k) (λ same. others.0 (sym k.1 ∙ (ap (name_of s.table) same ∙ h.1)))), after_new earlier d name names h others.1 new.1)
 
   new_to_none : (names : List (List ℕ)) → NewTo [] names
   unfolding NewTo is_among
@@ -463,7 +463,7 @@ module _ (s : Context) (whole : IsWholeTable s.table) (within : s.class.0 < leng
       × BranchesJoin scope (earlier ++ d ∷ []) (Some (joined s join u)) cs j) → BranchesJoin scope earlier join (CaseOf at name declared e cs) j
   unfolding BranchesJoin NewTo joined_from
   more_branches scope earlier join at name declared e cs j (d, (other, (denotes, fresh)), (u, has, (us, have, different, new, is))) =
-      let split = new_behind earlier d declared.name (branch_types cs) denotes (branch_classes cs scope us have) new in
+      let split = new_after earlier d declared.name (branch_types cs) denotes (branch_classes cs scope us have) new in
       (u ∷ us, ((d, other, denotes, has), have), (split.0, different), ((λ x k. subst (λ (y : ClassId). is_among earlier y ≡ false) (denoted_once declared.name d x denotes k) fresh), split.1), is)
 
   branches_more : (scope : List Binding) (earlier : List ClassId) (join : Option Ty) (at : Place) (name : List ℕ) (declared : TypeRef) (e : Tree) (cs : Cases) (j : Ty)
@@ -472,7 +472,7 @@ module _ (s : Context) (whole : IsWholeTable s.table) (within : s.class.0 < leng
   unfolding BranchesJoin NewTo joined_from
   branches_more scope earlier join at name declared e cs j ([], have, different, new, is) = absurd have
   branches_more scope earlier join at name declared e cs j (u ∷ us, ((d, other, denotes, has), have), different, new, is) =
-      (d, (other, (denotes, new.0 d denotes)), (u, has, (us, have, different.1, behind_new earlier d declared.name (branch_types cs) denotes different.0 new.1, is)))
+      (d, (other, (denotes, new.0 d denotes)), (u, has, (us, have, different.1, after_new earlier d declared.name (branch_types cs) denotes different.0 new.1, is)))
 
   all_branch_types : (cs : Cases) (scope : List Binding) (ts : List Ty) → AreTypes scope → HaveBranches s.table s.class scope cs ts → AllByRecursion (IsType s.table) ts
   all_branch_types NoCase scope [] types h = tt

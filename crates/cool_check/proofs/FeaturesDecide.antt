@@ -35,7 +35,7 @@ use Rattle.cool_rules.specs.Rules.{attribute_binding, formal_binding, type_meant
 use Rattle.cool_check.specs.Contexts.{entered, attribute_bindings}
 use Rattle.cool_check.specs.TypingFaults.{class_context, initial_checked, feature_checked}
 use Rattle.cool_rules.proofs.RulesOfTables.{type_meant_is}
-use Rattle.cool_check.proofs.CheckedDecides.{IsDecided, decided_as, bind_decided, ok_decided, conform_decided, checked_decides, found_behind}
+use Rattle.cool_check.proofs.CheckedDecides.{IsDecided, decided_as, bind_decided, ok_decided, conform_decided, checked_decides, found_after}
 
 -- Bindings entered one after the other
 
@@ -129,10 +129,10 @@ module _ (p : List Class) (whole : IsWholeTable p) (c : ClassId) (within : c.0 <
 
   scope_same : (bs : List Binding) → OwnDiffer → AreDifferent (map (λ (b : Binding). b.name) bs) → AreSame (entered bs [] ++ attribute_bindings p c) (bs ++ attributes_in_scope p (attributes_of p (climbed.chain p c)))
   scope_same bs differ different = λ name.
-      sym (found_behind (entered bs []) (attribute_bindings p c) name)
+      sym (found_after (entered bs []) (attribute_bindings p c) name)
       ∙ (ap (λ (o : Option Ty). option_or o (found (attribute_bindings p c) name)) (found_entered bs [] name different ∙ or_none (found bs name))
       ∙ (ap (λ (o : Option Ty). option_or (found bs name) o) (own_same differ name)
-      ∙ found_behind bs (attributes_in_scope p (attributes_of p (climbed.chain p c))) name))
+      ∙ found_after bs (attributes_in_scope p (attributes_of p (climbed.chain p c))) name))
 
   back : (s t : List Binding) → AreSame s t → AreSame t s
   back s t h = λ name. sym (h name)

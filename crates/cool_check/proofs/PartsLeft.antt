@@ -1,4 +1,4 @@
--- What is entered and found from one position on: the part there, and what is behind it.
+-- What is entered and found from one position on: the part there, and what comes after it.
 use Rattle.std.proofs.Common.{◌≡◌, ℕ, zero, suc, ◌+◌, ◌<◌, List, [], ◌∷◌, ◌++◌, length, map, drop, get_or, Option, Some, ap, sym, ◌∙◌, refl, subst, arith, append_assoc}
 use Rattle.std.specs.List.{AllByRecursion}
 use native.Mathlib.Numerals.{add-one}
@@ -25,7 +25,7 @@ drop_first (y ∷ xs) (suc i) x within is = drop_first xs i x (omega arith) is
 pub drop_one : {X : Type 0} (xs : List X) (i : ℕ) (x : X) → i < length xs → x ≡ get_or xs i x → drop i xs ≡ x ∷ drop (i + 1) xs
 drop_one xs i x within is = subst (λ (j : ℕ). drop i xs ≡ x ∷ drop j xs) (sym (add-one i)) (drop_first xs i x within is)
 
--- a formal is entered before those behind it
+-- a formal is entered before those after it
 pub formals_later : (p : List Class) (fs : List Formal) (o : List Binding) (i : ℕ) (f : Formal) → i < length fs → f ≡ get_or fs i f
     → entered (map (formal_binding p) (drop (i + 1) fs)) (formal_binding p f ∷ o) ≡ entered (map (formal_binding p) (drop i fs)) o
 formals_later p fs o i f within is = sym (ap (λ (gs : List Formal). entered (map (formal_binding p) gs) o) (drop_one fs i f within is))
@@ -39,7 +39,7 @@ formal_there (g ∷ fs) (suc i) f within is = formal_there fs i f (omega arith) 
 pub formal_declared : (o : Option Feature) (m : MethodDef) (i : ℕ) (f : Formal) → o ≡ Some (Method m) → i < length m.formals → f ≡ get_or m.formals i f → get_or (formals_in o) i [] ≡ f.declared.name
 formal_declared o m i f is within there = ap (λ (x : Option Feature). get_or (formals_in x) i []) is ∙ formal_there m.formals i f within there
 
--- what a feature gives is found before the faults of the features behind it
+-- what a feature gives is found before the faults of the features after it
 pub features_later : (p : List Class) (c : ClassId) (fs gs : List Feature) (before : List TypeFault) (i : ℕ) (x : Feature) (r : Checked (Unit {0})) → gs ≡ fs → i < length gs → x ≡ get_or gs i x
     → feature_checked p c x ≡ r → (before ++ fault_of r) ++ features_faults p c (drop (i + 1) fs) ≡ before ++ features_faults p c (drop i fs)
 features_later p c fs gs before i x r same within is gives =
@@ -54,7 +54,7 @@ pub nothing_between : {X : Type 0} (xs ys : List X) → (xs ++ []) ++ ys ≡ xs 
 nothing_between [] ys = refl
 nothing_between (x ∷ xs) ys = ap (λ zs. x ∷ zs) (nothing_between xs ys)
 
--- the faults of a class are found before those of the classes behind it
+-- the faults of a class are found before those of the classes after it
 class_first : (p cs : List Class) (k j : ℕ) → k < length cs → classes_faults p (j + k) (drop k cs) ≡ features_faults p (class_number (j + k)) (features_of cs (class_number k)) ++ classes_faults p (suc (j + k)) (drop (suc k) cs)
 class_first p [] k j within = absurd (omega arith)
 class_first p (x ∷ cs) zero j within = refl

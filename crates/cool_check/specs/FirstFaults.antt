@@ -34,7 +34,7 @@ Checked X = Result X TypeFault
 abbrev pub refuse : {X : Type 0} → TypeKind → Place → Checked X
 refuse kind at = Err (record { kind = kind; at = at })
 
--- a check, and behind it what its value gives
+-- a check, and after it what its value gives
 abbrev pub and_then : {X Y : Type 0} → Checked X → (X → Checked Y) → Checked Y
 and_then (Ok x) f = f x
 and_then (Err e) f = Err e
@@ -86,7 +86,7 @@ or_no_type (Some a) at = Ok a
 abbrev pub named : Context → TypeRef → Checked Ty
 named s r = or_no_type (type_of_name s.table r.name) r.at
 
--- the class behind `@` for a receiver of this type
+-- the class after `@` for a receiver of this type
 abbrev pub static_among : Context → Place → Ty → Option Ty → Checked ClassId
 static_among s at receiver None = refuse E11 at
 static_among s at receiver (Some SelfType) = refuse E7 at
@@ -130,7 +130,7 @@ abbrev pub bound_type : Context → Place → List ℕ → TypeRef → Option Ty
 bound_type s at name declared given =
     if is_self name then refuse E10 at else and_then (named s declared) (λ bound. initialized s at bound given)
 
--- the class of a branch behind branches of these classes
+-- the class of a branch after branches of these classes
 abbrev pub branch_among : Place → List ClassId → Option Ty → Checked ClassId
 branch_among at earlier None = refuse E11 at
 branch_among at earlier (Some SelfType) = refuse E12 at
@@ -184,7 +184,7 @@ abbrev mutual
   all_checked s o types Last = Ok types
   all_checked s o types (More t ts) = and_then (checked s o t) (λ a. all_checked s o (types ++ a ∷ []) ts)
 
-  -- the type of the last item of a block, behind one of this type
+  -- the type of the last item of a block, after one of this type
   pub last_checked : Context → List Binding → Ty → Trees → Checked Ty
   last_checked s o last Last = Ok last
   last_checked s o last (More t ts) = and_then (checked s o t) (λ a. last_checked s o a ts)
@@ -194,7 +194,7 @@ abbrev mutual
   maybe_checked s o Without = Ok None
   maybe_checked s o (With t) = and_then (checked s o t) (λ a. Ok (Some a))
 
-  -- the join of the branches behind branches of these classes and this join
+  -- the join of the branches after branches of these classes and this join
   pub cases_checked : Context → List Binding → List ClassId → Option Ty → Cases → Checked Ty
   cases_checked s o earlier join NoCase = Ok (unwrap_or join object)
   cases_checked s o earlier join (CaseOf at name declared t cs) =
@@ -206,7 +206,7 @@ abbrev pub IsFirst : {X : Type 0} → Checked X → CheckError → Type 0
 IsFirst r error.Memory = Unit {0}
 IsFirst r (error.Fault f) = r ≡ Err f
 
--- Worked examples: `1 + true` is refused at its operator; a condition is judged only behind both branches, so `if 1 then x else 2 fi`
+-- Worked examples: `1 + true` is refused at its operator; a condition is judged only after both branches, so `if 1 then x else 2 fi`
 -- with no x in scope is refused at x; a `let` brings its variable into scope.
 sum_of_bool : (s : Context) (p q r : Place) → checked s [] (trees.Arith p Add (trees.Int q 1) (trees.Bool r true)) ≡ refuse E14 p
 sum_of_bool s p q r = refl

@@ -184,7 +184,7 @@ fn joined_with(setting: &Setting<'_, '_>, earlier: Option<Ty>, found: Ty) -> Ty
     }
 }
 
-/// The class of a branch, behind branches of these classes.
+/// The class of a branch, after branches of these classes.
 fn branch_class(
     setting: &Setting<'_, '_>,
     branch: &NodeBranch,

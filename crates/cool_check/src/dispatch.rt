@@ -89,7 +89,7 @@ struct Called<'a> {
     name: &'a Name,
 }
 
-/// The class behind `@` for a receiver of this type.
+/// The class after `@` for a receiver of this type.
 fn static_class(
     setting: &Setting<'_, '_>,
     class: &TypeRef,

@@ -22,9 +22,9 @@ pub enum TypeKind {
     E5,
     /// An argument that does not conform to its formal's type, the first one of a dispatch. At the argument.
     E6,
-    /// `SELF_TYPE` behind `@`. At it.
+    /// `SELF_TYPE` after `@`. At it.
     E7,
-    /// A receiver that does not conform to the class behind `@`. At the class.
+    /// A receiver that does not conform to the class after `@`. At the class.
     E8,
     /// A condition that is not Bool. At the condition.
     E9,

@@ -28,5 +28,5 @@ number_of_five = refl
 number_of_seven : integer_number (with_integer [] 5) 7 ≡ 1
 number_of_seven = refl
 
-no_bytes_behind_ab : string_number (with_string [] (codes "ab")) [] ≡ 1
-no_bytes_behind_ab = refl
+no_bytes_after_ab : string_number (with_string [] (codes "ab")) [] ≡ 1
+no_bytes_after_ab = refl

@@ -1,4 +1,4 @@
--- The lines of constants: the two Bools, the integers, and the strings, each behind the Int of its length.
+-- The lines of constants: the two Bools, the integers, and the strings, each after the Int of its length.
 use Rattle.std.specs.Prelude.{ℕ, ◌+◌, List, [], ◌∷◌, ◌++◌}
 use Rattle.mips_isa.specs.Lines.{Line}
 use Rattle.cool_runtime.specs.Labels.{true_constant, false_constant}

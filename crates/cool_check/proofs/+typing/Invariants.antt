@@ -1,4 +1,4 @@
--- Parts have smaller numbers. Behind the parts that were checked the scope is as before, and the types are types of the table.
+-- Parts have smaller numbers. After the parts that were checked the scope is as before, and the types are types of the table.
 use Rattle.std.proofs.Common.{◌≡◌, ◌+◌, ◌*◌, ◌<◌, [], None, length, map, drop}
 use Rattle.std.specs.Prelude.{IfSome}
 use Rattle.std.specs.List.{AllByRecursion}
