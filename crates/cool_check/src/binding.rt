@@ -1,19 +1,17 @@
 //! The types of `let` and `case`.
 
-ghost use Rattle.std.specs.Prelude.{◌≡◌, ◌<◌, ℕ, [], Ok, None, length, map, IfOk, IfErr, IfSome, OnOk};
+ghost use Rattle.std.specs.Prelude.{◌≡◌, ◌<◌, [], None, length, IfSome, OnOk};
 ghost use Rattle.std.specs.List.{AllByRecursion};
-ghost use Rattle.std.specs.Option.{option_map};
-ghost use Rattle.cool_syntax.specs.Tree.{of_option, of_twigs, tree_size};
 ghost use Rattle.cool_syntax.specs.NodeGroups.{IsBinding};
-ghost use Rattle.cool_syntax.specs.NodeLists.{all_trees, at_id, made, tree_at, twig_at, HasPartsBelow};
+ghost use Rattle.cool_syntax.specs.NodeLists.{tree_at, HasPartsBelow};
 ghost use Rattle.cool_syntax.specs.TokenFacts.{IsPlaced};
-ghost use Rattle.cool_syntax.specs.TreesWithinLimits.{AreCasesWithin, IsMaybeWithin, IsTreeWithin};
+ghost use Rattle.cool_syntax.specs.TreesWithinLimits.{AreCasesWithin, IsMaybeWithin};
 ghost use Rattle.cool_rules.specs.Conformance.{IsType};
-ghost use Rattle.cool_check.specs.Faults.{IsPlacedError};
-ghost use Rattle.cool_check.specs.FirstFaults.{checked, maybe_checked, cases_checked, bound_type, branch_class, joined, bind, IsFirst};
+ghost use Rattle.cool_check.specs.Checks.{tree_of_node, maybe_tree_of, cases_of, IsReady, IsAnswer, IsTypeOf};
+ghost use Rattle.cool_check.specs.FirstFaults.{maybe_checked, cases_checked, bound_type, branch_class, joined, bind};
 ghost use Rattle.cool_rules.specs.Rules.{is_among};
 ghost use Rattle.cool_check.specs.Contexts.{context};
-ghost use Rattle.cool_check.specs.Settings.{HaveTypes, IsSound};
+ghost use Rattle.cool_check.specs.Settings.{IsSound};
 
 use crate::expression::{is_self, type_of};
 use crate::fault::{CheckError, TypeKind};
@@ -31,15 +29,10 @@ pub(crate) fn type_of_binding<'a>(
     node: &'a Node,
 ) -> Result<Ty, CheckError>
     requires group { IsBinding node.now }
-    requires sound { IsSound setting.now }
-    requires below { id.0 < tree_size setting.now.body.now }
     requires parts { HasPartsBelow id.0 node.now }
-    requires locals { HaveTypes setting.now.table.now locals.old }
-    ensures is_type { IfOk result (IsType setting.now.table.now) }
-    ensures typed { IfOk result (λ t. checked (context setting.now) locals.old (made (all_trees setting.now.body.now) node.now) ≡ Ok t) }
-    ensures first { IfErr result (IsFirst (checked (context setting.now) locals.old (made (all_trees setting.now.body.now) node.now))) }
+    requires ready { IsReady setting.now locals.old id.0 }
     ensures scope { OnOk result (locals.new ≡ locals.old) }
-    ensures places { (n : ℕ) → IsTreeWithin n (made (all_trees setting.now.body.now) node.now) → IfErr result (IsPlacedError n) }
+    ensures answer { IsTypeOf setting.now locals.old (tree_of_node setting.now node.now) result }
 {
     match node {
         Node::Let {
@@ -73,15 +66,10 @@ fn type_of_option<'a>(
     end: NodeId,
     init: Option<NodeId>,
 ) -> Result<Option<Ty>, CheckError>
-    requires sound { IsSound setting.now }
-    requires below { end.0 < tree_size setting.now.body.now }
     requires init { IfSome init (λ value. value.0 < end.0) }
-    requires locals { HaveTypes setting.now.table.now locals.old }
-    ensures is_type { IfOk result (λ given. IfSome given (IsType setting.now.table.now)) }
-    ensures typed { IfOk result (λ given. maybe_checked (context setting.now) locals.old (of_option (option_map (at_id (all_trees setting.now.body.now)) init)) ≡ Ok given) }
-    ensures first { IfErr result (IsFirst (maybe_checked (context setting.now) locals.old (of_option (option_map (at_id (all_trees setting.now.body.now)) init)))) }
+    requires ready { IsReady setting.now locals.old end.0 }
     ensures scope { OnOk result (locals.new ≡ locals.old) }
-    ensures places { (n : ℕ) → IsMaybeWithin n (of_option (option_map (at_id (all_trees setting.now.body.now)) init)) → IfErr result (IsPlacedError n) }
+    ensures answer { IsAnswer (maybe_checked (context setting.now) locals.old (maybe_tree_of setting.now init)) (λ given. IfSome given (IsType setting.now.table.now)) (λ n. IsMaybeWithin n (maybe_tree_of setting.now init)) result }
 {
     match init {
         Some(value) => Ok(Some(type_of(setting, locals, value)?)),
@@ -99,10 +87,7 @@ fn bound_type(
 ) -> Result<Ty, CheckError>
     requires sound { IsSound setting.now }
     requires given { IfSome given (IsType setting.now.table.now) }
-    ensures is_type { IfOk result (IsType setting.now.table.now) }
-    ensures typed { IfOk result (λ t. bound_type (context setting.now) at name.now declared.now given ≡ Ok t) }
-    ensures first { IfErr result (IsFirst (bound_type (context setting.now) at name.now declared.now given)) }
-    ensures places { (n : ℕ) → IsPlaced n at → IsPlaced n declared.now.at → IfErr result (IsPlacedError n) }
+    ensures { IsAnswer (bound_type (context setting.now) at name.now declared.now given) (IsType setting.now.table.now) (λ n. IsPlaced n at × IsPlaced n declared.now.at) result }
 {
     if is_self(name) {
         return Err(CheckError::at(TypeKind::E10, at));
@@ -125,15 +110,10 @@ fn type_within<'a>(
     bound: Ty,
     body: NodeId,
 ) -> Result<Ty, CheckError>
-    requires sound { IsSound setting.now }
-    requires below { body.0 < tree_size setting.now.body.now }
-    requires locals { HaveTypes setting.now.table.now locals.old }
     requires bound { IsType setting.now.table.now bound }
-    ensures is_type { IfOk result (IsType setting.now.table.now) }
-    ensures typed { IfOk result (λ t. checked (context setting.now) (bind name.now bound locals.old) (tree_at setting.now.body.now body) ≡ Ok t) }
-    ensures first { IfErr result (IsFirst (checked (context setting.now) (bind name.now bound locals.old) (tree_at setting.now.body.now body))) }
+    requires ready { IsReady setting.now locals.old body.0 }
     ensures scope { OnOk result (locals.new ≡ locals.old) }
-    ensures places { (n : ℕ) → IsTreeWithin n (tree_at setting.now.body.now body) → IfErr result (IsPlacedError n) }
+    ensures answer { IsTypeOf setting.now (bind name.now bound locals.old) (tree_at setting.now.body.now body) result }
 {
     locals.enter(name, bound)?;
     let found = type_of(setting, locals, body)?;
@@ -149,15 +129,10 @@ fn type_of_branches<'a>(
     end: NodeId,
     branches: &'a [NodeBranch],
 ) -> Result<Ty, CheckError>
-    requires sound { IsSound setting.now }
-    requires below { end.0 < tree_size setting.now.body.now }
     requires branches { AllByRecursion (λ branch. branch.body.0 < end.0) branches.now }
-    requires locals { HaveTypes setting.now.table.now locals.old }
-    ensures is_type { IfOk result (IsType setting.now.table.now) }
-    ensures typed { IfOk result (λ t. cases_checked (context setting.now) locals.old [] None (of_twigs (map (twig_at (all_trees setting.now.body.now)) branches.now)) ≡ Ok t) }
-    ensures first { IfErr result (IsFirst (cases_checked (context setting.now) locals.old [] None (of_twigs (map (twig_at (all_trees setting.now.body.now)) branches.now)))) }
+    requires ready { IsReady setting.now locals.old end.0 }
     ensures scope { OnOk result (locals.new ≡ locals.old) }
-    ensures places { (n : ℕ) → AreCasesWithin n (of_twigs (map (twig_at (all_trees setting.now.body.now)) branches.now)) → IfErr result (IsPlacedError n) }
+    ensures answer { IsAnswer (cases_checked (context setting.now) locals.old [] None (cases_of setting.now branches.now)) (IsType setting.now.table.now) (λ n. AreCasesWithin n (cases_of setting.now branches.now)) result }
 {
     let mut classes = Vec::new(setting.alloc);
     let mut joined = None;
@@ -191,10 +166,7 @@ fn branch_class(
     earlier: &[ClassId],
 ) -> Result<ClassId, CheckError>
     requires sound { IsSound setting.now }
-    ensures is_type { IfOk result (λ class. class.0 < length setting.now.table.now) }
-    ensures typed { IfOk result (λ class. branch_class (context setting.now) branch.now.at branch.now.name branch.now.declared earlier.now ≡ Ok class) }
-    ensures first { IfErr result (IsFirst (branch_class (context setting.now) branch.now.at branch.now.name branch.now.declared earlier.now)) }
-    ensures places { (n : ℕ) → IsPlaced n branch.now.at → IsPlaced n branch.now.declared.at → IfErr result (IsPlacedError n) }
+    ensures { IsAnswer (branch_class (context setting.now) branch.now.at branch.now.name branch.now.declared earlier.now) (λ class. class.0 < length setting.now.table.now) (λ n. IsPlaced n branch.now.at × IsPlaced n branch.now.declared.at) result }
 {
     if is_self(&branch.name) {
         return Err(CheckError::at(TypeKind::E10, branch.at));

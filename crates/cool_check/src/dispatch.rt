@@ -1,18 +1,16 @@
 //! The types of dispatches.
 
-ghost use Rattle.std.specs.Prelude.{◌≡◌, ◌<◌, ℕ, Ok, length, map, IfOk, IfErr, IfSome, OnOk};
-ghost use Rattle.std.specs.List.{AllByRecursion};
-ghost use Rattle.cool_syntax.specs.Tree.{of_list, tree_size};
+ghost use Rattle.std.specs.Prelude.{◌≡◌, ◌<◌, ℕ, length, IfSome, OnOk};
 ghost use Rattle.cool_syntax.specs.NodeGroups.{IsCall};
-ghost use Rattle.cool_syntax.specs.NodeLists.{all_trees, at_id, made, HasPartsBelow};
+ghost use Rattle.cool_syntax.specs.NodeLists.{HasPartsBelow};
 ghost use Rattle.cool_syntax.specs.TokenFacts.{IsPlaced};
-ghost use Rattle.cool_syntax.specs.TreesWithinLimits.{AreTreesWithin, IsTreeWithin};
+ghost use Rattle.cool_syntax.specs.TreesWithinLimits.{AreTreesWithin};
 ghost use Rattle.cool_classes.specs.Features.{HasMethod, formals_of};
 ghost use Rattle.cool_rules.specs.Conformance.{IsType};
-ghost use Rattle.cool_check.specs.Faults.{IsPlacedError};
-ghost use Rattle.cool_check.specs.FirstFaults.{checked, static_class, call_checked, misfit, resulting, IsFirst};
+ghost use Rattle.cool_check.specs.Checks.{tree_of_node, trees_of, IsReady, AreArguments, IsAnswer, IsTypeOf};
+ghost use Rattle.cool_check.specs.FirstFaults.{static_class, call_checked, misfit, resulting};
 ghost use Rattle.cool_check.specs.Contexts.{context};
-ghost use Rattle.cool_check.specs.Settings.{HaveTypes, IsSound};
+ghost use Rattle.cool_check.specs.Settings.{IsSound};
 
 use crate::expression::{type_of, types_of};
 use crate::fault::{CheckError, TypeKind};
@@ -30,15 +28,10 @@ pub(crate) fn type_of_call<'a>(
     node: &'a Node,
 ) -> Result<Ty, CheckError>
     requires group { IsCall node.now }
-    requires sound { IsSound setting.now }
-    requires below { id.0 < tree_size setting.now.body.now }
     requires parts { HasPartsBelow id.0 node.now }
-    requires locals { HaveTypes setting.now.table.now locals.old }
-    ensures is_type { IfOk result (IsType setting.now.table.now) }
-    ensures typed { IfOk result (λ t. checked (context setting.now) locals.old (made (all_trees setting.now.body.now) node.now) ≡ Ok t) }
-    ensures first { IfErr result (IsFirst (checked (context setting.now) locals.old (made (all_trees setting.now.body.now) node.now))) }
+    requires ready { IsReady setting.now locals.old id.0 }
     ensures scope { OnOk result (locals.new ≡ locals.old) }
-    ensures places { (n : ℕ) → IsTreeWithin n (made (all_trees setting.now.body.now) node.now) → IfErr result (IsPlacedError n) }
+    ensures answer { IsTypeOf setting.now locals.old (tree_of_node setting.now node.now) result }
 {
     match node {
         Node::Dispatch {
@@ -97,10 +90,7 @@ fn static_class(
 ) -> Result<ClassId, CheckError>
     requires sound { IsSound setting.now }
     requires object { IsType setting.now.table.now object }
-    ensures is_class { IfOk result (λ found. found.0 < length setting.now.table.now) }
-    ensures typed { IfOk result (λ found. static_class (context setting.now) class.now object ≡ Ok found) }
-    ensures first { IfErr result (IsFirst (static_class (context setting.now) class.now object)) }
-    ensures places { (n : ℕ) → IsPlaced n class.now.at → IfErr result (IsPlacedError n) }
+    ensures { IsAnswer (static_class (context setting.now) class.now object) (λ found. found.0 < length setting.now.table.now) (λ n. IsPlaced n class.now.at) result }
 {
     match setting.type_named(&class.name) {
         Some(Ty::SelfType) => Err(CheckError::at(TypeKind::E7, class.at)),
@@ -125,13 +115,8 @@ fn type_of_result(
     requires sound { IsSound setting.now }
     requires class { called.now.class.0 < length setting.now.table.now }
     requires object { IsType setting.now.table.now called.now.object }
-    requires args { AllByRecursion (λ arg. arg.0 < tree_size setting.now.body.now) args.now }
-    requires given { AllByRecursion (IsType setting.now.table.now) given.now }
-    requires each { length given.now ≡ length args.now }
-    ensures is_type { IfOk result (IsType setting.now.table.now) }
-    ensures typed { IfOk result (λ t. call_checked (context setting.now) called.now.at called.now.class called.now.object called.now.name.now (of_list (map (at_id (all_trees setting.now.body.now)) args.now)) given.now ≡ Ok t) }
-    ensures first { IfErr result (IsFirst (call_checked (context setting.now) called.now.at called.now.class called.now.object called.now.name.now (of_list (map (at_id (all_trees setting.now.body.now)) args.now)) given.now)) }
-    ensures places { (n : ℕ) → IsPlaced n called.now.at → AreTreesWithin n (of_list (map (at_id (all_trees setting.now.body.now)) args.now)) → IfErr result (IsPlacedError n) }
+    requires arguments { AreArguments setting.now args.now given.now }
+    ensures { IsAnswer (call_checked (context setting.now) called.now.at called.now.class called.now.object called.now.name.now (trees_of setting.now args.now) given.now) (IsType setting.now.table.now) (λ n. IsPlaced n called.now.at × AreTreesWithin n (trees_of setting.now args.now)) result }
 {
     let Some(method) = setting.method(called.class, called.name) else {
         return Err(CheckError::at(TypeKind::E4, called.at));
@@ -154,12 +139,10 @@ fn misfit(
 ) -> Option<Place>
     requires sound { IsSound setting.now }
     requires has { HasMethod setting.now.table.now method }
-    requires args { AllByRecursion (λ arg. arg.0 < tree_size setting.now.body.now) args.now }
-    requires given { AllByRecursion (IsType setting.now.table.now) given.now }
-    requires each { length given.now ≡ length args.now }
+    requires arguments { AreArguments setting.now args.now given.now }
     requires formals { length (formals_of setting.now.table.now method) ≡ length args.now }
-    ensures misfit { result ≡ misfit (context setting.now) (formals_of setting.now.table.now method) given.now (of_list (map (at_id (all_trees setting.now.body.now)) args.now)) }
-    ensures places { (n : ℕ) → AreTreesWithin n (of_list (map (at_id (all_trees setting.now.body.now)) args.now)) → IfSome result (IsPlaced n) }
+    ensures misfit { result ≡ misfit (context setting.now) (formals_of setting.now.table.now method) given.now (trees_of setting.now args.now) }
+    ensures places { (n : ℕ) → AreTreesWithin n (trees_of setting.now args.now) → IfSome result (IsPlaced n) }
 {
     for index in 0..args.len() {
         let formal = setting.formal(method, index as u32);

@@ -1,15 +1,17 @@
 //! The types of expressions: names, constants, conditions, loops and blocks.
 
-ghost use Rattle.std.specs.Prelude.{◌≡◌, ◌<◌, ℕ, [], Ok, true, false, length, map, IfOk, IfErr, OnOk};
+ghost use Rattle.std.specs.Prelude.{◌≡◌, ◌<◌, ℕ, [], Ok, true, false, length, IfOk, IfErr, OnOk};
 ghost use Rattle.std.specs.List.{AllByRecursion};
-ghost use Rattle.cool_syntax.specs.Tree.{of_list, place_of, tree_size};
+ghost use Rattle.cool_syntax.specs.Tree.{place_of, tree_size};
 ghost use Rattle.cool_syntax.specs.NodeGroups.{IsControl, IsLeaf};
-ghost use Rattle.cool_syntax.specs.NodeLists.{all_trees, at_id, made, tree_at, HasPartsBelow};
+ghost use Rattle.cool_syntax.specs.NodeLists.{tree_at, HasPartsBelow};
+ghost use Rattle.cool_syntax.specs.TokenFacts.{IsPlaced};
 ghost use Rattle.cool_syntax.specs.TreesWithinLimits.{AreTreesWithin, IsTreeWithin};
 ghost use Rattle.cool_rules.specs.Conformance.{IsType};
+ghost use Rattle.cool_check.specs.Checks.{tree_of_node, trees_of, IsReady, IsAnswer, IsTypeOf};
 ghost use Rattle.cool_check.specs.Faults.{IsPlacedError, StandsAt};
 ghost use Rattle.cool_rules.specs.Rules.{same_type};
-ghost use Rattle.cool_check.specs.FirstFaults.{checked, all_checked, last_checked, name_checked, is_self, bool, object, IsFirst};
+ghost use Rattle.cool_check.specs.FirstFaults.{all_checked, last_checked, name_checked, is_self, bool, object, IsFirst};
 ghost use Rattle.cool_check.specs.Contexts.{context};
 ghost use Rattle.cool_check.specs.Settings.{HaveTypes, IsSound};
 ghost use Rattle.cool_check.specs.declared.fault.CheckError.TheVariants as error;
@@ -32,14 +34,9 @@ pub(crate) fn type_of<'a>(
     locals: &mut Scope<'a>,
     id: NodeId,
 ) -> Result<Ty, CheckError>
-    requires sound { IsSound setting.now }
-    requires below { id.0 < tree_size setting.now.body.now }
-    requires locals { HaveTypes setting.now.table.now locals.old }
-    ensures is_type { IfOk result (IsType setting.now.table.now) }
-    ensures typed { IfOk result (λ t. checked (context setting.now) locals.old (tree_at setting.now.body.now id) ≡ Ok t) }
-    ensures first { IfErr result (IsFirst (checked (context setting.now) locals.old (tree_at setting.now.body.now id))) }
+    requires ready { IsReady setting.now locals.old id.0 }
     ensures scope { OnOk result (locals.new ≡ locals.old) }
-    ensures places { (n : ℕ) → IsTreeWithin n (tree_at setting.now.body.now id) → IfErr result (IsPlacedError n) }
+    ensures answer { IsTypeOf setting.now locals.old (tree_at setting.now.body.now id) result }
 {
     let node = setting.body.node(id);
     match node {
@@ -71,10 +68,7 @@ fn type_of_leaf(
     requires group { IsLeaf node.now }
     requires sound { IsSound setting.now }
     requires locals { HaveTypes setting.now.table.now locals.now }
-    ensures is_type { IfOk result (IsType setting.now.table.now) }
-    ensures typed { IfOk result (λ t. checked (context setting.now) locals.now (made (all_trees setting.now.body.now) node.now) ≡ Ok t) }
-    ensures first { IfErr result (IsFirst (checked (context setting.now) locals.now (made (all_trees setting.now.body.now) node.now))) }
-    ensures places { (n : ℕ) → IsTreeWithin n (made (all_trees setting.now.body.now) node.now) → IfErr result (IsPlacedError n) }
+    ensures { IsTypeOf setting.now locals.now (tree_of_node setting.now node.now) result }
 {
     match node {
         Node::Id { at, name } => type_of_name(setting, locals, *at, name),
@@ -98,9 +92,7 @@ pub(crate) fn type_of_name(
 ) -> Result<Ty, CheckError>
     requires sound { IsSound setting.now }
     requires locals { HaveTypes setting.now.table.now locals.now }
-    ensures is_type { IfOk result (IsType setting.now.table.now) }
-    ensures typed { IfOk result (λ t. name_checked (context setting.now) locals.now at name.now ≡ Ok t) }
-    ensures first { IfErr result (IsFirst (name_checked (context setting.now) locals.now at name.now)) }
+    ensures answer { IsAnswer (name_checked (context setting.now) locals.now at name.now) (IsType setting.now.table.now) (λ n. IsPlaced n at) result }
     ensures fault { IfErr result (StandsAt at) }
 {
     if is_self(name) {
@@ -128,15 +120,10 @@ fn type_of_control<'a>(
     node: &'a Node,
 ) -> Result<Ty, CheckError>
     requires group { IsControl node.now }
-    requires sound { IsSound setting.now }
-    requires below { id.0 < tree_size setting.now.body.now }
     requires parts { HasPartsBelow id.0 node.now }
-    requires locals { HaveTypes setting.now.table.now locals.old }
-    ensures is_type { IfOk result (IsType setting.now.table.now) }
-    ensures typed { IfOk result (λ t. checked (context setting.now) locals.old (made (all_trees setting.now.body.now) node.now) ≡ Ok t) }
-    ensures first { IfErr result (IsFirst (checked (context setting.now) locals.old (made (all_trees setting.now.body.now) node.now))) }
+    requires ready { IsReady setting.now locals.old id.0 }
     ensures scope { OnOk result (locals.new ≡ locals.old) }
-    ensures places { (n : ℕ) → IsTreeWithin n (made (all_trees setting.now.body.now) node.now) → IfErr result (IsPlacedError n) }
+    ensures answer { IsTypeOf setting.now locals.old (tree_of_node setting.now node.now) result }
 {
     match node {
         Node::If { test, yes, no, .. } => {
@@ -188,15 +175,10 @@ fn type_of_last<'a>(
     end: NodeId,
     items: &[NodeId],
 ) -> Result<Ty, CheckError>
-    requires sound { IsSound setting.now }
-    requires below { end.0 < tree_size setting.now.body.now }
     requires items { AllByRecursion (λ item. item.0 < end.0) items.now }
-    requires locals { HaveTypes setting.now.table.now locals.old }
-    ensures is_type { IfOk result (IsType setting.now.table.now) }
-    ensures typed { IfOk result (λ t. last_checked (context setting.now) locals.old object (of_list (map (at_id (all_trees setting.now.body.now)) items.now)) ≡ Ok t) }
-    ensures first { IfErr result (IsFirst (last_checked (context setting.now) locals.old object (of_list (map (at_id (all_trees setting.now.body.now)) items.now)))) }
+    requires ready { IsReady setting.now locals.old end.0 }
     ensures scope { OnOk result (locals.new ≡ locals.old) }
-    ensures places { (n : ℕ) → AreTreesWithin n (of_list (map (at_id (all_trees setting.now.body.now)) items.now)) → IfErr result (IsPlacedError n) }
+    ensures answer { IsAnswer (last_checked (context setting.now) locals.old object (trees_of setting.now items.now)) (IsType setting.now.table.now) (λ n. AreTreesWithin n (trees_of setting.now items.now)) result }
 {
     let mut last = Ty::Class(OBJECT);
     for item in items {
@@ -213,16 +195,14 @@ pub(crate) fn types_of<'a>(
     end: NodeId,
     items: &[NodeId],
 ) -> Result<Vec<Ty>, CheckError>
-    requires sound { IsSound setting.now }
-    requires below { end.0 < tree_size setting.now.body.now }
     requires items { AllByRecursion (λ item. item.0 < end.0) items.now }
-    requires locals { HaveTypes setting.now.table.now locals.old }
+    requires ready { IsReady setting.now locals.old end.0 }
     ensures types { IfOk result (λ types. AllByRecursion (IsType setting.now.table.now) types.items) }
     ensures each { IfOk result (λ types. length types.items ≡ length items.now) }
-    ensures typed { IfOk result (λ types. all_checked (context setting.now) locals.old [] (of_list (map (at_id (all_trees setting.now.body.now)) items.now)) ≡ Ok types.items) }
-    ensures first { IfErr result (IsFirst (all_checked (context setting.now) locals.old [] (of_list (map (at_id (all_trees setting.now.body.now)) items.now)))) }
+    ensures typed { IfOk result (λ types. all_checked (context setting.now) locals.old [] (trees_of setting.now items.now) ≡ Ok types.items) }
+    ensures first { IfErr result (IsFirst (all_checked (context setting.now) locals.old [] (trees_of setting.now items.now))) }
     ensures scope { OnOk result (locals.new ≡ locals.old) }
-    ensures places { (n : ℕ) → AreTreesWithin n (of_list (map (at_id (all_trees setting.now.body.now)) items.now)) → IfErr result (IsPlacedError n) }
+    ensures places { (n : ℕ) → AreTreesWithin n (trees_of setting.now items.now) → IfErr result (IsPlacedError n) }
 {
     let mut types = Vec::new(setting.alloc);
     for item in items {

@@ -7,6 +7,7 @@ ghost use Rattle.cool_syntax.specs.declared.file_tree.Feature.TheVariants.{Metho
 ghost use Rattle.cool_syntax.specs.TreesWithinLimits.{IsFeatureWithin};
 ghost use Rattle.cool_classes.specs.Chains.{features_of};
 ghost use Rattle.cool_classes.specs.Tables.{IsTable};
+ghost use Rattle.cool_check.specs.Checks.{IsFeatureAnswer};
 ghost use Rattle.cool_check.specs.Faults.{IsPlacedError};
 ghost use Rattle.cool_check.specs.FirstFaults.{IsFirst};
 ghost use Rattle.cool_check.specs.Contexts.{attribute_bindings, formal_bindings};
@@ -80,9 +81,7 @@ pub(crate) fn check_among<'a>(
     requires class { IsSoundClass t.now c attributes.now }
     requires attributes { attributes.now ≡ attribute_bindings t.now c }
     requires feature { slice_get (features_of t.now c) index ≡ Some feature.now }
-    ensures typed { OnOk result (feature_checked t.now c feature.now ≡ Ok tt) }
-    ensures first { IfErr result (IsFirst (feature_checked t.now c feature.now)) }
-    ensures places { (n : ℕ) → IsFeatureWithin n feature.now → IfErr result (IsPlacedError n) }
+    ensures { IsFeatureAnswer t.now c feature.now result }
 {
     match feature {
         Feature::Method(method) => check_method(alloc, t, c, attributes, index, method),
@@ -102,9 +101,7 @@ fn check_method<'a>(
     requires class { IsSoundClass t.now c attributes.now }
     requires attributes { attributes.now ≡ attribute_bindings t.now c }
     requires method { slice_get (features_of t.now c) index ≡ Some (Method method.now) }
-    ensures typed { OnOk result (feature_checked t.now c (Method method.now) ≡ Ok tt) }
-    ensures first { IfErr result (IsFirst (feature_checked t.now c (Method method.now))) }
-    ensures places { (n : ℕ) → IsFeatureWithin n (Method method.now) → IfErr result (IsPlacedError n) }
+    ensures { IsFeatureAnswer t.now c (Method method.now) result }
 {
     let setting = Setting {
         alloc,
@@ -158,9 +155,7 @@ fn check_attribute<'a>(
     requires class { IsSoundClass t.now c attributes.now }
     requires attributes { attributes.now ≡ attribute_bindings t.now c }
     requires attribute { slice_get (features_of t.now c) index ≡ Some (Attribute attribute.now) }
-    ensures typed { OnOk result (feature_checked t.now c (Attribute attribute.now) ≡ Ok tt) }
-    ensures first { IfErr result (IsFirst (feature_checked t.now c (Attribute attribute.now))) }
-    ensures places { (n : ℕ) → IsFeatureWithin n (Attribute attribute.now) → IfErr result (IsPlacedError n) }
+    ensures { IsFeatureAnswer t.now c (Attribute attribute.now) result }
 {
     let Some(body) = &attribute.init else {
         return Ok(());

@@ -1,15 +1,15 @@
 //! The types of assignments and operators.
 
-ghost use Rattle.std.specs.Prelude.{◌≡◌, ◌<◌, ℕ, Ok, true, false, IfOk, IfErr, OnOk};
-ghost use Rattle.cool_syntax.specs.Tree.{tree_size};
+ghost use Rattle.std.specs.Prelude.{◌≡◌, true, false, IfOk, IfErr, OnOk};
 ghost use Rattle.cool_syntax.specs.NodeGroups.{IsBinary, IsUnary};
-ghost use Rattle.cool_syntax.specs.NodeLists.{all_trees, made, tree_at, HasPartsBelow};
-ghost use Rattle.cool_syntax.specs.TreesWithinLimits.{IsTreeWithin};
+ghost use Rattle.cool_syntax.specs.NodeLists.{HasPartsBelow};
+ghost use Rattle.cool_syntax.specs.TokenFacts.{IsPlaced};
 ghost use Rattle.cool_rules.specs.Conformance.{IsType};
-ghost use Rattle.cool_check.specs.Faults.{IsPlacedError, StandsAt};
+ghost use Rattle.cool_check.specs.Checks.{tree_of_node, IsReady, IsAnswer, IsTypeOf};
+ghost use Rattle.cool_check.specs.Faults.{StandsAt};
 ghost use Rattle.cool_rules.specs.Rules.{same_type};
 ghost use Rattle.cool_rules.specs.Typing.{has_values};
-ghost use Rattle.cool_check.specs.FirstFaults.{checked, assigned, compared, IsFirst};
+ghost use Rattle.cool_check.specs.FirstFaults.{assigned, compared};
 ghost use Rattle.cool_check.specs.Contexts.{context};
 ghost use Rattle.cool_check.specs.declared.fault.CheckError.TheVariants as error;
 ghost use Rattle.cool_classes.specs.declared.class_id.Ty.TheVariants.{Class as IsClass};
@@ -31,15 +31,10 @@ pub(crate) fn type_of_unary<'a>(
     node: &'a Node,
 ) -> Result<Ty, CheckError>
     requires group { IsUnary node.now }
-    requires sound { IsSound setting.now }
-    requires below { id.0 < tree_size setting.now.body.now }
     requires parts { HasPartsBelow id.0 node.now }
-    requires locals { HaveTypes setting.now.table.now locals.old }
-    ensures is_type { IfOk result (IsType setting.now.table.now) }
-    ensures typed { IfOk result (λ t. checked (context setting.now) locals.old (made (all_trees setting.now.body.now) node.now) ≡ Ok t) }
-    ensures first { IfErr result (IsFirst (checked (context setting.now) locals.old (made (all_trees setting.now.body.now) node.now))) }
+    requires ready { IsReady setting.now locals.old id.0 }
     ensures scope { OnOk result (locals.new ≡ locals.old) }
-    ensures places { (n : ℕ) → IsTreeWithin n (made (all_trees setting.now.body.now) node.now) → IfErr result (IsPlacedError n) }
+    ensures answer { IsTypeOf setting.now locals.old (tree_of_node setting.now node.now) result }
 {
     match node {
         Node::Assign { at, name, value } => {
@@ -75,9 +70,7 @@ fn assigned(
     requires sound { IsSound setting.now }
     requires locals { HaveTypes setting.now.table.now locals.now }
     requires given { IsType setting.now.table.now given }
-    ensures is_type { IfOk result (IsType setting.now.table.now) }
-    ensures typed { IfOk result (λ t. assigned (context setting.now) locals.now at name.now given ≡ Ok t) }
-    ensures first { IfErr result (IsFirst (assigned (context setting.now) locals.now at name.now given)) }
+    ensures answer { IsAnswer (assigned (context setting.now) locals.now at name.now given) (IsType setting.now.table.now) (λ n. IsPlaced n at) result }
     ensures fault { IfErr result (StandsAt at) }
 {
     if is_self(name) {
@@ -112,15 +105,10 @@ pub(crate) fn type_of_binary<'a>(
     node: &'a Node,
 ) -> Result<Ty, CheckError>
     requires group { IsBinary node.now }
-    requires sound { IsSound setting.now }
-    requires below { id.0 < tree_size setting.now.body.now }
     requires parts { HasPartsBelow id.0 node.now }
-    requires locals { HaveTypes setting.now.table.now locals.old }
-    ensures is_type { IfOk result (IsType setting.now.table.now) }
-    ensures typed { IfOk result (λ t. checked (context setting.now) locals.old (made (all_trees setting.now.body.now) node.now) ≡ Ok t) }
-    ensures first { IfErr result (IsFirst (checked (context setting.now) locals.old (made (all_trees setting.now.body.now) node.now))) }
+    requires ready { IsReady setting.now locals.old id.0 }
     ensures scope { OnOk result (locals.new ≡ locals.old) }
-    ensures places { (n : ℕ) → IsTreeWithin n (made (all_trees setting.now.body.now) node.now) → IfErr result (IsPlacedError n) }
+    ensures answer { IsTypeOf setting.now locals.old (tree_of_node setting.now node.now) result }
 {
     match node {
         Node::Arith {
@@ -151,9 +139,7 @@ pub(crate) fn type_of_binary<'a>(
 
 /// The type of a comparison of operands of these types.
 fn compared(op: CompareOp, first: Ty, second: Ty, at: Place) -> Result<Ty, CheckError>
-    ensures bool { IfOk result (λ t. t ≡ IsClass BOOL) }
-    ensures typed { IfOk result (λ t. compared op first second at ≡ Ok t) }
-    ensures first { IfErr result (IsFirst (compared op first second at)) }
+    ensures answer { IsAnswer (compared op first second at) (λ t. t ≡ IsClass BOOL) (λ n. IsPlaced n at) result }
     ensures fault { IfErr result (StandsAt at) }
 {
     match op {

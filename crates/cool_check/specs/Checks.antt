@@ -1,0 +1,66 @@
+-- What the checks of expressions are asked and answer: what the definition gives, a value or the first fault, or that memory is wanting.
+use Rattle.std.specs.Prelude.{◌≡◌, ℕ, ◌<◌, List, length, map, Option, Result, Ok, IfOk, IfErr, OnOk}
+use Rattle.std.specs.List.{AllByRecursion}
+use Rattle.std.specs.Option.{option_map}
+use Rattle.cool_syntax.specs.declared.file_tree.Feature.{Feature}
+use Rattle.cool_syntax.specs.declared.node.Node.{Node}
+use Rattle.cool_syntax.specs.declared.node.NodeBranch.{NodeBranch}
+use Rattle.cool_syntax.specs.declared.node.NodeId.{NodeId}
+use Rattle.cool_syntax.specs.Tree.{Tree, Trees, MaybeTree, Cases, of_list, of_option, of_twigs, tree_size}
+use Rattle.cool_syntax.specs.NodeLists.{all_trees, at_id, made, twig_at}
+use Rattle.cool_syntax.specs.TreesWithinLimits.{IsFeatureWithin, IsTreeWithin}
+use Rattle.cool_classes.specs.declared.class_id.ClassId.{ClassId}
+use Rattle.cool_classes.specs.declared.class_id.Ty.{Ty}
+use Rattle.cool_classes.specs.Chains.{Class}
+use Rattle.cool_rules.specs.Conformance.{IsType}
+use Rattle.cool_rules.specs.Scopes.{Binding}
+use Rattle.cool_check.specs.declared.fault.CheckError.{CheckError}
+use Rattle.cool_check.specs.declared.setting.Setting.{Setting}
+use Rattle.cool_check.specs.Contexts.{context}
+use Rattle.cool_check.specs.Faults.{IsPlacedError}
+use Rattle.cool_check.specs.FirstFaults.{Checked, checked, IsFirst}
+use Rattle.cool_check.specs.Settings.{HaveTypes, IsSound}
+use Rattle.cool_check.specs.TypingFaults.{feature_checked}
+
+-- the trees that parts of the body in a setting stand for
+abbrev pub tree_of_node : Setting → Node → Tree
+tree_of_node s node = made (all_trees s.body.now) node
+
+abbrev pub trees_of : Setting → List NodeId → Trees
+trees_of s ids = of_list (map (at_id (all_trees s.body.now)) ids)
+
+abbrev pub maybe_tree_of : Setting → Option NodeId → MaybeTree
+maybe_tree_of s id = of_option (option_map (at_id (all_trees s.body.now)) id)
+
+abbrev pub cases_of : Setting → List NodeBranch → Cases
+cases_of s branches = of_twigs (map (twig_at (all_trees s.body.now)) branches)
+
+-- expressions before this number of the body can be checked with these variables in scope
+pub record IsReady (s : Setting) (scope : List Binding) (number : ℕ) : Type 0 where
+  pub sound : IsSound s
+  pub locals : HaveTypes s.table.now scope
+  pub below : number < tree_size s.body.now
+
+-- arguments are expressions of the body, and each has a type
+pub record AreArguments (s : Setting) (ids : List NodeId) (types : List Ty) : Type 0 where
+  pub args : AllByRecursion (λ arg. arg.0 < tree_size s.body.now) ids
+  pub given : AllByRecursion (IsType s.table.now) types
+  pub each : length types ≡ length ids
+
+-- The answer where the definition gives this: the value, which is good, or the first fault, which stands in one of the files; or want of
+-- memory.
+pub record IsAnswer {X : Type 0} (given : Checked X) (IsGood : X → Type 0) (IsWithin : ℕ → Type 0) (result : Result X CheckError) : Type 0 where
+  pub good : IfOk result IsGood
+  pub typed : IfOk result (λ x. given ≡ Ok x)
+  pub first : IfErr result (IsFirst given)
+  pub places : (n : ℕ) → IsWithin n → IfErr result (IsPlacedError n)
+
+-- the answer for an expression with these variables in scope
+abbrev pub IsTypeOf : Setting → List Binding → Tree → Result Ty CheckError → Type 0
+IsTypeOf s locals t = IsAnswer (checked (context s) locals t) (IsType s.table.now) (λ n. IsTreeWithin n t)
+
+-- the answer for a feature of a class
+pub record IsFeatureAnswer (p : List Class) (c : ClassId) (x : Feature) (result : Result (Unit {0}) CheckError) : Type 0 where
+  pub typed : OnOk result (feature_checked p c x ≡ Ok tt)
+  pub first : IfErr result (IsFirst (feature_checked p c x))
+  pub places : (n : ℕ) → IsFeatureWithin n x → IfErr result (IsPlacedError n)
