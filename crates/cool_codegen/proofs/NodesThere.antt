@@ -15,7 +15,7 @@ use Rattle.cool_syntax.proofs.TreesOfLists.{parts, length-parts, length-nodes, l
 use Rattle.cool_syntax.proofs.TreesAtNumbers.{grown-keeps}
 use Rattle.cool_codegen.specs.Numbered.{Lies, Stands, IsRoot, AreRoots, MayBeRoot, AreBodies, HasRoots}
 
--- the trees of nodes behind nodes come behind theirs
+-- the trees of nodes after nodes come after theirs
 grown-append : (ns ms : List Node) (ts : List Tree) → grown ts (ns ++ ms) ≡ grown (grown ts ns) ms
 grown-append [] ms ts = refl
 grown-append (n ∷ ns) ms ts = grown-append ns ms (ts ++ made ts n ∷ [])

@@ -1,5 +1,5 @@
 -- Code names constants by their numbers: two tables that number alike what an expression asks for give it one code. A table with more
--- constants behind numbers what was asked for as before.
+-- constants after its own numbers what was asked for as before.
 use Rattle.std.proofs.Common.{◌≡◌, ℕ, ◌+◌, List, [], ◌∷◌, ◌++◌, refl, sym, ◌∙◌, ap, append_assoc, append-nil}
 use Rattle.std.specs.Prelude.{codes, length, nat_eq, bytes_eq, if◌then◌else◌, Bool, true, false}
 use Rattle.std.specs.List.{AllByRecursion, position_or_len, list_any}
@@ -177,27 +177,27 @@ after_both t ns ms bs cs = λ i. record { integers = integers_after t.integers n
 pub after_strings : (t : Constants) (ns : List ℕ) (bs cs : List (List ℕ)) → after t ns (bs ++ cs) ≡ after (after t ns bs) [] cs
 after_strings t ns bs cs = λ i. record { integers = with_integers t.integers ns; strings = strings_after t.strings bs cs i }
 
--- one more constant stands behind the others
-integer_behind : (b : Bool) (xs : List ℕ) (n : ℕ) → (rest : List ℕ) × ((if b then xs else xs ++ n ∷ []) ≡ xs ++ rest)
-integer_behind true xs n = ([], sym (append-nil xs))
-integer_behind false xs n = (n ∷ [], refl)
+-- one more constant stands after the others
+integer_grows : (b : Bool) (xs : List ℕ) (n : ℕ) → (rest : List ℕ) × ((if b then xs else xs ++ n ∷ []) ≡ xs ++ rest)
+integer_grows true xs n = ([], sym (append-nil xs))
+integer_grows false xs n = (n ∷ [], refl)
 
-string_behind : (b : Bool) (xs : List (List ℕ)) (n : List ℕ) → (rest : List (List ℕ)) × ((if b then xs else xs ++ n ∷ []) ≡ xs ++ rest)
-string_behind true xs n = ([], sym (append-nil xs))
-string_behind false xs n = (n ∷ [], refl)
+string_grows : (b : Bool) (xs : List (List ℕ)) (n : List ℕ) → (rest : List (List ℕ)) × ((if b then xs else xs ++ n ∷ []) ≡ xs ++ rest)
+string_grows true xs n = ([], sym (append-nil xs))
+string_grows false xs n = (n ∷ [], refl)
 
-integers_behind : (xs ns : List ℕ) → (rest : List ℕ) × (with_integers xs ns ≡ xs ++ rest)
-integers_behind xs [] = ([], sym (append-nil xs))
-integers_behind xs (n ∷ ns) =
-    let one = integer_behind (list_any (nat_eq n) xs) xs n in
-    let more = integers_behind (with_integer xs n) ns in
+integers_grow : (xs ns : List ℕ) → (rest : List ℕ) × (with_integers xs ns ≡ xs ++ rest)
+integers_grow xs [] = ([], sym (append-nil xs))
+integers_grow xs (n ∷ ns) =
+    let one = integer_grows (list_any (nat_eq n) xs) xs n in
+    let more = integers_grow (with_integer xs n) ns in
     (one.0 ++ more.0, more.1 ∙ ap (λ zs. zs ++ more.0) one.1 ∙ append_assoc xs one.0 more.0)
 
-strings_behind : (xs bs : List (List ℕ)) → (rest : List (List ℕ)) × (with_strings xs bs ≡ xs ++ rest)
-strings_behind xs [] = ([], sym (append-nil xs))
-strings_behind xs (b ∷ bs) =
-    let one = string_behind (list_any (bytes_eq b) xs) xs b in
-    let more = strings_behind (with_string xs b) bs in
+strings_grow : (xs bs : List (List ℕ)) → (rest : List (List ℕ)) × (with_strings xs bs ≡ xs ++ rest)
+strings_grow xs [] = ([], sym (append-nil xs))
+strings_grow xs (b ∷ bs) =
+    let one = string_grows (list_any (bytes_eq b) xs) xs b in
+    let more = strings_grow (with_string xs b) bs in
     (one.0 ++ more.0, more.1 ∙ ap (λ zs. zs ++ more.0) one.1 ∙ append_assoc xs one.0 more.0)
 
 -- a table extends itself, what it had before more was asked for, and what those tables extend
@@ -206,8 +206,8 @@ extends_same t = record { integers = ([], sym (append-nil t.integers)); strings 
 
 pub extends_before : (t g : Constants) (ns : List ℕ) (bs : List (List ℕ)) → Extends (after t ns bs) g → Extends t g
 extends_before t g ns bs e =
-    let i = integers_behind t.integers ns in
-    let s = strings_behind t.strings bs in
+    let i = integers_grow t.integers ns in
+    let s = strings_grow t.strings bs in
     record {
       integers = (i.0 ++ e.integers.0, e.integers.1 ∙ ap (λ zs. zs ++ e.integers.0) i.1 ∙ append_assoc t.integers i.0 e.integers.0);
       strings = (s.0 ++ e.strings.0, e.strings.1 ∙ ap (λ zs. zs ++ e.strings.0) s.1 ∙ append_assoc t.strings s.0 e.strings.0);

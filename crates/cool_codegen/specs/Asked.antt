@@ -17,7 +17,7 @@ abbrev pub with_strings : List (List ℕ) → List (List ℕ) → List (List ℕ
 with_strings strings [] = strings
 with_strings strings (b ∷ bs) = with_strings (with_string strings b) bs
 
--- a table with more constants behind
+-- a table with more constants after its own
 pub record Extends (table more : Constants) : Type 0 where
   pub integers : (rest : List ℕ) × (more.integers ≡ table.integers ++ rest)
   pub strings : (rest : List (List ℕ)) × (more.strings ≡ table.strings ++ rest)

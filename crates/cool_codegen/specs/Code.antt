@@ -93,7 +93,7 @@ abbrev pub default_code : Ty → List Line
 default_code SelfType = take_void_lines
 default_code (IsClass c) = default_of_class c.0
 
--- operators, behind the code of their operands
+-- operators, after the code of their operands
 
 abbrev pub bool_code : Context → NodeId → List Line
 bool_code s id = flag_lines (label_at s (codes "end") id)
@@ -118,7 +118,7 @@ compare_code s compare.Less id = values_lines ++ (less_lines ++ bool_code s id)
 compare_code s compare.LessEqual id = values_lines ++ (less_equal_lines ++ bool_code s id)
 compare_code s compare.Equal id = compare_equal_lines
 
--- calls, behind the code of their arguments and their receivers
+-- calls, after the code of their arguments and their receivers
 
 abbrev pub slot_code : Context → Constants → Place → ClassId → List ℕ → List Line
 slot_code s t at c name = call_lines (file_label s t at) at.line (pos (4 * unwrap_or (slot s.table c name) 0))

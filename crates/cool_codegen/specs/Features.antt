@@ -21,7 +21,7 @@ use Rattle.cool_codegen.specs.Variables.{Named}
 use Rattle.cool_codegen.specs.Code.{Context, code}
 use Rattle.cool_codegen.specs.Asked.{integers_in, strings_in}
 
--- attributes of a class, entered behind names
+-- attributes of a class, entered after names
 abbrev pub with_attributes : List Class → ClassId → List AttributeRef → List Named → List Named
 with_attributes p c [] vs = vs
 with_attributes p c (a ∷ as') vs =
@@ -30,7 +30,7 @@ with_attributes p c (a ∷ as') vs =
       variable = record { base = 16; offset = pos (offset p c a); ty = type_meant p (attribute_type p a) };
     } ∷ vs)
 
--- formals, entered behind names: the last one is nearest to the frame
+-- formals, entered after names: the last one is nearest to the frame
 abbrev pub with_formals : List Class → List Formal → List Named → List Named
 with_formals p [] vs = vs
 with_formals p (f ∷ fs) vs =

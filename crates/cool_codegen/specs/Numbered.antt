@@ -26,14 +26,14 @@ use Rattle.cool_codegen.specs.Arms.{Arm, with_arm, arms_lines}
 use Rattle.cool_codegen.specs.Asked.{integers_in, strings_in, with_integers, with_strings}
 use Rattle.cool_codegen.specs.Code.{Context, code, name_code, assign_code, new_code, default_code, truth_label, integer_label, string_label, file_label, label_at, bool_code, int_code, operation_code, compare_code, slot_code, static_code, range_code}
 
--- Some nodes stand among nodes behind so many others.
+-- Some nodes stand among nodes after so many others.
 pub record Lies (ns : List Node) (k : ℕ) (ms : List Node) : Type 0 where
   pub front : List Node
   pub back : List Node
   pub before : length front ≡ k
   pub is : ns ≡ front ++ (ms ++ back)
 
--- The nodes of a tree stand among nodes behind so many others.
+-- The nodes of a tree stand among nodes after so many others.
 abbrev pub Stands : List Node → ℕ → Tree → Type 0
 Stands ns k t = Lies ns k (nodes k t)
 
@@ -183,7 +183,7 @@ node_asked files b t (node.Bool at value) = t
 unfoldable pub type_at : Context → Tree → List Named → ℕ → NodeId → Ty
 type_at s b vs d id = type_in s.table s.class vs d (tree_at b id)
 
--- of the last of some expressions, behind one of this type
+-- of the last of some expressions, after one of this type
 abbrev pub last_type_at : Context → Tree → List Named → ℕ → Ty → List NodeId → Ty
 last_type_at s b vs d last [] = last
 last_type_at s b vs d last (id ∷ ids) = last_type_at s b vs d (type_at s b vs d id) ids
@@ -196,7 +196,7 @@ class_of_branch s w = class_meant s.table s.class w.declared.name
 abbrev pub within_branch : Context → List Named → ℕ → NodeBranch → List Named
 within_branch s vs d w = bind d w.name (IsClass (class_of_branch s w)) vs
 
--- the join of the branches behind branches with this join
+-- the join of the branches after branches with this join
 abbrev pub branches_type_at : Context → Tree → List Named → ℕ → Option Ty → List NodeBranch → Option Ty
 branches_type_at s b vs d join [] = join
 branches_type_at s b vs d join (w ∷ ws) =
@@ -224,7 +224,7 @@ node_type s b vs d (node.Int at value) = int
 node_type s b vs d (node.Str at bytes) = string
 node_type s b vs d (node.Bool at value) = bool
 
--- lines: behind a table, which names constants by the table after the expression
+-- lines: after a table, which names constants by the table after the expression
 
 -- how many nodes stand before the expression at a number
 abbrev pub nodes_before : Tree → NodeId → ℕ
@@ -260,7 +260,7 @@ branches_arms s b t vs d end before (w ∷ ws) =
     branches_arms s b (asked_at s.files b t w.body) vs d end
     (with_arm before (record { depth = length (above s.table (class_of_branch s w)); lines = branch_lines s b t vs d end w })) ws
 
--- an operation, behind a table
+-- an operation, after a table
 abbrev pub operation_lines : Context → Constants → ArithOp → Place → NodeId → List Line
 operation_lines s t op at id =
     values_lines ++ (operation_code s (operation_asked s.files op at t) op at id ++ int_code s (operation_asked s.files op at t) at id)

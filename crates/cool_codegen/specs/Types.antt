@@ -88,12 +88,12 @@ abbrev mutual
   type_in p c vs d (trees.Str at bytes) = string
   type_in p c vs d (trees.Bool at value) = bool
 
-  -- of the last item of a block, behind one of this type
+  -- of the last item of a block, after one of this type
   pub last_type_in : List Class → ClassId → List Named → ℕ → Ty → Trees → Ty
   last_type_in p c vs d last Last = last
   last_type_in p c vs d last (More t ts) = last_type_in p c vs d (type_in p c vs d t) ts
 
-  -- the join of the branches behind branches with this join
+  -- the join of the branches after branches with this join
   pub cases_type_in : List Class → ClassId → List Named → ℕ → Option Ty → Cases → Option Ty
   cases_type_in p c vs d join NoCase = join
   cases_type_in p c vs d join (CaseOf at name declared t cs) =

@@ -13,7 +13,7 @@ pub struct Arm {
     pub lines: Vec<Line>,
 }
 
-/// Puts a branch behind those of classes that are no less deep, and before the others.
+/// Puts a branch after those of classes that are no less deep, and before the others.
 pub fn insert_arm(arms: &mut Vec<Arm>, arm: Arm) -> Result<(), AllocError>
     ensures { OnOk result (map arm_of arms.new.items ≡ with_arm (map arm_of arms.old.items) (arm_of arm)) }
 {

@@ -178,7 +178,7 @@ fn within<'a>(
     Ok(found)
 }
 
-/// Adds the begin of a case, behind the code of its value.
+/// Adds the begin of a case, after the code of its value.
 fn begin_case(
     setting: &Setting<'_>,
     at: Place,

@@ -64,8 +64,8 @@ pub(crate) fn dispatch<'a>(
             args,
         } => {
             let args = args.as_slice();
-            let behind = arguments(setting, variables, depth, id, args, consts, lines)?;
-            let object = expression(setting, variables, behind, *receiver, consts, lines)?;
+            let after = arguments(setting, variables, depth, id, args, consts, lines)?;
+            let object = expression(setting, variables, after, *receiver, consts, lines)?;
             let class = class_of(setting.class, object);
             call_by_slot(setting, *at, class, name, consts, lines)?;
             let method = setting.method(class, name);

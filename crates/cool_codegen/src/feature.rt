@@ -35,7 +35,7 @@ use mips_isa::register::{FP, S0};
 use std::alloc::{AllocError, Global};
 
 /// The code of a feature of a class, by its number among the features of the class: a method under its label, or the part of an initializer
-/// that computes and stores an initial value; nothing for an attribute without one. The constants that the code names are numbered behind
+/// that computes and stores an initial value; nothing for an attribute without one. The constants that the code names are numbered after
 /// those before. The names are those of the files.
 ///
 /// `Err` comes only for want of memory.
@@ -147,12 +147,12 @@ fn formal_variables<'a>(
     ensures bases { OnOk result (AllByRecursion (λ v. v.variable.base < 32) variables.new) }
     ensures types { OnOk result (HaveTypes setting.now.table.now variables.new) }
 {
-    let mut behind = formals.len() as u32;
+    let mut after = formals.len() as u32;
     for formal in formals {
-        behind -= 1;
+        after -= 1;
         let variable = Variable {
             base: FP,
-            offset: signed(12 + 4 * behind),
+            offset: signed(12 + 4 * after),
             ty: setting.meant(&formal.declared.name),
         };
         variables.enter(&formal.name, variable)?;

@@ -78,7 +78,7 @@ pub fn inner_label(setting: &Setting<'_>, kind: &str, id: NodeId) -> Result<Stri
     format!(in setting.alloc; "{kind}_{class}_{feature}_{node}")
 }
 
-/// A name with something behind it.
+/// A name with something after it.
 fn joined(alloc: Global, name: &[u8], end: &[u8]) -> Result<Vec<u8>, AllocError>
     ensures { IfOk result (λ label. label.items ≡ name.now ++ end.now) }
 {

@@ -1,4 +1,4 @@
-//! The code of operations, behind the code of their operands, which asks for no expression.
+//! The code of operations, after the code of their operands, which asks for no expression.
 
 ghost use Rattle.std.specs.Prelude.{◌≡◌, ◌<◌, ◌-◌, ◌^◌, ◌++◌, length, OnOk};
 ghost use Rattle.std.specs.List.{AllByRecursion};

@@ -1,4 +1,4 @@
--- Parts have smaller numbers. Behind the parts whose code was made the scope is as before, and what is left to make completes the whole.
+-- Parts have smaller numbers. After the parts whose code was made the scope is as before, and what is left to make completes the whole.
 use Rattle.std.proofs.Common.{◌≡◌, ◌+◌, ◌*◌, ◌<◌, ◌≤◌, ◌++◌, [], None, length, map, drop}
 use Rattle.std.specs.Prelude.{IfSome}
 use Rattle.std.specs.List.{AllByRecursion}

@@ -1,4 +1,4 @@
--- The lines of the branches that are left come behind those that were added.
+-- The lines of the branches that are left come after those that were added.
 use Rattle.std.proofs.Common.{◌≡◌, ◌++◌, map}
 use Rattle.mips_isa.specs.Lines.{lines_of}
 use Rattle.cool_codegen.specs.Arms.{arm_of, arms_lines}

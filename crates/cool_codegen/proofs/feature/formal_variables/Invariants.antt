@@ -1,4 +1,4 @@
--- The formals that are left are entered behind those that were.
+-- The formals that are left are entered after those that were.
 use Rattle.std.proofs.Common.{◌≡◌, ◌<◌, ◌^◌, length, drop}
 use Rattle.std.specs.List.{AllByRecursion}
 use Rattle.cool_codegen.specs.Features.{with_formals}
@@ -9,7 +9,7 @@ abbrev pub invariant-loop-formal : goal.invariant-loop-formal
 invariant-loop-formal l = record {
   bases : AllByRecursion (λ v. v.variable.base < 32) l.variables;
   types : HaveTypes l.setting.table.now l.variables;
-  behind : l.behind ≡ length (drop l.formal-index l.formals);
+  after : l.after ≡ length (drop l.formal-index l.formals);
   few : length l.formals < 2 ^ 28;
   variables : with_formals l.setting.table.now (drop l.formal-index l.formals) l.variables ≡ with_formals l.setting.table.now l.formals l.fn.variables;
 }

@@ -1,4 +1,4 @@
--- Behind these entries the name was not found.
+-- After these entries the name was not found.
 use Rattle.std.proofs.Common.{◌≡◌, take}
 use Rattle.cool_codegen.specs.Variables.{found, latest_first}
 use Rattle.cool_codegen.proofs.variables.Variables.find.Given as goal
