@@ -2,7 +2,6 @@
 use Rattle.std.proofs.Common.{◌≡◌, ◌∙◌, refl, sym, ap, subst, ℕ, ◌<◌, ◌≤◌, Bool, List, [], ◌∷◌, ◌++◌, length, arith}
 use Rattle.std.specs.Prelude.{Option, Some, None}
 use Rattle.cool_ports.specs.Answers.{Past}
-use Rattle.cool_ports.specs.Counts.{Rose}
 use Rattle.cool_ports.specs.SinkBytes.{appended}
 use Rattle.mips_isa.specs.ImageBounds.{ImageParts}
 use Rattle.mips_isa.specs.Bytes.{segments_of}
@@ -11,29 +10,25 @@ use Rattle.mips_isa.specs.Run.{start}
 use Rattle.spim_machine.specs.declared.halt.Halt.{Halt}
 use Rattle.spim_machine.specs.declared.halt.Halt.TheVariants as halts
 use Rattle.spim_memory.specs.Memory.{segments}
-use Rattle.spim_machine.specs.Input.{Took, with_front}
+use Rattle.cool_ports.specs.Taking.{Took, with_front}
 use Rattle.spim_machine.specs.Machine.{MachineParts, state_of, IsIn}
 use Rattle.spim_machine.specs.Ends.{Counted, Ran}
 use Rattle.cool_words.specs.declared.plan.RunLimits.{RunLimits}
-use Rattle.cool_driver.specs.Execution.{heap_of, stack_of, run_of, segments_within, status_of, status_of_halt}
-use Rattle.cool_driver.specs.Big.{RunsTo, output_of}
+use Rattle.cool_driver.specs.Execution.{heap_of, stack_of, left_by, run_of, segments_within, status_of, status_of_halt}
+use Rattle.cool_driver.specs.Big.{RunsTo}
 use Rattle.cool_driver.specs.Big.RunsTo.{counted, too_long}
 use Rattle.cool_driver.specs.declared.TheConstants.{MOST_BIG_OUTPUT}
-use Rattle.cool_driver.proofs.RunsWithinLimits.{run_of-is, ran_within}
+use Rattle.cool_driver.proofs.RunsWithinLimits.{run_of-is, ran_within, no_rise}
 
 -- A run ended as the machine halted, and the sink holds its output.
 pub record IsOutcome (o : Outcome) (halt : Halt) (held : List ℕ) : Type 0 where
   pub status : status_of o ≡ status_of_halt halt
-  pub output : output_of o ≡ held
+  pub output : (left_by o).output ≡ held
 
 -- a sink that held nothing holds just what it got
 held_alone : (held bytes : List ℕ) → Some held ≡ appended (Some []) bytes → bytes ≡ held
 unfolding appended
 held_alone held bytes e = cc
-
--- a count that stays at 0 did not rise
-no_rise : Rose 0 0 → ⊥
-no_rise rose = absurd (omega (arith, rose.more (omega arith)))
 
 -- of a run that ended so
 ended : (limits : RunLimits) (image : ImageParts) (halt : Halt) (m : MachineParts) (left : Option (List ℕ)) (held : List ℕ)
@@ -41,13 +36,13 @@ ended : (limits : RunLimits) (image : ImageParts) (halt : Halt) (m : MachinePart
     → (before after : ℕ) → Counted halt 0 0 before after → (halt ≡ halts.WriteFault → ⊥) → IsOutcome (run_of limits image []) halt held
 ended limits image (halts.Exit code) m left held (end, ran, is) before after count whole =
     let ends = run_of-is limits image [] ∙ ran in
-    record { status = ap status_of ends; output = ap output_of ends ∙ held_alone held end.output is.output }
+    record { status = ap status_of ends; output = ap (λ o. (left_by o).output) ends ∙ held_alone held end.output is.output }
 ended limits image (halts.Trap trap) m left held (end, ran, is) before after count whole =
     let ends = run_of-is limits image [] ∙ ran in
-    record { status = ap status_of ends; output = ap output_of ends ∙ held_alone held end.output is.output }
+    record { status = ap status_of ends; output = ap (λ o. (left_by o).output) ends ∙ held_alone held end.output is.output }
 ended limits image halts.StepLimit m left held (end, ran, is) before after count whole =
     let ends = run_of-is limits image [] ∙ ran in
-    record { status = ap status_of ends; output = ap output_of ends ∙ held_alone held end.output is.output }
+    record { status = ap status_of ends; output = ap (λ o. (left_by o).output) ends ∙ held_alone held end.output is.output }
 ended limits image halts.ReadFault m left held ran before after count whole = absurd (no_rise count.0)
 ended limits image halts.WriteFault m left held ran before after count whole = absurd (whole refl)
 
@@ -83,9 +78,9 @@ outcome limits image heap stack loaded m halt input left first held least most s
 pub counted_run : (o : Outcome) (halt : Halt) (held : List ℕ) (status : ℕ) → IsOutcome o halt held → length held ≤ MOST_BIG_OUTPUT
     → status ≡ status_of_halt halt → RunsTo o (length held) status
 counted_run o halt held status is small same =
-    let whole : length (output_of o) ≡ length held = ap length is.output in
+    let whole : length (left_by o).output ≡ length held = ap length is.output in
     subst (λ (k : ℕ). RunsTo o k status) whole
-    (subst (λ (s : ℕ). RunsTo o (length (output_of o)) s) (is.status ∙ sym same) (counted (omega (arith, whole, small))))
+    (subst (λ (s : ℕ). RunsTo o (length (left_by o).output) s) (is.status ∙ sym same) (counted (omega (arith, whole, small))))
 
 -- or it is longer
 pub long_run : (o : Outcome) (halt : Halt) (held : List ℕ) → IsOutcome o halt held → MOST_BIG_OUTPUT < length held → RunsTo o MOST_BIG_OUTPUT 8

@@ -13,7 +13,7 @@ use Rattle.mips_isa.specs.Run.{start}
 use Rattle.spim_memory.specs.Memory.{segments}
 use Rattle.spim_machine.specs.declared.halt.Halt.{Halt}
 use Rattle.spim_machine.specs.declared.halt.Halt.TheVariants as halts
-use Rattle.spim_machine.specs.Input.{Took}
+use Rattle.cool_ports.specs.Taking.{Took}
 use Rattle.spim_machine.specs.Machine.{MachineParts, state_of, IsIn}
 use Rattle.spim_machine.specs.Ends.{Counted, FailsReading, Ran}
 use Rattle.cool_words.specs.declared.plan.RunLimits.{RunLimits}

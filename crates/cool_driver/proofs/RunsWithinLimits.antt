@@ -1,6 +1,7 @@
 -- The run of a loaded machine within limits.
 use Rattle.std.proofs.Common.{◌≡◌, ◌∙◌, refl, sym, ap, subst, ℕ, ◌+◌, ◌-◌, suc, List, [], ◌++◌, append_assoc, arith}
 use Rattle.std.specs.Prelude.{Option, Some}
+use Rattle.cool_ports.specs.Counts.{Rose}
 use Rattle.cool_ports.specs.SinkBytes.{appended, GotPrefix}
 use Rattle.cool_ports.proofs.GettingBytes.{appended-nil, appended-appended}
 use Rattle.mips_isa.specs.ImageBounds.{ImageParts}
@@ -51,10 +52,14 @@ ran_within limits image heap stack loaded m n input halt left held left' held' l
     (ran_loaded image (segments_of image heap stack) loaded m n input halt left held left' held' state text same given ran))
 
 -- the call in which an instruction stands
+-- a count that stays at 0 did not rise
+pub no_rise : Rose 0 0 → ⊥
+no_rise rose = absurd (omega (arith, rose.more (omega arith)))
+
 after_call : (b : Segments) (before at : State) (next : Next) (core : Core) → next ≡ Call core → at ≡ record before { core = core } → after b before next ≡ call b at
 after_call b before at next core calls is = ap (after b before) calls ∙ ap (call b) (sym is)
 
--- of a run that comes to a call, what the call does and what comes behind it
+-- of a run that comes to a call, what the call does and what comes after it
 run_at_call : (text : List ℕ) (b : Segments) (n : ℕ) (s at : State) → (h : ComesToCall text b n s at) → run text b n s ≡ and_then (call b at) (run text b (n - (h.count + 1)))
 run_at_call text b n s at h =
     let parts : n ≡ h.count + suc (n - (h.count + 1)) = omega (arith, h.below) in
@@ -63,15 +68,15 @@ run_at_call text b n s at h =
     ∙ ap (λ o. and_then o (run text b (n - (h.count + 1)))) (after_call b h.before at _ h.core h.calls h.at_is)
 
 -- a run that comes to a call which prints has printed that at its end, and perhaps more
-pub output_behind : (text : List ℕ) (b : Segments) (n : ℕ) (s at : State) (bytes : List ℕ) → ComesToCall text b n s at → call b at ≡ print at bytes
+pub output_after : (text : List ℕ) (b : Segments) (n : ℕ) (s at : State) (bytes : List ℕ) → ComesToCall text b n s at → call b at ≡ print at bytes
     → (more : List ℕ) × (output_of (run text b n s) ≡ at.output ++ bytes ++ more)
-output_behind text b n s at bytes comes prints =
-    let behind = n - (comes.count + 1) in
+output_after text b n s at bytes comes prints =
+    let later = n - (comes.count + 1) in
     let printed : State = record at { output = at.output ++ bytes } in
-    let grew = run_grew text b behind printed in
-    (grew.0, ap output_of (run_at_call text b n s at comes ∙ ap (λ o. and_then o (run text b behind)) prints) ∙ grew.1)
+    let grew = run_grew text b later printed in
+    (grew.0, ap output_of (run_at_call text b n s at comes ∙ ap (λ o. and_then o (run text b later)) prints) ∙ grew.1)
 
--- what came of a part of some bytes, behind what stands before it, is a prefix of all
+-- what came of a part of some bytes, after what stands before it, is a prefix of all
 pub got_part : (first held : Option (List ℕ)) (all front bytes more : List ℕ) → all ≡ front ++ bytes ++ more → GotPrefix (appended first front) bytes held → GotPrefix first all held
 got_part first held all front bytes more whole (rest, got) = (
   rest ++ more,

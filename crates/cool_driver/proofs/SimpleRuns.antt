@@ -1,7 +1,6 @@
 -- Runs of programs of the simple form, whose output is known.
 use Rattle.std.proofs.Common.{◌≡◌, ◌∙◌, ◌⊎◌, inl, inr, refl, sym, ap, subst, ℕ, List, [], ◌++◌, arith}
 use Rattle.std.specs.Prelude.{Option, Some}
-use Rattle.cool_ports.specs.Counts.{Rose}
 use Rattle.cool_ports.specs.SinkBytes.{appended, GotPrefix}
 use Rattle.cool_ports.proofs.GettingBytes.{appended-nil}
 use Rattle.mips_isa.specs.ImageBounds.{ImageParts}
@@ -20,7 +19,7 @@ use Rattle.cool_driver.specs.Execution.{heap_of, segments_within, stack_of}
 use Rattle.cool_driver.specs.Ends.{SinkUse, Got, GotPart}
 use Rattle.cool_driver.specs.Tasks.{Prints, RunsSimple}
 use Rattle.cool_driver.specs.declared.status.Status.TheVariants as statuses
-use Rattle.cool_driver.proofs.RunsWithinLimits.{run_of-is, ran_within, output_behind, got_part}
+use Rattle.cool_driver.proofs.RunsWithinLimits.{run_of-is, ran_within, no_rise, output_after, got_part}
 
 -- how a run ends that prints some bytes and then exits with 0: so, or a write of these bytes failed
 abbrev pub EndsSimply : Halt → SinkUse → List ℕ → Type 0
@@ -42,10 +41,6 @@ no_trap o trap s t a b = cc
 no_limit : (o : Outcome) (s t : State) → o ≡ Running s → o ≡ Exited 0 t → ⊥
 no_limit o s t a b = cc
 
--- a count that stays at 0 did not rise
-no_rise : Rose 0 0 → ⊥
-no_rise rose = absurd (omega (arith, rose.more (omega arith)))
-
 -- of a run that exits with 0 and this output
 ends_simply : (text : List ℕ) (b : Segments) (n : ℕ) (s end : State) (output : List ℕ) (out : SinkUse) (halt : Halt) (m : MachineParts) (left : Option (List ℕ))
     → run text b n s ≡ Exited 0 end → end.output ≡ output → Ran text b n s out.held_before halt m left out.held_after → Counted halt 0 0 out.faults_before out.faults_after
@@ -57,9 +52,9 @@ ends_simply text b n s end output out (halts.Trap trap) m left exits prints (las
 ends_simply text b n s end output out halts.StepLimit m left exits prints (last, ends, is) counted = absurd (no_limit _ last end ends exits)
 ends_simply text b n s end output out halts.ReadFault m left exits prints ran counted = absurd (no_rise counted.0)
 ends_simply text b n s end output out halts.WriteFault m left exits prints (at, comes, fails) counted =
-    let behind = output_behind text b n s at fails.bytes comes fails.prints in
-    let whole : output ≡ at.output ++ fails.bytes ++ behind.0 = sym prints ∙ ap output_of (sym exits) ∙ behind.1 in
-    let got : GotPrefix out.held_before output out.held_after = got_part out.held_before out.held_after output at.output fails.bytes behind.0 whole fails.held_is in
+    let after = output_after text b n s at fails.bytes comes fails.prints in
+    let whole : output ≡ at.output ++ fails.bytes ++ after.0 = sym prints ∙ ap output_of (sym exits) ∙ after.1 in
+    let got : GotPrefix out.held_before output out.held_after = got_part out.held_before out.held_after output at.output fails.bytes after.0 whole fails.held_is in
     inr (refl, (subst (λ (held : Option (List ℕ)). GotPrefix held output out.held_after) (sym (appended-nil out.held_before)) got, counted.1))
 
 -- of the run of an image that prints it

@@ -23,13 +23,10 @@ big_names = codes "big.cl" ∷ []
 abbrev pub big_run : List Class → Outcome
 big_run p = run_of usual_limits (image_of (program_lines p big_names)) []
 
-abbrev pub output_of : Outcome → List ℕ
-output_of o = (left_by o).output
-
 -- How a run comes out: the number of bytes of its output, and its status. Where they are more than are counted, the status is 8.
 pub data RunsTo (o : Outcome) : ℕ → ℕ → Type 0 where
-  counted : length (output_of o) ≤ MOST_BIG_OUTPUT → RunsTo o (length (output_of o)) (status_of o)
-  too_long : MOST_BIG_OUTPUT < length (output_of o) → RunsTo o MOST_BIG_OUTPUT 8
+  counted : length (left_by o).output ≤ MOST_BIG_OUTPUT → RunsTo o (length (left_by o).output) (status_of o)
+  too_long : MOST_BIG_OUTPUT < length (left_by o).output → RunsTo o MOST_BIG_OUTPUT 8
 
 -- How files of these bytes come out: status 1 without output where they are refused, and else as their program's run does.
 pub data ComesOut (contents : List (List ℕ)) (output status : ℕ) : Type 0 where

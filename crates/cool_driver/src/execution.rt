@@ -2,7 +2,7 @@
 
 ghost use Rattle.std.specs.Prelude.{◌≡◌, List, ℕ, Bool, false};
 ghost use Rattle.cool_ports.specs.Answers.{Leaves};
-ghost use Rattle.spim_machine.specs.Input.{Took};
+ghost use Rattle.cool_ports.specs.Taking.{Took};
 ghost use Rattle.cool_driver.specs.Ends.{Request, IsRunOf, Ends};
 ghost use Rattle.cool_driver.specs.Execution.{heap_of, stack_of};
 ghost use Rattle.cool_words.specs.Plans.{IsBounded};

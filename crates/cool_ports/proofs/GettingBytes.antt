@@ -20,10 +20,10 @@ pub got_none : (held : Option (List ℕ)) (bytes : List ℕ) → GotUpTo held by
 got_none held bytes = record { front = []; cut = refl; got = sym (appended-nil held) }
 
 -- a piece that was put is no longer to come
-pub got_more : (before mid after : Option (List ℕ)) (bytes rest piece behind : List ℕ) → GotUpTo before bytes rest mid → piece ++ behind ≡ rest → after ≡ appended mid piece → GotUpTo before bytes behind after
-got_more before mid after bytes rest piece behind h s e = record {
+pub got_more : (before mid after : Option (List ℕ)) (bytes rest piece later : List ℕ) → GotUpTo before bytes rest mid → piece ++ later ≡ rest → after ≡ appended mid piece → GotUpTo before bytes later after
+got_more before mid after bytes rest piece later h s e = record {
   front = h.front ++ piece;
-  cut = h.cut ∙ ap (λ xs. h.front ++ xs) (sym s) ∙ sym (append_assoc h.front piece behind);
+  cut = h.cut ∙ ap (λ xs. h.front ++ xs) (sym s) ∙ sym (append_assoc h.front piece later);
   got = e ∙ ap (λ held. appended held piece) h.got ∙ appended-appended before h.front piece;
 }
 
@@ -31,13 +31,13 @@ got_more before mid after bytes rest piece behind h s e = record {
 pub got_all : (before after : Option (List ℕ)) (bytes : List ℕ) → GotUpTo before bytes [] after → after ≡ appended before bytes
 got_all before after bytes h = h.got ∙ ap (appended before) (sym (append-nil h.front) ∙ sym h.cut)
 
--- a prefix of a piece, behind the pieces before it, is a prefix of all
-pub got_prefix : (before mid after : Option (List ℕ)) (bytes rest piece behind : List ℕ) → GotUpTo before bytes rest mid → piece ++ behind ≡ rest → GotPrefix mid piece after → GotPrefix before bytes after
-got_prefix before mid after bytes rest piece behind h s (more, p) = (
-  more ++ behind,
+-- a prefix of a piece, after the pieces before it, is a prefix of all
+pub got_prefix : (before mid after : Option (List ℕ)) (bytes rest piece later : List ℕ) → GotUpTo before bytes rest mid → piece ++ later ≡ rest → GotPrefix mid piece after → GotPrefix before bytes after
+got_prefix before mid after bytes rest piece later h s (more, p) = (
+  more ++ later,
   record {
     front = h.front ++ p.front;
-    cut = h.cut ∙ ap (λ xs. h.front ++ xs) (sym s) ∙ ap (λ xs. h.front ++ (xs ++ behind)) p.cut ∙ ap (λ xs. h.front ++ xs) (append_assoc p.front more behind) ∙ sym (append_assoc h.front p.front (more ++ behind));
+    cut = h.cut ∙ ap (λ xs. h.front ++ xs) (sym s) ∙ ap (λ xs. h.front ++ (xs ++ later)) p.cut ∙ ap (λ xs. h.front ++ xs) (append_assoc p.front more later) ∙ sym (append_assoc h.front p.front (more ++ later));
     got = p.got ∙ ap (λ held. appended held p.front) h.got ∙ appended-appended before h.front p.front;
   },
 )

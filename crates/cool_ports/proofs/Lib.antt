@@ -1,1 +1,3 @@
 pub mod GettingBytes
+pub mod GivingBytes
+pub mod InputsInParts

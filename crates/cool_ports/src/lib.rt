@@ -18,6 +18,7 @@ mod std_sink;
 mod std_source;
 mod sure_sink;
 mod sure_source;
+mod taking;
 
 pub use file_shelf::FileShelf;
 pub use mem_shelf::MemShelf;
@@ -31,6 +32,7 @@ pub use std_sink::StdSink;
 pub use std_source::StdSource;
 pub use sure_sink::SureSink;
 pub use sure_source::SureSource;
+pub use taking::next_byte;
 
 /// A read or a write of the outside failed.
 #[derive(Clone, Copy, Debug, PartialEq, Eq)]

@@ -19,9 +19,9 @@ pub fn put_pieces<K: Sink>(sink: &mut K, bytes: &[u8], most: usize) -> Result<()
 {
     let mut rest = bytes;
     while !rest.is_empty() {
-        let (piece, behind) = rest.split_at(rest.len().min(most));
+        let (piece, later) = rest.split_at(rest.len().min(most));
         sink.put(piece)?;
-        rest = behind;
+        rest = later;
     }
     Ok(())
 }

@@ -14,7 +14,7 @@ pub trait Sink {
     /// The bytes that it holds, where it tells them.
     ghost held: { Self → Option (List ℕ) };
 
-    /// Puts the bytes behind those that it holds.
+    /// Puts the bytes after those that it holds.
     ///
     /// `Failed` comes only where the count of faults rose; then a prefix of the bytes was put.
     fn put(&mut self, bytes: &[u8]) -> Result<(), Failed>

@@ -31,7 +31,7 @@ impl<W: Write> Sink for StdSink<W> {
 
     ghost held = { λ _. None };
 
-    /// All bytes are handed on before it returns: behind those of the writer, where it tells them.
+    /// All bytes are handed on before it returns: after those of the writer, where it tells them.
     #[tactic(auto, unfolding(crate::specs::SinkBytes::appended))]
     fn put(&mut self, bytes: &[u8]) -> Result<(), Failed>
         requires { 0 < length bytes.now }

@@ -6,7 +6,8 @@ use Rattle.cool_ports.specs.declared.Failed.{Failed}
 use Rattle.mips_isa.specs.Bytes.{Bytes, Segments, set_byte, writable}
 use Rattle.mips_isa.specs.Machine.{Core}
 use Rattle.mips_isa.specs.Calls.{asked, all_writable, set_bytes}
-use Rattle.spim_machine.specs.Input.{GaveByte, TookAll, TookSome}
+use Rattle.cool_ports.specs.Taking.{GaveByte}
+use Rattle.spim_machine.specs.Input.{TookAll, TookSome}
 use Rattle.spim_machine.proofs.TakingBytes.{TakingOn, asks_more, taking_none, taking_more, taking_all, taking_some, taking_byte, took_newline, took_end, took_some, took_none}
 
 -- where so many bytes may be stored, each of them may be

@@ -1,5 +1,3 @@
-pub mod GivingBytes
-pub mod InputsInParts
 pub mod TakingBytes
 pub mod ReadingNumbers
 pub mod ReadingCalls

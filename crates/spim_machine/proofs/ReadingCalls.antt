@@ -9,7 +9,7 @@ use Rattle.spim_machine.specs.declared.halt.Halt.TheVariants.{ReadFault}
 use Rattle.spim_machine.specs.Input.{TookAll, TookSome}
 use Rattle.spim_machine.specs.Machine.{MachineParts, state_of}
 use Rattle.spim_machine.specs.Ends.{Came, Does}
-use Rattle.spim_machine.proofs.GivingBytes.{front-told}
+use Rattle.cool_ports.proofs.GivingBytes.{front-told}
 
 -- the state after a call that changes the core by the bytes that it got
 abbrev pub next_of : (Core → List ℕ → Core) → State → Taken → State

@@ -5,7 +5,8 @@ use Rattle.cool_ports.specs.declared.Failed.{Failed}
 use Rattle.mips_isa.specs.Calls.{asked_line, number_of}
 use Rattle.spim_machine.specs.declared.number.Number.{Number}
 use Rattle.spim_machine.specs.declared.number.Number.TheVariants.{Blanks}
-use Rattle.spim_machine.specs.Input.{GaveByte, TookAll, TookSome}
+use Rattle.cool_ports.specs.Taking.{GaveByte}
+use Rattle.spim_machine.specs.Input.{TookAll, TookSome}
 use Rattle.spim_machine.specs.Numbers.{number_from}
 use Rattle.spim_machine.proofs.TakingBytes.{TakingOn, asks_line, taking_none, taking_more, taking_all, taking_some, taking_byte, took_newline, took_end, took_some}
 

@@ -4,8 +4,9 @@ use Rattle.std.specs.Prelude.{Option, Some, None, Ok, Err, if◌then◌else◌, 
 use Rattle.cool_ports.specs.declared.Failed.{Failed}
 use Rattle.cool_ports.specs.SourceBytes.{IsAtEnd}
 use Rattle.mips_isa.specs.Calls.{Taken, taken, asked}
-use Rattle.spim_machine.specs.Input.{with_front, GaveByte, TookAll, TookSome}
-use Rattle.spim_machine.proofs.GivingBytes.{front-nil, front-append}
+use Rattle.cool_ports.specs.Taking.{with_front, GaveByte}
+use Rattle.spim_machine.specs.Input.{TookAll, TookSome}
+use Rattle.cool_ports.proofs.GivingBytes.{front-nil, front-append}
 
 -- these bytes, and then what is taken
 abbrev pub prepend : List ℕ → Taken → Taken

@@ -1,45 +1,7 @@
--- What calls take of a source: bytes one after another, of which those that are 0 are dropped.
-use Rattle.std.specs.Prelude.{◌≡◌, ℕ, ◌+◌, ◌<◌, Bool, true, false, List, [], ◌∷◌, ◌++◌, replicate, Option, Some, None, Result, Ok, Err}
-use Rattle.cool_ports.specs.declared.Failed.{Failed}
-use Rattle.cool_ports.specs.Answers.{Past, Leaves}
-use Rattle.cool_ports.specs.SourceBytes.{IsAtEnd}
+-- What the calls of the machine take of an input.
+use Rattle.std.specs.Prelude.{◌≡◌, ℕ, Bool, true, List, ◌++◌, Option, Some}
 use Rattle.mips_isa.specs.Calls.{Taken}
-
--- what a source had left before it gave these bytes
-abbrev pub with_front : List ℕ → Option (List ℕ) → Option (List ℕ)
-with_front front None = None
-with_front front (Some rest) = Some (front ++ rest)
-
--- how often the end was answered, where it had been before or not, and is now
-abbrev pub EndsOnce : Bool → Bool → List ℕ → ℕ → ℕ → Option (List ℕ) → Type 0
-EndsOnce true is front before after left = (is ≡ true) × (front ≡ []) × (after ≡ before)
-EndsOnce false true front before after left = (after ≡ before + 1) × IsAtEnd left
-EndsOnce false false front before after left = after ≡ before
-
--- What was taken of a source between two points: bytes, and then perhaps its end, which is asked for once. `was` and `is` say
--- whether the end was answered at the first point and at the second; where it was, the source is not asked. A source that tells
--- what it has left told these bytes in front, and nothing where it answered its end.
-pub record Took (was is : Bool) (before after : Past) (left left' : Option (List ℕ)) : Type 0 where
-  pub front : List ℕ
-  pub given : after.given ≡ before.given ++ front
-  pub told : left ≡ with_front front left'
-  pub ends : EndsOnce was is front before.ends after.ends left'
-
--- So it is for each input that the source may have had, and what is left of it.
-abbrev pub OfAnyInput : Past → Past → (Option (List ℕ) → Option (List ℕ) → Type 0) → Type 0
-OfAnyInput before after holds = (input rest : List ℕ) → Leaves before after input rest → holds (Some input) (Some rest)
-
--- The next byte other than 0 was asked for, where the end was answered before or not: it came behind zeros, or the end was
--- answered, or a take failed. Where the end was answered before, the source is not asked.
-abbrev pub GaveByte : Bool → Option (List ℕ) → Result (Option ℕ) Failed → Bool → Option (List ℕ) → Type 0
-GaveByte true before (Ok None) ended after = (ended ≡ true) × (after ≡ before)
-GaveByte true before (Ok (Some byte)) ended after = ⊥
-GaveByte true before (Err failed) ended after = ⊥
-GaveByte false before (Ok None) ended after =
-    (ended ≡ true) × IsAtEnd after × ((zeros : ℕ) × (before ≡ with_front (replicate zeros 0) after))
-GaveByte false before (Ok (Some byte)) ended after =
-    (ended ≡ false) × (0 < byte) × ((zeros : ℕ) × (before ≡ with_front (replicate zeros 0 ++ byte ∷ []) after))
-GaveByte false before (Err failed) ended after = (ended ≡ false) × ((zeros : ℕ) × (before ≡ with_front (replicate zeros 0) after))
+use Rattle.cool_ports.specs.Taking.{with_front}
 
 -- A call that takes `ask input` of an input took all that it asks for.
 pub record TookAll (ask : List ℕ → Taken) (got : List ℕ) (before : Option (List ℕ)) (ended : Bool) (after : Option (List ℕ)) : Type 0 where

@@ -4,7 +4,7 @@ ghost use Rattle.std.specs.Prelude.{◌≡◌, ◌≢◌, ◌+◌, List, [], ℕ
 ghost use Rattle.cool_ports.specs.Answers.{Past, Leaves};
 ghost use Rattle.mips_isa.specs.Bytes.{Segments};
 ghost use Rattle.mips_isa.specs.Calls.{State};
-ghost use Rattle.spim_machine.specs.Input.{Took};
+ghost use Rattle.cool_ports.specs.Taking.{Took};
 ghost use Rattle.spim_machine.specs.Machine.{MachineParts, IsIn};
 ghost use Rattle.spim_machine.specs.Ends.{Ran};
 ghost use Rattle.spim_machine.specs.declared.halt.Halt.{Halt};

@@ -5,7 +5,7 @@ ghost use Rattle.mips_isa.specs.Bytes.{segments_of};
 ghost use Rattle.mips_isa.specs.Calls.{State};
 ghost use Rattle.mips_isa.specs.Run.{start};
 ghost use Rattle.spim_memory.specs.Memory.{segments, IsLimits};
-ghost use Rattle.spim_machine.specs.Input.{Took, OfAnyInput};
+ghost use Rattle.cool_ports.specs.Taking.{Took, OfAnyInput};
 ghost use Rattle.spim_machine.specs.Machine.{state_of, IsIn, Keeps, halted_by};
 ghost use Rattle.spim_machine.specs.Ends.{Counted, CountedIf, Cycled, Ran};
 ghost use Rattle.spim_cpu.specs.Cpu.{KeepsSegments};

@@ -3,11 +3,11 @@
 ghost use Rattle.std.specs.Prelude.{◌≡◌, List, ℕ, OnOk, OnErr, IfOk, false, [], ◌∷◌};
 ghost use Rattle.cool_ports.specs.Counts.{Rose};
 ghost use Rattle.mips_isa.specs.Calls.{asked_line, number_of};
-ghost use Rattle.spim_machine.specs.Input.{Took, OfAnyInput, TookAll, TookSome};
+ghost use Rattle.cool_ports.specs.Taking.{Took, OfAnyInput};
+ghost use Rattle.spim_machine.specs.Input.{TookAll, TookSome};
 ghost use Rattle.spim_machine.specs.Numbers.{number_from};
 
-use crate::input::next_byte;
-use cool_ports::{Failed, Source};
+use cool_ports::{Failed, Source, next_byte};
 
 /// How far a number was read: blanks, an optional minus sign and digits.
 #[derive(Clone, Copy)]

@@ -1,7 +1,7 @@
 use Rattle.std.proofs.Common.{false, [], ◌++◌, refl, sym}
 use Rattle.std.specs.List.{concat}
 use Rattle.cool_ports.proofs.GettingBytes.{appended-nil}
-use Rattle.spim_machine.proofs.InputsInParts.{took_nothing, leaves_same}
+use Rattle.cool_ports.proofs.InputsInParts.{took_nothing, leaves_same}
 use Rattle.cool_driver.specs.Notes.{end_text}
 use Rattle.cool_driver.proofs.EndsOfDue.{ends_without_memory}
 use Rattle.cool_driver.proofs.EndsOfTasks.{note_ends, written_ends, simple_ends}

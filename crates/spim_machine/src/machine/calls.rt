@@ -8,16 +8,17 @@ ghost use Rattle.mips_isa.specs.Machine.{set_register};
 ghost use Rattle.mips_isa.specs.Calls as calls;
 ghost use Rattle.spim_memory.specs.Memory.{segments, bytes_of};
 ghost use Rattle.spim_cpu.specs.Cpu.{core_of};
-ghost use Rattle.spim_machine.specs.Input.{Took, OfAnyInput, TookAll, TookSome};
+ghost use Rattle.cool_ports.specs.Taking.{Took, OfAnyInput};
+ghost use Rattle.spim_machine.specs.Input.{TookAll, TookSome};
 ghost use Rattle.spim_machine.specs.Machine.{Keeps};
 ghost use Rattle.spim_machine.specs.Ends.{CountedIf, Does};
 
 use super::Machine;
 use crate::Halt;
-use crate::input::{next_byte, read_char};
+use crate::input::read_char;
 use crate::number::read_number;
 use crate::output::put_string;
-use cool_ports::{Failed, Sink, Source};
+use cool_ports::{Failed, Sink, Source, next_byte};
 use mips_isa::register::{A0, A1, V0};
 use mips_isa::system_call::{
     EXIT, EXIT2, PRINT_CHAR, PRINT_INT, PRINT_STRING, READ_CHAR, READ_INT, READ_STRING, SBRK,

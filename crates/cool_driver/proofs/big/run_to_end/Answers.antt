@@ -1,5 +1,5 @@
 use Rattle.std.proofs.Common.{◌∙◌, ap, arith}
-use Rattle.spim_machine.proofs.InputsInParts.{leaves_none}
+use Rattle.cool_ports.proofs.InputsInParts.{leaves_none}
 use Rattle.cool_words.specs.Plans.{usual_limits}
 use Rattle.cool_driver.proofs.BigRuns.{took_none, outcome, counted_run, long_run}
 use Rattle.cool_driver.proofs.big.run_to_end.Goals as goal

@@ -1,7 +1,7 @@
 use Rattle.std.proofs.Common.{arith, false, [], ◌∙◌, refl, ap}
 use Rattle.spim_machine.specs.declared.halt.Halt.TheVariants as halts
 use Rattle.cool_driver.specs.declared.status.Status.TheVariants as statuses
-use Rattle.spim_machine.proofs.InputsInParts.{took_nothing, leaves_same}
+use Rattle.cool_ports.proofs.InputsInParts.{took_nothing, leaves_same}
 use Rattle.cool_driver.proofs.EndsOfDue.{ends_without_memory}
 use Rattle.cool_driver.proofs.ImagesOfCalls.{read_for_run}
 use Rattle.cool_driver.proofs.EndsOfRuns as runs

@@ -1,4 +1,4 @@
-use Rattle.spim_machine.proofs.InputsInParts.{leaves_none}
+use Rattle.cool_ports.proofs.InputsInParts.{leaves_none}
 use Rattle.cool_driver.proofs.SimpleRuns.{loaded_ends, exited_simply, failed_simply, nothing_else, not_loaded}
 use Rattle.cool_driver.proofs.execution.run_simple.Goals as goal
 

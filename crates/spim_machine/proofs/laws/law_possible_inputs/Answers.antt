@@ -1,4 +1,4 @@
-use Rattle.spim_machine.proofs.InputsInParts.{leaves_none, leaves_told}
+use Rattle.cool_ports.proofs.InputsInParts.{leaves_none, leaves_told}
 use Rattle.spim_machine.proofs.laws.law_possible_inputs.Goals as goal
 
 pub returns-clause-some : goal.returns-clause-some

@@ -1,7 +1,7 @@
 use Rattle.std.proofs.Common.{arith, ◌≡◌, false, refl, ◌∙◌}
 use Rattle.std.specs.Prelude.{◌==◌}
 use Rattle.std.proofs.lemmas.Result.{err_from_is_err_and}
-use Rattle.spim_machine.proofs.InputsInParts.{took_nothing, took_both, in_two, leaves_none, leaves_same}
+use Rattle.cool_ports.proofs.InputsInParts.{took_nothing, took_both, in_two, leaves_none, leaves_same}
 use Rattle.spim_machine.proofs.TakingBytes.{still_ended}
 use Rattle.spim_machine.proofs.ReadingNumbers.{read_none, read_byte, read_newline, read_end, read_failed}
 use Rattle.spim_machine.proofs.number.read_number.Goals as goal
@@ -24,7 +24,7 @@ returns-in_err-byte-clause-some g c =
     let gave = rw i.ended at c.in_err-byte.ensures.gave in
     rw p.1 (λ input rest leaves.
     let two = in_two _ _ _ _ _ _ _ _ _ input rest i.took c.in_err-byte.ensures.took leaves in
-    read_failed _ _ _ _ _ _ _ (i.reads input two.middle two.before) (gave two.middle rest two.behind))
+    read_failed _ _ _ _ _ _ _ (i.reads input two.middle two.before) (gave two.middle rest two.later))
 
 pub returns-then-byte-eq10-clause-took : goal.returns-then-byte-eq10-clause-took
 returns-then-byte-eq10-clause-took g c = took_both _ _ _ _ _ _ _ _ _ c.loop-byte.invariant.took c.in_ok-byte.ensures.took
@@ -35,7 +35,7 @@ returns-then-byte-eq10-clause-all g c =
     let gave = rw (i.ended, c.in-Some.is) at c.in_ok-byte.ensures.gave in
     λ input rest leaves.
     let two = in_two _ _ _ _ _ _ _ _ _ input rest i.took c.in_ok-byte.ensures.took leaves in
-    read_newline _ _ _ _ _ _ c.with-number.result _ _ (i.reads input two.middle two.before) (gave two.middle rest two.behind) c.if-byte-eq10.true c.with-number.ensures c.value.ensures
+    read_newline _ _ _ _ _ _ c.with-number.result _ _ (i.reads input two.middle two.before) (gave two.middle rest two.later) c.if-byte-eq10.true c.with-number.ensures c.value.ensures
 
 pub loop-byte-preserved : goal.loop-byte-preserved
 loop-byte-preserved g c =
@@ -47,7 +47,7 @@ loop-byte-preserved g c =
       took = took_both _ _ _ _ _ _ _ _ _ i.took c.in_ok-byte.ensures.took;
       reads = λ input rest leaves.
           let two = in_two _ _ _ _ _ _ _ _ _ input rest i.took c.in_ok-byte.ensures.took leaves in
-          read_byte _ _ _ _ _ _ _ _ (i.reads input two.middle two.before) (gave two.middle rest two.behind) other c.with-number.ensures;
+          read_byte _ _ _ _ _ _ _ _ (i.reads input two.middle two.before) (gave two.middle rest two.later) other c.with-number.ensures;
       no_fault = c.in_ok-byte.ensures.no_fault ∙ i.no_fault;
     }
 
@@ -60,4 +60,4 @@ returns-clause-all g c =
     let gave = rw (i.ended, c.in_default.is) at c.in_ok-byte.ensures.gave in
     λ input rest leaves.
     let two = in_two _ _ _ _ _ _ _ _ _ input rest i.took c.in_ok-byte.ensures.took leaves in
-    read_end _ _ _ _ _ _ _ (i.reads input two.middle two.before) (gave two.middle rest two.behind) c.value-2.ensures
+    read_end _ _ _ _ _ _ _ (i.reads input two.middle two.before) (gave two.middle rest two.later) c.value-2.ensures

@@ -1,5 +1,5 @@
 use Rattle.std.proofs.Common.{◌≡◌}
-use Rattle.spim_machine.specs.Input.{Took, OfAnyInput}
+use Rattle.cool_ports.specs.Taking.{Took, OfAnyInput}
 use Rattle.spim_machine.proofs.ReadingNumbers.{ReadUpTo}
 use Rattle.spim_machine.proofs.number.read_number.Given as goal
 

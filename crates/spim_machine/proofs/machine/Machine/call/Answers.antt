@@ -1,6 +1,6 @@
 use Rattle.std.proofs.Common.{◌∙◌, sym, subst, arith, Some}
 use Rattle.spim_memory.specs.Memory.{segments}
-use Rattle.spim_machine.proofs.InputsInParts.{took_nothing, leaves_same}
+use Rattle.cool_ports.proofs.InputsInParts.{took_nothing, leaves_same}
 use Rattle.spim_machine.proofs.CallsByNumber.{does_print_int, does_print_string, does_read_int, does_read_string, does_sbrk, does_exit, does_print_char, does_read_char, does_exit_with, does_none, IsNoCall}
 use Rattle.spim_machine.proofs.machine.Machine.call.Goals as goal
 

@@ -1,5 +1,5 @@
 use Rattle.spim_machine.specs.Machine.{MachineParts}
-use Rattle.spim_machine.proofs.InputsInParts.{leaves_same}
+use Rattle.cool_ports.proofs.InputsInParts.{leaves_same}
 use Rattle.spim_machine.proofs.Cycles.{cycled_next, cycled_call, cycled_trap}
 use Rattle.spim_machine.proofs.machine.Machine.cycle.Goals as goal
 

@@ -1,7 +1,7 @@
 use Rattle.std.proofs.Common.{◌∙◌, ap}
 use Rattle.mips_isa.specs.Bytes.{writable}
 use Rattle.spim_memory.specs.Memory.{segments}
-use Rattle.spim_machine.proofs.InputsInParts.{leaves_none}
+use Rattle.cool_ports.proofs.InputsInParts.{leaves_none}
 use Rattle.spim_machine.proofs.FillingBuffers.{may_store_fewer, stored_within, stored_zero}
 use Rattle.spim_machine.proofs.machine.Machine.fill.Goals as goal
 

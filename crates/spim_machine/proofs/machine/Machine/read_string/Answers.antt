@@ -1,7 +1,7 @@
 use Rattle.std.proofs.Common.{◌∙◌, sym, ap, Some}
 use Rattle.mips_isa.specs.Calls.{all_writable}
 use Rattle.spim_memory.specs.Memory.{segments}
-use Rattle.spim_machine.proofs.InputsInParts.{leaves_same}
+use Rattle.cool_ports.proofs.InputsInParts.{leaves_same}
 use Rattle.spim_machine.proofs.ReadingStrings.{small_is, does_nothing, does_trap, does_fill, does_unfilled}
 use Rattle.spim_machine.proofs.machine.Machine.read_string.Goals as goal
 

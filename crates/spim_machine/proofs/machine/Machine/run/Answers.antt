@@ -2,7 +2,7 @@ use Rattle.std.proofs.Common.{◌≡◌, ◌∙◌, refl, sym, ap, subst, arith,
 use Rattle.spim_memory.specs.Memory.{segments}
 use Rattle.spim_machine.specs.Machine.{MachineParts}
 use Rattle.spim_machine.specs.Ends.{Ran}
-use Rattle.spim_machine.proofs.InputsInParts.{took_nothing, took_both, in_two, leaves_same}
+use Rattle.cool_ports.proofs.InputsInParts.{took_nothing, took_both, in_two, leaves_same}
 use Rattle.spim_machine.proofs.RunsByCycles.{kept_on, ran_next, ran_to_end, ran_noted, counted_on, counted_end, halted_is}
 use Rattle.spim_machine.proofs.machine.Machine.run.Goals as goal
 
@@ -22,7 +22,7 @@ loop-preserved g c =
       took = took_both _ _ _ _ _ _ _ _ _ i.took c.cycle.ensures.took;
       ran = λ first s input rest leaves is.
           let two = in_two _ _ _ _ _ _ _ _ _ input rest i.took c.cycle.ensures.took leaves in
-          ran_next c.args.self.now.cpu.memory c.loop.self.cpu.memory c.loop.counter s first c.loop.self c.cycle.new.self _ _ _ _ i.keeps.memory (i.ran first s input two.middle two.before is) (λ t at. c.in-Ok.ensures.cycled first t two.middle rest two.behind at);
+          ran_next c.args.self.now.cpu.memory c.loop.self.cpu.memory c.loop.counter s first c.loop.self c.cycle.new.self _ _ _ _ i.keeps.memory (i.ran first s input two.middle two.before is) (λ t at. c.in-Ok.ensures.cycled first t two.middle rest two.later at);
       keeps = kept_on _ _ _ i.keeps c.cycle.ensures.keeps;
       source = c.in-Ok.ensures.counts.0 ∙ i.source;
       sink = c.in-Ok.ensures.counts.1 ∙ i.sink;
@@ -34,7 +34,7 @@ returns-in-Err-clause-ran g c first s goes input rest leaves is =
     let i = c.self-in-loop.inside in
     let m : MachineParts = record { cpu = i.cpu; heap_break = i.heap_break; ended = i.ended; halted = i.halted } in
     let old = c.args.self.now.cpu.memory in
-    let r = ran_to_end old c.loop.self.cpu.memory c.loop.counter c.args.budget s first c.in-Err.halt c.loop.self c.cycle.new.self _ _ _ _ c.loop.invariant.keeps.memory c.loop-test.true (c.loop.invariant.ran first s input two.middle two.before is) (λ t at. c.in-Err.ensures.cycled first t two.middle rest two.behind at) in
+    let r = ran_to_end old c.loop.self.cpu.memory c.loop.counter c.args.budget s first c.in-Err.halt c.loop.self c.cycle.new.self _ _ _ _ c.loop.invariant.keeps.memory c.loop-test.true (c.loop.invariant.ran first s input two.middle two.before is) (λ t at. c.in-Err.ensures.cycled first t two.middle rest two.later at) in
     ran_noted _ _ c.args.budget s first c.in-Err.halt m _ _ _ (subst (λ (q : MachineParts). Ran old.text (segments old) c.args.budget s first c.in-Err.halt q (Some rest) (g.K.Sink.held c.cycle.new.sink)) (sym c.self-in-loop.view_is) r)
 
 pub returns-in-Err-clause-counts : goal.returns-in-Err-clause-counts

@@ -2,7 +2,7 @@ use Rattle.std.proofs.Common.{◌≡◌, ℕ, List, Option}
 use Rattle.mips_isa.specs.Calls.{State}
 use Rattle.spim_memory.specs.Memory.{segments}
 use Rattle.spim_machine.specs.declared.halt.Halt.TheVariants as halts
-use Rattle.spim_machine.specs.Input.{Took, OfAnyInput}
+use Rattle.cool_ports.specs.Taking.{Took, OfAnyInput}
 use Rattle.spim_machine.specs.Machine.{IsIn, Keeps}
 use Rattle.spim_machine.specs.Ends.{Ran}
 use Rattle.spim_machine.proofs.machine.Machine.run.Given as goal

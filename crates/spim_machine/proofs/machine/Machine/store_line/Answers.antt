@@ -4,7 +4,7 @@ use Rattle.std.proofs.lemmas.Result.{err_from_is_err_and}
 use Rattle.mips_isa.specs.Bytes.{writable}
 use Rattle.spim_memory.specs.Memory.{segments}
 use Rattle.spim_machine.proofs.KeepingParts.{keeps_same, keeps_both}
-use Rattle.spim_machine.proofs.InputsInParts.{took_nothing, took_both, in_two, leaves_none, leaves_same}
+use Rattle.cool_ports.proofs.InputsInParts.{took_nothing, took_both, in_two, leaves_none, leaves_same}
 use Rattle.spim_machine.proofs.TakingBytes.{still_ended}
 use Rattle.spim_machine.proofs.FillingBuffers.{may_store_at, stored_none, stored_byte, stored_newline, stored_end, stored_full, stored_failed}
 use Rattle.spim_machine.proofs.machine.Machine.store_line.Goals as goal
@@ -28,7 +28,7 @@ returns-in_err-byte-clause-some g c =
     let stored = rw (← c.self.view_is) at c.loop-end.invariant.stored in
     rw p.1 (λ input rest leaves.
     let two = in_two _ _ _ _ _ _ _ _ _ input rest took c.in_err-byte.ensures.took leaves in
-    stored_failed _ _ _ _ _ _ _ _ _ _ _ (stored input two.middle two.before) c.loop-end-test.true (gave two.middle rest two.behind))
+    stored_failed _ _ _ _ _ _ _ _ _ _ _ (stored input two.middle two.before) c.loop-end-test.true (gave two.middle rest two.later))
 
 pub returns-in_default-clause-all : goal.returns-in_default-clause-all
 returns-in_default-clause-all g c =
@@ -38,7 +38,7 @@ returns-in_default-clause-all g c =
     let took = rw (← c.self.view_is) at c.loop-end.invariant.took in
     λ input rest leaves.
     let two = in_two _ _ _ _ _ _ _ _ _ input rest took c.in_ok-byte.ensures.took leaves in
-    stored_end _ _ _ _ _ _ _ _ _ _ (stored input two.middle two.before) c.loop-end-test.true (gave two.middle rest two.behind)
+    stored_end _ _ _ _ _ _ _ _ _ _ (stored input two.middle two.before) c.loop-end-test.true (gave two.middle rest two.later)
 
 pub store-requires : goal.store-requires
 store-requires g c =
@@ -53,7 +53,7 @@ returns-then-byte-eq10-clause-all g c =
     let took = rw (← c.self.view_is) at c.loop-end.invariant.took in
     rw c.store.ensures.ended (λ input rest leaves.
     let two = in_two _ _ _ _ _ _ _ _ _ input rest took c.in_ok-byte.ensures.took leaves in
-    stored_newline _ _ _ _ _ _ _ _ _ _ _ _ (stored input two.middle two.before) c.loop-end-test.true (gave two.middle rest two.behind) c.if-byte-eq10.true c.store.ensures.core)
+    stored_newline _ _ _ _ _ _ _ _ _ _ _ _ (stored input two.middle two.before) c.loop-end-test.true (gave two.middle rest two.later) c.if-byte-eq10.true c.store.ensures.core)
 
 pub loop-end-preserved : goal.loop-end-preserved
 loop-end-preserved g c =
@@ -68,7 +68,7 @@ loop-end-preserved g c =
       took = rw c.store.ensures.ended (took_both _ _ _ _ _ _ _ _ _ took c.in_ok-byte.ensures.took);
       stored = λ input rest leaves.
           let two = in_two _ _ _ _ _ _ _ _ _ input rest took c.in_ok-byte.ensures.took leaves in
-          stored_byte _ _ _ _ _ _ _ _ _ _ _ _ (stored input two.middle two.before) c.loop-end-test.true (gave two.middle rest two.behind) other c.store.ensures.core;
+          stored_byte _ _ _ _ _ _ _ _ _ _ _ _ (stored input two.middle two.before) c.loop-end-test.true (gave two.middle rest two.later) other c.store.ensures.core;
       heap_break = c.store.ensures.heap_break ∙ ap (λ m. m.heap_break) c.self.view_is ∙ c.loop-end.invariant.heap_break;
       keeps = keeps_both _ _ _ c.store.ensures.keeps keeps.memory keeps.halted;
       no_fault = c.in_ok-byte.ensures.no_fault ∙ c.loop-end.invariant.no_fault;

@@ -1,11 +1,11 @@
--- What a source gave in parts, one behind the other.
+-- What a source gave in parts, one after the other.
 use Rattle.std.proofs.Common.{◌≡◌, ℕ, ◌+◌, ◌<◌, ◌≤◌, Bool, true, false, List, [], ◌∷◌, ◌++◌, refl, sym, ◌∙◌, ap, append_assoc, append-nil, arith}
 use Rattle.std.specs.Prelude.{Option, Some, None}
 use Rattle.std.proofs.lemmas.List.{append_cancel_left}
 use Rattle.cool_ports.specs.Answers.{Past, after_answer, Leaves}
 use Rattle.cool_ports.specs.SourceBytes.{IsAtEnd, put_back}
-use Rattle.spim_machine.specs.Input.{with_front, EndsOnce, Took}
-use Rattle.spim_machine.proofs.GivingBytes.{front-nil, front-append, put_back-front}
+use Rattle.cool_ports.specs.Taking.{with_front, EndsOnce, Took}
+use Rattle.cool_ports.proofs.GivingBytes.{front-nil, front-append, put_back-front}
 
 -- the source was not asked
 ends_none : (was : Bool) (n : ℕ) (left : Option (List ℕ)) → EndsOnce was was [] n n left
@@ -15,7 +15,7 @@ ends_none false n left = refl
 pub took_nothing : (was : Bool) (past : Past) (left : Option (List ℕ)) → Took was was past past left left
 took_nothing was past left = record { front = []; given = sym (append-nil past.given); told = sym (front-nil left); ends = ends_none was past.ends left }
 
--- one part behind another
+-- one part after another
 ends_both : (was mid is : Bool) (a b : List ℕ) (m n k : ℕ) (left left' : Option (List ℕ)) → left ≡ with_front b left' → EndsOnce was mid a m n left → EndsOnce mid is b n k left' → EndsOnce was is (a ++ b) m k left'
 ends_both true true is a b m n k left left' told (i, none, same) (i', none', same') = (i', rw (none, none') refl, same' ∙ same)
 ends_both true false is a b m n k left left' told (i, none, same) e = absurd cc
@@ -41,16 +41,16 @@ ends_grow false true front m n left (more, end) = omega (arith, more)
 ends_grow false false front m n left same = omega (arith, same)
 
 -- where the end was answered in the first part, the second one took nothing
-nothing_behind : (was mid is : Bool) (a b : List ℕ) (m n k : ℕ) (left left' : Option (List ℕ)) → EndsOnce was mid a m n left → EndsOnce mid is b n k left' → m < n → b ≡ []
-nothing_behind true mid is a b m n k left left' (i, none, same) e more = absurd (omega (arith, same, more))
-nothing_behind false true is a b m n k left left' first (i', none', same') more = none'
-nothing_behind false false is a b m n k left left' same e more = absurd (omega (arith, same, more))
+nothing_later : (was mid is : Bool) (a b : List ℕ) (m n k : ℕ) (left left' : Option (List ℕ)) → EndsOnce was mid a m n left → EndsOnce mid is b n k left' → m < n → b ≡ []
+nothing_later true mid is a b m n k left left' (i, none, same) e more = absurd (omega (arith, same, more))
+nothing_later false true is a b m n k left left' first (i', none', same') more = none'
+nothing_later false false is a b m n k left left' same e more = absurd (omega (arith, same, more))
 
 -- An input over two parts is one over the first, of which is left one over the second.
 pub record InTwo (p q r : Past) (input rest : List ℕ) : Type 0 where
   pub middle : List ℕ
   pub before : Leaves p q input middle
-  pub behind : Leaves q r middle rest
+  pub later : Leaves q r middle rest
 
 pub in_two : (was mid is : Bool) (p q r : Past) (left middle left' : Option (List ℕ)) (input rest : List ℕ) → Took was mid p q left middle → Took mid is q r middle left' → Leaves p r input rest → InTwo p q r input rest
 in_two was mid is p q r left middle left' input rest s t l =
@@ -61,9 +61,9 @@ in_two was mid is p q r left middle left' input rest s t l =
       middle = t.front ++ rest;
       before = record {
         cut = l.cut ∙ part;
-        all = λ more. rw (nothing_behind was mid is s.front t.front p.ends q.ends r.ends middle left' s.ends t.ends more) (l.all (omega (arith, more, grows')));
+        all = λ more. rw (nothing_later was mid is s.front t.front p.ends q.ends r.ends middle left' s.ends t.ends more) (l.all (omega (arith, more, grows')));
       };
-      behind = record { cut = sym part; all = λ more. l.all (omega (arith, more, grows)) };
+      later = record { cut = sym part; all = λ more. l.all (omega (arith, more, grows)) };
     }
 
 -- what was given is such an input, of which nothing is left

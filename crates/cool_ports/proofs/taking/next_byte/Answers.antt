@@ -1,8 +1,8 @@
 use Rattle.std.proofs.Common.{arith, refl, ◌∙◌}
 use Rattle.std.proofs.lemmas.Result.{err_from_is_err_and}
-use Rattle.spim_machine.proofs.GivingBytes.{gave_none, zeros_before, next_is_some, next_is_end, next_is_failed, next_is_past}
-use Rattle.spim_machine.proofs.InputsInParts.{took_nothing, took_byte, took_answer, leaves_byte, leaves_end, leaves_same}
-use Rattle.spim_machine.proofs.input.next_byte.Goals as goal
+use Rattle.cool_ports.proofs.GivingBytes.{gave_none, zeros_before, next_is_some, next_is_end, next_is_failed, next_is_past}
+use Rattle.cool_ports.proofs.InputsInParts.{took_nothing, took_byte, took_answer, leaves_byte, leaves_end, leaves_same}
+use Rattle.cool_ports.proofs.taking.next_byte.Goals as goal
 
 pub returns-then-ended-clause-took : goal.returns-then-ended-clause-took
 returns-then-ended-clause-took g c = took_nothing _ _ _

@@ -4,7 +4,7 @@ use Rattle.std.specs.Prelude.{Option, Some, None, Ok, Err}
 use Rattle.std.proofs.lemmas.List.{replicate_more}
 use Rattle.cool_ports.specs.declared.Failed.{Failed}
 use Rattle.cool_ports.specs.SourceBytes.{put_back}
-use Rattle.spim_machine.specs.Input.{with_front, GaveByte}
+use Rattle.cool_ports.specs.Taking.{with_front, GaveByte}
 
 -- no bytes change nothing
 pub front-nil : (left : Option (List ℕ)) → with_front [] left ≡ left
@@ -36,14 +36,14 @@ pub record GaveZeros (before after : Option (List ℕ)) : Type 0 where
 pub gave_none : (left : Option (List ℕ)) → GaveZeros left left
 gave_none left = record { zeros = 0; gave = sym (front-nil left) }
 
--- a byte behind the zeros
-byte_behind : (before : Option (List ℕ)) (rest : List ℕ) (byte : ℕ) → (z : GaveZeros before (Some (byte ∷ rest))) → before ≡ with_front (replicate z.zeros 0 ++ byte ∷ []) (Some rest)
-byte_behind before rest byte z = z.gave ∙ front-append (replicate z.zeros 0) (byte ∷ []) (Some rest)
+-- a byte after the zeros
+byte_after : (before : Option (List ℕ)) (rest : List ℕ) (byte : ℕ) → (z : GaveZeros before (Some (byte ∷ rest))) → before ≡ with_front (replicate z.zeros 0 ++ byte ∷ []) (Some rest)
+byte_after before rest byte z = z.gave ∙ front-append (replicate z.zeros 0) (byte ∷ []) (Some rest)
 
 -- one more zero
 pub zeros_before : (before : Option (List ℕ)) (rest : List ℕ) (byte : ℕ) → byte ≡ 0 → GaveZeros before (Some (byte ∷ rest)) → GaveZeros before (Some rest)
 zeros_before before rest byte zero_is z =
-    let here : before ≡ with_front (replicate z.zeros 0 ++ 0 ∷ []) (Some rest) = byte_behind before rest byte z ∙ ap (λ b. with_front (replicate z.zeros 0 ++ b ∷ []) (Some rest)) zero_is in
+    let here : before ≡ with_front (replicate z.zeros 0 ++ 0 ∷ []) (Some rest) = byte_after before rest byte z ∙ ap (λ b. with_front (replicate z.zeros 0 ++ b ∷ []) (Some rest)) zero_is in
     record { zeros = z.zeros + 1; gave = here ∙ ap (λ zeros. with_front zeros (Some rest)) (replicate_more z.zeros 0) }
 
 -- the end was answered before
@@ -51,17 +51,17 @@ pub next_is_past : (left : Option (List ℕ)) (ended : Bool) → ended ≡ true 
 next_is_past left true is = (refl, refl)
 next_is_past left false is = cc
 
--- a byte came behind zeros
+-- a byte came after zeros
 pub next_is_some : (before : Option (List ℕ)) (rest : List ℕ) (was ended : Bool) (byte : ℕ) → was ≡ false → ended ≡ false → GaveZeros before (Some (byte ∷ rest)) → 0 < byte → GaveByte was before (Ok (Some byte)) ended (Some rest)
 next_is_some before rest true ended byte was_is is z above = cc
-next_is_some before rest false ended byte was_is is z above = (is, above, (z.zeros, byte_behind before rest byte z))
+next_is_some before rest false ended byte was_is is z above = (is, above, (z.zeros, byte_after before rest byte z))
 
--- the end came behind zeros
+-- the end came after zeros
 pub next_is_end : (before : Option (List ℕ)) (rest : List ℕ) (was : Bool) → was ≡ false → GaveZeros before (Some rest) → rest ≡ [] → GaveByte was before (Ok None) true (Some rest)
 next_is_end before rest true was_is z none = cc
 next_is_end before rest false was_is z none = (refl, none, (z.zeros, z.gave))
 
--- a take failed behind zeros
+-- a take failed after zeros
 pub next_is_failed : (before after : Option (List ℕ)) (was ended : Bool) (failed : Failed) → was ≡ false → ended ≡ false → GaveZeros before after → GaveByte was before (Err failed) ended after
 next_is_failed before after true ended failed was_is is z = cc
 next_is_failed before after false ended failed was_is is z = (is, (z.zeros, z.gave))

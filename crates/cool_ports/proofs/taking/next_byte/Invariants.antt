@@ -1,7 +1,7 @@
 use Rattle.std.proofs.Common.{◌≡◌, ◌≤◌, false}
-use Rattle.spim_machine.specs.Input.{Took, OfAnyInput}
-use Rattle.spim_machine.proofs.GivingBytes.{GaveZeros}
-use Rattle.spim_machine.proofs.input.next_byte.Given as goal
+use Rattle.cool_ports.specs.Taking.{Took, OfAnyInput}
+use Rattle.cool_ports.proofs.GivingBytes.{GaveZeros}
+use Rattle.cool_ports.proofs.taking.next_byte.Given as goal
 
 -- it gave zeros so far, the end was not answered, and no take failed
 abbrev pub invariant-loop-byte : goal.invariant-loop-byte
