@@ -5,7 +5,7 @@ use Rattle.std.proofs.lemmas.List.{append-nil}
 use Rattle.cool_big.specs.declared.line.Line.{Line}
 use Rattle.cool_big.specs.BigPrograms.{line_text, line_texts}
 
--- one more number stands behind those from a on
+-- one more number stands after those from a on
 flat_more : (f : ℕ → List ℕ) (a k : ℕ) → flat_map f (range_with_len a (suc k)) ≡ flat_map f (range_with_len a k) ++ f (a + k)
 flat_more f a zero = append-nil (f a) ∙ ap f (let e : a ≡ a + 0 = omega arith in e)
 flat_more f a (suc k) =

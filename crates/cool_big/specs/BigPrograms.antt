@@ -10,7 +10,7 @@ use Rattle.cool_big.specs.declared.line.Line.TheVariants.{Class, Method, Call}
 abbrev pub four_digits : ℕ → List ℕ
 four_digits i = (48 + i / 1000) ∷ (48 + i / 100 % 10) ∷ (48 + i / 10 % 10) ∷ (48 + i % 10) ∷ []
 
--- words with a number behind them
+-- words with a number after them
 abbrev pub numbered : List ℕ → ℕ → List ℕ
 numbered words i = words ++ four_digits i
 

@@ -1,11 +1,11 @@
-//! Words with a number in four decimal digits behind them.
+//! Words with a number in four decimal digits after them.
 
 ghost use Rattle.std.specs.Prelude.{◌≡◌, ◌+◌, ◌<◌, ◌++◌, OnOk};
 ghost use Rattle.cool_big.specs.BigPrograms.{four_digits, numbered};
 
 use std::alloc::AllocError;
 
-/// Adds words, and behind them a number below 10000 in four digits. `Err` comes only for want of memory.
+/// Adds words, and after them a number below 10000 in four digits. `Err` comes only for want of memory.
 pub(crate) fn push_numbered(text: &mut Vec<u8>, words: &[u8], number: u32) -> Result<(), AllocError>
     requires { number < 10000 }
     ensures { OnOk result (text.new.items ≡ text.old.items ++ numbered words.now number) }

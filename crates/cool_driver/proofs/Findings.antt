@@ -26,12 +26,12 @@ use Rattle.cool_driver.specs.Ends.{Request, Due, IsRead, IsRunOf, AreHeld, MayRe
 use Rattle.cool_driver.specs.Ends.Due.{checked, built, refused, ran, executed, unread_input, unfit, misread, summed, usage, too_many, missing, unread, too_large}
 use Rattle.cool_driver.specs.declared.command_line.Command.{Command}
 use Rattle.cool_driver.specs.declared.command_line.Command.TheVariants.{Check, Build, Run, Exec}
-use Rattle.cool_driver.proofs.HeldFiles.{held_same, held_behind, none_missing}
+use Rattle.cool_driver.proofs.HeldFiles.{held_same, held_later, none_missing}
 use Rattle.cool_driver.proofs.Plans.{same_number, no_files_for_big, no_files_for_nothing}
 use Rattle.cool_driver.proofs.ReadTwice.{same_plan, no_run_exec, RunsNothing, runs_nothing, no_plan_and_plan, held_told, files_read, same_read, same_file, may_refuse}
 use Rattle.cool_driver.proofs.ImagesOfCalls.{simple_again, image_without_fault, no_text, not_runnable, same_runnable, read_for_run, run_of_file, run_of_program, simple_not_run}
 
--- a file that is missing or too large, behind those that were read
+-- a file that is missing or too large, after those that were read
 pub record IsRefusedFile (r : Request) (command : Command) (names : List (List ℕ)) : Type 0 where
   pub front : List (List ℕ)
   pub rest : List (List ℕ)
@@ -159,7 +159,7 @@ no_refused_file : (r : Request) (files : FileMap) (a b : Command) (names others 
 no_refused_file r files a b names others contents refusal told read plan cause =
     let held = files_read r files a b names others contents told read plan in
     let whole : AreHeld (Some files) (refusal.front ++ refusal.name ∷ refusal.rest) contents = subst (λ (ns : List (List ℕ)). AreHeld (Some files) ns contents) refusal.stands held in
-    let there = held_behind files refusal.front refusal.rest refusal.name refusal.contents contents whole (held_told r.files files refusal.front refusal.contents told.0 refusal.held) in
+    let there = held_later files refusal.front refusal.rest refusal.name refusal.contents contents whole (held_told r.files files refusal.front refusal.contents told.0 refusal.held) in
     let command : most_bytes a ≡ most_bytes b = ap most_bytes (same_plan (plan_of r.words) a b names others read.plan plan).0 in
     refused_there r files b refusal.name there.0 (total refusal.contents) (total contents) told there.1 there.2 (omega (arith, read.within, command)) cause
 

@@ -42,16 +42,16 @@ none_missing files names contents name held (k, below, is) gone =
     let same : files name ≡ Some bytes = ap files (sym is) ∙ there in
     cc
 
--- the file behind those in front of it, and what they have together
-pub held_behind : (files : FileMap) (front rest : List (List ℕ)) (name : List ℕ) (some contents : List (List ℕ)) → AreHeld (Some files) (front ++ name ∷ rest) contents → AreHeld (Some files) front some
+-- the file after those in front of it, and what they have together
+pub held_later : (files : FileMap) (front rest : List (List ℕ)) (name : List ℕ) (some contents : List (List ℕ)) → AreHeld (Some files) (front ++ name ∷ rest) contents → AreHeld (Some files) front some
     → (bytes : List ℕ) × (files name ≡ Some bytes) × (total some + length bytes ≤ total contents)
-held_behind files [] rest name [] [] held before = absurd held
-held_behind files [] rest name [] (bytes ∷ contents) held before = (bytes, held.0, omega arith)
-held_behind files [] rest name (x ∷ some) contents held before = absurd before
-held_behind files (n ∷ front) rest name [] contents held before = absurd before
-held_behind files (n ∷ front) rest name (x ∷ some) [] held before = absurd held
-held_behind files (n ∷ front) rest name (x ∷ some) (y ∷ contents) held before =
-    let later = held_behind files front rest name some contents held.1 before.1 in
+held_later files [] rest name [] [] held before = absurd held
+held_later files [] rest name [] (bytes ∷ contents) held before = (bytes, held.0, omega arith)
+held_later files [] rest name (x ∷ some) contents held before = absurd before
+held_later files (n ∷ front) rest name [] contents held before = absurd before
+held_later files (n ∷ front) rest name (x ∷ some) [] held before = absurd held
+held_later files (n ∷ front) rest name (x ∷ some) (y ∷ contents) held before =
+    let later = held_later files front rest name some contents held.1 before.1 in
     let same : length x ≡ length y = ap length (same_bytes (files n) x y before.0 held.0) in
     (later.0, later.1, omega (arith, later.2, same))
 

@@ -105,7 +105,7 @@ misread_line limits name bytes line (Write made) is h = absurd h
 misread_line limits name bytes line (Run within image) is h = absurd h
 misread_line limits name bytes line (Execute within image) is h = absurd h
 
--- the line at a number, in front of those behind it
+-- the line at a number, in front of those after it
 pub note_at : (lines : List (Vec ℕ)) (i : ℕ) (line : Vec ℕ) → i < length lines → line ≡ get_or lines i line → line.items ++ note_of (drop (i + 1) lines) ≡ note_of (drop i lines)
 note_at lines i line h is = sym (at_drop_more note_of lines i line h ∙ ap (λ (v : Vec ℕ). v.items ++ note_of (drop (i + 1) lines)) (sym is))
 

@@ -30,34 +30,34 @@ module _ (p : ℕ → Bool) where
   front_ends [] b rest h e = rw e
   front_ends (g ∷ gs) b rest h e = rw (h.0, front_ends gs b rest h.1 e, one-add)
 
--- a lexeme that was read stands behind enough blanks
+-- a lexeme that was read stands after enough blanks
 pub lexeme_found : (blanks : ℕ) (lexeme bytes rest : List ℕ) → lexeme_at blanks lexeme bytes ≡ Some rest → (bytes ≡ take (prefix_len is_white bytes) bytes ++ (lexeme ++ rest)) × (blanks ≤ prefix_len is_white bytes)
 unfolding lexeme_at
 lexeme_found blanks lexeme bytes rest e =
     let gap = prefix_len is_white bytes in
-    let behind = drop gap bytes in
+    let after = drop gap bytes in
     let found = cond_some _ _ _ e in
     let tests = and_parts _ _ found.0 in
-    let here : take (length lexeme) behind ≡ lexeme = (bytes_eq-Decides _ _).0 tests.1 in
-    let split : behind ≡ lexeme ++ rest = sym (take-append-drop (length lexeme) behind) ∙ ap₂ ◌++◌ here found.1 in
+    let here : take (length lexeme) after ≡ lexeme = (bytes_eq-Decides _ _).0 tests.1 in
+    let split : after ≡ lexeme ++ rest = sym (take-append-drop (length lexeme) after) ∙ ap₂ ◌++◌ here found.1 in
     (sym (take-append-drop gap bytes) ∙ ap (λ xs. take gap bytes ++ xs) split, leb-true _ _ tests.0)
 
--- a lexeme is read behind blanks that are all leading ones, where there are enough
-lexeme_behind : (blanks : ℕ) (lexeme gap rest : List ℕ) → prefix_len is_white (gap ++ (lexeme ++ rest)) ≡ length gap → blanks ≤ length gap → lexeme_at blanks lexeme (gap ++ (lexeme ++ rest)) ≡ Some rest
+-- a lexeme is read after blanks that are all leading ones, where there are enough
+lexeme_after : (blanks : ℕ) (lexeme gap rest : List ℕ) → prefix_len is_white (gap ++ (lexeme ++ rest)) ≡ length gap → blanks ≤ length gap → lexeme_at blanks lexeme (gap ++ (lexeme ++ rest)) ≡ Some rest
 unfolding lexeme_at
-lexeme_behind blanks lexeme gap rest e h = rw (e, drop_at, take_at, drop_at, le-leb blanks (length gap) h, (bytes_eq-Decides lexeme lexeme).1 refl)
+lexeme_after blanks lexeme gap rest e h = rw (e, drop_at, take_at, drop_at, le-leb blanks (length gap) h, (bytes_eq-Decides lexeme lexeme).1 refl)
 
--- a lexeme behind enough blanks is read
+-- a lexeme after enough blanks is read
 pub lexeme_read : (blanks : ℕ) (lexeme gap rest : List ℕ) → is_solid lexeme ≡ true → AreBlanks gap → blanks ≤ length gap → lexeme_at blanks lexeme (gap ++ (lexeme ++ rest)) ≡ Some rest
 lexeme_read blanks [] gap rest s g h = cc
-lexeme_read blanks (b ∷ bs) gap rest s g h = lexeme_behind blanks (b ∷ bs) gap rest (front_ends is_white gap b (bs ++ rest) g (not-true _ s)) h
+lexeme_read blanks (b ∷ bs) gap rest s g h = lexeme_after blanks (b ∷ bs) gap rest (front_ends is_white gap b (bs ++ rest) g (not-true _ s)) h
 
--- a lexeme is not read where another byte stands behind the blanks
+-- a lexeme is not read where another byte stands after the blanks
 pub lexeme_apart : (blanks c : ℕ) (lexeme gap : List ℕ) (b : ℕ) (rest : List ℕ) → AreBlanks gap → is_white b ≡ false → b == c ≡ false → lexeme_at blanks (c ∷ lexeme) (gap ++ b ∷ rest) ≡ None
 unfolding lexeme_at
 lexeme_apart blanks c lexeme gap b rest g s e = rw (front_ends is_white gap b rest g s, drop_at, e, and-false)
 
--- lexemes that were read are spelled, in front of what is spelled behind them
+-- lexemes that were read are spelled, in front of what is spelled after them
 pub lexemes_found : (ss more : List Spaced) (bytes rest : List ℕ) → lexemes_at ss bytes ≡ Some rest → Spells rest more → Spells bytes (ss ++ more)
 lexemes_found [] more bytes rest e spelled = rw (same_Some _ _ e) spelled
 lexemes_found (s ∷ ss) more bytes rest e spelled =

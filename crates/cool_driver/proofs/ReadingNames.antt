@@ -14,11 +14,11 @@ use Rattle.cool_driver.specs.Reading.{IsCause, IsStopAt}
 use Rattle.cool_driver.specs.SimpleReading.{texts}
 use Rattle.cool_driver.proofs.HeldFiles.{held_more, total-push}
 
--- the name at a number behind those before it
+-- the name at a number after those before it
 names_more : (names : List (String Global)) (i : ℕ) (name : String Global) → i < length names → name ≡ get_or names i name → words_of (take (i + 1) names) ≡ words_of (take i names) ++ string_bytes name ∷ []
 names_more names i name h is = map_more string_bytes names i name h ∙ ap (λ (n : String Global). words_of (take i names) ++ string_bytes n ∷ []) (sym is)
 
--- and between those before it and those behind it
+-- and between those before it and those after it
 names_cut : (names : List (String Global)) (i : ℕ) (name : String Global) → i < length names → name ≡ get_or names i name → words_of names ≡ words_of (take i names) ++ string_bytes name ∷ words_of (drop (i + 1) names)
 names_cut names i name h is =
     ap words_of (sym (take-append-drop i names)) ∙ map-append string_bytes (take i names) (drop i names)
@@ -47,7 +47,7 @@ cause_of files before after name most faults.Failed gone long failed other = fai
 cause_of files before after name most faults.TooLarge gone long failed other = long refl
 cause_of files before after name most faults.Memory gone long failed other = absurd (other refl)
 
--- a file was refused behind those that were read
+-- a file was refused after those that were read
 pub stop_at : (told now : Option FileMap) (before now_before after : ℕ) (names : List (String Global)) (i : ℕ) (name : String Global) (given : List ℕ) (contents : List (Vec ℕ)) (most left : ℕ) (fault : ShelfFault)
     → now ≡ told → now_before ≡ before → i < length names → name ≡ get_or names i name → given ≡ string_bytes name
     → AreHeld told (words_of (take i names)) (texts contents) → total (texts contents) + left ≡ most → IsCause now now_before after given left fault → IsStopAt told before after (words_of names) most given fault

@@ -7,16 +7,16 @@ use Rattle.cool_driver.specs.SimpleForm.{escaped, is_plain}
 use Rattle.cool_driver.specs.SimpleReading.{string_at, with_front}
 
 -- bytes with the backslash, if one came just before them
-abbrev behind_backslash : Bool → List ℕ → List ℕ
-behind_backslash true bytes = 92 ∷ bytes
-behind_backslash false bytes = bytes
+abbrev after_backslash : Bool → List ℕ → List ℕ
+after_backslash true bytes = 92 ∷ bytes
+after_backslash false bytes = bytes
 
 -- a value that a test lets through was there, and the test passed
 pub cond_found : {A : Type 0} (b : Bool) (o : Option A) (y : A) → cond b o None ≡ Some y → (b ≡ true) × (o ≡ Some y)
 cond_found true o y e = (refl, e)
 cond_found false o y e = cc
 
--- what was read behind bytes that were put in front
+-- what was read after bytes that were put in front
 with_front_found : (front : List ℕ) (read : Option (List ℕ × List ℕ)) (string rest : List ℕ) → with_front front read ≡ Some (string, rest) → (found : List ℕ) × (string ≡ front ++ found) × (read ≡ Some (found, rest))
 with_front_found front None string rest e = cc
 with_front_found front (Some found) string rest e =
@@ -28,7 +28,7 @@ plain_byte : (b : ℕ) → 32 ≤ b → b ≤ 126 → b == 34 ≡ false → b ==
 plain_byte b low high quote backslash = rw (ne_eqb b 10 (λ (e : b ≡ 10). omega arith), le-leb 32 b low, le-leb b 126 high, quote, backslash) (refl, refl)
 
 -- a string that was read had its constant there
-pub string_found : (backslash : Bool) (bytes string rest : List ℕ) → string_at backslash bytes ≡ Some (string, rest) → (behind_backslash backslash bytes ≡ flat_map escaped string ++ 34 ∷ rest) × AllByRecursion (λ b. IsTrue (is_plain b)) string
+pub string_found : (backslash : Bool) (bytes string rest : List ℕ) → string_at backslash bytes ≡ Some (string, rest) → (after_backslash backslash bytes ≡ flat_map escaped string ++ 34 ∷ rest) × AllByRecursion (λ b. IsTrue (is_plain b)) string
 string_found true [] string rest e = cc
 string_found false [] string rest e = cc
 string_found true (b ∷ bs) string rest e =

@@ -29,7 +29,7 @@ halves n small =
     let upper : n / 65536 * 65536 % 4294967296 ≡ n / 65536 * 65536 = omega (arith, small) in
     rw upper (or_shifted (n / 65536) 16 (n % 65536) (omega arith) ∙ omega arith)
 
--- the state behind lui and ori, which put a number into a register
+-- the state after lui and ori, which put a number into a register
 abbrev with_number : ℕ → ℕ → State → State
 with_number k n s = record s { core = record s.core { registers = set_register (set_register s.core.registers k (n / 65536 * 65536 % 4294967296)) k n; pc = s.core.pc + 4 + 4 } }
 
@@ -65,14 +65,14 @@ print_run : (text rest : List ℕ) (b : Segments) (k n address : ℕ) (string : 
     → drop k text ≡ print_words address ++ rest → s.core.pc ≡ TEXT_START + 4 * k → string_at b s.core.memory address ≡ Some string
     → run text b (suc (suc (suc (suc (suc n))))) s ≡ run text b n (printed address string s)
 print_run text rest b k n address string s small end there at found =
-    let behind_two = drop_one_more (suc k) text _ _ (drop_one_more k text _ _ there) in
-    let behind_four = drop_one_more (suc (suc (suc k))) text _ _ (drop_one_more (suc (suc k)) text _ _ behind_two) in
+    let after_two = drop_one_more (suc k) text _ _ (drop_one_more k text _ _ there) in
+    let after_four = drop_one_more (suc (suc (suc k))) text _ _ (drop_one_more (suc (suc k)) text _ _ after_two) in
     let s4 = with_number 4 address s in
     let s2 = with_number 2 4 s4 in
     let core : Core = record s2.core { pc = s2.core.pc + 4 } in
-    let call_it : step text b s2.core ≡ Call core = text_step text (suc (suc (suc (suc k)))) 12 rest b s2.core Syscall end behind_four (omega (arith, at)) syscall_word in
+    let call_it : step text b s2.core ≡ Call core = text_step text (suc (suc (suc (suc k)))) 12 rest b s2.core Syscall end after_four (omega (arith, at)) syscall_word in
     number_loaded text _ b address k 4 (suc (suc (suc n))) s (omega arith) (omega arith) small end there at
-    ∙ number_loaded text _ b 4 (suc (suc k)) 2 (suc n) s4 (omega arith) (omega arith) (omega arith) end behind_two (omega (arith, at))
+    ∙ number_loaded text _ b 4 (suc (suc k)) 2 (suc n) s4 (omega arith) (omega arith) (omega arith) end after_two (omega (arith, at))
     ∙ run_call text b n s2 core _ call_it (ap (print_string (record s2 { core = core })) found)
 
 -- the words of an exit
@@ -80,17 +80,17 @@ exit_run : (text rest : List ℕ) (b : Segments) (k n : ℕ) (s : State) → b.t
     → drop k text ≡ exit_words ++ rest → s.core.pc ≡ TEXT_START + 4 * k
     → (end : State) × (run text b (suc (suc (suc n))) s ≡ Exited 0 end) × (end.output ≡ s.output) × (end.input ≡ s.input)
 exit_run text rest b k n s end there at =
-    let behind_two = drop_one_more (suc k) text _ _ (drop_one_more k text _ _ there) in
+    let after_two = drop_one_more (suc k) text _ _ (drop_one_more k text _ _ there) in
     let s2 = with_number 2 10 s in
     let core : Core = record s2.core { pc = s2.core.pc + 4 } in
-    let call_it : step text b s2.core ≡ Call core = text_step text (suc (suc k)) 12 rest b s2.core Syscall end behind_two (omega (arith, at)) syscall_word in (
+    let call_it : step text b s2.core ≡ Call core = text_step text (suc (suc k)) 12 rest b s2.core Syscall end after_two (omega (arith, at)) syscall_word in (
       record s2 { core = core },
       number_loaded text _ b 10 k 2 (suc n) s (omega arith) (omega arith) (omega arith) end there at ∙ run_call text b n s2 core _ call_it refl,
       refl,
       refl,
     )
 
--- a string in the data, and the zero behind it
+-- a string in the data, and the zero after it
 string_here : (m : Bytes) (string : List ℕ) (a n : ℕ) → HasNoZero string → length string < n
     → ((i : ℕ) → i < length string → m (a + i) ≡ get_or string i 0) → m (a + length string) ≡ 0 → up_to_zero m a n ≡ Some string
 string_here m string a zero plain room each ends = absurd (omega (arith, room))
@@ -108,12 +108,12 @@ string_here m (c ∷ string) a (suc n) plain room each ends =
 -- a byte of the data, in the memory of an image
 data_byte : (image : ImageParts) (i : ℕ) → i < 268435456 → bytes_of_image image (DATA_START + i) ≡ get_or image.bytes i 0
 data_byte image i small =
-    let behind_text : nat_lt (DATA_START + i) DATA_START ≡ false = grind arith in
+    let after_text : nat_lt (DATA_START + i) DATA_START ≡ false = grind arith in
     let before_heap : nat_lt (DATA_START + i) HEAP_START ≡ true = grind (arith, small) in
     let offset : DATA_START + i - DATA_START ≡ i = omega arith in
-    rw (behind_text, before_heap, offset) refl
+    rw (after_text, before_heap, offset) refl
 
--- the string behind other data is found at its address
+-- the string after other data is found at its address
 string_found : (image : ImageParts) (heap stack : ℕ) (front string rest : List ℕ) → length image.text ≤ 66060288 → length image.bytes ≤ 268435456
     → image.bytes ≡ front ++ (string ++ 0 ∷ rest) → HasNoZero string
     → string_at (segments_of image heap stack) (bytes_of_image image) (DATA_START + length front) ≡ Some string
@@ -135,18 +135,18 @@ string_found image heap stack front string rest few small split plain =
 abbrev Printed : State → List ℕ → Outcome → Type 0
 Printed s output o = (end : State) × (o ≡ Exited 0 end) × (end.output ≡ s.output ++ output) × (end.input ≡ s.input)
 
--- the run of the words that are left, behind those of other strings, whose data stands in front
-runs_behind : (strings : List (List ℕ)) (image : ImageParts) (heap stack : ℕ) (front : List ℕ) (k n : ℕ) (s : State)
+-- the run of the words that are left, after those of other strings, whose data stands in front
+runs_after : (strings : List (List ℕ)) (image : ImageParts) (heap stack : ℕ) (front : List ℕ) (k n : ℕ) (s : State)
     → length image.text ≤ 66060288 → length image.bytes ≤ 268435456 → image.bytes ≡ front ++ data_of strings
     → drop k image.text ≡ prints (DATA_START + length front) strings ++ exit_words → s.core.pc ≡ TEXT_START + 4 * k → s.core.memory ≡ bytes_of_image image
     → AllByRecursion HasNoZero strings → 5 * length strings + 3 ≤ n
     → Printed s (concat strings) (run image.text (segments_of image heap stack) n s)
-runs_behind [] image heap stack front k n s few small split there at same plain enough =
+runs_after [] image heap stack front k n s few small split there at same plain enough =
     let three : n ≡ suc (suc (suc (n - 3))) = omega (arith, enough) in
     let b = segments_of image heap stack in
     let exit = exit_run image.text [] b k (n - 3) s refl there at in
     (exit.0, ap (λ m. run image.text b m s) three ∙ exit.1, exit.2 ∙ sym (append-nil s.output), exit.3)
-runs_behind (string ∷ strings) image heap stack front k n s few small split there at same plain enough =
+runs_after (string ∷ strings) image heap stack front k n s few small split there at same plain enough =
     let b = segments_of image heap stack in
     let address = DATA_START + length front in
     let five : n ≡ suc (suc (suc (suc (suc (n - 5))))) = omega (arith, enough) in
@@ -161,7 +161,7 @@ runs_behind (string ∷ strings) image heap stack front k n s few small split th
     = drop_one_more (suc (suc (suc (suc k)))) image.text _ _ (drop_one_more (suc (suc (suc k))) image.text _ _ (drop_one_more (suc (suc k)) image.text _ _ (drop_one_more (suc k) image.text _ _ (drop_one_more k image.text _ _ grouped)))) ∙ ap (λ q. prints q strings ++ exit_words) address_next in
     let found : string_at b s.core.memory address ≡ Some string = ap (λ m. string_at b m address) same ∙ string_found image heap stack front string (data_of strings) few small whole plain.0 in
     let one = print_run image.text _ b k (n - 5) address string s (omega (arith, sizes, small)) refl grouped at found in
-    let more = runs_behind strings image heap stack next (suc (suc (suc (suc (suc k))))) (n - 5) (printed address string s) few small again there_next (omega (arith, at)) same plain.1 (omega (arith, enough)) in
+    let more = runs_after strings image heap stack next (suc (suc (suc (suc (suc k))))) (n - 5) (printed address string s) few small again there_next (omega (arith, at)) same plain.1 (omega (arith, enough)) in
     (more.0, ap (λ m. run image.text b m s) five ∙ one ∙ more.1, more.2 ∙ append_assoc s.output string (concat strings), more.3)
 
 -- the words that print strings print them, and exit
@@ -170,4 +170,4 @@ pub text_prints : (strings : List (List ℕ)) (image : ImageParts) (heap stack n
     → length image.text ≤ 66060288 → length image.bytes ≤ 268435456 → AllByRecursion HasNoZero strings → 5 * length strings + 3 ≤ n
     → (end : State) × (run image.text (segments_of image heap stack) n (start image (segments_of image heap stack) input) ≡ Exited 0 end) × (end.output ≡ concat strings) × (end.input ≡ input)
 text_prints strings image heap stack n input entry text bytes few small plain enough =
-    runs_behind strings image heap stack [] 0 n (start image (segments_of image heap stack) input) few small bytes text (entry ∙ omega arith) refl plain enough
+    runs_after strings image heap stack [] 0 n (start image (segments_of image heap stack) input) few small bytes text (entry ∙ omega arith) refl plain enough

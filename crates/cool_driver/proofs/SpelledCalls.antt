@@ -18,7 +18,7 @@ opening = close (codes "out_string") ∷ close (codes "(") ∷ []
 abbrev quote_mark : Spaced
 quote_mark = close (codes "\"")
 
--- a string that was read behind its opening quote had its constant there
+-- a string that was read after its opening quote had its constant there
 constant_found : (bytes quote string rest : List ℕ) (more : List Spaced) → lexeme_at 0 (codes "\"") bytes ≡ Some quote → string_at false quote ≡ Some (string, rest) → Spells rest more → Spells bytes (close (quoted string) ∷ more) × AllByRecursion (λ b. IsTrue (is_plain b)) string
 constant_found bytes quote string rest more e f spelled =
     let gap = take (prefix_len is_white bytes) bytes in
@@ -35,46 +35,46 @@ constant_read bytes string more p (gap, mid, e, g, h, spelled) =
     (quote, mid, rw split (lexeme_read 0 (codes "\"") gap quote refl g h), string_read string mid p, spelled)
 
 -- the parts of a call that was read
-call_parts : (bytes string rest : List ℕ) → call_at bytes ≡ Some (string, rest) → (quote behind : List ℕ) × (lexemes_at call_head bytes ≡ Some quote) × (string_at false quote ≡ Some (string, behind)) × (lexemes_at call_tail behind ≡ Some rest) × (length string ≤ MOST_BYTES)
+call_parts : (bytes string rest : List ℕ) → call_at bytes ≡ Some (string, rest) → (quote after : List ℕ) × (lexemes_at call_head bytes ≡ Some quote) × (string_at false quote ≡ Some (string, after)) × (lexemes_at call_tail after ≡ Some rest) × (length string ≤ MOST_BYTES)
 unfolding call_at
 call_parts bytes string rest e =
     option_and_then_some _ (lexemes_at call_head bytes) _ e (λ quote headed e1.
     option_and_then_some _ (string_at false quote) _ e1 (λ read constant e2.
-    option_and_then_some _ (lexemes_at call_tail read.1) _ e2 (λ behind tailed e3.
-    let test = cond_some (nat_le (length read.0) MOST_BYTES) (read.0, behind) (string, rest) e3 in
+    option_and_then_some _ (lexemes_at call_tail read.1) _ e2 (λ after tailed e3.
+    let test = cond_some (nat_le (length read.0) MOST_BYTES) (read.0, after) (string, rest) e3 in
     let name : read.0 ≡ string = ap (λ (pair : List ℕ × List ℕ). pair.0) test.1 in
-    let left : behind ≡ rest = ap (λ (pair : List ℕ × List ℕ). pair.1) test.1 in
+    let left : after ≡ rest = ap (λ (pair : List ℕ × List ℕ). pair.1) test.1 in
     (quote, read.1, headed, constant ∙ ap (λ xs. Some (xs, read.1)) name, tailed ∙ ap Some left, rw name at (leb-true _ _ test.0)))))
 
 -- a call that was read is spelled, and its string is plain
 call_found : (bytes string rest : List ℕ) (more : List Spaced) → call_at bytes ≡ Some (string, rest) → Spells rest more → Spells bytes (call string ++ more) × IsPlainString string
 call_found bytes string rest more e spelled =
-    let (quote, behind, headed, read, tailed, short) = call_parts bytes string rest e in
+    let (quote, after, headed, read, tailed, short) = call_parts bytes string rest e in
     option_and_then_some (lexemes_at (quote_mark ∷ [])) (lexemes_at opening bytes) quote (sym (lexemes_at-append opening (quote_mark ∷ []) bytes) ∙ headed) (λ mid opened marked.
-    let constant = constant_found mid quote string behind (call_tail ++ more) (last_lexeme quote_mark mid quote marked) read (lexemes_found call_tail more behind rest tailed spelled) in
+    let constant = constant_found mid quote string after (call_tail ++ more) (last_lexeme quote_mark mid quote marked) read (lexemes_found call_tail more after rest tailed spelled) in
     (lexemes_found opening (close (quoted string) ∷ (call_tail ++ more)) bytes mid opened constant.0, (constant.1, short)))
 
 -- a call whose parts are read is read
-call_from : (bytes quote string behind rest : List ℕ) → lexemes_at call_head bytes ≡ Some quote → string_at false quote ≡ Some (string, behind) → lexemes_at call_tail behind ≡ Some rest → length string ≤ MOST_BYTES → call_at bytes ≡ Some (string, rest)
+call_from : (bytes quote string after rest : List ℕ) → lexemes_at call_head bytes ≡ Some quote → string_at false quote ≡ Some (string, after) → lexemes_at call_tail after ≡ Some rest → length string ≤ MOST_BYTES → call_at bytes ≡ Some (string, rest)
 unfolding call_at
-call_from bytes quote string behind rest e f g h = rw (e, f, g, le-leb (length string) MOST_BYTES h)
+call_from bytes quote string after rest e f g h = rw (e, f, g, le-leb (length string) MOST_BYTES h)
 
 -- a call that is spelled is read
 call_read : (bytes string : List ℕ) (more : List Spaced) → IsPlainString string → Spells bytes (call string ++ more) → (rest : List ℕ) × (call_at bytes ≡ Some (string, rest)) × Spells rest more
 call_read bytes string more p spelled =
     let front = lexemes_read opening (close (quoted string) ∷ (call_tail ++ more)) bytes refl spelled in
     let constant = constant_read front.0 string (call_tail ++ more) p.0 front.2 in
-    let behind = lexemes_read call_tail more constant.1 refl constant.4 in
+    let after = lexemes_read call_tail more constant.1 refl constant.4 in
     let headed : lexemes_at call_head bytes ≡ Some constant.0 =
     lexemes_at-append opening (quote_mark ∷ []) bytes ∙ ap (option_and_then (lexemes_at (quote_mark ∷ []))) front.1 ∙ ap (option_and_then (lexemes_at [])) constant.2 in
-    (behind.0, call_from bytes constant.0 string constant.1 behind.0 headed constant.3 behind.1 p.1, behind.2)
+    (after.0, call_from bytes constant.0 string constant.1 after.0 headed constant.3 after.1 p.1, after.2)
 
 -- no call is read where the end of the program is spelled
 no_call : (bytes : List ℕ) → Spells bytes tail → call_at bytes ≡ None
 unfolding call_at
 no_call bytes (gap, mid, e, g, h, spelled) = rw (e, lexeme_apart 0 111 (codes "ut_string") gap 125 mid g refl refl)
 
--- the bytes spell the calls that were read, in front of what is spelled behind them
+-- the bytes spell the calls that were read, in front of what is spelled after them
 abbrev pub AreCalls : List ℕ → List Spaced → ℕ → List (List ℕ) × List ℕ → Type 0
 AreCalls bytes more n read = Spells read.1 more → Spells bytes (flat_map call read.0 ++ more) × AllByRecursion IsPlainString read.0 × (length read.0 ≤ n)
 

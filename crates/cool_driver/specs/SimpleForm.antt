@@ -22,7 +22,7 @@ close lexeme = record { blanks = 0; lexeme = lexeme }
 abbrev pub apart : List ℕ → Spaced
 apart lexeme = record { blanks = 1; lexeme = lexeme }
 
--- the bytes are these lexemes in order, with white space before, between and behind them
+-- the bytes are these lexemes in order, with white space before, between and after them
 abbrev pub Spells : List ℕ → List Spaced → Type 0
 Spells bytes [] = AreBlanks bytes
 Spells bytes (s ∷ ss) =

@@ -20,14 +20,14 @@ infixl 10 ◌>>=◌
 abbrev pub ◌>>=◌ : {A B : Type 0} → Option A → (A → Option B) → Option B
 read >>= next = option_and_then next read
 
--- what is left behind a lexeme, and the blanks before it, of which there are at least so many
+-- what is left after a lexeme, and the blanks before it, of which there are at least so many
 unfoldable pub lexeme_at : ℕ → List ℕ → List ℕ → Option (List ℕ)
 lexeme_at blanks lexeme bytes =
     let gap = prefix_len is_white bytes in
     let rest = drop gap bytes in
     if nat_le blanks gap && bytes_eq (take (length lexeme) rest) lexeme then Some (drop (length lexeme) rest) else None
 
--- what is left behind lexemes in order
+-- what is left after lexemes in order
 abbrev pub lexemes_at : List Spaced → List ℕ → Option (List ℕ)
 lexemes_at [] bytes = Some bytes
 lexemes_at (s ∷ ss) bytes = lexeme_at s.blanks s.lexeme bytes >>= lexemes_at ss
@@ -36,7 +36,7 @@ lexemes_at (s ∷ ss) bytes = lexeme_at s.blanks s.lexeme bytes >>= lexemes_at s
 abbrev pub with_front : List ℕ → Option (List ℕ × List ℕ) → Option (List ℕ × List ℕ)
 with_front front read = option_map (λ found. (front ++ found.0, found.1)) read
 
--- a string up to its closing quote, and what is left behind that; a backslash may have come just before
+-- a string up to its closing quote, and what is left after that; a backslash may have come just before
 abbrev pub string_at : Bool → List ℕ → Option (List ℕ × List ℕ)
 string_at escaped [] = None
 string_at true (b ∷ bs) = if b == 110 then with_front (10 ∷ []) (string_at false bs) else None
@@ -45,14 +45,14 @@ string_at false (b ∷ bs) =
     else (if b == 92 then string_at true bs
     else (if nat_le 32 b && nat_le b 126 then with_front (b ∷ []) (string_at false bs) else None))
 
--- what stands before the string of a call, and behind it
+-- what stands before the string of a call, and after it
 abbrev pub call_head : List Spaced
 call_head = close (codes "out_string") ∷ close (codes "(") ∷ close (codes "\"") ∷ []
 
 abbrev pub call_tail : List Spaced
 call_tail = close (codes ")") ∷ close (codes ";") ∷ []
 
--- the string of one call, and what is left behind it
+-- the string of one call, and what is left after it
 unfoldable pub call_at : List ℕ → Option (List ℕ × List ℕ)
 call_at bytes = do
   quote ← lexemes_at call_head bytes
@@ -60,12 +60,12 @@ call_at bytes = do
   rest ← lexemes_at call_tail string.1
   if nat_le (length string.0) MOST_BYTES then Some (string.0, rest) else None
 
--- the string of a call, where one was read, in front of those of the calls behind it
+-- the string of a call, where one was read, in front of those of the calls after it
 abbrev pub call_and : List ℕ → Option (List ℕ × List ℕ) → (List ℕ → List (List ℕ) × List ℕ) → List (List ℕ) × List ℕ
 call_and bytes None more = ([], bytes)
 call_and bytes (Some call) more = (call.0 ∷ (more call.1).0, (more call.1).1)
 
--- the strings of at most so many calls, and what is left behind them
+-- the strings of at most so many calls, and what is left after them
 abbrev pub calls_at : ℕ → List ℕ → List (List ℕ) × List ℕ
 calls_at zero bytes = ([], bytes)
 calls_at (suc n) bytes = call_and bytes (call_at bytes) (calls_at n)
@@ -84,7 +84,7 @@ program_at bytes = do
 abbrev pub is_blank_file : List ℕ → Bool
 is_blank_file bytes = nat_le (length bytes) (prefix_len is_white bytes)
 
--- the strings of the first file that is not blank, where all behind it are
+-- the strings of the first file that is not blank, where all after it are
 abbrev pub programs_at : List (List ℕ) → Option (List (List ℕ))
 programs_at [] = None
 programs_at (bytes ∷ files) = if is_blank_file bytes then programs_at files else (if list_all is_blank_file files then program_at bytes else None)

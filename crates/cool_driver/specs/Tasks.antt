@@ -1,9 +1,11 @@
 -- What is left to do once the words and the files were read: a note, lines or an image to write, or an image to run.
-use Rattle.std.specs.Prelude.{◌≡◌, ◌≢◌, ℕ, ◌<◌, ◌⊎◌, true, false, List, [], ◌∷◌, ◌++◌, Option, Some, None, get_or, map, length}
-use Rattle.std.specs.List.{concat, AllByRecursion}
-use Rattle.std.specs.Global.{Vec}
+use Rattle.std.specs.Prelude.{◌≡◌, ◌≢◌, ℕ, ◌<◌, ◌≤◌, ◌⊎◌, true, false, List, [], ◌∷◌, ◌++◌, Option, Some, None, get_or, map, length, String}
+use Rattle.std.specs.List.{concat, list_all, AllByRecursion}
+use Rattle.std.specs.Global.{Global, Vec}
+use Rattle.cool_syntax.specs.declared.TheConstants.{MOST_FILES, MOST_SOURCE_BYTES}
 use Rattle.cool_classes.specs.Chains.{Class}
 use Rattle.cool_faults.specs.declared.fault.Fault.{Fault}
+use Rattle.cool_faults.specs.Files.{total}
 use Rattle.cool_faults.specs.Texts.{fault_line}
 use Rattle.cool_faults.specs.Verdicts.{IsAccepted, IsRefused}
 use Rattle.cool_ports.specs.declared.shelf.ShelfFault.{ShelfFault}
@@ -17,8 +19,8 @@ use Rattle.mips_image.specs.ImageReading.{first_fault}
 use Rattle.mips_image.specs.declared.image_error.ImageError.{ImageError}
 use Rattle.cool_emit.specs.Programs.{program_lines}
 use Rattle.cool_words.specs.declared.plan.RunLimits.{RunLimits}
-use Rattle.cool_words.specs.Plans.{IsBounded}
-use Rattle.cool_driver.specs.CommandLine.{plan_of}
+use Rattle.cool_words.specs.Plans.{IsBounded, is_file_name}
+use Rattle.cool_driver.specs.CommandLine.{words_of, plan_of}
 use Rattle.cool_driver.specs.Notes.{end_text, refused_note, missing_note, unread_note, too_large_note, image_note, asm_note}
 use Rattle.cool_driver.specs.Execution.{IsRunnable, is_text_file, run_of}
 use Rattle.cool_driver.specs.Ends.{Request, Due, Writing, IsRead, IsRunOf, built_bytes, SinkUse, Got, GotPart}
@@ -46,6 +48,14 @@ code_of statuses.Memory = 9
 code_of statuses.FileFault = 10
 code_of statuses.Trapped = 11
 code_of statuses.Unfit = 12
+
+-- The sources of a program: a file's name and bytes for each, one file at least, and neither too many nor too large.
+pub record AreSources (names : List (String Global)) (contents : List (Vec ℕ)) : Type 0 where
+  pub each : length names ≡ length contents
+  pub named : list_all is_file_name (words_of names) ≡ true
+  pub some : 0 < length names
+  pub few : length contents ≤ MOST_FILES
+  pub small : total (texts contents) ≤ MOST_SOURCE_BYTES
 
 -- lines of a note, none of them empty, and the note that they are
 abbrev pub AreLines : List (Vec ℕ) → Type 0

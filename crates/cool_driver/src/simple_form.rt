@@ -51,7 +51,7 @@ fn leading_blanks(bytes: &[u8]) -> usize
     bytes.iter().take_while(|byte| is_white(**byte)).count()
 }
 
-/// What is left behind a lexeme, and the blanks before it, of which there are at least so many.
+/// What is left after a lexeme, and the blanks before it, of which there are at least so many.
 #[tactic(auto, unfolding(crate::specs::SimpleReading::lexeme_at))]
 fn skip_lexeme<'a>(bytes: &'a [u8], blanks: usize, lexeme: &[u8]) -> Option<&'a [u8]>
     ensures { option_copied result ≡ lexeme_at blanks lexeme.now bytes.now }
@@ -64,7 +64,7 @@ fn skip_lexeme<'a>(bytes: &'a [u8], blanks: usize, lexeme: &[u8]) -> Option<&'a 
     rest.strip_prefix(lexeme)
 }
 
-/// The string of a constant, up to its closing quote, and what is left behind that.
+/// The string of a constant, up to its closing quote, and what is left after that.
 fn read_string(alloc: Global, bytes: &[u8]) -> Result<(Vec<u8>, &[u8]), SimpleError>
     ensures { Gives (λ found. (found.0.items, found.1.now)) result (string_at false bytes.now) }
 {
@@ -89,7 +89,7 @@ fn read_string(alloc: Global, bytes: &[u8]) -> Result<(Vec<u8>, &[u8]), SimpleEr
     Err(SimpleError::NotSimple)
 }
 
-/// The string of one call, and what is left behind the call.
+/// The string of one call, and what is left after the call.
 #[tactic(auto, unfolding(crate::specs::SimpleReading::call_at))]
 fn read_call(alloc: Global, bytes: &[u8]) -> Result<(Vec<u8>, &[u8]), SimpleError>
     ensures { Gives (λ found. (found.0.items, found.1.now)) result (call_at bytes.now) }
@@ -122,7 +122,7 @@ fn skip_call_tail(bytes: &[u8]) -> Option<&[u8]>
     skip_lexeme(paren, 0, b";")
 }
 
-/// The strings of at most 800 calls, and what is left behind them.
+/// The strings of at most 800 calls, and what is left after them.
 fn read_calls(alloc: Global, bytes: &[u8]) -> Result<(Vec<Vec<u8>>, &[u8]), SimpleError>
     ensures { Gives (λ found. (texts found.0.items, found.1.now)) result (Some (calls_at MOST_CALLS bytes.now)) }
 {
@@ -130,9 +130,9 @@ fn read_calls(alloc: Global, bytes: &[u8]) -> Result<(Vec<Vec<u8>>, &[u8]), Simp
     let mut rest = bytes;
     for _call in 0..MOST_CALLS {
         match read_call(alloc, rest) {
-            Ok((string, behind)) => {
+            Ok((string, after)) => {
                 strings.push(string)?;
-                rest = behind;
+                rest = after;
             }
             Err(SimpleError::NotSimple) => break,
             Err(SimpleError::Memory) => return Err(SimpleError::Memory),

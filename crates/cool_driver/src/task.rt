@@ -19,7 +19,7 @@ ghost use Rattle.cool_faults.specs.Files.{total};
 ghost use Rattle.cool_driver.specs.Ends.{built_bytes};
 ghost use Rattle.cool_faults.specs.Verdicts.{place_of};
 ghost use Rattle.cool_driver.specs.CommandLine.{is_number_of_files, most_bytes};
-ghost use Rattle.cool_driver.specs.Tasks.{Prints, IsLine, AreLinesOf, IsTaskOf, IsTaskOfFile, IsTaskOfChecked, IsTaskOfBuilt, IsTaskOfRun, IsDue, IsFileTask, HasLimits};
+ghost use Rattle.cool_driver.specs.Tasks.{AreSources, Prints, IsLine, AreLinesOf, IsTaskOf, IsTaskOfFile, IsTaskOfChecked, IsTaskOfBuilt, IsTaskOfRun, IsDue, IsFileTask, HasLimits};
 
 use crate::SIMPLE_STEPS;
 use crate::big::big_line;
@@ -164,10 +164,7 @@ fn find_content_task(
 
 /// What is left to do to check files of these names that have these bytes.
 fn check_files(alloc: Global, names: &[String], contents: &[Vec<u8>]) -> Result<Task, AllocError>
-    requires each { length names.now ≡ length contents.now }
-    requires some { 0 < length names.now }
-    requires few { length contents.now ≤ MOST_FILES }
-    requires small { total (texts contents.now) ≤ MOST_SOURCE_BYTES }
+    requires sources { AreSources names.now contents.now }
     ensures { IfOk result (IsTaskOfChecked (words_of names.now) (texts contents.now)) }
 {
     match accept(alloc, contents)? {
@@ -183,11 +180,7 @@ fn build_files(
     names: &[String],
     contents: &[Vec<u8>],
 ) -> Result<Task, AllocError>
-    requires each { length names.now ≡ length contents.now }
-    requires names { list_all is_file_name (words_of names.now) ≡ true }
-    requires some { 0 < length names.now }
-    requires few { length contents.now ≤ MOST_FILES }
-    requires small { total (texts contents.now) ≤ MOST_SOURCE_BYTES }
+    requires sources { AreSources names.now contents.now }
     ensures { IfOk result (IsTaskOfBuilt form (words_of names.now) (texts contents.now)) }
 {
     match accept(alloc, contents)? {
@@ -234,11 +227,7 @@ fn compile_files(
     names: &[String],
     contents: &[Vec<u8>],
 ) -> Result<Task, AllocError>
-    requires each { length names.now ≡ length contents.now }
-    requires names { list_all is_file_name (words_of names.now) ≡ true }
-    requires some { 0 < length names.now }
-    requires few { length contents.now ≤ MOST_FILES }
-    requires small { total (texts contents.now) ≤ MOST_SOURCE_BYTES }
+    requires sources { AreSources names.now contents.now }
     ensures { IfOk result (IsTaskOfRun limits (words_of names.now) (texts contents.now)) }
 {
     if limits.steps < SIMPLE_STEPS {
@@ -258,11 +247,7 @@ fn compile_program(
     names: &[String],
     contents: &[Vec<u8>],
 ) -> Result<Task, AllocError>
-    requires each { length names.now ≡ length contents.now }
-    requires names { list_all is_file_name (words_of names.now) ≡ true }
-    requires some { 0 < length names.now }
-    requires few { length contents.now ≤ MOST_FILES }
-    requires small { total (texts contents.now) ≤ MOST_SOURCE_BYTES }
+    requires sources { AreSources names.now contents.now }
     requires other { RunOtherwise limits (texts contents.now) }
     ensures { IfOk result (IsTaskOfRun limits (words_of names.now) (texts contents.now)) }
 {

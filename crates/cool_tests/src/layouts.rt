@@ -36,11 +36,11 @@ fn the_layout_of_a_program(rt: HostRuntime) -> Result<(), Fail> {
     // Object, IO, Main, Int, Bool, String, A, B
     assert_eq!(rt; layout.tag(main), 2);
     assert_eq!(rt; layout.tag(b), 7);
-    // behind the head of three words and the attribute of A
+    // after the head of three words and the attribute of A
     let attributes = classes.attributes(rt.alloc(), b)?;
     assert_eq!(rt; attributes.len(), 2);
     assert_eq!(rt; layout.offset(b, attributes[1]), 16);
-    // behind the three methods of Object, where A has it
+    // after the three methods of Object, where A has it
     let f = Name::new(rt.alloc(), b"f")?;
     assert_eq!(rt; layout.slot(b, &f), Some(3));
     // 2 of names, 9 of prototypes and initializers; for each class 2 of its table, 3 of its prototype and 8 of its name; 6 of first

@@ -114,7 +114,7 @@ fn runs(rt: HostRuntime) -> Result<(), Fail> {
             output: b"97",
             left: b"",
         },
-        // A take that fails behind a zero.
+        // A take that fails after a zero.
         Row {
             text: &[
                 0x3c041000, 0x34840000, 0x3c050000, 0x34a50008, 0x3c020000, 0x34420008, 0x0000000c,

@@ -10,7 +10,7 @@ added : {A E : Type 0} (r : Result A E) (old more new all : List ℕ)
 added (Ok x) old more new all h e = h ∙ e
 added (Err x) old more new all h e = tt
 
--- four parts behind a text
+-- four parts after a text
 four_joined : (text a b c d : List ℕ) → text ++ a ++ b ++ c ++ d ≡ text ++ (a ++ (b ++ (c ++ d)))
 four_joined text a b c d = append_assoc (text ++ a ++ b) c d ∙ append_assoc (text ++ a) b (c ++ d) ∙ append_assoc text a (b ++ (c ++ d))
 

@@ -11,12 +11,12 @@ stripped : (result : Option (Bor (List ℕ))) (b : Bool) (rest : List ℕ) (n m 
 stripped None b rest n m h = sym (ap (λ t. cond t (Some rest) None) h)
 stripped (Some x) b rest n m h = ap Some h.1 ∙ sym (ap (λ t. cond t (Some rest) None) h.0)
 
--- behind enough blanks only the lexeme counts
-behind_blanks : (blanks gap : ℕ) (lexeme bytes rest : List ℕ) (found : Option (List ℕ)) → gap ≡ prefix_len is_white bytes → rest ≡ drop gap bytes → nat_le blanks gap ≡ true → found ≡ cond (bytes_eq (take (length lexeme) rest) lexeme) (Some (drop (length lexeme) rest)) None → found ≡ lexeme_at blanks lexeme bytes
+-- after enough blanks only the lexeme counts
+after_blanks : (blanks gap : ℕ) (lexeme bytes rest : List ℕ) (found : Option (List ℕ)) → gap ≡ prefix_len is_white bytes → rest ≡ drop gap bytes → nat_le blanks gap ≡ true → found ≡ cond (bytes_eq (take (length lexeme) rest) lexeme) (Some (drop (length lexeme) rest)) None → found ≡ lexeme_at blanks lexeme bytes
 unfolding lexeme_at
-behind_blanks blanks gap lexeme bytes rest found g r t e = rw (← g, ← r, t) e
+after_blanks blanks gap lexeme bytes rest found g r t e = rw (← g, ← r, t) e
 
 pub returns : goal.returns
 returns c =
     let enough : nat_le c.args.blanks c.leading_blanks-gap.result ≡ true = search (rules, tests) in
-    behind_blanks _ _ _ _ _ _ c.leading_blanks-gap.ensures.count c.split_at.ensures.back enough (stripped _ _ _ _ _ c.strip_prefix.ensures.cases)
+    after_blanks _ _ _ _ _ _ c.leading_blanks-gap.ensures.count c.split_at.ensures.back enough (stripped _ _ _ _ _ c.strip_prefix.ensures.cases)

@@ -19,8 +19,8 @@ returns-in_ok-written_program-in-Accepted c =
 pub refuse-requires : goal.refuse-requires
 refuse-requires c =
     let refused : IsRefused (texts c.args.contents.now) c.in-Refused.faults = rw c.in-Refused.is at c.in_ok-program.ensures.verdict in
-    rw c.as_slice.ensures (have_names (length c.args.names.now) (texts c.args.contents.now) c.in-Refused.faults refused c.requires.some
-    (length-map c.args.contents.now (λ file. file.items) ∙ sym c.requires.each))
+    rw c.as_slice.ensures (have_names (length c.args.names.now) (texts c.args.contents.now) c.in-Refused.faults refused c.requires.sources.some
+    (length-map c.args.contents.now (λ file. file.items) ∙ sym c.requires.sources.each))
 
 -- files with faults
 pub returns-in-Refused : goal.returns-in-Refused

@@ -15,11 +15,11 @@ use Rattle.cool_driver.proofs.task.compile_program.Goals as goal
 pub build-requires-clause-fits : goal.build-requires-clause-fits
 build-requires-clause-fits c =
     let accepted : IsAccepted (texts c.args.contents.now) c.in-Accepted.program = rw c.in-Accepted.is at c.in_ok-program.ensures.verdict in
-    subst (λ (count : ℕ). Fits c.in-Accepted.program count) (length-map c.args.contents.now (λ file. file.items) ∙ sym c.requires.each) accepted.fits
+    subst (λ (count : ℕ). Fits c.in-Accepted.program count) (length-map c.args.contents.now (λ file. file.items) ∙ sym c.requires.sources.each) accepted.fits
 
 -- the names are short
 pub build-requires-clause-names : goal.build-requires-clause-names
-build-requires-clause-names c = short_names (words_of c.args.names.now) c.requires.names
+build-requires-clause-names c = short_names (words_of c.args.names.now) c.requires.sources.named
 
 -- its image runs
 pub returns-in_ok-build-in-Accepted : goal.returns-in_ok-build-in-Accepted
@@ -31,8 +31,8 @@ returns-in_ok-build-in-Accepted c =
 pub refuse-requires : goal.refuse-requires
 refuse-requires c =
     let refused : IsRefused (texts c.args.contents.now) c.in-Refused.faults = rw c.in-Refused.is at c.in_ok-program.ensures.verdict in
-    rw c.as_slice.ensures (have_names (length c.args.names.now) (texts c.args.contents.now) c.in-Refused.faults refused c.requires.some
-    (length-map c.args.contents.now (λ file. file.items) ∙ sym c.requires.each))
+    rw c.as_slice.ensures (have_names (length c.args.names.now) (texts c.args.contents.now) c.in-Refused.faults refused c.requires.sources.some
+    (length-map c.args.contents.now (λ file. file.items) ∙ sym c.requires.sources.each))
 
 -- files with faults
 pub returns-in-Refused : goal.returns-in-Refused
