@@ -27,7 +27,7 @@ use Rattle.cool_layout.proofs.ShortChains.{chain_is}
 use Rattle.cool_layout.proofs.TagRanges.{at_tag, preorder_in}
 use Rattle.cool_consts.specs.Labels.{int_constant, string_constant, string_length}
 use Rattle.cool_consts.specs.LinesOfConstants.{integers_lines, strings_lines}
-use Rattle.cool_emit.specs.SoundLines.{IsData, IsDataItem, AreData, labels_of}
+use Rattle.cool_emit.specs.SoundLines.{IsData, IsDataWord, AreData, labels_of}
 use Rattle.cool_emit.specs.Programs.{program_constants, heap_lines, program_data, program_lines, IsBuildable}
 use Rattle.cool_emit.proofs.RootedTables.{rooted}
 use Rattle.cool_emit.proofs.LabelsThere.{bytes_behind, string_behind, lines_of_default_string, text_there, initializer_there, method_there, from_defaults, from_prototypes, from_tables, from_objects, lines_of_constants, default_int_there, default_string_there, dispatch_table_there, prototype_there, class_name_there, class_name_length_there}
@@ -44,7 +44,7 @@ module _ (known : Name → Type 0) where
 
   -- an object
   object_data : (name : Name) (tag size : ℕ) (table : Name) (fields : List WordItem) → tag < 4294967296 → size < 4294967296 → known table
-      → AllByRecursion (IsDataItem known) fields
+      → AllByRecursion (IsDataWord known) fields
       → AreData known (object_lines name tag size table fields)
   object_data name tag size table fields low small there all = (((omega arith, tt), (tt, ((low, (small, (there, all))), tt))))
 
@@ -163,8 +163,8 @@ module _ (p : List Class) (files : List (List ℕ)) (b : IsBuildable p files) wh
   names_data = (
     tt,
     (
-      all_map (IsDataItem Known) (λ c. Address (class_name c)) (preorder p)
-          (in_order (λ c. IsDataItem Known (Address (class_name c))) (λ c within. class_name_there p files b c within)),
+      all_map (IsDataWord Known) (λ c. Address (class_name c)) (preorder p)
+          (in_order (λ c. IsDataWord Known (Address (class_name c))) (λ c within. class_name_there p files b c within)),
       tt,
     ),
   )
@@ -189,8 +189,8 @@ module _ (p : List Class) (files : List (List ℕ)) (b : IsBuildable p files) wh
   table_data c within = (
     tt,
     (
-      all_map (IsDataItem Known) (λ m. Address (method_label p m)) (methods p c)
-          (all_then (HasMethod p) (λ m. IsDataItem Known (Address (method_label p m))) (methods p c)
+      all_map (IsDataWord Known) (λ m. Address (method_label p m)) (methods p c)
+          (all_then (HasMethod p) (λ m. IsDataWord Known (Address (method_label p m))) (methods p c)
           (λ m has. text_there p files (method_label p m) (method_there p files b m has))
           (methods_have p (rooted p b.typed.whole) c within)),
       tt,
@@ -198,33 +198,33 @@ module _ (p : List Class) (files : List (List ℕ)) (b : IsBuildable p files) wh
   )
 
   -- what an attribute holds before it is given a value
-  default_data : (name : List ℕ) → IsDataItem Known (default_value name)
+  default_data : (name : List ℕ) → IsDataWord Known (default_value name)
   default_data name = by (bytes_eq name (codes "Int")) (bytes_eq name (codes "Bool")) (bytes_eq name (codes "String"))
     where
       by : (i t s : Bool)
-          → IsDataItem Known (if i then Address default_int else if t then Address false_constant else if s then Address default_string else Number (pos 0))
+          → IsDataWord Known (if i then Address default_int else if t then Address false_constant else if s then Address default_string else Number (pos 0))
       by true t s = default_int_there p files
       by false true s = false_constant_there p files
       by false false true = default_string_there p files
       by false false false = omega arith
 
-  empty_data : AllByRecursion (IsDataItem Known) empty_string_fields
+  empty_data : AllByRecursion (IsDataWord Known) empty_string_fields
   empty_data = (default_int_there p files, (omega arith, tt))
 
   -- the words behind the head of a new object
-  fields_data : (c : ClassId) → AllByRecursion (IsDataItem Known) (new_fields p c)
+  fields_data : (c : ClassId) → AllByRecursion (IsDataWord Known) (new_fields p c)
   fields_data c = by (nat_eq c.0 2 || nat_eq c.0 3) (nat_eq c.0 4)
     where
-      each : (as' : List AttributeRef) → AllByRecursion (λ a. IsDataItem Known (default_value (attribute_type p a))) as'
+      each : (as' : List AttributeRef) → AllByRecursion (λ a. IsDataWord Known (default_value (attribute_type p a))) as'
       each [] = tt
       each (a ∷ as') = (default_data (attribute_type p a), each as')
 
       by : (t s : Bool)
-          → AllByRecursion (IsDataItem Known)
+          → AllByRecursion (IsDataWord Known)
           (if t then Number (pos 0) ∷ [] else if s then empty_string_fields else map (λ a. default_value (attribute_type p a)) (attributes p c))
       by true s = (omega arith, tt)
       by false true = empty_data
-      by false false = all_map (IsDataItem Known) (λ a. default_value (attribute_type p a)) (attributes p c) (each (attributes p c))
+      by false false = all_map (IsDataWord Known) (λ a. default_value (attribute_type p a)) (attributes p c) (each (attributes p c))
 
   few_fields : (c : ClassId) → c.0 < length p → length (new_fields p c) ≤ 2000
   few_fields c within = by (nat_eq c.0 2 || nat_eq c.0 3) (nat_eq c.0 4)

@@ -1,7 +1,7 @@
 -- No label of a program stands twice: each name counts once at most, as each label tells by its bytes what it is a label of.
 use Rattle.std.proofs.Common.{ℕ, ◌≤◌, List, ◌∷◌, arith}
 use Rattle.mips_isa.specs.Lines.{Name, ToData}
-use Rattle.mips_isa.specs.Assembly.{unlabelled}
+use Rattle.mips_isa.specs.Assembly.{directive_line}
 use Rattle.cool_classes.specs.Chains.{Class}
 use Rattle.cool_classes.specs.Limits.{AreDifferent}
 use Rattle.cool_runtime.specs.RoutineLines.{all_routine_lines}
@@ -18,7 +18,7 @@ use Rattle.cool_emit.proofs.RoutineLabelsApart.{routines_once}
 label_once : (p : List Class) (files : List (List ℕ)) → IsBuildable p files → (x : Name) → marks x (program_lines p files) ≤ 1
 label_once p files b x =
     let code = classes_code p files (program_constants p files) in
-    let behind = unlabelled ToData ∷ program_data p files in
+    let behind = directive_line ToData ∷ program_data p files in
     let s = sort x in
     omega (
       arith,

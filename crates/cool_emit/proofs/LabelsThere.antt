@@ -6,7 +6,7 @@ use Rattle.cool_syntax.specs.declared.file_tree.Feature.{Feature}
 use Rattle.cool_syntax.specs.declared.file_tree.Feature.TheVariants.{Method, Attribute}
 use Rattle.cool_syntax.specs.declared.file_tree.MethodDef.{MethodDef}
 use Rattle.mips_isa.specs.Lines.{Name, Line, WordItem, Number, Address, Asciiz, Align, ToData}
-use Rattle.mips_isa.specs.Assembly.{unlabelled}
+use Rattle.mips_isa.specs.Assembly.{data_line, directive_line}
 use Rattle.cool_classes.specs.declared.class_id.ClassId.{ClassId}
 use Rattle.cool_classes.specs.declared.method.MethodRef.{MethodRef}
 use Rattle.cool_classes.specs.declared.method.MethodRef.TheVariants.{Basic, User}
@@ -42,11 +42,11 @@ in_preorder p r c within = there_times c (preorder p) (let is = once p r c withi
 module _ (p : List Class) (files : List (List ℕ)) where
   -- a label of the text is one of the program, and so is one of the data
   pub text_there : (n : Name) → Has (program_text p files) n → Has (program_lines p files) n
-  text_there n h = has_left (program_text p files) (unlabelled ToData ∷ program_data p files) n h
+  text_there n h = has_left (program_text p files) (directive_line ToData ∷ program_data p files) n h
 
   pub data_there : (n : Name) → Has (program_data p files) n → Has (program_lines p files) n
   data_there n h =
-      has_right (program_text p files) (unlabelled ToData ∷ program_data p files) n (has_later (unlabelled ToData) (program_data p files) n h)
+      has_right (program_text p files) (directive_line ToData ∷ program_data p files) n (has_later (directive_line ToData) (program_data p files) n h)
 
   -- a label of a routine is one of the text
   pub routine_there : (n : Name) → Has all_routine_lines n → Has (program_text p files) n
@@ -150,7 +150,7 @@ has_object n tag size table fields =
 
 -- the bytes of a String, and its lines behind the Int of its length
 abbrev pub bytes_behind : List ℕ → List Line
-bytes_behind bytes = unlabelled (Asciiz bytes) ∷ unlabelled (Align 2) ∷ []
+bytes_behind bytes = data_line (Asciiz bytes) ∷ directive_line (Align 2) ∷ []
 
 abbrev pub string_behind : Name → Name → ℕ → List ℕ → List Line
 string_behind name length_name tag bytes = string_head_lines name length_name tag (4 + words_of_bytes (length bytes)) ++ bytes_behind bytes

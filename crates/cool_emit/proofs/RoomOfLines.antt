@@ -4,7 +4,8 @@ use Rattle.std.specs.Prelude.{nat_lt}
 use Rattle.std.proofs.lemmas.Bool.{or_from, le-ltb}
 use Rattle.mips_isa.specs.declared.place.Segment.{Segment}
 use Rattle.mips_isa.specs.declared.place.Segment.TheVariants.{Text, Data}
-use Rattle.mips_isa.specs.Lines.{Name, Statement, Empty, Plain, ToJump, La, Li, Move, Word, Asciiz, Align, Line}
+use Rattle.mips_isa.specs.Lines as statements
+use Rattle.mips_isa.specs.Lines.{Name, Word, Asciiz, Align, Statement, Empty, Instruction, Directive, Line}
 use Rattle.mips_isa.specs.Assembly.{Need, Nothing, Words, Item, Switch, Padding, need, Position, start_position, up, padded, behind, behind_line, is_text, is_wrong, is_too_large}
 use Rattle.cool_runtime.specs.Images.{IsTextNeed}
 use Rattle.cool_emit.specs.SoundLines.{IsText, IsData, AreText, AreData, text_need, text_room, data_need, data_room, joined_lines}
@@ -34,19 +35,15 @@ small_four n = omega arith
 -- a statement of text takes words, or nothing
 pub needs_text : (target known : Name → Type 0) (s : Statement) → IsText target known s → IsTextNeed (need s)
 needs_text target known Empty h = tt
-needs_text target known (Plain i) h = tt
-needs_text target known (ToJump op name) h = tt
-needs_text target known (La rd name) h = tt
-needs_text target known (Li rd value) h = tt
-needs_text target known (Move rd rs) h = tt
+needs_text target known (Instruction i) h = tt
 needs_text target known _ h = absurd h
 
 -- a statement of data takes an item, padding or nothing
 pub needs_data : (known : Name → Type 0) (s : Statement) → IsData known s → IsDataNeed (need s)
 needs_data known Empty h = tt
-needs_data known (Word items) h = small_four
-needs_data known (Asciiz bytes) h = small_one
-needs_data known (Align n) h = subst (λ (m : ℕ). IsDataNeed (need (Align m))) (sym h) small_four
+needs_data known (statements.Data (Word items)) h = small_four
+needs_data known (statements.Data (Asciiz bytes)) h = small_one
+needs_data known (Directive (Align n)) h = subst (λ (m : ℕ). IsDataNeed (need (Directive (Align m)))) (sym h) small_four
 needs_data known _ h = absurd h
 
 -- Room

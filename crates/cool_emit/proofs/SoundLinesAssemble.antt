@@ -11,12 +11,13 @@ use Rattle.mips_isa.specs.declared.place.Place.{Place}
 use Rattle.mips_isa.specs.declared.place.Segment.{Segment}
 use Rattle.mips_isa.specs.declared.place.Segment.TheVariants.{Text, Data}
 use Rattle.mips_isa.specs.declared.address_map.TheConstants.{TEXT_START}
-use Rattle.mips_isa.specs.Lines.{Name, WordItem, Number, Address, Statement, Empty, Plain, ToJump, La, Li, Move, ToData, Word, Asciiz, Align, Line, IsItem, IsInRange, AreInRange}
-use Rattle.mips_isa.specs.Assembly.{Need, Nothing, Words, Item, Switch, Padding, need, Position, start_position, behind_line, place_in, place_from, place_of, has, in_text, start_name, main_name, unlabelled, added_lines, completed, is_wrong, any_twice, is_too_large, fault_or, first_pass, names_of_items, used, jump_reaches, reaches, any_without_place, start_fault, second_pass, first_or, fault_of_all, fault_of}
+use Rattle.mips_isa.specs.Lines as statements
+use Rattle.mips_isa.specs.Lines.{Name, WordItem, Number, Address, Plain, ToJump, La, Li, Move, Word, Asciiz, ToData, Align, Statement, Empty, Instruction, Directive, Line, IsItem, IsInRange, AreInRange}
+use Rattle.mips_isa.specs.Assembly.{Need, Nothing, Words, Item, Switch, Padding, need, Position, start_position, behind_line, place_in, place_from, place_of, has, in_text, start_name, main_name, directive_line, added_lines, completed, is_wrong, any_twice, is_too_large, fault_or, first_pass, names_of_items, used, jump_reaches, reaches, any_without_place, start_fault, second_pass, first_or, fault_of_all, fault_of}
 use Rattle.cool_runtime.specs.Images.{behind_lines}
 use Rattle.cool_runtime.specs.Instructions.{label, la}
 use Rattle.cool_classes.specs.Limits.{AreDifferent}
-use Rattle.cool_emit.specs.SoundLines.{IsText, IsDataItem, IsData, AreText, AreData, labels_of, text_need, text_room, data_need, data_room, joined_lines, AreSound}
+use Rattle.cool_emit.specs.SoundLines.{IsText, IsDataWord, IsData, AreText, AreData, labels_of, text_need, text_room, data_need, data_room, joined_lines, AreSound}
 use Rattle.cool_classes.proofs.AllOfLists.{all_append, all_then}
 use Rattle.cool_runtime.proofs.PlacesOfLabels.{words_grow}
 use Rattle.cool_emit.proofs.LabelsSeenOnce.{AreNew, found_among, left_once, nothing_seen}
@@ -118,15 +119,15 @@ module _ (place : Name → Option Place) (target known : Name → Type 0) (place
   -- a statement of text uses places
   text_uses : (s : Statement) → IsText target known s → UsesPlaces place s
   text_uses Empty h = record { placed = refl; reached = λ at. refl }
-  text_uses (Plain i) h = record { placed = refl; reached = λ at. refl }
-  text_uses (ToJump op name) h = record { placed = one_placed (place name) false (reached_is_some (place name) (reached name h)) refl; reached = λ at. reached name h }
-  text_uses (La rd name) h = record { placed = one_placed (place name) false (placed name h.1) refl; reached = λ at. refl }
-  text_uses (Li rd value) h = record { placed = refl; reached = λ at. refl }
-  text_uses (Move rd rs) h = record { placed = refl; reached = λ at. refl }
+  text_uses (Instruction (Plain i)) h = record { placed = refl; reached = λ at. refl }
+  text_uses (Instruction (ToJump op name)) h = record { placed = one_placed (place name) false (reached_is_some (place name) (reached name h)) refl; reached = λ at. reached name h }
+  text_uses (Instruction (La rd name)) h = record { placed = one_placed (place name) false (placed name h.1) refl; reached = λ at. refl }
+  text_uses (Instruction (Li rd value)) h = record { placed = refl; reached = λ at. refl }
+  text_uses (Instruction (Move rd rs)) h = record { placed = refl; reached = λ at. refl }
   text_uses _ h = absurd h
 
   -- the names of words have places
-  items_placed : (items : List WordItem) → AllByRecursion (IsDataItem known) items → any_without_place place (names_of_items items) ≡ false
+  items_placed : (items : List WordItem) → AllByRecursion (IsDataWord known) items → any_without_place place (names_of_items items) ≡ false
   items_placed [] all = refl
   items_placed (Number n ∷ rest) all = items_placed rest all.1
   items_placed (Address name ∷ rest) all = one_placed (place name) (any_without_place place (names_of_items rest)) (placed name all.0) (items_placed rest all.1)
@@ -134,9 +135,9 @@ module _ (place : Name → Option Place) (target known : Name → Type 0) (place
   -- and so does one of data
   data_uses : (s : Statement) → IsData known s → UsesPlaces place s
   data_uses Empty h = record { placed = refl; reached = λ at. refl }
-  data_uses (Word items) h = record { placed = items_placed items h; reached = λ at. refl }
-  data_uses (Asciiz bytes) h = record { placed = refl; reached = λ at. refl }
-  data_uses (Align n) h = record { placed = refl; reached = λ at. refl }
+  data_uses (statements.Data (Word items)) h = record { placed = items_placed items h; reached = λ at. refl }
+  data_uses (statements.Data (Asciiz bytes)) h = record { placed = refl; reached = λ at. refl }
+  data_uses (Directive (Align n)) h = record { placed = refl; reached = λ at. refl }
   data_uses _ h = absurd h
 
   -- every line of sound lines uses names that have places
@@ -144,7 +145,7 @@ module _ (place : Name → Option Place) (target known : Name → Type 0) (place
       → AllByRecursion (λ (line : Line). UsesPlaces place line.statement) (joined_lines text items)
   all_use text items h k =
       let uses : Line → Type 0 = λ line. UsesPlaces place line.statement in
-      all_append uses text (unlabelled ToData ∷ items) (all_then (λ (line : Line). IsText target known line.statement) uses text (λ line. text_uses line.statement) h)
+      all_append uses text (directive_line ToData ∷ items) (all_then (λ (line : Line). IsText target known line.statement) uses text (λ line. text_uses line.statement) h)
       (record { placed = refl; reached = λ at. refl }, all_then (λ (line : Line). IsData known line.statement) uses items (λ line. data_uses line.statement) k)
 
 -- The start
@@ -159,7 +160,7 @@ some_words : (text items : List Line) (main : Name) (behind : List Line) → tex
     → 2 ≤ (behind_lines start_position (joined_lines text items)).words
 some_words text items main behind e =
     subst (λ (lines : List Line). 2 ≤ (behind_lines start_position (joined_lines lines items)).words) (sym e)
-    (words_grow (record { words = 2; bytes = 0; segment = Text }) (behind ++ unlabelled ToData ∷ items))
+    (words_grow (record { words = 2; bytes = 0; segment = Text }) (behind ++ directive_line ToData ∷ items))
 
 -- a run can start there
 starts_at : (place : Option Place) (p : Position) → place ≡ Some (record { segment = Text; address = TEXT_START }) → 2 ≤ p.words → start_fault place p ≡ None
@@ -188,7 +189,7 @@ no_fault text items sound =
     let placed : (name : Name) → known name → is_some (place_of lines name) ≡ true =
     λ name h. has_place start_position lines name (found_among (labels_of lines) name h) in
     let reached : (name : Name) → target name → jump_reaches (place_of lines name) ≡ true =
-    λ name h. has_target target known start_position text (unlabelled ToData ∷ items) 0 name sound.text_lines room (found_among (labels_of text) name h) in
+    λ name h. has_target target known start_position text (directive_line ToData ∷ items) 0 name sound.text_lines room (found_among (labels_of text) name h) in
     let second : second_pass (place_of lines) start_position 1 lines ≡ None =
     second_passes (place_of lines) start_position 1 lines (all_use (place_of lines) target known placed reached text items sound.text_lines sound.data_lines)
     (starts_at (place_of lines start_name) (behind_lines start_position lines) start (some_words text items sound.main sound.behind sound.starts)) in
@@ -199,22 +200,22 @@ no_fault text items sound =
 
 text_in_range : (target known : Name → Type 0) (s : Statement) → IsText target known s → IsInRange s
 text_in_range target known Empty h = tt
-text_in_range target known (Plain i) h = h
-text_in_range target known (ToJump op name) h = tt
-text_in_range target known (La rd name) h = h.0
-text_in_range target known (Li rd value) h = h
-text_in_range target known (Move rd rs) h = h
+text_in_range target known (Instruction (Plain i)) h = h
+text_in_range target known (Instruction (ToJump op name)) h = tt
+text_in_range target known (Instruction (La rd name)) h = h.0
+text_in_range target known (Instruction (Li rd value)) h = h
+text_in_range target known (Instruction (Move rd rs)) h = h
 text_in_range target known _ h = absurd h
 
-item_in_range : (known : Name → Type 0) (item : WordItem) → IsDataItem known item → IsItem item
+item_in_range : (known : Name → Type 0) (item : WordItem) → IsDataWord known item → IsItem item
 item_in_range known (Number n) h = h
 item_in_range known (Address name) h = tt
 
 data_in_range : (known : Name → Type 0) (s : Statement) → IsData known s → IsInRange s
 data_in_range known Empty h = tt
-data_in_range known (Word items) h = all_then (IsDataItem known) IsItem items (item_in_range known) h
-data_in_range known (Asciiz bytes) h = tt
-data_in_range known (Align n) h = omega arith
+data_in_range known (statements.Data (Word items)) h = all_then (IsDataWord known) IsItem items (item_in_range known) h
+data_in_range known (statements.Data (Asciiz bytes)) h = tt
+data_in_range known (Directive (Align n)) h = omega arith
 data_in_range known _ h = absurd h
 
 -- the numbers of sound lines are in their ranges
@@ -223,7 +224,7 @@ in_range text items sound =
     let target : Name → Type 0 = Contains (labels_of text) in
     let known : Name → Type 0 = Contains (labels_of (joined_lines text items)) in
     let ranges : Line → Type 0 = λ line. IsInRange line.statement in
-    all_append ranges text (unlabelled ToData ∷ items)
+    all_append ranges text (directive_line ToData ∷ items)
     (all_then (λ (line : Line). IsText target known line.statement) ranges text (λ line. text_in_range target known line.statement) sound.text_lines)
     (tt, all_then (λ (line : Line). IsData known line.statement) ranges items (λ line. data_in_range known line.statement) sound.data_lines)
 
@@ -259,5 +260,5 @@ few_lines text items sound =
     let bytes = sound.data_fits in
     let of_text = text_lines_fit text in
     let of_data = data_lines_fit items in
-    let all = length-append text (unlabelled ToData ∷ items) in
+    let all = length-append text (directive_line ToData ∷ items) in
     omega arith

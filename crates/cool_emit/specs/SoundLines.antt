@@ -4,67 +4,59 @@ use Rattle.std.specs.Prelude.{◌≡◌, ℕ, suc, zero, ◌+◌, ◌<◌, ◌�
 use Rattle.std.specs.List.{AllByRecursion}
 use Rattle.mips_isa.specs.declared.address_map.TheConstants.{MOST_DATA_BYTES}
 use Rattle.mips_isa.specs.Words.{InRange}
-use Rattle.mips_isa.specs.Lines.{Name, WordItem, Number, Address, Statement, Empty, Plain, ToTwo, ToOne, ToJump, La, Li, Move, Neg, Nop, B, BranchZero, BranchOrder, Mul, ToText, ToData, Globl, Word, Byte, Ascii, Asciiz, Space, Align, Line, IsWord}
-use Rattle.mips_isa.specs.Assembly.{Need, Nothing, Words, Item, Switch, Padding, need, unlabelled, start_name}
+use Rattle.mips_isa.specs.Lines.{Name, WordItem, Number, Address, AsmInstr, Plain, ToTwo, ToOne, ToJump, La, Li, Move, Neg, Nop, B, BranchZero, BranchOrder, Mul, DataItem, Word, Byte, Ascii, Asciiz, Space, AsmDirective, ToText, ToData, Globl, Align, Statement, Empty, Instruction, Data, Directive, Line, IsWord}
+use Rattle.mips_isa.specs.Assembly.{Need, Nothing, Words, Item, Switch, Padding, need, directive_line, start_name}
 use Rattle.cool_classes.specs.Limits.{AreDifferent}
 use Rattle.cool_runtime.specs.Instructions.{label, la}
 
--- A statement of text: no more than a label's line, or an instruction with numbers in their ranges. A jump goes to a target; an address
--- is that of a name that may be used.
+-- An instruction of text has numbers in their ranges. A jump goes to a target; an address is that of a name that may be used.
+abbrev pub IsTextInstruction : (Name → Type 0) → (Name → Type 0) → AsmInstr → Type 0
+IsTextInstruction target known (Plain i) = InRange i
+IsTextInstruction target known (ToJump op name) = target name
+IsTextInstruction target known (La rd name) = (rd < 32) × known name
+IsTextInstruction target known (Li rd value) = (rd < 32) × IsWord value
+IsTextInstruction target known (Move rd rs) = (rd < 32) × (rs < 32)
+IsTextInstruction target known (ToTwo op rs rt name) = ⊥
+IsTextInstruction target known (ToOne op rs name) = ⊥
+IsTextInstruction target known (Neg rd rs) = ⊥
+IsTextInstruction target known Nop = ⊥
+IsTextInstruction target known (B name) = ⊥
+IsTextInstruction target known (BranchZero op rs name) = ⊥
+IsTextInstruction target known (BranchOrder op rs rt name) = ⊥
+IsTextInstruction target known (Mul rd rs rt) = ⊥
+
+-- a statement of text: no more than a label's line, or an instruction
 abbrev pub IsText : (Name → Type 0) → (Name → Type 0) → Statement → Type 0
 IsText target known Empty = Unit {0}
-IsText target known (Plain i) = InRange i
-IsText target known (ToJump op name) = target name
-IsText target known (La rd name) = (rd < 32) × known name
-IsText target known (Li rd value) = (rd < 32) × IsWord value
-IsText target known (Move rd rs) = (rd < 32) × (rs < 32)
-IsText target known (ToTwo op rs rt name) = ⊥
-IsText target known (ToOne op rs name) = ⊥
-IsText target known (Neg rd rs) = ⊥
-IsText target known Nop = ⊥
-IsText target known (B name) = ⊥
-IsText target known (BranchZero op rs name) = ⊥
-IsText target known (BranchOrder op rs rt name) = ⊥
-IsText target known (Mul rd rs rt) = ⊥
-IsText target known ToText = ⊥
-IsText target known ToData = ⊥
-IsText target known (Globl name) = ⊥
-IsText target known (Word items) = ⊥
-IsText target known (Byte items) = ⊥
-IsText target known (Ascii bytes) = ⊥
-IsText target known (Asciiz bytes) = ⊥
-IsText target known (Space n) = ⊥
-IsText target known (Align n) = ⊥
+IsText target known (Instruction i) = IsTextInstruction target known i
+IsText target known (Data item) = ⊥
+IsText target known (Directive directive) = ⊥
 
-abbrev pub IsDataItem : (Name → Type 0) → WordItem → Type 0
-IsDataItem known (Number n) = IsWord n
-IsDataItem known (Address name) = known name
+abbrev pub IsDataWord : (Name → Type 0) → WordItem → Type 0
+IsDataWord known (Number n) = IsWord n
+IsDataWord known (Address name) = known name
 
--- A statement of data: no more than a label's line, words, a text up to a zero, or a fill-up to a word.
+-- an item of data: words, or a text up to a zero
+abbrev pub IsDataItem : (Name → Type 0) → DataItem → Type 0
+IsDataItem known (Word items) = AllByRecursion (IsDataWord known) items
+IsDataItem known (Asciiz bytes) = Unit {0}
+IsDataItem known (Byte items) = ⊥
+IsDataItem known (Ascii bytes) = ⊥
+IsDataItem known (Space n) = ⊥
+
+-- a directive of data: a fill-up to a word
+abbrev pub IsDataDirective : AsmDirective → Type 0
+IsDataDirective (Align n) = n ≡ 2
+IsDataDirective ToText = ⊥
+IsDataDirective ToData = ⊥
+IsDataDirective (Globl name) = ⊥
+
+-- a statement of data: no more than a label's line, an item, or a directive
 abbrev pub IsData : (Name → Type 0) → Statement → Type 0
 IsData known Empty = Unit {0}
-IsData known (Word items) = AllByRecursion (IsDataItem known) items
-IsData known (Asciiz bytes) = Unit {0}
-IsData known (Align n) = n ≡ 2
-IsData known (Plain i) = ⊥
-IsData known (ToTwo op rs rt name) = ⊥
-IsData known (ToOne op rs name) = ⊥
-IsData known (ToJump op name) = ⊥
-IsData known (La rd name) = ⊥
-IsData known (Li rd value) = ⊥
-IsData known (Move rd rs) = ⊥
-IsData known (Neg rd rs) = ⊥
-IsData known Nop = ⊥
-IsData known (B name) = ⊥
-IsData known (BranchZero op rs name) = ⊥
-IsData known (BranchOrder op rs rt name) = ⊥
-IsData known (Mul rd rs rt) = ⊥
-IsData known ToText = ⊥
-IsData known ToData = ⊥
-IsData known (Globl name) = ⊥
-IsData known (Byte items) = ⊥
-IsData known (Ascii bytes) = ⊥
-IsData known (Space n) = ⊥
+IsData known (Instruction i) = ⊥
+IsData known (Data item) = IsDataItem known item
+IsData known (Directive directive) = IsDataDirective directive
 
 abbrev pub AreText : (Name → Type 0) → (Name → Type 0) → List Line → Type 0
 AreText target known = AllByRecursion (λ line. IsText target known line.statement)
@@ -104,7 +96,7 @@ data_room (line ∷ rest) = data_need (need line.statement) + data_room rest
 
 -- the lines of a program of text and data
 abbrev pub joined_lines : List Line → List Line → List Line
-joined_lines text items = text ++ unlabelled ToData ∷ items
+joined_lines text items = text ++ directive_line ToData ∷ items
 
 -- Text and data that assemble: every jump goes to a label of text, every name is a label, no label stands twice, the segments have room,
 -- and the text begins with the label at which a run starts, before an instruction.

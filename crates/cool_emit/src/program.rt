@@ -2,7 +2,7 @@
 
 ghost use Rattle.std.specs.Prelude.{◌≡◌, ◌≤◌, ◌++◌, ◌∷◌, ◌<◌, ◌^◌, [], length, map, string_bytes, IfOk, OnOk};
 ghost use Rattle.std.specs.List.{AllByRecursion};
-ghost use Rattle.mips_isa.specs.Assembly.{unlabelled};
+ghost use Rattle.mips_isa.specs.Assembly.{directive_line};
 ghost use Rattle.mips_isa.specs.Lines.{lines_of, ToData};
 ghost use Rattle.cool_rules.specs.Fits.{Fits};
 ghost use Rattle.cool_emit.specs.Additions.{Adds, files_of, IsSound};
@@ -16,7 +16,7 @@ use cool_consts::Consts;
 use cool_layout::Layout;
 use cool_rules::TypedProgram;
 use cool_runtime::{label_line, number, routines, word_line};
-use mips_isa::{Line, Statement};
+use mips_isa::{AsmDirective, Line, Statement};
 use std::alloc::{AllocError, Global};
 
 /// The assembly of a program whose files have these names: the routines, and the initializer and the methods of each class; then the data.
@@ -83,13 +83,13 @@ fn add_data(
     lines: &mut Vec<Line>,
 ) -> Result<(), AllocError>
     requires sound { IsSound emission.now }
-    ensures { OnOk result (lines_of lines.new.items ≡ lines_of lines.old.items ++ unlabelled ToData ∷ data_lines emission.now.program.now consts.now) }
+    ensures { OnOk result (lines_of lines.new.items ≡ lines_of lines.old.items ++ directive_line ToData ∷ data_lines emission.now.program.now consts.now) }
 {
     let alloc = emission.alloc;
     let layout = emission.layout;
     lines.push(Line {
         labels: Vec::new(alloc),
-        statement: Statement::ToData,
+        statement: Statement::Directive(AsmDirective::ToData),
     })?;
     add_lines(lines, layout.lines(alloc, emission.table())?)?;
     let constants = consts.lines(alloc, layout.tag(INT), layout.tag(BOOL), layout.tag(STRING))?;

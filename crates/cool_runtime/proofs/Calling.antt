@@ -5,7 +5,7 @@ use Rattle.mips_isa.specs.Bytes.{Bytes, word, set_word}
 use Rattle.mips_isa.specs.Machine.{wrap}
 use Rattle.mips_isa.specs.Calls.{State}
 use Rattle.mips_isa.specs.Lines.{Line, Name, Li}
-use Rattle.mips_isa.specs.Assembly.{unlabelled}
+use Rattle.mips_isa.specs.Assembly.{instruction_line}
 use Rattle.cool_runtime.specs.Instructions.{la, bne, j, lw, jalr}
 use Rattle.cool_runtime.specs.Reaches.{World, Reaches, stands, OnTheWay}
 use Rattle.cool_runtime.specs.Standing.{HasLines}
@@ -24,7 +24,7 @@ use Rattle.cool_runtime.proofs.Pieces.{done}
 
 -- a dispatch behind its first line
 abbrev dispatch_rest : ℕ → ℕ → List Line
-dispatch_rest line slot = unlabelled (Li 25 (pos line)) ∷ bne 4 0 ∷ j dispatch_abort ∷ lw 8 (pos 8) 4 ∷ lw 8 (pos (4 * slot)) 8 ∷ jalr 8 ∷ []
+dispatch_rest line slot = instruction_line (Li 25 (pos line)) ∷ bne 4 0 ∷ j dispatch_abort ∷ lw 8 (pos 8) 4 ∷ lw 8 (pos (4 * slot)) 8 ∷ jalr 8 ∷ []
 
 -- the stack with the frame's first three words
 unfoldable pub with_frame : Bytes → Pointers → Bytes

@@ -8,7 +8,7 @@ use Rattle.mips_isa.specs.ImageBounds.{ImageParts}
 use Rattle.mips_isa.specs.declared.address_map.TheConstants.{DATA_START, HEAP_START}
 use Rattle.mips_isa.specs.Bytes.{Bytes, word, bytes_of_image}
 use Rattle.mips_isa.specs.Lines.{Name, Line, WordItem, Statement, Word}
-use Rattle.mips_isa.specs.Assembly.{Need, Nothing, Words, Item, Switch, Padding, need, Position, start_position, behind, behind_line, padded, padding, padding_to, up, first_pass, second_pass, image_of_all, place_from, place_in, place_of, next_item, item_or, address_or_zero, bytes_from, item_bytes, item_value}
+use Rattle.mips_isa.specs.Assembly.{Need, Nothing, Words, Item, Switch, Padding, need, Position, start_position, behind, behind_line, padded, padding, padding_to, up, first_pass, second_pass, image_of_all, place_from, place_in, place_of, next_item, item_or, address_or_zero, bytes_from, bytes_of_data, item_bytes, item_value}
 use Rattle.mips_asm.proofs.Assembled.{length_of_item, bytes_needed, HasUnit, unit_of, up_from}
 use Rattle.cool_runtime.specs.Reaches.{World}
 use Rattle.cool_runtime.specs.Standing.{PlacedAt}
@@ -114,11 +114,11 @@ unfolding word
 word_of_bytes m a v fits a0 a1 a2 a3 = rw (a0, a1, a2, a3) (let sum : v % 256 + 256 * (v / 256 % 256) + 65536 * (v / 65536 % 256) + 16777216 * (v / 16777216 % 256) ≡ v = omega arith in sum)
 
 pub words_hold : (m : Bytes) (address : Name → ℕ) (a : ℕ) (list : List WordItem) → ValuesFit address list
-    → ((i : ℕ) → i < length (item_bytes address (Word list)) → m (a + i) ≡ get_or (item_bytes address (Word list)) i 0) → WordsAt m address a list
+    → ((i : ℕ) → i < length (bytes_of_data address (Word list)) → m (a + i) ≡ get_or (bytes_of_data address (Word list)) i 0) → WordsAt m address a list
 words_hold m address a [] fits bytes = tt
 words_hold m address a (item ∷ rest) fits bytes =
     let v = item_value address item in
-    let more = item_bytes address (Word rest) in
+    let more = bytes_of_data address (Word rest) in
     let z : a + 0 ≡ a = omega arith in (
       word_of_bytes m a v fits.0 (ap m (sym z) ∙ bytes 0 (omega arith)) (bytes 1 (omega arith)) (bytes 2 (omega arith)) (bytes 3 (omega arith)),
       words_hold m address (a + 4) rest fits.1 (λ i h. let at : a + 4 + i ≡ a + suc (suc (suc (suc i))) = omega arith in ap m at ∙ bytes (suc (suc (suc (suc i)))) (omega arith)),

@@ -6,7 +6,6 @@ use Rattle.std.proofs.Math.Seq.{get_or-append_seam}
 use Rattle.std.proofs.lemmas.List.{length-map}
 use Rattle.std.proofs.lemmas.Slice.Eq.{bytes_eq-Decides}
 use Rattle.mips_isa.specs.declared.instr.Instr.{Instr}
-use Rattle.mips_isa.specs.declared.asm_fault.AsmKind.{AsmKind}
 use Rattle.mips_isa.specs.declared.asm_fault.AsmKind.TheVariants.{A6, A7}
 use Rattle.mips_isa.specs.declared.asm_fault.AsmFault.{AsmFault}
 use Rattle.mips_isa.specs.declared.place.Place.{Place}
@@ -16,15 +15,15 @@ use Rattle.mips_isa.specs.Words.{word_of, InRange}
 use Rattle.mips_isa.specs.Decoding.{decoded}
 use Rattle.mips_isa.specs.Machine.{word_of_text}
 use Rattle.mips_isa.specs.declared.address_map.TheConstants.{TEXT_START}
-use Rattle.mips_isa.specs.Lines.{Name, Line, AreInRange, IsInRange, Statement, Empty, Plain, ToTwo, ToOne, ToJump, La, Li, Move, Neg, Nop, B, BranchZero, BranchOrder, Mul, ToText, ToData, Globl, Word, Byte, Ascii, Asciiz, Space, Align}
-use Rattle.mips_isa.specs.Assembly.{Need, Nothing, Words, Item, Switch, Padding, need, Position, start_position, behind, behind_line, first_pass, second_pass, first_or, using_fault, has, place_from, place_in, place_of, address_or_zero, in_text, instructions, text_from, any_without_place, used, reaches}
+use Rattle.mips_isa.specs.Lines.{Name, Line, AreInRange, IsInRange, AsmInstr, ToTwo, ToOne, ToJump, La, B, BranchZero, BranchOrder, Statement, Instruction}
+use Rattle.mips_isa.specs.Assembly.{Need, Nothing, Words, Item, Switch, Padding, need, Position, start_position, behind, behind_line, first_pass, second_pass, first_or, using_fault, has, place_from, place_in, place_of, address_or_zero, in_text, instructions, text_from, any_without_place, used, instruction_reaches, reaches}
 use Rattle.mips_isa.proofs.WordsAreDecoded.{decoded-word_of}
-use Rattle.mips_asm.specs.Parts.{IsWordPlace, instruction_fault, item_fault, target_address, target_in, found, kind_or}
-use Rattle.mips_asm.proofs.Targets.{instructions_in_range, instructions_of_target}
+use Rattle.mips_asm.specs.Parts.{IsWordPlace, statement_fault, target_address, target_in, found}
+use Rattle.mips_asm.proofs.Targets.{instruction_in_range, expansion_of_target}
 use Rattle.mips_asm.proofs.Assembled.{using_is, length_of_instructions}
 use Rattle.mips_asm.proofs.AllAssembled.{word_place}
 use Rattle.cool_runtime.specs.Reaches.{World}
-use Rattle.cool_runtime.specs.Standing.{InstructionsAt, IsTarget, Holds, PlacedAt, LineAt, HasLines, words_of_need, size}
+use Rattle.cool_runtime.specs.Standing.{InstructionsAt, IsTarget, InstructionHolds, Holds, PlacedAt, LineAt, HasLines, words_of_need, size}
 use Rattle.cool_runtime.specs.Images.{IsImageOf, behind_lines, IsTextNeed, AreText}
 use Rattle.cool_runtime.proofs.PlacesOfLabels.{none_here, placed_there, words_behind, behind_append, below_end, InTextBelow, address_fits}
 
@@ -75,10 +74,6 @@ using_none place p number [] line rest fine = (none_here number (using_fault pla
 using_none place p number (first ∷ front) line rest fine =
     using_none place (behind_line first p) (suc number) front line rest (none_here number (using_fault place p first) _ fine).1
 
-kinds_none : (o other : Option AsmKind) → kind_or o other ≡ None → o ≡ None
-kinds_none None other h = refl
-kinds_none (Some kind) other h = cc
-
 reaches_of : (a b : Bool) → (if a then Some A6 else (if not b then Some A7 else None)) ≡ None → b ≡ true
 reaches_of true b h = cc
 reaches_of false true h = refl
@@ -96,32 +91,23 @@ target_of w l (Some place) words at even below room there =
     let b = below there in
     record { even = omega arith; low = omega arith }
 
--- the names of a statement without a fault can be held
+-- the names of an instruction without a fault can be held
+instruction_held : (w : World) (place : Name → Option Place) (words at : ℕ) (i : AsmInstr) → ((l : Name) → w.place l ≡ address_or_zero (place l)) → ((l : Name) → IsWordPlace (place l)) → ((l : Name) → InTextBelow words (place l))
+    → TEXT_START + 4 * words < 268435456 → ((l : Name) → address_or_zero (place l) < 4294967296) → instruction_reaches place at i ≡ true → InstructionHolds w i
+instruction_held w place words at (ToTwo op rs rt l) is even below room fits there = target_of w l (place l) words (is l) (even l) (below l) room (first_of (in_text (place l)) _ there)
+instruction_held w place words at (ToOne op rs l) is even below room fits there = target_of w l (place l) words (is l) (even l) (below l) room (first_of (in_text (place l)) _ there)
+instruction_held w place words at (ToJump op l) is even below room fits there = target_of w l (place l) words (is l) (even l) (below l) room (first_of (in_text (place l)) _ there)
+instruction_held w place words at (La rd l) is even below room fits there = subst (λ a. a < 4294967296) (sym (is l)) (fits l)
+instruction_held w place words at (B l) is even below room fits there = target_of w l (place l) words (is l) (even l) (below l) room (first_of (in_text (place l)) _ there)
+instruction_held w place words at (BranchZero op rs l) is even below room fits there = target_of w l (place l) words (is l) (even l) (below l) room (first_of (in_text (place l)) _ there)
+instruction_held w place words at (BranchOrder op rs rt l) is even below room fits there = target_of w l (place l) words (is l) (even l) (below l) room (first_of (in_text (place l)) _ there)
+instruction_held w place words at _ is even below room fits there = tt
+
+-- and so those of a statement
 held : (w : World) (place : Name → Option Place) (words at : ℕ) (s : Statement) → ((l : Name) → w.place l ≡ address_or_zero (place l)) → ((l : Name) → IsWordPlace (place l)) → ((l : Name) → InTextBelow words (place l))
     → TEXT_START + 4 * words < 268435456 → ((l : Name) → address_or_zero (place l) < 4294967296) → reaches place at s ≡ true → Holds w s
-held w place words at (ToTwo op rs rt l) is even below room fits there = target_of w l (place l) words (is l) (even l) (below l) room (first_of (in_text (place l)) _ there)
-held w place words at (ToOne op rs l) is even below room fits there = target_of w l (place l) words (is l) (even l) (below l) room (first_of (in_text (place l)) _ there)
-held w place words at (ToJump op l) is even below room fits there = target_of w l (place l) words (is l) (even l) (below l) room (first_of (in_text (place l)) _ there)
-held w place words at (La rd l) is even below room fits there = subst (λ a. a < 4294967296) (sym (is l)) (fits l)
-held w place words at (B l) is even below room fits there = target_of w l (place l) words (is l) (even l) (below l) room (first_of (in_text (place l)) _ there)
-held w place words at (BranchZero op rs l) is even below room fits there = target_of w l (place l) words (is l) (even l) (below l) room (first_of (in_text (place l)) _ there)
-held w place words at (BranchOrder op rs rt l) is even below room fits there = target_of w l (place l) words (is l) (even l) (below l) room (first_of (in_text (place l)) _ there)
-held w place words at Empty is even below room fits there = tt
-held w place words at (Plain i) is even below room fits there = tt
-held w place words at (Li rd n) is even below room fits there = tt
-held w place words at (Move rd rs) is even below room fits there = tt
-held w place words at (Neg rd rs) is even below room fits there = tt
-held w place words at Nop is even below room fits there = tt
-held w place words at (Mul rd rs rt) is even below room fits there = tt
-held w place words at ToText is even below room fits there = tt
-held w place words at ToData is even below room fits there = tt
-held w place words at (Globl name) is even below room fits there = tt
-held w place words at (Word list) is even below room fits there = tt
-held w place words at (Byte list) is even below room fits there = tt
-held w place words at (Ascii bytes) is even below room fits there = tt
-held w place words at (Asciiz bytes) is even below room fits there = tt
-held w place words at (Space n) is even below room fits there = tt
-held w place words at (Align n) is even below room fits there = tt
+held w place words at (Instruction i) is even below room fits there = instruction_held w place words at i is even below room fits there
+held w place words at _ is even below room fits there = tt
 
 -- the address of a target has 32 bits
 
@@ -129,7 +115,7 @@ found_fits : (o : Option Place) → address_or_zero o < 4294967296 → target_ad
 found_fits None h = h
 found_fits (Some place) h = h
 
-target_fits : (place : Name → Option Place) (s : Statement) → ((l : Name) → address_or_zero (place l) < 4294967296) → target_address (target_in place s) < 4294967296
+target_fits : (place : Name → Option Place) (i : AsmInstr) → ((l : Name) → address_or_zero (place l) < 4294967296) → target_address (target_in place i) < 4294967296
 target_fits place (ToTwo op rs rt l) fits = found_fits (place l) (fits l)
 target_fits place (ToOne op rs l) fits = found_fits (place l) (fits l)
 target_fits place (ToJump op l) fits = found_fits (place l) (fits l)
@@ -138,6 +124,14 @@ target_fits place (B l) fits = found_fits (place l) (fits l)
 target_fits place (BranchZero op rs l) fits = found_fits (place l) (fits l)
 target_fits place (BranchOrder op rs rt l) fits = found_fits (place l) (fits l)
 target_fits place _ fits = lit< tt
+
+-- the instructions of a statement without a fault are in range
+in_range : (place : Name → Option Place) (words : ℕ) (s : Statement) → IsInRange s → statement_fault place words s ≡ None → ((l : Name) → address_or_zero (place l) < 4294967296)
+    → AllByRecursion InRange (instructions (λ name. address_or_zero (place name)) (TEXT_START + 4 * words) s)
+in_range place words (Instruction i) range faultless fits =
+    let at : ℕ = TEXT_START + 4 * words in
+    subst (AllByRecursion InRange) (sym (expansion_of_target place at i)) (instruction_in_range place at i range faultless (target_fits place i fits))
+in_range place words _ range faultless fits = tt
 
 ranges_at : (front : List Line) (line : Line) (rest : List Line) → AreInRange (front ++ line ∷ rest) → IsInRange line.statement
 ranges_at [] line rest ranges = ranges.0
@@ -195,9 +189,9 @@ module _ (w : World) (all : List Line) (image : IsImageOf w all) where
       let fine : first_pass [] start_position 1 (front ++ line ∷ rest) ≡ None = ap (first_pass [] start_position 1) (sym split) ∙ first in
       let fits : (l : Name) → address_or_zero (place_of all l) < 4294967296 = λ l. address_fits [] start_position 1 all l (record { words_fit = omega arith; bytes_fit = omega arith }) first in
       let unused : using_fault (place_of all) q line ≡ None = using_none (place_of all) start_position 1 front line rest (ap (second_pass (place_of all) start_position 1) (sym split) ∙ second) in
-      let faultless : instruction_fault (place_of all) pc s ≡ None = kinds_none _ (item_fault (place_of all) s) (sym (using_is (place_of all) pc s) ∙ unused) in
+      let faultless : statement_fault (place_of all) q.words s ≡ None = sym (using_is (place_of all) q.words s) ∙ unused in
       let range : IsInRange s = ranges_at front line rest (subst AreInRange split image.ranges) in
-      let ranges : AllByRecursion InRange (instructions address pc s) = subst (AllByRecursion InRange) (sym (instructions_of_target (place_of all) pc s)) (instructions_in_range (place_of all) pc s range faultless (target_fits (place_of all) s fits)) in
+      let ranges : AllByRecursion InRange (instructions address pc s) = in_range (place_of all) q.words s range faultless fits in
       let before : List ℕ = text_from address start_position front in
       let after : List ℕ = text_from address (behind_line line q) rest in
       let words : w.text ≡ before ++ (map word_of (instructions address pc s) ++ after) = image.text_is ∙ ap (text_from address start_position) split ∙ text_split address start_position front (line ∷ rest) in

@@ -21,11 +21,11 @@ use Rattle.mips_isa.specs.Machine as machine
 use Rattle.mips_isa.specs.Machine.{Core, Registers, set_register, wrap, three_result, imm_result, two_result, one_result, put, put_or_overflow, mem, mul_div, step, act, access, word_of_text, On, Call}
 use Rattle.mips_isa.specs.Calls.{State, Running, Exited, call, print_string}
 use Rattle.mips_isa.specs.Run.{cycle, after}
-use Rattle.mips_isa.specs.Lines.{Name, Statement, Empty, Plain, ToTwo, ToOne, ToJump, La, Li, Move, Neg, Nop, B, BranchZero, Line}
-use Rattle.mips_isa.specs.Assembly.{need, zero_branch, offset, instructions, load_address}
+use Rattle.mips_isa.specs.Lines.{Name, AsmInstr, Plain, ToTwo, ToOne, ToJump, La, Li, Move, B, BranchZero, Statement, Empty, Instruction, Line}
+use Rattle.mips_isa.specs.Assembly.{need, words_of_instruction, zero_branch, offset, expansion, instructions, load_address}
 use Rattle.cool_runtime.specs.Reaches.{World, Goal, Reaches, Limited}
-use Rattle.cool_runtime.specs.Standing.{InstructionAt, InstructionsAt, IsTarget, Holds, HasLines, words_of_need, size}
-use Rattle.cool_runtime.specs.Walk.{Beside, st, Ending, Next, OkWord, OkByte, Service, PrintInt, PrintString, ReadInt, ReadChar, Exit, ExitWith, w_service, w_value, w_mem, w_branch, w_hi_lo, w_from, w_plain, w_jump, w_to, w_statement, w_over, w_lines, steps}
+use Rattle.cool_runtime.specs.Standing.{InstructionAt, InstructionsAt, IsTarget, InstructionHolds, Holds, HasLines, words_of_need, size}
+use Rattle.cool_runtime.specs.Walk.{Beside, st, Ending, Next, OkWord, OkByte, Service, PrintInt, PrintString, ReadInt, ReadChar, Exit, ExitWith, w_service, w_value, w_mem, w_branch, w_hi_lo, w_from, w_plain, w_jump, w_to, w_instruction, w_statement, w_over_words, w_lines, steps}
 use Rattle.cool_runtime.proofs.Runs.{wider, one, ended}
 
 -- a word of a register and memory
@@ -227,35 +227,36 @@ module _ (w : World) where
         → act w.segments (BranchTwo Beq 0 0 (offset pc (w.place l))) (st r pc m x).core ≡ machine.branch (st r pc m x).core true (offset pc (w.place l))
     always r pc m x l = let same : (r 0 == r 0) ≡ true = grind arith in ap (λ t. machine.branch (st r pc m x).core t (offset pc (w.place l))) same
 
+    -- one instruction of a line
+    c_instruction : (less : ℕ) → less ≤ hi → (i : AsmInstr) (r : Registers) (pc : ℕ) (m : Bytes) (x : Beside) (go : Next)
+        → InstructionsAt w pc (expansion w.place pc i) → InstructionHolds w i
+        → w_instruction w i r pc m x go (λ r pc m x. Reaches w (st r pc m x) lo less goal) (Ending' goal) → Behind (Instruction i) pc go
+        → Reaches w (st r pc m x) (words_of_instruction i + lo) (words_of_instruction i + hi) goal
+    c_instruction less le (Plain i) r pc m x go at names h next = counted (st r pc m x) (c_plain less le i r pc m x go at.0 h next)
+    c_instruction less le (ToTwo op rs rt l) r pc m x go at names h next = counted (st r pc m x) (c_to less le (two_result op (r rs) (r rt)) _ l r pc m x go at.0 names refl h next)
+    c_instruction less le (ToOne op rs l) r pc m x go at names h next = counted (st r pc m x) (c_to less le (one_result op (r rs)) _ l r pc m x go at.0 names refl h next)
+    c_instruction less le (ToJump op l) r pc m x go at names h next = counted (st r pc m x) (c_jump less le op l r pc m x at.0 names h)
+    c_instruction less le (La rd l) r pc m x go at names h next = counted_two (st r pc m x) (c_load rd (w.place l) r pc m x at h.0 names (next 0 _ _ _ _ (omega arith) h.1))
+    c_instruction less le (Li rd n) r pc m x go at names h next = counted_two (st r pc m x) (c_load rd (bits_of n) r pc m x at h.0 h.1 (next 0 _ _ _ _ (omega arith) h.2))
+    c_instruction less le (Move rd rs) r pc m x go at names h next = counted (st r pc m x) (one w (st r pc m x) _ lo hi goal (cycled _ (st r pc m x) at.0) (next 0 _ _ _ _ (omega arith) h))
+    c_instruction less le (B l) r pc m x go at names h next = counted (st r pc m x) (c_to less le true _ l r pc m x go at.0 names (always r pc m x l) (λ e. h, λ e. absurd cc) next)
+    c_instruction less le (BranchZero op rs l) r pc m x go at names h next = counted (st r pc m x) (c_to less le (two_result (zero_branch op) (r rs) (r 0)) _ l r pc m x go at.0 names refl h next)
+    c_instruction less le _ r pc m x go at names h next = absurd h
+
     -- one statement
     c_statement : (less : ℕ) → less ≤ hi → (s : Statement) (r : Registers) (pc : ℕ) (m : Bytes) (x : Beside) (go : Next)
         → InstructionsAt w pc (instructions w.place pc s) → Holds w s
         → w_statement w s r pc m x go (λ r pc m x. Reaches w (st r pc m x) lo less goal) (Ending' goal) → Behind s pc go
         → Reaches w (st r pc m x) (words_of_need (need s) + lo) (words_of_need (need s) + hi) goal
     c_statement less le Empty r pc m x go at names h next = wider w _ lo (0 + lo) hi (0 + hi) goal (omega arith) (omega arith) (next 0 r pc m x (omega arith) h)
-    c_statement less le (Plain i) r pc m x go at names h next = counted (st r pc m x) (c_plain less le i r pc m x go at.0 h next)
-    c_statement less le (ToTwo op rs rt l) r pc m x go at names h next = counted (st r pc m x) (c_to less le (two_result op (r rs) (r rt)) _ l r pc m x go at.0 names refl h next)
-    c_statement less le (ToOne op rs l) r pc m x go at names h next = counted (st r pc m x) (c_to less le (one_result op (r rs)) _ l r pc m x go at.0 names refl h next)
-    c_statement less le (ToJump op l) r pc m x go at names h next = counted (st r pc m x) (c_jump less le op l r pc m x at.0 names h)
-    c_statement less le (La rd l) r pc m x go at names h next = counted_two (st r pc m x) (c_load rd (w.place l) r pc m x at h.0 names (next 0 _ _ _ _ (omega arith) h.1))
-    c_statement less le (Li rd n) r pc m x go at names h next = counted_two (st r pc m x) (c_load rd (bits_of n) r pc m x at h.0 h.1 (next 0 _ _ _ _ (omega arith) h.2))
-    c_statement less le (Move rd rs) r pc m x go at names h next = counted (st r pc m x) (one w (st r pc m x) _ lo hi goal (cycled _ (st r pc m x) at.0) (next 0 _ _ _ _ (omega arith) h))
-    c_statement less le (B l) r pc m x go at names h next = counted (st r pc m x) (c_to less le true _ l r pc m x go at.0 names (always r pc m x l) (λ e. h, λ e. absurd cc) next)
-    c_statement less le (BranchZero op rs l) r pc m x go at names h next = counted (st r pc m x) (c_to less le (two_result (zero_branch op) (r rs) (r 0)) _ l r pc m x go at.0 names refl h next)
+    c_statement less le (Instruction i) r pc m x go at names h next = c_instruction less le i r pc m x go at names h next
     c_statement less le _ r pc m x go at names h next = absurd h
 
   -- a line that is passed over has one word
-  over : (s : Statement) (X : Type 0) → w_over s X → (words_of_need (need s) ≡ 1) × X
-  over (Plain i) X h = (refl, h)
-  over (ToTwo op rs rt l) X h = (refl, h)
-  over (ToOne op rs l) X h = (refl, h)
-  over (ToJump op l) X h = (refl, h)
-  over (Move rd rs) X h = (refl, h)
-  over (Neg rd rs) X h = (refl, h)
-  over Nop X h = (refl, h)
-  over (B l) X h = (refl, h)
-  over (BranchZero op rs l) X h = (refl, h)
-  over _ X h = absurd h
+  over : (n : ℕ) (X : Type 0) → w_over_words n X → (n ≡ 1) × X
+  over zero X h = absurd h
+  over (suc zero) X h = (refl, h)
+  over (suc (suc n)) X h = absurd h
 
   -- a block of lines: what is computed from them leads from it
   pub walk : (ls : List Line) (k : ℕ) (r : Registers) (pc : ℕ) (m : Bytes) (x : Beside) (pc0 lo hi : ℕ) (goal : Goal) → HasLines w pc0 ls → pc ≡ pc0 + 4 * k
@@ -269,7 +270,7 @@ module _ (w : World) where
       (c_statement lo (steps ls + hi) goal hi (omega arith) line.statement r pc m x _ (subst (λ q. InstructionsAt w q (instructions w.place q line.statement)) z has.0.words) has.0.names h
       (λ k r' pc' m' x' p q. walk ls k r' pc' m' x' (pc0 + 4 * n) lo hi goal has.1 (omega arith) q))
   walk (line ∷ ls) (suc k) r pc m x pc0 lo hi goal has e h =
-      let passed = over line.statement _ h in
+      let passed = over (words_of_need (need line.statement)) _ h in
       wider w (st r pc m x) lo lo (steps ls + hi) (words_of_need (need line.statement) + steps ls + hi) goal (omega arith) (omega arith)
       (walk ls k r pc m x (pc0 + size line) lo hi goal has.1 (omega (arith, passed.0)) passed.1)
 

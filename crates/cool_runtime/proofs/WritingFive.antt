@@ -6,8 +6,8 @@ use Rattle.mips_isa.specs.ImageBounds.{ImageParts}
 use Rattle.mips_isa.specs.Bytes.{Bytes, word, set_word, Segments, segments_of, bytes_of_image}
 use Rattle.mips_isa.specs.Calls.{State, Exited, signed}
 use Rattle.mips_isa.specs.Run.{run_image, start}
-use Rattle.mips_isa.specs.Lines.{Name, Line, AreInRange, ToText, ToData, Word, Number, Address}
-use Rattle.mips_isa.specs.Assembly.{unlabelled, start_name, image_of_all, fault_of_all, place_of, address_or_zero}
+use Rattle.mips_isa.specs.Lines.{Name, Line, AreInRange, Data, ToText, ToData, Word, Number, Address}
+use Rattle.mips_isa.specs.Assembly.{data_line, directive_line, start_name, image_of_all, fault_of_all, place_of, address_or_zero}
 use Rattle.cool_runtime.specs.Reaches.{World, AreLaid, Reaches, stands, exits, OnTheWay}
 use Rattle.cool_runtime.specs.Images.{IsImageOf}
 use Rattle.cool_runtime.specs.Standing.{HasLines}
@@ -38,9 +38,9 @@ five = codes "five"
 
 abbrev data_lines : List Line
 data_lines =
-    unlabelled ToData ∷ unlabelled (Word (Number (negsuc 0) ∷ []))
-    ∷ record { labels = five ∷ []; statement = Word (Number (pos 3) ∷ Number (pos 4) ∷ Address int_table ∷ Number (pos 5) ∷ []) }
-    ∷ record { labels = int_table ∷ []; statement = Word (Number (pos 0) ∷ []) } ∷ unlabelled ToText ∷ []
+    directive_line ToData ∷ data_line (Word (Number (negsuc 0) ∷ []))
+    ∷ record { labels = five ∷ []; statement = Data (Word (Number (pos 3) ∷ Number (pos 4) ∷ Address int_table ∷ Number (pos 5) ∷ [])) }
+    ∷ record { labels = int_table ∷ []; statement = Data (Word (Number (pos 0) ∷ [])) } ∷ directive_line ToText ∷ []
 
 abbrev stub_lines : List Line
 stub_lines = label start_name ∷ la 4 five ∷ (push_lines ++ (jal out_int ∷ addiu 2 0 (pos 10) ∷ syscall ∷ []))

@@ -2,7 +2,7 @@
 -- the old $fp at 4($fp) and the old self at 0($fp); arguments stand above it, temporaries below.
 use Rattle.std.specs.Prelude.{ℕ, pos, negsuc, List, [], ◌∷◌, ◌+◌, ◌*◌}
 use Rattle.mips_isa.specs.Lines.{Name, Line, Li}
-use Rattle.mips_isa.specs.Assembly.{unlabelled}
+use Rattle.mips_isa.specs.Assembly.{instruction_line}
 use Rattle.cool_runtime.specs.Labels.{stack_limit, dispatch_abort}
 use Rattle.cool_runtime.specs.Instructions.{sltu, addiu, lw, sw, move, la, jr, jalr, j, beq, bne}
 
@@ -18,5 +18,5 @@ leave_lines arguments = addiu 29 30 (pos (12 + 4 * arguments)) ∷ lw 31 (pos 8)
 -- the String of the file to $t8, the line to $t9; the receiver is in $a0
 abbrev pub dispatch_lines : Name → ℕ → ℕ → List Line
 dispatch_lines file line slot =
-    la 24 file ∷ unlabelled (Li 25 (pos line)) ∷ bne 4 0 ∷ j dispatch_abort
+    la 24 file ∷ instruction_line (Li 25 (pos line)) ∷ bne 4 0 ∷ j dispatch_abort
     ∷ lw 8 (pos 8) 4 ∷ lw 8 (pos (4 * slot)) 8 ∷ jalr 8 ∷ []

@@ -1,13 +1,13 @@
 -- The lines of objects that stand in the data: the word -1, and the words of the object under its label.
 use Rattle.std.specs.Prelude.{◌≡◌, ℕ, pos, negsuc, ◌+◌, List, [], ◌∷◌, ◌++◌, length, codes, refl}
 use Rattle.mips_isa.specs.Lines.{Name, Line, WordItem, Number, Address, Word, Asciiz, Align}
-use Rattle.mips_isa.specs.Assembly.{unlabelled}
+use Rattle.mips_isa.specs.Assembly.{data_line, directive_line}
 use Rattle.cool_runtime.specs.Labels.{int_table, bool_table, string_table}
 use Rattle.cool_runtime.specs.Instructions.{label}
 use Rattle.cool_runtime.specs.Contents.{words_of_bytes}
 
 abbrev pub words : List WordItem → Line
-words items = unlabelled (Word items)
+words items = data_line (Word items)
 
 abbrev pub number : ℕ → WordItem
 number value = Number (pos value)
@@ -41,11 +41,11 @@ abbrev pub string_lines : Name → Name → ℕ → ℕ → List ℕ → List Li
 string_lines name length_name int_tag string_tag bytes =
     int_lines length_name int_tag (length bytes)
     ++ (string_head_lines name length_name string_tag (4 + words_of_bytes (length bytes))
-    ++ unlabelled (Asciiz bytes) ∷ unlabelled (Align 2) ∷ [])
+    ++ data_line (Asciiz bytes) ∷ directive_line (Align 2) ∷ [])
 
 -- bytes up to a zero, under a label
 abbrev pub text_lines : Name → List ℕ → List Line
-text_lines name bytes = label name ∷ unlabelled (Asciiz bytes) ∷ []
+text_lines name bytes = label name ∷ data_line (Asciiz bytes) ∷ []
 
 -- Worked example: a String of two bytes takes five words.
 size_of_ab : words_of_bytes (length (codes "ab")) ≡ 1

@@ -4,7 +4,7 @@ use Rattle.mips_isa.specs.declared.address_map.TheConstants.{TEXT_START, DATA_ST
 use Rattle.mips_isa.specs.declared.instr.Instr.{Instr}
 use Rattle.mips_isa.specs.Decoding.{decoded}
 use Rattle.mips_isa.specs.Machine.{word_of_text}
-use Rattle.mips_isa.specs.Lines.{Name, Statement, Empty, Plain, ToTwo, ToOne, ToJump, La, Li, Move, Neg, Nop, B, BranchZero, BranchOrder, Mul, ToText, ToData, Globl, Word, Byte, Ascii, Asciiz, Space, Align, Line}
+use Rattle.mips_isa.specs.Lines.{Name, AsmInstr, Plain, ToTwo, ToOne, ToJump, La, Li, Move, Neg, Nop, B, BranchZero, BranchOrder, Mul, Statement, Empty, Instruction, Data, Directive, Line}
 use Rattle.mips_isa.specs.Assembly.{Need, Nothing, Words, Item, Switch, Padding, need, instructions}
 use Rattle.cool_runtime.specs.Reaches.{World}
 
@@ -25,31 +25,28 @@ pub record IsTarget (w : World) (label : Name) : Type 0 where
   pub even : w.place label % 4 ≡ 0
   pub low : w.place label < DATA_START
 
--- the names of a statement have addresses that it can hold
+-- the names of an instruction have addresses that it can hold
+abbrev pub InstructionHolds : World → AsmInstr → Type 0
+InstructionHolds w (Plain i) = Unit {0}
+InstructionHolds w (ToTwo op rs rt target) = IsTarget w target
+InstructionHolds w (ToOne op rs target) = IsTarget w target
+InstructionHolds w (ToJump op target) = IsTarget w target
+InstructionHolds w (La rd label) = w.place label < 4294967296
+InstructionHolds w (Li rd value) = Unit {0}
+InstructionHolds w (Move rd rs) = Unit {0}
+InstructionHolds w (Neg rd rs) = Unit {0}
+InstructionHolds w Nop = Unit {0}
+InstructionHolds w (B target) = IsTarget w target
+InstructionHolds w (BranchZero op rs target) = IsTarget w target
+InstructionHolds w (BranchOrder op rs rt target) = IsTarget w target
+InstructionHolds w (Mul rd rs rt) = Unit {0}
+
+-- and so of a statement
 abbrev pub Holds : World → Statement → Type 0
 Holds w Empty = Unit {0}
-Holds w (Plain i) = Unit {0}
-Holds w (ToTwo op rs rt target) = IsTarget w target
-Holds w (ToOne op rs target) = IsTarget w target
-Holds w (ToJump op target) = IsTarget w target
-Holds w (La rd label) = w.place label < 4294967296
-Holds w (Li rd value) = Unit {0}
-Holds w (Move rd rs) = Unit {0}
-Holds w (Neg rd rs) = Unit {0}
-Holds w Nop = Unit {0}
-Holds w (B target) = IsTarget w target
-Holds w (BranchZero op rs target) = IsTarget w target
-Holds w (BranchOrder op rs rt target) = IsTarget w target
-Holds w (Mul rd rs rt) = Unit {0}
-Holds w ToText = Unit {0}
-Holds w ToData = Unit {0}
-Holds w (Globl name) = Unit {0}
-Holds w (Word list) = Unit {0}
-Holds w (Byte list) = Unit {0}
-Holds w (Ascii bytes) = Unit {0}
-Holds w (Asciiz bytes) = Unit {0}
-Holds w (Space n) = Unit {0}
-Holds w (Align n) = Unit {0}
+Holds w (Instruction i) = InstructionHolds w i
+Holds w (Data item) = Unit {0}
+Holds w (Directive directive) = Unit {0}
 
 -- the words of text that a statement takes
 abbrev pub words_of_need : Need → ℕ

@@ -16,7 +16,7 @@ use Rattle.mips_isa.specs.Words.{bits_of}
 use Rattle.mips_isa.specs.Bytes.{Bytes, Segments, word, set_byte, set_word}
 use Rattle.mips_isa.specs.Machine.{Registers, set_register, wrap, long, three_result, imm_result, shift_result, shift_of, two_result, one_result, signed_quotient, signed_remainder}
 use Rattle.mips_isa.specs.Calls.{State, Taken, asked, asked_line, number_of, char_of, signed, string_at}
-use Rattle.mips_isa.specs.Lines.{Statement, Empty, Plain, ToTwo, ToOne, ToJump, La, Li, Move, Neg, Nop, B, BranchZero, BranchOrder, Mul, ToText, ToData, Globl, Word, Byte, Ascii, Asciiz, Space, Align, Line}
+use Rattle.mips_isa.specs.Lines.{AsmInstr, Plain, ToTwo, ToOne, ToJump, La, Li, Move, Neg, Nop, B, BranchZero, BranchOrder, Mul, Statement, Empty, Instruction, Data, Directive, Line}
 use Rattle.mips_isa.specs.Assembly.{need, zero_branch}
 use Rattle.cool_runtime.specs.Reaches.{World}
 use Rattle.cool_runtime.specs.Standing.{words_of_need}
@@ -150,57 +150,38 @@ w_jump Jal a r pc m x jump = jump (set_register r 31 (pc + 4)) a m x
 abbrev pub w_to : Bool → ℕ → Registers → ℕ → Bytes → Beside → Next → Parts → Type 0
 w_to t a r pc m x go jump = (t ≡ true → jump r a m x) × (t ≡ false → go 0 r (pc + 4) m x)
 
+-- what an instruction has to show when it is next
+abbrev pub w_instruction : World → AsmInstr → Registers → ℕ → Bytes → Beside → Next → Parts → Ending → Type 0
+w_instruction w (Plain i) r pc m x go jump end = w_plain w.segments i r pc m x go jump end
+w_instruction w (ToTwo op rs rt l) r pc m x go jump end = w_to (two_result op (r rs) (r rt)) (w.place l) r pc m x go jump
+w_instruction w (ToOne op rs l) r pc m x go jump end = w_to (one_result op (r rs)) (w.place l) r pc m x go jump
+w_instruction w (ToJump op l) r pc m x go jump end = w_jump op (w.place l) r pc m x jump
+w_instruction w (La rd l) r pc m x go jump end = (0 < rd) × go 0 (set_register r rd (w.place l)) (pc + 8) m x
+w_instruction w (Li rd n) r pc m x go jump end = (0 < rd) × (bits_of n < 4294967296) × go 0 (set_register r rd (bits_of n)) (pc + 8) m x
+w_instruction w (Move rd rs) r pc m x go jump end = go 0 (set_register r rd (wrap (r rs + r 0))) (pc + 4) m x
+w_instruction w (Neg rd rs) r pc m x go jump end = ⊥
+w_instruction w Nop r pc m x go jump end = ⊥
+w_instruction w (B l) r pc m x go jump end = jump r (w.place l) m x
+w_instruction w (BranchZero op rs l) r pc m x go jump end = w_to (two_result (zero_branch op) (r rs) (r 0)) (w.place l) r pc m x go jump
+w_instruction w (BranchOrder op rs rt l) r pc m x go jump end = ⊥
+w_instruction w (Mul rd rs rt) r pc m x go jump end = ⊥
+
 -- what a statement has to show when it is next
 abbrev pub w_statement : World → Statement → Registers → ℕ → Bytes → Beside → Next → Parts → Ending → Type 0
 w_statement w Empty r pc m x go jump end = go 0 r pc m x
-w_statement w (Plain i) r pc m x go jump end = w_plain w.segments i r pc m x go jump end
-w_statement w (ToTwo op rs rt l) r pc m x go jump end = w_to (two_result op (r rs) (r rt)) (w.place l) r pc m x go jump
-w_statement w (ToOne op rs l) r pc m x go jump end = w_to (one_result op (r rs)) (w.place l) r pc m x go jump
-w_statement w (ToJump op l) r pc m x go jump end = w_jump op (w.place l) r pc m x jump
-w_statement w (La rd l) r pc m x go jump end = (0 < rd) × go 0 (set_register r rd (w.place l)) (pc + 8) m x
-w_statement w (Li rd n) r pc m x go jump end = (0 < rd) × (bits_of n < 4294967296) × go 0 (set_register r rd (bits_of n)) (pc + 8) m x
-w_statement w (Move rd rs) r pc m x go jump end = go 0 (set_register r rd (wrap (r rs + r 0))) (pc + 4) m x
-w_statement w (Neg rd rs) r pc m x go jump end = ⊥
-w_statement w Nop r pc m x go jump end = ⊥
-w_statement w (B l) r pc m x go jump end = jump r (w.place l) m x
-w_statement w (BranchZero op rs l) r pc m x go jump end = w_to (two_result (zero_branch op) (r rs) (r 0)) (w.place l) r pc m x go jump
-w_statement w (BranchOrder op rs rt l) r pc m x go jump end = ⊥
-w_statement w (Mul rd rs rt) r pc m x go jump end = ⊥
-w_statement w ToText r pc m x go jump end = ⊥
-w_statement w ToData r pc m x go jump end = ⊥
-w_statement w (Globl name) r pc m x go jump end = ⊥
-w_statement w (Word list) r pc m x go jump end = ⊥
-w_statement w (Byte list) r pc m x go jump end = ⊥
-w_statement w (Ascii bytes) r pc m x go jump end = ⊥
-w_statement w (Asciiz bytes) r pc m x go jump end = ⊥
-w_statement w (Space n) r pc m x go jump end = ⊥
-w_statement w (Align n) r pc m x go jump end = ⊥
+w_statement w (Instruction i) r pc m x go jump end = w_instruction w i r pc m x go jump end
+w_statement w (Data item) r pc m x go jump end = ⊥
+w_statement w (Directive directive) r pc m x go jump end = ⊥
 
 -- a line that is passed over has one word
+
+abbrev pub w_over_words : ℕ → Type 0 → Type 0
+w_over_words zero go = ⊥
+w_over_words (suc zero) go = go
+w_over_words (suc (suc n)) go = ⊥
+
 abbrev pub w_over : Statement → Type 0 → Type 0
-w_over Empty go = ⊥
-w_over (Plain i) go = go
-w_over (ToTwo op rs rt l) go = go
-w_over (ToOne op rs l) go = go
-w_over (ToJump op l) go = go
-w_over (La rd l) go = ⊥
-w_over (Li rd n) go = ⊥
-w_over (Move rd rs) go = go
-w_over (Neg rd rs) go = go
-w_over Nop go = go
-w_over (B l) go = go
-w_over (BranchZero op rs l) go = go
-w_over (BranchOrder op rs rt l) go = ⊥
-w_over (Mul rd rs rt) go = ⊥
-w_over ToText go = ⊥
-w_over ToData go = ⊥
-w_over (Globl name) go = ⊥
-w_over (Word list) go = ⊥
-w_over (Byte list) go = ⊥
-w_over (Ascii bytes) go = ⊥
-w_over (Asciiz bytes) go = ⊥
-w_over (Space n) go = ⊥
-w_over (Align n) go = ⊥
+w_over s go = w_over_words (words_of_need (need s)) go
 
 -- what the lines have to show, where the first k of them are passed over
 abbrev pub w_lines : World → List Line → ℕ → Registers → ℕ → Bytes → Beside → Parts → Ending → Type 0

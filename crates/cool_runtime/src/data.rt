@@ -3,13 +3,13 @@
 ghost use Rattle.std.specs.Prelude.{◌≡◌, ℕ, ◌+◌, ◌<◌, ◌^◌, ◌++◌, ◌∷◌, [], map, length, OnOk, IfOk};
 ghost use Rattle.mips_isa.specs.Lines.{lines_of, statement_of, item_of};
 ghost use Rattle.mips_isa.specs.Lines.{Asciiz, Align};
-ghost use Rattle.mips_isa.specs.Assembly.{unlabelled};
+ghost use Rattle.mips_isa.specs.Assembly.{unlabelled, data_line};
 ghost use Rattle.cool_runtime.specs.Contents.{words_of_bytes};
 ghost use Rattle.cool_runtime.specs.Instructions as instructions;
 ghost use Rattle.cool_runtime.specs.LinesOfData as written;
 
 use crate::draft::{label, unlabelled, write};
-use mips_isa::{Label, Line, Statement, WordItem};
+use mips_isa::{AsmDirective, DataItem, Label, Line, Statement, WordItem};
 use std::alloc::{AllocError, Global};
 
 /// A word that is a number.
@@ -50,17 +50,17 @@ pub fn word_line(
 ) -> Result<(), AllocError>
     ensures { OnOk result (lines_of lines.new.items ≡ lines_of lines.old.items ++ written.words (map item_of items.items) ∷ []) }
 {
-    add(alloc, lines, Statement::Word(items))
+    add(alloc, lines, Statement::Data(DataItem::Word(items)))
 }
 
 /// Adds bytes and a zero.
 pub fn text(alloc: Global, lines: &mut Vec<Line>, bytes: &[u8]) -> Result<(), AllocError>
-    ensures { OnOk result (lines_of lines.new.items ≡ lines_of lines.old.items ++ unlabelled (Asciiz bytes.now) ∷ []) }
+    ensures { OnOk result (lines_of lines.new.items ≡ lines_of lines.old.items ++ data_line (Asciiz bytes.now) ∷ []) }
 {
     add(
         alloc,
         lines,
-        Statement::Asciiz(Vec::from_slice(alloc, bytes)?),
+        Statement::Data(DataItem::Asciiz(Vec::from_slice(alloc, bytes)?)),
     )
 }
 
@@ -201,5 +201,5 @@ pub fn string_object(
     int_object(alloc, lines, length_name, tags.int, length)?;
     string_head(alloc, lines, name, length_name, tags.string, length / 4 + 5)?;
     text(alloc, lines, bytes)?;
-    add(alloc, lines, Statement::Align(2))
+    add(alloc, lines, Statement::Directive(AsmDirective::Align(2)))
 }

@@ -1,15 +1,15 @@
 //! Lines of assembly by borrowed names, as a template gives them, and adding them behind others.
 
 ghost use Rattle.std.specs.Prelude.{◌≡◌, ◌++◌, ◌∷◌, [], ◌<◌, map, IfOk, OnOk};
-ghost use Rattle.mips_isa.specs.Lines.{line_of, lines_of, statement_of};
-ghost use Rattle.mips_isa.specs.Assembly.{unlabelled};
+ghost use Rattle.mips_isa.specs.Lines.{line_of, lines_of, instruction_of, statement_of};
+ghost use Rattle.mips_isa.specs.Assembly.{unlabelled, instruction_line};
 ghost use Rattle.cool_runtime.specs.Drafts.{drafted};
 ghost use Rattle.cool_runtime.specs.Instructions as written;
 
 use mips_isa::register::{RA, V0, ZERO};
 use mips_isa::{
-    FromOp, ImmOp, Instr, JumpOp, Label, Line, MemOp, MulDivOp, OneOp, Reg, ShiftOp, Statement,
-    ThreeOp, TwoOp,
+    AsmInstr, FromOp, ImmOp, Instr, JumpOp, Label, Line, MemOp, MulDivOp, OneOp, Reg, ShiftOp,
+    Statement, ThreeOp, TwoOp,
 };
 use std::alloc::{AllocError, Global};
 
@@ -53,21 +53,28 @@ fn full_line(alloc: Global, draft: &Draft<'_>) -> Result<Line, AllocError>
                 statement: Statement::Empty,
             })
         }
-        Draft::Plain(instr) => Ok(unlabelled(alloc, Statement::Plain(instr))),
+        Draft::Plain(instr) => Ok(instruction_line(alloc, AsmInstr::Plain(instr))),
         Draft::Jump(op, name) => {
             let target = Label::new(alloc, name)?;
-            Ok(unlabelled(alloc, Statement::ToJump { op, target }))
+            Ok(instruction_line(alloc, AsmInstr::ToJump { op, target }))
         }
         Draft::La(rd, name) => {
             let label = Label::new(alloc, name)?;
-            Ok(unlabelled(alloc, Statement::La { rd, label }))
+            Ok(instruction_line(alloc, AsmInstr::La { rd, label }))
         }
         Draft::Li(rd, number) => {
             let value = i64::from(number);
-            Ok(unlabelled(alloc, Statement::Li { rd, value }))
+            Ok(instruction_line(alloc, AsmInstr::Li { rd, value }))
         }
-        Draft::Move(rd, rs) => Ok(unlabelled(alloc, Statement::Move { rd, rs })),
+        Draft::Move(rd, rs) => Ok(instruction_line(alloc, AsmInstr::Move { rd, rs })),
     }
+}
+
+/// A line that is an instruction alone.
+fn instruction_line(alloc: Global, instruction: AsmInstr) -> Line
+    ensures { line_of result ≡ instruction_line (instruction_of instruction) }
+{
+    unlabelled(alloc, Statement::Instruction(instruction))
 }
 
 /// A line without a label.

@@ -24,8 +24,8 @@ fn the_lines_of_constants(rt: HostRuntime) -> Result<(), Fail> {
     // three lines for each Bool and Int, and eight for a String
     assert_eq!(rt; lines.len(), 17);
     let shown = format!(in rt.alloc(); "{:?}", lines[16].statement)?;
-    assert_eq!(rt; shown.as_str(), "Align(2)");
+    assert_eq!(rt; shown.as_str(), "Directive(Align(2))");
     let shown = format!(in rt.alloc(); "{:?}", lines[15].statement)?;
-    assert_eq!(rt; shown.as_str(), "Asciiz([97, 98])");
+    assert_eq!(rt; shown.as_str(), "Data(Asciiz([97, 98]))");
     Ok(())
 }

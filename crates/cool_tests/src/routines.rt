@@ -1,7 +1,7 @@
 //! How many words of text each routine takes.
 
 use cool_runtime::{Routine, routine};
-use mips_isa::{Line, Statement};
+use mips_isa::{AsmInstr, Line, Statement};
 use std::test::Fail;
 
 /// The words of text of lines: none for a label, two for the address of a label, one for another instruction.
@@ -10,7 +10,7 @@ fn words(lines: &[Line]) -> usize {
     for line in lines {
         count = count.saturating_add(match line.statement {
             Statement::Empty => 0,
-            Statement::La { .. } => 2,
+            Statement::Instruction(AsmInstr::La { .. }) => 2,
             _ => 1,
         });
     }

@@ -10,7 +10,6 @@ use Rattle.mips_isa.specs.declared.asm_fault.AsmKind.{AsmKind}
 use Rattle.mips_isa.specs.declared.asm_fault.AsmFault.{AsmFault}
 use Rattle.mips_isa.specs.declared.asm_fault.AsmError.{AsmError}
 use Rattle.mips_isa.specs.declared.asm_fault.AsmError.TheVariants.{Memory, Fault}
-use Rattle.mips_isa.specs.declared.address_map.TheConstants.{TEXT_START}
 use Rattle.mips_isa.specs.ImageBounds.{ImageParts}
 use Rattle.mips_isa.specs.Lines.{Name, Line}
 use Rattle.mips_isa.specs.Assembly.{Position, start_position, start_name, behind_line, place_in, place_from, place_of, has, address_or_zero, text_from, bytes_from, fault_or, second_pass}
@@ -52,7 +51,7 @@ fault_at_line place all line rest number text bytes g (Fault fault) are left h =
     let P : (Name → Option Place) → Type 0 = λ f. second_pass f start_position 1 all ≡ Some fault in
     subst P are (
     sym left.fault
-    ∙ ap (λ k. fault_or number k other) (using_is place (TEXT_START + 4 * length text) line.statement)
+    ∙ ap (λ k. fault_or number k other) (using_is place (length text) line.statement)
     ∙ other_or number (statement_fault place (length text) line.statement) other fault h)
 
 -- a fault behind the last line

@@ -13,11 +13,12 @@ use Rattle.mips_isa.specs.declared.asm_fault.AsmKind.TheVariants.{A5, A6, A7, A8
 use Rattle.mips_isa.specs.declared.asm_fault.AsmFault.{AsmFault}
 use Rattle.mips_isa.specs.declared.address_map.TheConstants.{TEXT_START}
 use Rattle.mips_isa.specs.Words.{word_of, bits_of}
-use Rattle.mips_isa.specs.Lines.{Name, WordItem, Line, AreInRange, Statement, Empty, Plain, ToTwo, ToOne, ToJump, La, Li, Move, Neg, Nop, B, BranchZero, BranchOrder, Mul, ToText, ToData, Globl, Word, Byte, Ascii, Asciiz, Space, Align}
+use Rattle.mips_isa.specs.Lines as statements
+use Rattle.mips_isa.specs.Lines.{Name, WordItem, Line, AreInRange, AsmInstr, ToTwo, ToOne, ToJump, La, B, BranchZero, BranchOrder, DataItem, Word, Byte, Ascii, Asciiz, Space, AsmDirective, ToText, Align, Statement, Empty, Instruction, Directive}
 use Rattle.mips_isa.specs.Assembly as assembly
-use Rattle.mips_isa.specs.Assembly.{Need, need, Position, start_position, up, behind, behind_line, padding, instructions, order_branch, item_bytes, item_value, four_bytes, address_or_zero, text_from, bytes_from, is_too_large, is_wrong, any_twice, defining_fault, fault_or, first_pass, second_pass, using_fault, any_without_place, used, reaches, offset, branch_reaches, jump_reaches}
+use Rattle.mips_isa.specs.Assembly.{Need, need, Position, start_position, up, behind, behind_line, padding, words_of_instruction, need_of_data, need_of_directive, expansion, instructions, order_branch, bytes_of_data, item_bytes, item_value, four_bytes, address_or_zero, text_from, bytes_from, is_too_large, is_wrong, any_twice, defining_fault, fault_or, first_pass, second_pass, using_fault, any_without_place, used, reaches, instruction_reaches, names_of_instruction, offset, branch_reaches, jump_reaches}
 use Rattle.mips_asm.specs.Completing.{segment_behind}
-use Rattle.mips_asm.specs.Parts.{instruction_fault, item_fault, statement_fault, kind_or, target_fault, found, words_of_statement, bytes_of_statement, zeros}
+use Rattle.mips_asm.specs.Parts.{instruction_fault, statement_fault, target_fault, found, words_of_statement, bytes_of_statement, zeros}
 
 -- How much a statement adds
 
@@ -41,59 +42,44 @@ length_of_order Bge rs rt imm = refl
 length_of_order Blt rs rt imm = refl
 length_of_order Ble rs rt imm = refl
 
+length_of_expansion : (address : Name → ℕ) (at : ℕ) (i : AsmInstr) → length (expansion address at i) ≡ words_of_instruction i
+length_of_expansion address at (BranchOrder op rs rt target) = length_of_order op rs rt (offset (at + 4) (address target))
+length_of_expansion address at _ = refl
+
 pub length_of_instructions : (address : Name → ℕ) (at : ℕ) (s : Statement) → length (instructions address at s) ≡ words_needed (need s)
 length_of_instructions address at Empty = refl
-length_of_instructions address at (Plain i) = refl
-length_of_instructions address at (ToTwo op rs rt target) = refl
-length_of_instructions address at (ToOne op rs target) = refl
-length_of_instructions address at (ToJump op target) = refl
-length_of_instructions address at (La rd label) = refl
-length_of_instructions address at (Li rd value) = refl
-length_of_instructions address at (Move rd rs) = refl
-length_of_instructions address at (Neg rd rs) = refl
-length_of_instructions address at Nop = refl
-length_of_instructions address at (B target) = refl
-length_of_instructions address at (BranchZero op rs target) = refl
-length_of_instructions address at (BranchOrder op rs rt target) = length_of_order op rs rt (offset (at + 4) (address target))
-length_of_instructions address at (Mul rd rs rt) = refl
-length_of_instructions address at ToText = refl
-length_of_instructions address at ToData = refl
-length_of_instructions address at (Globl name) = refl
-length_of_instructions address at (Word list) = refl
-length_of_instructions address at (Byte list) = refl
-length_of_instructions address at (Ascii bytes) = refl
-length_of_instructions address at (Asciiz bytes) = refl
-length_of_instructions address at (Space n) = refl
-length_of_instructions address at (Align n) = refl
+length_of_instructions address at (Instruction i) = length_of_expansion address at i
+length_of_instructions address at (statements.Data item) = of_data item
+  where
+    of_data : (item : DataItem) → 0 ≡ words_needed (need_of_data item)
+    of_data (Word list) = refl
+    of_data _ = refl
+length_of_instructions address at (Directive directive) = of_directive directive
+  where
+    of_directive : (directive : AsmDirective) → 0 ≡ words_needed (need_of_directive directive)
+    of_directive ToText = refl
+    of_directive _ = refl
 
 length_of_words : (address : Name → ℕ) (list : List WordItem) → length (flat_map (λ item. four_bytes (item_value address item)) list) ≡ 4 * length list
 length_of_words address [] = refl
 length_of_words address (item ∷ rest) = omega (arith, length_of_words address rest)
 
+length_of_data : (address : Name → ℕ) (item : DataItem) → length (bytes_of_data address item) ≡ bytes_needed (need_of_data item)
+length_of_data address (Word list) = length_of_words address list
+length_of_data address (Byte list) = length-map list (λ n. bits_of n % 256)
+length_of_data address (Ascii bytes) = refl
+length_of_data address (Asciiz bytes) = length-append bytes (0 ∷ [])
+length_of_data address (Space n) = length-replicate n 0
+
 pub length_of_item : (address : Name → ℕ) (s : Statement) → length (item_bytes address s) ≡ bytes_needed (need s)
 length_of_item address Empty = refl
-length_of_item address (Plain i) = refl
-length_of_item address (ToTwo op rs rt target) = refl
-length_of_item address (ToOne op rs target) = refl
-length_of_item address (ToJump op target) = refl
-length_of_item address (La rd label) = refl
-length_of_item address (Li rd value) = refl
-length_of_item address (Move rd rs) = refl
-length_of_item address (Neg rd rs) = refl
-length_of_item address Nop = refl
-length_of_item address (B target) = refl
-length_of_item address (BranchZero op rs target) = refl
-length_of_item address (BranchOrder op rs rt target) = refl
-length_of_item address (Mul rd rs rt) = refl
-length_of_item address ToText = refl
-length_of_item address ToData = refl
-length_of_item address (Globl name) = refl
-length_of_item address (Word list) = length_of_words address list
-length_of_item address (Byte list) = length-map list (λ n. bits_of n % 256)
-length_of_item address (Ascii bytes) = refl
-length_of_item address (Asciiz bytes) = length-append bytes (0 ∷ [])
-length_of_item address (Space n) = length-replicate n 0
-length_of_item address (Align n) = refl
+length_of_item address (Instruction i) = refl
+length_of_item address (statements.Data item) = length_of_data address item
+length_of_item address (Directive directive) = of_directive directive
+  where
+    of_directive : (directive : AsmDirective) → 0 ≡ bytes_needed (need_of_directive directive)
+    of_directive ToText = refl
+    of_directive _ = refl
 
 -- units are not 0
 
@@ -104,30 +90,19 @@ HasUnit (assembly.Item unit size) = 1 ≤ unit
 HasUnit (assembly.Switch segment) = Unit {0}
 HasUnit (assembly.Padding unit) = 1 ≤ unit
 
+unit_of_data : (item : DataItem) → HasUnit (need_of_data item)
+unit_of_data (Word list) = lit≤ tt
+unit_of_data _ = lit≤ tt
+
+unit_of_directive : (directive : AsmDirective) → HasUnit (need_of_directive directive)
+unit_of_directive (Align n) = omega (arith, pow_pos n)
+unit_of_directive _ = tt
+
 pub unit_of : (s : Statement) → HasUnit (need s)
 unit_of Empty = tt
-unit_of (Plain i) = tt
-unit_of (ToTwo op rs rt target) = tt
-unit_of (ToOne op rs target) = tt
-unit_of (ToJump op target) = tt
-unit_of (La rd label) = tt
-unit_of (Li rd value) = tt
-unit_of (Move rd rs) = tt
-unit_of (Neg rd rs) = tt
-unit_of Nop = tt
-unit_of (B target) = tt
-unit_of (BranchZero op rs target) = tt
-unit_of (BranchOrder op rs rt target) = tt
-unit_of (Mul rd rs rt) = tt
-unit_of ToText = tt
-unit_of ToData = tt
-unit_of (Globl name) = tt
-unit_of (Word list) = lit≤ tt
-unit_of (Byte list) = lit≤ tt
-unit_of (Ascii bytes) = lit≤ tt
-unit_of (Asciiz bytes) = lit≤ tt
-unit_of (Space n) = lit≤ tt
-unit_of (Align n) = omega (arith, pow_pos n)
+unit_of (Instruction i) = tt
+unit_of (statements.Data item) = unit_of_data item
+unit_of (Directive directive) = unit_of_directive directive
 
 pub up_from : (unit n : ℕ) → 1 ≤ unit → n ≤ up unit n
 up_from unit n h = omega (arith, mul_comm ((n + (unit - 1)) / unit) unit)
@@ -177,40 +152,31 @@ statement_behind place s text bytes g =
     length-append bytes (bytes_of_statement place g (length bytes) s) ∙ ap (λ n. length bytes + n) item in
     same_position _ _ _ _ (segment_behind (need s) g) words added ∙ sym (position_behind (need s) (length text) (length bytes) g (unit_of s))
 
--- The fault of a statement is that of its target, or else that of its items
+-- The fault of a statement is that of its instruction's target, or of its item of data
 
-chosen : (b : Bool) → (if not b then Some A7 else None) ≡ kind_or (if b then None else Some A7) None
+chosen : (b : Bool) → (if not b then Some A7 else None) ≡ (if b then None else Some A7)
 chosen true = refl
 chosen false = refl
 
-one_target : (at : ℕ) (s : Statement) (o : Option Place) (test : Option Place → Bool) → ((p : Place) → reaches (λ name. Some p) at s ≡ test (Some p)) → (if (not (is_some o) || false) then Some A6 else (if not (test o) then Some A7 else None)) ≡ kind_or (target_fault at s (found o)) None
-one_target at s None test e = refl
-one_target at s (Some p) test e = chosen (test (Some p)) ∙ ap (λ b. kind_or (if b then None else Some A7) None) (sym (e p))
+one_target : (at : ℕ) (i : AsmInstr) (o : Option Place) (test : Option Place → Bool) → ((p : Place) → instruction_reaches (λ name. Some p) at i ≡ test (Some p)) → (if (not (is_some o) || false) then Some A6 else (if not (test o) then Some A7 else None)) ≡ target_fault at i (found o)
+one_target at i None test e = refl
+one_target at i (Some p) test e = chosen (test (Some p)) ∙ ap (λ b. if b then None else Some A7) (sym (e p))
 
-pub using_is : (place : Name → Option Place) (at : ℕ) (s : Statement) → (if any_without_place place (used s) then Some A6 else (if not (reaches place at s) then Some A7 else None)) ≡ kind_or (instruction_fault place at s) (item_fault place s)
-using_is place at Empty = refl
-using_is place at (Plain i) = refl
-using_is place at (ToTwo op rs rt target) = one_target at (ToTwo op rs rt target) (place target) (branch_reaches at) (λ p. refl)
-using_is place at (ToOne op rs target) = one_target at (ToOne op rs target) (place target) (branch_reaches at) (λ p. refl)
-using_is place at (ToJump op target) = one_target at (ToJump op target) (place target) jump_reaches (λ p. refl)
-using_is place at (La rd label) = one_target at (La rd label) (place label) (λ o. true) (λ p. refl)
-using_is place at (Li rd value) = refl
-using_is place at (Move rd rs) = refl
-using_is place at (Neg rd rs) = refl
-using_is place at Nop = refl
-using_is place at (B target) = one_target at (B target) (place target) (branch_reaches at) (λ p. refl)
-using_is place at (BranchZero op rs target) = one_target at (BranchZero op rs target) (place target) (branch_reaches at) (λ p. refl)
-using_is place at (BranchOrder op rs rt target) = one_target at (BranchOrder op rs rt target) (place target) (branch_reaches (at + 4)) (λ p. refl)
-using_is place at (Mul rd rs rt) = refl
-using_is place at ToText = refl
-using_is place at ToData = refl
-using_is place at (Globl name) = refl
-using_is place at (Word list) = refl
-using_is place at (Byte list) = refl
-using_is place at (Ascii bytes) = refl
-using_is place at (Asciiz bytes) = refl
-using_is place at (Space n) = refl
-using_is place at (Align n) = refl
+instruction_using : (place : Name → Option Place) (at : ℕ) (i : AsmInstr) → (if any_without_place place (names_of_instruction i) then Some A6 else (if not (instruction_reaches place at i) then Some A7 else None)) ≡ instruction_fault place at i
+instruction_using place at (ToTwo op rs rt target) = one_target at (ToTwo op rs rt target) (place target) (branch_reaches at) (λ p. refl)
+instruction_using place at (ToOne op rs target) = one_target at (ToOne op rs target) (place target) (branch_reaches at) (λ p. refl)
+instruction_using place at (ToJump op target) = one_target at (ToJump op target) (place target) jump_reaches (λ p. refl)
+instruction_using place at (La rd label) = one_target at (La rd label) (place label) (λ o. true) (λ p. refl)
+instruction_using place at (B target) = one_target at (B target) (place target) (branch_reaches at) (λ p. refl)
+instruction_using place at (BranchZero op rs target) = one_target at (BranchZero op rs target) (place target) (branch_reaches at) (λ p. refl)
+instruction_using place at (BranchOrder op rs rt target) = one_target at (BranchOrder op rs rt target) (place target) (branch_reaches (at + 4)) (λ p. refl)
+instruction_using place at _ = refl
+
+pub using_is : (place : Name → Option Place) (words : ℕ) (s : Statement) → (if any_without_place place (used s) then Some A6 else (if not (reaches place (TEXT_START + 4 * words) s) then Some A7 else None)) ≡ statement_fault place words s
+using_is place words Empty = refl
+using_is place words (Instruction i) = instruction_using place (TEXT_START + 4 * words) i
+using_is place words (statements.Data item) = refl
+using_is place words (Directive directive) = refl
 
 -- What no fault means
 
@@ -281,7 +247,7 @@ line_further place all line rest number text bytes g left none =
     let defined : defining_fault left.seen p line ≡ None = no_kind left.from (defining_fault left.seen p line) _ left.first in
     let fits : is_too_large (behind_line line p) ≡ false = last_test (is_wrong (need s) g) (any_twice left.seen line.labels) (is_too_large (behind_line line p)) defined in
     let sizes = small q (ap is_too_large here ∙ fits) in
-    let using : using_fault place p line ≡ None = using_is place (TEXT_START + 4 * length text) s ∙ none in
+    let using : using_fault place p line ≡ None = using_is place (length text) s ∙ none in
     record {
       ranges = left.ranges.1;
       seen = left.seen ++ line.labels;

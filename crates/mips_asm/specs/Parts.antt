@@ -9,15 +9,16 @@ use Rattle.mips_isa.specs.declared.asm_fault.AsmError.TheVariants.{Memory, Fault
 use Rattle.mips_isa.specs.Words.{bits_of, word_of}
 use Rattle.mips_isa.specs.declared.place.Segment.{Segment}
 use Rattle.mips_isa.specs.declared.place.Segment.TheVariants.{Text, Data}
-use Rattle.mips_isa.specs.Lines.{Name, Line, WordItem, Number, Address, Statement, Empty, Plain, ToTwo, ToOne, ToJump, La, Li, Move, Neg, Nop, B, BranchZero, BranchOrder, Mul, ToText, ToData, Globl, Word, Byte, Ascii, Asciiz, Space, Align}
+use Rattle.mips_isa.specs.Lines as statements
+use Rattle.mips_isa.specs.Lines.{Name, Line, WordItem, Number, Address, AsmInstr, Plain, ToTwo, ToOne, ToJump, La, Li, Move, Neg, Nop, B, BranchZero, BranchOrder, Mul, DataItem, Statement, Empty, Instruction, Directive}
 use Rattle.mips_isa.specs.Assembly as assembly
 use Rattle.mips_isa.specs.declared.address_map.TheConstants.{TEXT_START}
 use Rattle.mips_isa.specs.ImageBounds.{ImageParts}
-use Rattle.mips_isa.specs.Assembly.{Need, need, padding_to, instructions, item_bytes, address_or_zero, is_text, reaches, any_without_place, names_of_items, fault_or, start_fault, start_name, start_position, second_pass, place_of, image_of_all}
+use Rattle.mips_isa.specs.Assembly.{Need, need, padding_to, instructions, item_bytes, address_or_zero, is_text, instruction_reaches, any_without_place, names_of_items, names_of_data, fault_or, start_fault, start_name, start_position, second_pass, place_of, image_of_all}
 use Rattle.mips_asm.specs.declared.target.Target.{Target}
 use Rattle.mips_asm.specs.declared.target.Target.TheVariants.{Unused, Missing, Found}
 use Rattle.mips_asm.specs.declared.expansion.Expansion.{Expansion}
-use Rattle.mips_asm.specs.declared.expansion.Expansion.TheVariants.{Nothing, One, Two}
+use Rattle.mips_asm.specs.declared.expansion.Expansion.TheVariants.{One, Two}
 
 -- where the label of an instruction is
 
@@ -25,8 +26,7 @@ abbrev pub found : Option Place → Target
 found None = Missing
 found (Some place) = Found place
 
-abbrev pub target_in : (Name → Option Place) → Statement → Target
-target_in place Empty = Unused
+abbrev pub target_in : (Name → Option Place) → AsmInstr → Target
 target_in place (Plain i) = Unused
 target_in place (ToTwo op rs rt target) = found (place target)
 target_in place (ToOne op rs target) = found (place target)
@@ -40,31 +40,21 @@ target_in place (B target) = found (place target)
 target_in place (BranchZero op rs target) = found (place target)
 target_in place (BranchOrder op rs rt target) = found (place target)
 target_in place (Mul rd rs rt) = Unused
-target_in place ToText = Unused
-target_in place ToData = Unused
-target_in place (Globl name) = Unused
-target_in place (Word list) = Unused
-target_in place (Byte list) = Unused
-target_in place (Ascii bytes) = Unused
-target_in place (Asciiz bytes) = Unused
-target_in place (Space n) = Unused
-target_in place (Align n) = Unused
 
 -- the instructions of an expansion
 abbrev pub expanded : Expansion → List Instr
-expanded Nothing = []
 expanded (One i) = i ∷ []
 expanded (Two i j) = i ∷ j ∷ []
 
 -- what is wrong with the target of an instruction
 
-abbrev pub target_fault : ℕ → Statement → Target → Option AsmKind
-target_fault at statement Unused = None
-target_fault at statement Missing = Some A6
-target_fault at statement (Found place) = if reaches (λ _. Some place) at statement then None else Some A7
+abbrev pub target_fault : ℕ → AsmInstr → Target → Option AsmKind
+target_fault at instruction Unused = None
+target_fault at instruction Missing = Some A6
+target_fault at instruction (Found place) = if instruction_reaches (λ _. Some place) at instruction then None else Some A7
 
-abbrev pub instruction_fault : (Name → Option Place) → ℕ → Statement → Option AsmKind
-instruction_fault place at statement = target_fault at statement (target_in place statement)
+abbrev pub instruction_fault : (Name → Option Place) → ℕ → AsmInstr → Option AsmKind
+instruction_fault place at instruction = target_fault at instruction (target_in place instruction)
 
 -- An error is this fault on this line, unless memory ran out.
 abbrev pub IsError : ℕ → Option AsmKind → AsmError → Type 0
@@ -87,35 +77,13 @@ abbrev pub word_in : (Name → Option Place) → WordItem → Option ℕ
 word_in place (Number n) = Some (bits_of n)
 word_in place (Address label) = address_if (place label)
 
--- what is wrong with the items of `.word`, and with those of a statement
+-- what is wrong with the items of `.word`, and with an item of data
 
 abbrev pub items_fault : (Name → Option Place) → List WordItem → Option AsmKind
 items_fault place items = if any_without_place place (names_of_items items) then Some A6 else None
 
-abbrev pub item_fault : (Name → Option Place) → Statement → Option AsmKind
-item_fault place Empty = None
-item_fault place (Plain i) = None
-item_fault place (ToTwo op rs rt target) = None
-item_fault place (ToOne op rs target) = None
-item_fault place (ToJump op target) = None
-item_fault place (La rd label) = None
-item_fault place (Li rd value) = None
-item_fault place (Move rd rs) = None
-item_fault place (Neg rd rs) = None
-item_fault place Nop = None
-item_fault place (B target) = None
-item_fault place (BranchZero op rs target) = None
-item_fault place (BranchOrder op rs rt target) = None
-item_fault place (Mul rd rs rt) = None
-item_fault place ToText = None
-item_fault place ToData = None
-item_fault place (Globl name) = None
-item_fault place (Word list) = items_fault place list
-item_fault place (Byte list) = None
-item_fault place (Ascii bytes) = None
-item_fault place (Asciiz bytes) = None
-item_fault place (Space n) = None
-item_fault place (Align n) = None
+abbrev pub item_fault : (Name → Option Place) → DataItem → Option AsmKind
+item_fault place item = if any_without_place place (names_of_data item) then Some A6 else None
 
 -- the zeros before an item, where a segment is open and the data has so many bytes
 abbrev pub zeros : Need → Segment → ℕ → ℕ
@@ -125,14 +93,12 @@ zeros (assembly.Item unit size) segment n = padding_to Data unit n
 zeros (assembly.Switch other) segment n = 0
 zeros (assembly.Padding unit) segment n = padding_to segment unit n
 
--- what is wrong with a statement behind so many words
-
-abbrev pub kind_or : Option AsmKind → Option AsmKind → Option AsmKind
-kind_or None other = other
-kind_or (Some kind) other = Some kind
-
+-- what is wrong with a statement after so many words
 abbrev pub statement_fault : (Name → Option Place) → ℕ → Statement → Option AsmKind
-statement_fault place words statement = kind_or (instruction_fault place (TEXT_START + 4 * words) statement) (item_fault place statement)
+statement_fault place words Empty = None
+statement_fault place words (Instruction i) = instruction_fault place (TEXT_START + 4 * words) i
+statement_fault place words (statements.Data item) = item_fault place item
+statement_fault place words (Directive directive) = None
 
 -- what a statement is assembled to behind so many words, and behind so many bytes
 

@@ -1,7 +1,7 @@
 //! The lines that are added where `main` is defined, and `__start` is not.
 
 ghost use Rattle.std.specs.Prelude.{◌≡◌, ◌&&◌, ◌++◌, not, is_some, IfOk, pos};
-ghost use Rattle.mips_isa.specs.Lines.{line_of, lines_of, statement_of};
+ghost use Rattle.mips_isa.specs.Lines.{line_of, lines_of, statement_of, Instruction, Plain};
 ghost use Rattle.mips_isa.specs.Assembly.{has, need, place_of, in_text, start_name, main_name, added_lines, completed, unlabelled};
 ghost use Rattle.mips_isa.specs.declared.instr.Instr.TheVariants.{Imm};
 ghost use Rattle.mips_isa.specs.declared.instr.ImmOp.TheVariants.{Ori};
@@ -10,7 +10,9 @@ ghost use Rattle.mips_asm.specs.Completing.{segment_behind, segment_of_name, is_
 
 use mips_isa::register::{V0, ZERO};
 use mips_isa::system_call::EXIT;
-use mips_isa::{ImmOp, Instr, JumpOp, Label, Line, Reg, Segment, Statement};
+use mips_isa::{
+    AsmDirective, AsmInstr, ImmOp, Instr, JumpOp, Label, Line, Reg, Segment, Statement,
+};
 use std::alloc::{AllocError, Global};
 
 /// The lines that complete lines: a call of `main` and an exit, or none.
@@ -62,13 +64,13 @@ fn is_labelled(line: &Line, name: &[u8]) -> bool
     line.labels.iter().any(|label| name == label.as_slice())
 }
 
-/// The segment that is open behind a statement.
-pub fn segment_after(statement: &Statement, segment: Segment) -> Segment
+/// The segment that is open after a statement.
+fn segment_after(statement: &Statement, segment: Segment) -> Segment
     ensures { result ≡ segment_behind (need (statement_of statement.now)) segment }
 {
     match statement {
-        Statement::ToText => Segment::Text,
-        Statement::ToData => Segment::Data,
+        Statement::Directive(AsmDirective::ToText) => Segment::Text,
+        Statement::Directive(AsmDirective::ToData) => Segment::Data,
         _ => segment,
     }
 }
@@ -81,6 +83,13 @@ fn without_label(alloc: Global, statement: Statement) -> Line
         labels: Vec::new(alloc),
         statement,
     }
+}
+
+/// The statement of an instruction.
+fn plain(instr: Instr) -> Statement
+    ensures { statement_of result ≡ Instruction (Plain instr) }
+{
+    Statement::Instruction(AsmInstr::Plain(instr))
 }
 
 /// The instruction that puts the number of the exit into `$v0`.
@@ -103,15 +112,15 @@ fn start_lines(alloc: Global) -> Result<Vec<Line>, AllocError>
     labels.push(Label::new(alloc, b"__start")?)?;
     let call = Line {
         labels,
-        statement: Statement::ToJump {
+        statement: Statement::Instruction(AsmInstr::ToJump {
             op: JumpOp::Jal,
             target: Label::new(alloc, b"main")?,
-        },
+        }),
     };
     let mut lines = Vec::new(alloc);
-    lines.push(without_label(alloc, Statement::ToText))?;
+    lines.push(without_label(alloc, Statement::Directive(AsmDirective::ToText)))?;
     lines.push(call)?;
-    lines.push(without_label(alloc, Statement::Plain(exit_number())))?;
-    lines.push(without_label(alloc, Statement::Plain(Instr::Syscall)))?;
+    lines.push(without_label(alloc, plain(exit_number())))?;
+    lines.push(without_label(alloc, plain(Instr::Syscall)))?;
     Ok(lines)
 }

@@ -1,4 +1,4 @@
-//! The instructions of statements.
+//! The expansion of instructions and pseudoinstructions.
 
 ghost use Rattle.std.specs.Prelude.{◌≡◌, ◌≤◌, ◌/◌, [], ◌∷◌};
 ghost use Rattle.mips_isa.specs.declared.instr.Instr.TheVariants as instr;
@@ -6,65 +6,53 @@ ghost use Rattle.mips_isa.specs.declared.instr.ShiftOp.TheVariants.{Sll};
 ghost use Rattle.mips_isa.specs.declared.instr.MulDivOp.TheVariants.{Mult};
 ghost use Rattle.mips_isa.specs.declared.instr.FromOp.TheVariants.{Mflo};
 ghost use Rattle.mips_isa.specs.Words.{bits_of};
-ghost use Rattle.mips_isa.specs.Lines.{statement_of, IsInRange, IsWord};
-ghost use Rattle.mips_isa.specs.Assembly.{instructions, load_address, zero_branch, order_branch};
+ghost use Rattle.mips_isa.specs.Lines.{instruction_of, IsInstructionInRange, IsWord};
+ghost use Rattle.mips_isa.specs.Assembly.{expansion, load_address, zero_branch, order_branch};
 ghost use Rattle.mips_asm.specs.Parts.{expanded};
 
 use crate::target::words_to;
 use mips_isa::register::{AT, ZERO};
 use mips_isa::{
-    DATA_START, FromOp, ImmOp, Instr, JumpOp, MulDivOp, OneOp, OrderOp, Reg, ShiftOp, Statement,
+    AsmInstr, DATA_START, FromOp, ImmOp, Instr, JumpOp, MulDivOp, OneOp, OrderOp, Reg, ShiftOp,
     ThreeOp, TwoOp, ZeroOp,
 };
 
-/// The instructions of a statement.
+/// What the instruction of a line is assembled to.
 #[derive(Clone, Copy, Debug)]
 pub enum Expansion {
-    /// The statement is no instruction.
-    Nothing,
-    /// It is one instruction.
+    /// One instruction.
     One(Instr),
-    /// It is two instructions.
+    /// Two instructions.
     Two(Instr, Instr),
 }
 
-/// The instructions of a statement that stands at an address and whose label has an address.
-pub fn expand(statement: &Statement, at: u32, address: u32) -> Expansion
+/// The expansion of an instruction that stands at an address and whose label has an address.
+pub fn expand(instruction: &AsmInstr, at: u32, address: u32) -> Expansion
     requires early { at ≤ DATA_START }
-    requires ranges { IsInRange (statement_of statement.now) }
-    ensures { expanded result ≡ instructions (λ _. address) at (statement_of statement.now) }
+    requires ranges { IsInstructionInRange (instruction_of instruction.now) }
+    ensures { expanded result ≡ expansion (λ _. address) at (instruction_of instruction.now) }
 {
     let zero = Reg::new(ZERO);
     let words = words_to(at, address);
-    match statement {
-        Statement::Plain(i) => Expansion::One(*i),
-        Statement::ToTwo { op, rs, rt, .. } => Expansion::One(branch(*op, *rs, *rt, words)),
-        Statement::ToOne { op, rs, .. } => Expansion::One(branch_one(*op, *rs, words)),
-        Statement::ToJump { op, .. } => Expansion::One(jump(*op, address)),
-        Statement::La { rd, .. } => load(*rd, address),
-        Statement::Li { rd, value } => load(*rd, word_bits(*value)),
-        Statement::Move { rd, rs } => Expansion::One(three(ThreeOp::Addu, *rd, *rs, zero)),
-        Statement::Neg { rd, rs } => Expansion::One(three(ThreeOp::Sub, *rd, zero, *rs)),
-        Statement::Nop => Expansion::One(no_operation()),
-        Statement::B { .. } => Expansion::One(branch(TwoOp::Beq, zero, zero, words)),
-        Statement::BranchZero { op, rs, .. } => zero_test(*op, *rs, words),
-        Statement::BranchOrder { op, rs, rt, .. } => compare(
+    match instruction {
+        AsmInstr::Plain(i) => Expansion::One(*i),
+        AsmInstr::ToTwo { op, rs, rt, .. } => Expansion::One(branch(*op, *rs, *rt, words)),
+        AsmInstr::ToOne { op, rs, .. } => Expansion::One(branch_one(*op, *rs, words)),
+        AsmInstr::ToJump { op, .. } => Expansion::One(jump(*op, address)),
+        AsmInstr::La { rd, .. } => load(*rd, address),
+        AsmInstr::Li { rd, value } => load(*rd, word_bits(*value)),
+        AsmInstr::Move { rd, rs } => Expansion::One(three(ThreeOp::Addu, *rd, *rs, zero)),
+        AsmInstr::Neg { rd, rs } => Expansion::One(three(ThreeOp::Sub, *rd, zero, *rs)),
+        AsmInstr::Nop => Expansion::One(no_operation()),
+        AsmInstr::B { .. } => Expansion::One(branch(TwoOp::Beq, zero, zero, words)),
+        AsmInstr::BranchZero { op, rs, .. } => zero_test(*op, *rs, words),
+        AsmInstr::BranchOrder { op, rs, rt, .. } => compare(
             *op,
             *rs,
             *rt,
             words_to(at + 4, address),
         ),
-        Statement::Mul { rd, rs, rt } => multiply(*rd, *rs, *rt),
-        Statement::Empty
-        | Statement::ToText
-        | Statement::ToData
-        | Statement::Globl(_)
-        | Statement::Word(_)
-        | Statement::Byte(_)
-        | Statement::Ascii(_)
-        | Statement::Asciiz(_)
-        | Statement::Space(_)
-        | Statement::Align(_) => Expansion::Nothing,
+        AsmInstr::Mul { rd, rs, rt } => multiply(*rd, *rs, *rt),
     }
 }
 

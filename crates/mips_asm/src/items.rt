@@ -3,55 +3,37 @@
 ghost use Rattle.std.specs.Prelude.{◌≡◌, ◌≤◌, ◌+◌, ◌-◌, ◌*◌, ◌%◌, ◌^◌, [], ◌∷◌, ◌++◌, List, length, map, flat_map, replicate, Option, Some, None, OnOk, IfErr};
 ghost use Rattle.std.specs.List.{AllByRecursion};
 ghost use Rattle.mips_isa.specs.Words.{bits_of};
-ghost use Rattle.mips_isa.specs.Lines.{item_of, statement_of, IsInRange, IsItem};
-ghost use Rattle.mips_isa.specs.Assembly.{up, need, item_bytes, item_value, four_bytes, address_or_zero, padding_to};
+ghost use Rattle.mips_isa.specs.Lines.{item_of, data_item_of, IsDataInRange, IsItem};
+ghost use Rattle.mips_isa.specs.Assembly.{up, need_of_data, bytes_of_data, item_value, four_bytes, address_or_zero, padding_to};
 ghost use Rattle.mips_isa.specs.declared.asm_fault.AsmError.TheVariants.{Memory};
+ghost use Rattle.mips_isa.specs.declared.place.Segment.TheVariants.{Data};
 ghost use Rattle.mips_asm.specs.Places.{places_of};
 ghost use Rattle.mips_asm.specs.Parts.{IsError, word_in, items_fault, item_fault, zeros};
 
 use crate::expansion::word_bits;
 use crate::labels::Labels;
-use mips_isa::{AsmError, AsmFault, AsmKind, MOST_DATA_BYTES, Segment, Statement, WordItem};
+use mips_isa::{AsmError, AsmFault, AsmKind, DataItem, MOST_DATA_BYTES, Segment, WordItem};
 use std::alloc::AllocError;
 
-/// Adds the bytes of a statement, and the zeros before them.
+/// Adds the bytes of an item, and the zeros before them.
 pub fn add_item(
     bytes: &mut Vec<u8>,
-    segment: Segment,
     labels: &Labels,
-    statement: &Statement,
+    item: &DataItem,
     number: usize,
 ) -> Result<(), AsmError>
     requires small { length bytes.old.items ≤ MOST_DATA_BYTES }
-    requires ranges { IsInRange (statement_of statement.now) }
-    ensures checked { OnOk result (item_fault (places_of labels.now) (statement_of statement.now) ≡ None) }
-    ensures added { OnOk result (bytes.new.items ≡ bytes.old.items ++ (replicate (zeros (need (statement_of statement.now)) segment (length bytes.old.items)) 0 ++ item_bytes (λ name. address_or_zero (places_of labels.now name)) (statement_of statement.now))) }
-    ensures error { IfErr result (IsError number (item_fault (places_of labels.now) (statement_of statement.now))) }
+    requires ranges { IsDataInRange (data_item_of item.now) }
+    ensures checked { OnOk result (item_fault (places_of labels.now) (data_item_of item.now) ≡ None) }
+    ensures added { OnOk result (bytes.new.items ≡ bytes.old.items ++ (replicate (zeros (need_of_data (data_item_of item.now)) Data (length bytes.old.items)) 0 ++ bytes_of_data (λ name. address_or_zero (places_of labels.now name)) (data_item_of item.now))) }
+    ensures error { IfErr result (IsError number (item_fault (places_of labels.now) (data_item_of item.now))) }
 {
-    match statement {
-        Statement::Word(items) => add_aligned_words(bytes, labels, items, number)?,
-        Statement::Byte(numbers) => add_bytes(bytes, numbers)?,
-        Statement::Ascii(text) => bytes.extend_from_slice(text)?,
-        Statement::Asciiz(text) => add_terminated(bytes, text)?,
-        Statement::Space(count) => bytes.resize(bytes.len() + *count as usize, 0)?,
-        Statement::Align(power) => align(bytes, segment, *power)?,
-        Statement::Empty
-        | Statement::Plain(_)
-        | Statement::ToTwo { .. }
-        | Statement::ToOne { .. }
-        | Statement::ToJump { .. }
-        | Statement::La { .. }
-        | Statement::Li { .. }
-        | Statement::Move { .. }
-        | Statement::Neg { .. }
-        | Statement::Nop
-        | Statement::B { .. }
-        | Statement::BranchZero { .. }
-        | Statement::BranchOrder { .. }
-        | Statement::Mul { .. }
-        | Statement::ToText
-        | Statement::ToData
-        | Statement::Globl(_) => {}
+    match item {
+        DataItem::Word(items) => add_aligned_words(bytes, labels, items, number)?,
+        DataItem::Byte(numbers) => add_bytes(bytes, numbers)?,
+        DataItem::Ascii(text) => bytes.extend_from_slice(text)?,
+        DataItem::Asciiz(text) => add_terminated(bytes, text)?,
+        DataItem::Space(count) => bytes.resize(bytes.len() + *count as usize, 0)?,
     }
     Ok(())
 }
@@ -78,7 +60,7 @@ fn pad(bytes: &mut Vec<u8>, unit: usize) -> Result<(), AllocError>
 }
 
 /// Fills the data up to a multiple of a power of 2; in text it has no effect.
-fn align(bytes: &mut Vec<u8>, segment: Segment, power: u32) -> Result<(), AllocError>
+pub fn align(bytes: &mut Vec<u8>, segment: Segment, power: u32) -> Result<(), AllocError>
     requires small { length bytes.old.items ≤ MOST_DATA_BYTES }
     requires low { power ≤ 12 }
     ensures { OnOk result (bytes.new.items ≡ bytes.old.items ++ replicate (padding_to segment (2 ^ power) (length bytes.old.items)) 0) }

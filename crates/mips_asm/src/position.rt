@@ -1,11 +1,13 @@
 //! How far the segments are filled.
 
 ghost use Rattle.std.specs.Prelude.{◌≡◌, ◌+◌, ◌-◌, ◌*◌, ◌/◌, ◌<◌, ◌≤◌, MatchOption, true, false};
-ghost use Rattle.mips_isa.specs.Lines.{statement_of, IsInRange};
-ghost use Rattle.mips_isa.specs.Assembly.{need, behind, is_wrong, item_or, up};
+ghost use Rattle.mips_isa.specs.Lines.{statement_of, instruction_of, data_item_of, directive_of, IsInRange, IsDirectiveInRange};
+ghost use Rattle.mips_isa.specs.Assembly.{need, words_of_instruction, need_of_data, need_of_directive, behind, is_wrong, item_or, up};
 ghost use Rattle.mips_asm.specs.Passes.{position_of, need_of, IsSmall, Fits, IsBehind};
 
-use mips_isa::{MOST_DATA_BYTES, MOST_TEXT_WORDS, Segment, Statement};
+use mips_isa::{
+    AsmDirective, AsmInstr, DataItem, MOST_DATA_BYTES, MOST_TEXT_WORDS, Segment, Statement,
+};
 
 /// How far the segments are filled, and which one is open.
 #[derive(Clone, Copy, Debug, PartialEq, Eq)]
@@ -39,28 +41,60 @@ pub fn need_of_statement(statement: &Statement) -> Need
     ensures small { IsSmall result }
 {
     match statement {
-        Statement::Empty | Statement::Globl(_) => Need::Nothing,
-        Statement::Plain(_)
-        | Statement::ToTwo { .. }
-        | Statement::ToOne { .. }
-        | Statement::ToJump { .. }
-        | Statement::Move { .. }
-        | Statement::Neg { .. }
-        | Statement::Nop
-        | Statement::B { .. }
-        | Statement::BranchZero { .. } => Need::Words(1),
-        Statement::La { .. }
-        | Statement::Li { .. }
-        | Statement::BranchOrder { .. }
-        | Statement::Mul { .. } => Need::Words(2),
-        Statement::ToText => Need::Switch(Segment::Text),
-        Statement::ToData => Need::Switch(Segment::Data),
-        Statement::Word(items) => Need::WordItems(items.len()),
-        Statement::Byte(numbers) => Need::Bytes(numbers.len()),
-        Statement::Ascii(bytes) => Need::Bytes(bytes.len()),
-        Statement::Asciiz(bytes) => Need::Bytes(bytes.len() + 1),
-        Statement::Space(size) => Need::Bytes(*size as usize),
-        Statement::Align(exponent) => Need::Padding(1 << *exponent),
+        Statement::Empty => Need::Nothing,
+        Statement::Instruction(instruction) => Need::Words(words_of_instruction(instruction)),
+        Statement::Data(item) => need_of_data(item),
+        Statement::Directive(directive) => need_of_directive(directive),
+    }
+}
+
+/// The words of text that an instruction is assembled to.
+fn words_of_instruction(instruction: &AsmInstr) -> u32
+    ensures exact { result ≡ words_of_instruction (instruction_of instruction.now) }
+    ensures small { result ≤ 2 }
+{
+    match instruction {
+        AsmInstr::Plain(_)
+        | AsmInstr::ToTwo { .. }
+        | AsmInstr::ToOne { .. }
+        | AsmInstr::ToJump { .. }
+        | AsmInstr::Move { .. }
+        | AsmInstr::Neg { .. }
+        | AsmInstr::Nop
+        | AsmInstr::B { .. }
+        | AsmInstr::BranchZero { .. } => 1,
+        AsmInstr::La { .. }
+        | AsmInstr::Li { .. }
+        | AsmInstr::BranchOrder { .. }
+        | AsmInstr::Mul { .. } => 2,
+    }
+}
+
+/// What an item of data needs.
+fn need_of_data(item: &DataItem) -> Need
+    ensures exact { need_of result ≡ need_of_data (data_item_of item.now) }
+    ensures small { IsSmall result }
+{
+    match item {
+        DataItem::Word(items) => Need::WordItems(items.len()),
+        DataItem::Byte(numbers) => Need::Bytes(numbers.len()),
+        DataItem::Ascii(bytes) => Need::Bytes(bytes.len()),
+        DataItem::Asciiz(bytes) => Need::Bytes(bytes.len() + 1),
+        DataItem::Space(size) => Need::Bytes(*size as usize),
+    }
+}
+
+/// What another directive needs.
+fn need_of_directive(directive: &AsmDirective) -> Need
+    requires { IsDirectiveInRange (directive_of directive.now) }
+    ensures exact { need_of result ≡ need_of_directive (directive_of directive.now) }
+    ensures small { IsSmall result }
+{
+    match directive {
+        AsmDirective::ToText => Need::Switch(Segment::Text),
+        AsmDirective::ToData => Need::Switch(Segment::Data),
+        AsmDirective::Globl(_) => Need::Nothing,
+        AsmDirective::Align(exponent) => Need::Padding(1 << *exponent),
     }
 }
 

@@ -1,25 +1,24 @@
 //! The second pass of the assembler.
 
-ghost use Rattle.std.specs.Prelude.{◌≡◌, ◌≤◌, ◌<◌, ◌+◌, ◌*◌, [], ◌++◌, List, length, map, Option, Some, None, OnOk, IfOk, IfErr};
+ghost use Rattle.std.specs.Prelude.{◌≡◌, ◌≤◌, ◌<◌, ◌+◌, ◌*◌, [], ◌++◌, List, length, map, replicate, Option, Some, None, OnOk, IfOk, IfErr};
 ghost use Rattle.std.specs.List.{AllByRecursion};
 ghost use Rattle.mips_isa.specs.Words.{word_of, InRange};
-ghost use Rattle.mips_isa.specs.Lines.{line_of, statement_of, IsInRange, AreInRange};
-ghost use Rattle.mips_isa.specs.Assembly.{instructions, address_or_zero, need, first_pass, start_position, start_name, place_of};
+ghost use Rattle.mips_isa.specs.Lines.{line_of, statement_of, instruction_of, directive_of, IsInRange, IsInstructionInRange, IsDirectiveInRange, AreInRange};
+ghost use Rattle.mips_isa.specs.Assembly.{expansion, address_or_zero, need, need_of_directive, first_pass, start_position, start_name, place_of};
 ghost use Rattle.mips_asm.specs.Places.{places_of};
 ghost use Rattle.mips_asm.specs.Completing.{segment_behind};
-ghost use Rattle.mips_asm.specs.Parts.{expanded, instruction_fault, target_in, target_address, IsError, statement_fault, words_of_statement, bytes_of_statement, last_fault, IsWordPlace, IsImageOrFault};
+ghost use Rattle.mips_asm.specs.Parts.{expanded, instruction_fault, target_in, target_address, IsError, statement_fault, words_of_statement, bytes_of_statement, zeros, last_fault, IsWordPlace, IsImageOrFault};
 ghost use Rattle.mips_isa.specs.declared.asm_fault.AsmError.TheVariants.{Memory};
 
-use crate::completing::segment_after;
 use crate::expansion::{Expansion, expand};
-use crate::items::{add_item, fault};
+use crate::items::{add_item, align, fault};
 use crate::labels::Labels;
 use crate::target::{Target, is_of_text, may_reach, target_of};
 use mips_isa::{
-    AsmError, AsmKind, DATA_START, Image, Line, MOST_DATA_BYTES, MOST_TEXT_WORDS, Segment,
-    Statement, TEXT_START, encode,
+    AsmDirective, AsmError, AsmInstr, AsmKind, DATA_START, Image, Line, MOST_DATA_BYTES,
+    MOST_TEXT_WORDS, Segment, Statement, TEXT_START, encode,
 };
-use std::alloc::Global;
+use std::alloc::{AllocError, Global};
 
 /// What lines are assembled to so far, and the segment that is open.
 #[derive(Debug, Drop)]
@@ -62,9 +61,31 @@ impl Output {
         ensures segment { OnOk result (self.new.segment ≡ segment_behind (need (statement_of statement.now)) self.old.segment) }
         ensures error { IfErr result (IsError number (statement_fault (places_of labels.now) (length self.old.text.items) (statement_of statement.now))) }
     {
-        add_instructions(&mut self.text, labels, statement, number)?;
-        add_item(&mut self.bytes, self.segment, labels, statement, number)?;
-        self.segment = segment_after(statement, self.segment);
+        match statement {
+            Statement::Empty => {}
+            Statement::Instruction(instruction) => {
+                add_instruction(&mut self.text, labels, instruction, number)?;
+            }
+            Statement::Data(item) => add_item(&mut self.bytes, labels, item, number)?,
+            Statement::Directive(directive) => self.follow(directive)?,
+        }
+        Ok(())
+    }
+
+    /// Opens a segment, or fills up the data, as a directive says.
+    fn follow(&mut self, directive: &AsmDirective) -> Result<(), AllocError>
+        requires bytes { length self.old.bytes.items ≤ MOST_DATA_BYTES }
+        requires ranges { IsDirectiveInRange (directive_of directive.now) }
+        ensures text { self.new.text ≡ self.old.text }
+        ensures bytes { OnOk result (self.new.bytes.items ≡ self.old.bytes.items ++ replicate (zeros (need_of_directive (directive_of directive.now)) self.old.segment (length self.old.bytes.items)) 0) }
+        ensures segment { OnOk result (self.new.segment ≡ segment_behind (need_of_directive (directive_of directive.now)) self.old.segment) }
+    {
+        match directive {
+            AsmDirective::ToText => self.segment = Segment::Text,
+            AsmDirective::ToData => self.segment = Segment::Data,
+            AsmDirective::Globl(_) => {}
+            AsmDirective::Align(power) => align(&mut self.bytes, self.segment, *power)?,
+        }
         Ok(())
     }
 
@@ -95,42 +116,42 @@ impl Output {
     }
 }
 
-/// Adds the words of a statement.
-fn add_instructions(
+/// Adds the words of an instruction.
+fn add_instruction(
     text: &mut Vec<u32>,
     labels: &Labels,
-    statement: &Statement,
+    instruction: &AsmInstr,
     number: usize,
 ) -> Result<(), AsmError>
     requires small { length text.old.items ≤ MOST_TEXT_WORDS }
-    requires ranges { IsInRange (statement_of statement.now) }
-    ensures checked { OnOk result (instruction_fault (places_of labels.now) (TEXT_START + 4 * length text.old.items) (statement_of statement.now) ≡ None) }
-    ensures added { OnOk result (text.new.items ≡ text.old.items ++ map word_of (instructions (λ name. address_or_zero (places_of labels.now name)) (TEXT_START + 4 * length text.old.items) (statement_of statement.now))) }
-    ensures error { IfErr result (IsError number (instruction_fault (places_of labels.now) (TEXT_START + 4 * length text.old.items) (statement_of statement.now))) }
+    requires ranges { IsInstructionInRange (instruction_of instruction.now) }
+    ensures checked { OnOk result (instruction_fault (places_of labels.now) (TEXT_START + 4 * length text.old.items) (instruction_of instruction.now) ≡ None) }
+    ensures added { OnOk result (text.new.items ≡ text.old.items ++ map word_of (expansion (λ name. address_or_zero (places_of labels.now name)) (TEXT_START + 4 * length text.old.items) (instruction_of instruction.now))) }
+    ensures error { IfErr result (IsError number (instruction_fault (places_of labels.now) (TEXT_START + 4 * length text.old.items) (instruction_of instruction.now))) }
 {
     let at = TEXT_START + 4 * text.len() as u32;
-    let address = target_address(labels, statement, at, number)?;
-    add_expansion(text, expand(statement, at, address))?;
+    let address = target_address(labels, instruction, at, number)?;
+    add_expansion(text, expand(instruction, at, address))?;
     Ok(())
 }
 
-/// The address of the target of an instruction, or 0 for a statement that has none.
+/// The address of the target of an instruction, or 0 for one that has none.
 fn target_address(
     labels: &Labels,
-    statement: &Statement,
+    instruction: &AsmInstr,
     at: u32,
     number: usize,
 ) -> Result<u32, AsmError>
     requires { at ≤ DATA_START }
-    ensures checked { OnOk result (instruction_fault (places_of labels.now) at (statement_of statement.now) ≡ None) }
-    ensures address { IfOk result (λ address. address ≡ target_address (target_in (places_of labels.now) (statement_of statement.now))) }
-    ensures error { IfErr result (IsError number (instruction_fault (places_of labels.now) at (statement_of statement.now))) }
+    ensures checked { OnOk result (instruction_fault (places_of labels.now) at (instruction_of instruction.now) ≡ None) }
+    ensures address { IfOk result (λ address. address ≡ target_address (target_in (places_of labels.now) (instruction_of instruction.now))) }
+    ensures error { IfErr result (IsError number (instruction_fault (places_of labels.now) at (instruction_of instruction.now))) }
 {
-    match target_of(labels, statement) {
+    match target_of(labels, instruction) {
         Target::Unused => Ok(0),
         Target::Missing => Err(fault(AsmKind::A6, number)),
         Target::Found(place) => {
-            if may_reach(statement, at, place) {
+            if may_reach(instruction, at, place) {
                 Ok(place.address)
             } else {
                 Err(fault(AsmKind::A7, number))
@@ -139,14 +160,13 @@ fn target_address(
     }
 }
 
-/// Adds the words of instructions.
+/// Adds the words of an expansion.
 fn add_expansion(text: &mut Vec<u32>, expansion: Expansion) -> Result<(), AsmError>
     requires { AllByRecursion InRange (expanded expansion) }
     ensures added { OnOk result (text.new.items ≡ text.old.items ++ map word_of (expanded expansion)) }
     ensures error { IfErr result (λ e. e ≡ Memory) }
 {
     match expansion {
-        Expansion::Nothing => {}
         Expansion::One(only) => text.push(encode(only))?,
         Expansion::Two(first, second) => {
             text.push(encode(first))?;

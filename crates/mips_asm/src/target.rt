@@ -1,13 +1,13 @@
 //! The targets of instructions.
 
 ghost use Rattle.std.specs.Prelude.{◌≡◌, ◌+◌, ◌≤◌, Some};
-ghost use Rattle.mips_isa.specs.Lines.{statement_of};
-ghost use Rattle.mips_isa.specs.Assembly.{offset, is_text, is_reach, reaches, branch_reaches, jump_reaches};
+ghost use Rattle.mips_isa.specs.Lines.{instruction_of};
+ghost use Rattle.mips_isa.specs.Assembly.{offset, is_text, is_reach, instruction_reaches, branch_reaches, jump_reaches};
 ghost use Rattle.mips_asm.specs.Places.{places_of};
 ghost use Rattle.mips_asm.specs.Parts.{target_in, found};
 
 use crate::labels::Labels;
-use mips_isa::{DATA_START, Label, Place, Segment, Statement};
+use mips_isa::{AsmInstr, DATA_START, Label, Place, Segment};
 
 /// Where the label is that an instruction uses.
 #[derive(Clone, Copy, Debug)]
@@ -20,34 +20,24 @@ pub enum Target {
     Found(Place),
 }
 
-/// Where the label is that an instruction uses. Other statements have no target.
-pub fn target_of(labels: &Labels, statement: &Statement) -> Target
-    ensures { result ≡ target_in (places_of labels.now) (statement_of statement.now) }
+/// Where the label is that an instruction uses.
+pub fn target_of(labels: &Labels, instruction: &AsmInstr) -> Target
+    ensures { result ≡ target_in (places_of labels.now) (instruction_of instruction.now) }
 {
-    match statement {
-        Statement::ToTwo { target, .. }
-        | Statement::ToOne { target, .. }
-        | Statement::ToJump { target, .. }
-        | Statement::B { target }
-        | Statement::BranchZero { target, .. }
-        | Statement::BranchOrder { target, .. }
-        | Statement::La { label: target, .. } => target_at(labels, target),
-        Statement::Empty
-        | Statement::Plain(_)
-        | Statement::Li { .. }
-        | Statement::Move { .. }
-        | Statement::Neg { .. }
-        | Statement::Nop
-        | Statement::Mul { .. }
-        | Statement::ToText
-        | Statement::ToData
-        | Statement::Globl(_)
-        | Statement::Word(_)
-        | Statement::Byte(_)
-        | Statement::Ascii(_)
-        | Statement::Asciiz(_)
-        | Statement::Space(_)
-        | Statement::Align(_) => Target::Unused,
+    match instruction {
+        AsmInstr::ToTwo { target, .. }
+        | AsmInstr::ToOne { target, .. }
+        | AsmInstr::ToJump { target, .. }
+        | AsmInstr::B { target }
+        | AsmInstr::BranchZero { target, .. }
+        | AsmInstr::BranchOrder { target, .. }
+        | AsmInstr::La { label: target, .. } => target_at(labels, target),
+        AsmInstr::Plain(_)
+        | AsmInstr::Li { .. }
+        | AsmInstr::Move { .. }
+        | AsmInstr::Neg { .. }
+        | AsmInstr::Nop
+        | AsmInstr::Mul { .. } => Target::Unused,
     }
 }
 
@@ -60,35 +50,25 @@ fn target_at(labels: &Labels, label: &Label) -> Target
     }
 }
 
-/// Whether a statement at an address may use a target at this place.
-pub fn may_reach(statement: &Statement, at: u32, place: Place) -> bool
+/// Whether an instruction at an address may use a target at this place.
+pub fn may_reach(instruction: &AsmInstr, at: u32, place: Place) -> bool
     requires { at ≤ DATA_START }
-    ensures { result ≡ reaches (λ _. Some place) at (statement_of statement.now) }
+    ensures { result ≡ instruction_reaches (λ _. Some place) at (instruction_of instruction.now) }
 {
-    match statement {
-        Statement::ToTwo { .. }
-        | Statement::ToOne { .. }
-        | Statement::B { .. }
-        | Statement::BranchZero { .. } => is_near(at, place),
-        Statement::BranchOrder { .. } => is_near(at + 4, place),
-        Statement::ToJump { .. } => is_below_data(place),
-        Statement::La { .. }
-        | Statement::Empty
-        | Statement::Plain(_)
-        | Statement::Li { .. }
-        | Statement::Move { .. }
-        | Statement::Neg { .. }
-        | Statement::Nop
-        | Statement::Mul { .. }
-        | Statement::ToText
-        | Statement::ToData
-        | Statement::Globl(_)
-        | Statement::Word(_)
-        | Statement::Byte(_)
-        | Statement::Ascii(_)
-        | Statement::Asciiz(_)
-        | Statement::Space(_)
-        | Statement::Align(_) => true,
+    match instruction {
+        AsmInstr::ToTwo { .. }
+        | AsmInstr::ToOne { .. }
+        | AsmInstr::B { .. }
+        | AsmInstr::BranchZero { .. } => is_near(at, place),
+        AsmInstr::BranchOrder { .. } => is_near(at + 4, place),
+        AsmInstr::ToJump { .. } => is_below_data(place),
+        AsmInstr::La { .. }
+        | AsmInstr::Plain(_)
+        | AsmInstr::Li { .. }
+        | AsmInstr::Move { .. }
+        | AsmInstr::Neg { .. }
+        | AsmInstr::Nop
+        | AsmInstr::Mul { .. } => true,
     }
 }
 

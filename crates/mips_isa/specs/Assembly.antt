@@ -29,7 +29,8 @@ use Rattle.mips_isa.specs.declared.system_call.TheConstants.{EXIT}
 use Rattle.mips_isa.specs.ImageBounds.{ImageParts}
 use Rattle.mips_isa.specs.Bytes.{byte_of_word}
 use Rattle.mips_isa.specs.Words.{word_of, bits_of}
-use Rattle.mips_isa.specs.Lines.{Name, WordItem, Number, Address, Statement, Empty, Plain, ToTwo, ToOne, ToJump, La, Li, Move, Neg, Nop, B, BranchZero, BranchOrder, Mul, ToText, ToData, Globl, Word, Byte, Ascii, Asciiz, Space, Align, Line}
+use Rattle.mips_isa.specs.Lines as statements
+use Rattle.mips_isa.specs.Lines.{Name, WordItem, Number, Address, AsmInstr, Plain, ToTwo, ToOne, ToJump, La, Li, Move, Neg, Nop, B, BranchZero, BranchOrder, Mul, DataItem, Word, Byte, Ascii, Asciiz, Space, AsmDirective, ToText, ToData, Globl, Align, Statement, Empty, Instruction, Directive, Line}
 
 -- Sizes
 
@@ -42,30 +43,40 @@ pub data Need : Type 0 where
   Switch : Segment → Need
   Padding : ℕ → Need
 
+-- the words of text that an instruction is assembled to
+abbrev pub words_of_instruction : AsmInstr → ℕ
+words_of_instruction (Plain i) = 1
+words_of_instruction (ToTwo op rs rt target) = 1
+words_of_instruction (ToOne op rs target) = 1
+words_of_instruction (ToJump op target) = 1
+words_of_instruction (La rd label) = 2
+words_of_instruction (Li rd value) = 2
+words_of_instruction (Move rd rs) = 1
+words_of_instruction (Neg rd rs) = 1
+words_of_instruction Nop = 1
+words_of_instruction (B target) = 1
+words_of_instruction (BranchZero op rs target) = 1
+words_of_instruction (BranchOrder op rs rt target) = 2
+words_of_instruction (Mul rd rs rt) = 2
+
+abbrev pub need_of_data : DataItem → Need
+need_of_data (Word list) = Item 4 (4 * length list)
+need_of_data (Byte list) = Item 1 (length list)
+need_of_data (Ascii bytes) = Item 1 (length bytes)
+need_of_data (Asciiz bytes) = Item 1 (length bytes + 1)
+need_of_data (Space n) = Item 1 n
+
+abbrev pub need_of_directive : AsmDirective → Need
+need_of_directive ToText = Switch Text
+need_of_directive ToData = Switch Data
+need_of_directive (Globl name) = Nothing
+need_of_directive (Align n) = Padding (2 ^ n)
+
 abbrev pub need : Statement → Need
 need Empty = Nothing
-need (Plain i) = Words 1
-need (ToTwo op rs rt target) = Words 1
-need (ToOne op rs target) = Words 1
-need (ToJump op target) = Words 1
-need (La rd label) = Words 2
-need (Li rd value) = Words 2
-need (Move rd rs) = Words 1
-need (Neg rd rs) = Words 1
-need Nop = Words 1
-need (B target) = Words 1
-need (BranchZero op rs target) = Words 1
-need (BranchOrder op rs rt target) = Words 2
-need (Mul rd rs rt) = Words 2
-need ToText = Switch Text
-need ToData = Switch Data
-need (Globl name) = Nothing
-need (Word list) = Item 4 (4 * length list)
-need (Byte list) = Item 1 (length list)
-need (Ascii bytes) = Item 1 (length bytes)
-need (Asciiz bytes) = Item 1 (length bytes + 1)
-need (Space n) = Item 1 n
-need (Align n) = Padding (2 ^ n)
+need (Instruction i) = Words (words_of_instruction i)
+need (statements.Data item) = need_of_data item
+need (Directive directive) = need_of_directive directive
 
 -- How far the segments are filled, and which one is open.
 pub record Position : Type 0 where
@@ -153,10 +164,19 @@ main_name = codes "main"
 abbrev pub unlabelled : Statement → Line
 unlabelled statement = record { labels = []; statement = statement }
 
+abbrev pub instruction_line : AsmInstr → Line
+instruction_line i = unlabelled (Instruction i)
+
+abbrev pub data_line : DataItem → Line
+data_line item = unlabelled (statements.Data item)
+
+abbrev pub directive_line : AsmDirective → Line
+directive_line directive = unlabelled (Directive directive)
+
 abbrev pub added_lines : List Line
 added_lines =
-    unlabelled ToText ∷ record { labels = start_name ∷ []; statement = ToJump Jal main_name }
-    ∷ unlabelled (Plain (instr.Imm Ori V0 ZERO (pos EXIT))) ∷ unlabelled (Plain instr.Syscall) ∷ []
+    directive_line ToText ∷ record { labels = start_name ∷ []; statement = Instruction (ToJump Jal main_name) }
+    ∷ instruction_line (Plain (instr.Imm Ori V0 ZERO (pos EXIT))) ∷ instruction_line (Plain instr.Syscall) ∷ []
 
 abbrev pub completed : List Line → List Line
 completed lines = if not (is_some (place_of lines start_name)) && in_text (place_of lines main_name) then lines ++ added_lines else lines
@@ -181,30 +201,27 @@ order_branch Bge rs rt imm = instr.Three Slt AT rs rt ∷ instr.BranchTwo Beq AT
 order_branch Blt rs rt imm = instr.Three Slt AT rs rt ∷ instr.BranchTwo Bne AT ZERO imm ∷ []
 order_branch Ble rs rt imm = instr.Three Slt AT rt rs ∷ instr.BranchTwo Beq AT ZERO imm ∷ []
 
+-- the one instruction or the two of a line's instruction
+abbrev pub expansion : (Name → ℕ) → ℕ → AsmInstr → List Instr
+expansion address at (Plain i) = i ∷ []
+expansion address at (ToTwo op rs rt target) = instr.BranchTwo op rs rt (offset at (address target)) ∷ []
+expansion address at (ToOne op rs target) = instr.BranchOne op rs (offset at (address target)) ∷ []
+expansion address at (ToJump op target) = instr.Jump op (address target / 4) ∷ []
+expansion address at (La rd label) = load_address rd (address label)
+expansion address at (Li rd value) = load_address rd (bits_of value)
+expansion address at (Move rd rs) = instr.Three Addu rd rs ZERO ∷ []
+expansion address at (Neg rd rs) = instr.Three Sub rd ZERO rs ∷ []
+expansion address at Nop = instr.Shift Sll ZERO ZERO 0 ∷ []
+expansion address at (B target) = instr.BranchTwo Beq ZERO ZERO (offset at (address target)) ∷ []
+expansion address at (BranchZero op rs target) = instr.BranchTwo (zero_branch op) rs ZERO (offset at (address target)) ∷ []
+expansion address at (BranchOrder op rs rt target) = order_branch op rs rt (offset (at + 4) (address target))
+expansion address at (Mul rd rs rt) = instr.MulDiv Mult rs rt ∷ instr.MoveFrom Mflo rd ∷ []
+
 abbrev pub instructions : (Name → ℕ) → ℕ → Statement → List Instr
 instructions address at Empty = []
-instructions address at (Plain i) = i ∷ []
-instructions address at (ToTwo op rs rt target) = instr.BranchTwo op rs rt (offset at (address target)) ∷ []
-instructions address at (ToOne op rs target) = instr.BranchOne op rs (offset at (address target)) ∷ []
-instructions address at (ToJump op target) = instr.Jump op (address target / 4) ∷ []
-instructions address at (La rd label) = load_address rd (address label)
-instructions address at (Li rd value) = load_address rd (bits_of value)
-instructions address at (Move rd rs) = instr.Three Addu rd rs ZERO ∷ []
-instructions address at (Neg rd rs) = instr.Three Sub rd ZERO rs ∷ []
-instructions address at Nop = instr.Shift Sll ZERO ZERO 0 ∷ []
-instructions address at (B target) = instr.BranchTwo Beq ZERO ZERO (offset at (address target)) ∷ []
-instructions address at (BranchZero op rs target) = instr.BranchTwo (zero_branch op) rs ZERO (offset at (address target)) ∷ []
-instructions address at (BranchOrder op rs rt target) = order_branch op rs rt (offset (at + 4) (address target))
-instructions address at (Mul rd rs rt) = instr.MulDiv Mult rs rt ∷ instr.MoveFrom Mflo rd ∷ []
-instructions address at ToText = []
-instructions address at ToData = []
-instructions address at (Globl name) = []
-instructions address at (Word list) = []
-instructions address at (Byte list) = []
-instructions address at (Ascii bytes) = []
-instructions address at (Asciiz bytes) = []
-instructions address at (Space n) = []
-instructions address at (Align n) = []
+instructions address at (Instruction i) = expansion address at i
+instructions address at (statements.Data item) = []
+instructions address at (Directive directive) = []
 
 abbrev pub item_value : (Name → ℕ) → WordItem → ℕ
 item_value address (Number n) = bits_of n
@@ -214,30 +231,19 @@ abbrev pub four_bytes : ℕ → List ℕ
 four_bytes n = byte_of_word n 0 ∷ byte_of_word n 1 ∷ byte_of_word n 2 ∷ byte_of_word n 3 ∷ []
 
 -- the bytes of an item, without its padding
+
+abbrev pub bytes_of_data : (Name → ℕ) → DataItem → List ℕ
+bytes_of_data address (Word list) = flat_map (λ item. four_bytes (item_value address item)) list
+bytes_of_data address (Byte list) = map (λ n. bits_of n % 256) list
+bytes_of_data address (Ascii bytes) = bytes
+bytes_of_data address (Asciiz bytes) = bytes ++ 0 ∷ []
+bytes_of_data address (Space n) = replicate n 0
+
 abbrev pub item_bytes : (Name → ℕ) → Statement → List ℕ
 item_bytes address Empty = []
-item_bytes address (Plain i) = []
-item_bytes address (ToTwo op rs rt target) = []
-item_bytes address (ToOne op rs target) = []
-item_bytes address (ToJump op target) = []
-item_bytes address (La rd label) = []
-item_bytes address (Li rd value) = []
-item_bytes address (Move rd rs) = []
-item_bytes address (Neg rd rs) = []
-item_bytes address Nop = []
-item_bytes address (B target) = []
-item_bytes address (BranchZero op rs target) = []
-item_bytes address (BranchOrder op rs rt target) = []
-item_bytes address (Mul rd rs rt) = []
-item_bytes address ToText = []
-item_bytes address ToData = []
-item_bytes address (Globl name) = []
-item_bytes address (Word list) = flat_map (λ item. four_bytes (item_value address item)) list
-item_bytes address (Byte list) = map (λ n. bits_of n % 256) list
-item_bytes address (Ascii bytes) = bytes
-item_bytes address (Asciiz bytes) = bytes ++ 0 ∷ []
-item_bytes address (Space n) = replicate n 0
-item_bytes address (Align n) = []
+item_bytes address (Instruction i) = []
+item_bytes address (statements.Data item) = bytes_of_data address item
+item_bytes address (Directive directive) = []
 
 -- the zeros before an item, or those of `.align` in data
 abbrev pub padding_to : Segment → ℕ → ℕ → ℕ
@@ -310,30 +316,33 @@ names_of_items [] = []
 names_of_items (Number n ∷ rest) = names_of_items rest
 names_of_items (Address label ∷ rest) = label ∷ names_of_items rest
 
+abbrev pub names_of_instruction : AsmInstr → List Name
+names_of_instruction (Plain i) = []
+names_of_instruction (ToTwo op rs rt target) = target ∷ []
+names_of_instruction (ToOne op rs target) = target ∷ []
+names_of_instruction (ToJump op target) = target ∷ []
+names_of_instruction (La rd label) = label ∷ []
+names_of_instruction (Li rd value) = []
+names_of_instruction (Move rd rs) = []
+names_of_instruction (Neg rd rs) = []
+names_of_instruction Nop = []
+names_of_instruction (B target) = target ∷ []
+names_of_instruction (BranchZero op rs target) = target ∷ []
+names_of_instruction (BranchOrder op rs rt target) = target ∷ []
+names_of_instruction (Mul rd rs rt) = []
+
+abbrev pub names_of_data : DataItem → List Name
+names_of_data (Word list) = names_of_items list
+names_of_data (Byte list) = []
+names_of_data (Ascii bytes) = []
+names_of_data (Asciiz bytes) = []
+names_of_data (Space n) = []
+
 abbrev pub used : Statement → List Name
 used Empty = []
-used (Plain i) = []
-used (ToTwo op rs rt target) = target ∷ []
-used (ToOne op rs target) = target ∷ []
-used (ToJump op target) = target ∷ []
-used (La rd label) = label ∷ []
-used (Li rd value) = []
-used (Move rd rs) = []
-used (Neg rd rs) = []
-used Nop = []
-used (B target) = target ∷ []
-used (BranchZero op rs target) = target ∷ []
-used (BranchOrder op rs rt target) = target ∷ []
-used (Mul rd rs rt) = []
-used ToText = []
-used ToData = []
-used (Globl name) = []
-used (Word list) = names_of_items list
-used (Byte list) = []
-used (Ascii bytes) = []
-used (Asciiz bytes) = []
-used (Space n) = []
-used (Align n) = []
+used (Instruction i) = names_of_instruction i
+used (statements.Data item) = names_of_data item
+used (Directive directive) = []
 
 -- a branch at an address reaches a label of text from -32768 to 32767 words behind the next instruction
 abbrev pub is_reach : ℤ → Bool
@@ -347,30 +356,26 @@ branch_reaches at place = in_text place && is_reach (offset at (address_or_zero 
 abbrev pub jump_reaches : Option Place → Bool
 jump_reaches place = in_text place && nat_lt (address_or_zero place) DATA_START
 
+abbrev pub instruction_reaches : (Name → Option Place) → ℕ → AsmInstr → Bool
+instruction_reaches place at (Plain i) = true
+instruction_reaches place at (ToTwo op rs rt target) = branch_reaches at (place target)
+instruction_reaches place at (ToOne op rs target) = branch_reaches at (place target)
+instruction_reaches place at (ToJump op target) = jump_reaches (place target)
+instruction_reaches place at (La rd label) = true
+instruction_reaches place at (Li rd value) = true
+instruction_reaches place at (Move rd rs) = true
+instruction_reaches place at (Neg rd rs) = true
+instruction_reaches place at Nop = true
+instruction_reaches place at (B target) = branch_reaches at (place target)
+instruction_reaches place at (BranchZero op rs target) = branch_reaches at (place target)
+instruction_reaches place at (BranchOrder op rs rt target) = branch_reaches (at + 4) (place target)
+instruction_reaches place at (Mul rd rs rt) = true
+
 abbrev pub reaches : (Name → Option Place) → ℕ → Statement → Bool
 reaches place at Empty = true
-reaches place at (Plain i) = true
-reaches place at (ToTwo op rs rt target) = branch_reaches at (place target)
-reaches place at (ToOne op rs target) = branch_reaches at (place target)
-reaches place at (ToJump op target) = jump_reaches (place target)
-reaches place at (La rd label) = true
-reaches place at (Li rd value) = true
-reaches place at (Move rd rs) = true
-reaches place at (Neg rd rs) = true
-reaches place at Nop = true
-reaches place at (B target) = branch_reaches at (place target)
-reaches place at (BranchZero op rs target) = branch_reaches at (place target)
-reaches place at (BranchOrder op rs rt target) = branch_reaches (at + 4) (place target)
-reaches place at (Mul rd rs rt) = true
-reaches place at ToText = true
-reaches place at ToData = true
-reaches place at (Globl name) = true
-reaches place at (Word list) = true
-reaches place at (Byte list) = true
-reaches place at (Ascii bytes) = true
-reaches place at (Asciiz bytes) = true
-reaches place at (Space n) = true
-reaches place at (Align n) = true
+reaches place at (Instruction i) = instruction_reaches place at i
+reaches place at (statements.Data item) = true
+reaches place at (Directive directive) = true
 
 abbrev pub any_without_place : (Name → Option Place) → List Name → Bool
 any_without_place place [] = false
@@ -409,9 +414,9 @@ Assembles lines (Err (Fault fault)) = fault_of lines ≡ Some fault
 -- A worked example: m: .asciiz "hi\n" in the data; main: la $a0, m; li $v0, 4; syscall; jr $ra in the text.
 abbrev hello : List Line
 hello =
-    unlabelled ToData ∷ record { labels = codes "m" ∷ []; statement = Asciiz (codes "hi\n") } ∷ unlabelled ToText
-    ∷ record { labels = main_name ∷ []; statement = La 4 (codes "m") } ∷ unlabelled (Li 2 (pos 4))
-    ∷ unlabelled (Plain instr.Syscall) ∷ unlabelled (Plain (instr.Jr 31)) ∷ []
+    directive_line ToData ∷ record { labels = codes "m" ∷ []; statement = statements.Data (Asciiz (codes "hi\n")) } ∷ directive_line ToText
+    ∷ record { labels = main_name ∷ []; statement = Instruction (La 4 (codes "m")) } ∷ instruction_line (Li 2 (pos 4))
+    ∷ instruction_line (Plain instr.Syscall) ∷ instruction_line (Plain (instr.Jr 31)) ∷ []
 
 hello_has_no_fault : fault_of hello ≡ None
 hello_has_no_fault = refl
@@ -431,6 +436,7 @@ twice = refl
 nothing_at_all : fault_of [] ≡ Some (record { kind = A6; line = 1 })
 nothing_at_all = refl
 
-waiting : place_of (unlabelled ToData ∷ unlabelled (Byte (pos 1 ∷ [])) ∷ record { labels = codes "a" ∷ []; statement = Align 1 } ∷ unlabelled (Word (Number (pos 5) ∷ [])) ∷ []) (codes "a")
+waiting : place_of (directive_line ToData ∷ data_line (Byte (pos 1 ∷ [])) ∷ record { labels = codes "a" ∷ []; statement = Directive (Align 1) }
+    ∷ data_line (Word (Number (pos 5) ∷ [])) ∷ []) (codes "a")
     ≡ Some (record { segment = Data; address = 0x10000004 })
 waiting = refl

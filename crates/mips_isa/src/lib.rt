@@ -26,7 +26,9 @@ pub use image::Image;
 pub use instr::{
     FromOp, ImmOp, Instr, JumpOp, MemOp, MulDivOp, OneOp, ShiftOp, ShiftRegOp, ThreeOp, ToOp, TwoOp,
 };
-pub use line::{Label, Line, OrderOp, Statement, WordItem, ZeroOp};
+pub use line::{
+    AsmDirective, AsmInstr, DataItem, Label, Line, OrderOp, Statement, WordItem, ZeroOp,
+};
 pub use place::{Place, Segment};
 pub use register::Reg;
 pub use trap::{Trap, TrapKind};

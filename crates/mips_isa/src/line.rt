@@ -63,11 +63,9 @@ pub enum WordItem {
     Address(Label),
 }
 
-/// What stands on a line behind its labels.
+/// A line's instruction, or its pseudoinstruction, which is assembled to one instruction or two.
 #[derive(Debug, Drop)]
-pub enum Statement {
-    /// Nothing.
-    Empty,
+pub enum AsmInstr {
     /// An instruction; a target that is a number is the field itself.
     Plain(Instr),
     ToTwo {
@@ -121,15 +119,35 @@ pub enum Statement {
         rs: Reg,
         rt: Reg,
     },
-    ToText,
-    ToData,
-    Globl(Label),
+}
+
+/// An item of data, by its directive.
+#[derive(Debug, Drop)]
+pub enum DataItem {
     Word(Vec<WordItem>),
     Byte(Vec<i32>),
     Ascii(Vec<u8>),
     Asciiz(Vec<u8>),
     Space(u32),
+}
+
+/// A directive that is no item of data.
+#[derive(Debug, Drop)]
+pub enum AsmDirective {
+    ToText,
+    ToData,
+    Globl(Label),
     Align(u32),
+}
+
+/// What stands on a line after its labels.
+#[derive(Debug, Drop)]
+pub enum Statement {
+    /// Nothing.
+    Empty,
+    Instruction(AsmInstr),
+    Data(DataItem),
+    Directive(AsmDirective),
 }
 
 /// A line: its labels, and its statement.

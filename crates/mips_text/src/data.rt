@@ -9,7 +9,7 @@ use crate::flaw::Flaw;
 use crate::operands::{misplaced, take_label, take_number, take_text};
 use crate::ranges::{align_power, byte_number, space_size, word_number};
 use crate::words::{Word, Words};
-use mips_isa::{Label, Statement, WordItem};
+use mips_isa::{AsmDirective, DataItem, Label, Statement, WordItem};
 use std::alloc::Global;
 
 /// The statement of a directive, with its operands.
@@ -21,15 +21,24 @@ pub(crate) fn take_directive(
     ensures { IfOk result (λ s. IsInRange (statement_of s)) }
 {
     match directive {
-        Directive::Text => Ok(Statement::ToText),
-        Directive::Data => Ok(Statement::ToData),
-        Directive::Globl => Ok(Statement::Globl(take_label(alloc, words)?)),
-        Directive::Word => Ok(Statement::Word(take_items(alloc, words)?)),
-        Directive::Byte => Ok(Statement::Byte(take_bytes(alloc, words)?)),
-        Directive::Ascii => Ok(Statement::Ascii(take_text(alloc, words)?)),
-        Directive::Asciiz => Ok(Statement::Asciiz(take_text(alloc, words)?)),
-        Directive::Space => Ok(Statement::Space(space_size(take_number(words)?)?)),
-        Directive::Align => Ok(Statement::Align(align_power(take_number(words)?)?)),
+        Directive::Text => Ok(Statement::Directive(AsmDirective::ToText)),
+        Directive::Data => Ok(Statement::Directive(AsmDirective::ToData)),
+        Directive::Globl => {
+            let name = take_label(alloc, words)?;
+            Ok(Statement::Directive(AsmDirective::Globl(name)))
+        }
+        Directive::Word => Ok(Statement::Data(DataItem::Word(take_items(alloc, words)?))),
+        Directive::Byte => Ok(Statement::Data(DataItem::Byte(take_bytes(alloc, words)?))),
+        Directive::Ascii => Ok(Statement::Data(DataItem::Ascii(take_text(alloc, words)?))),
+        Directive::Asciiz => Ok(Statement::Data(DataItem::Asciiz(take_text(alloc, words)?))),
+        Directive::Space => {
+            let size = space_size(take_number(words)?)?;
+            Ok(Statement::Data(DataItem::Space(size)))
+        }
+        Directive::Align => {
+            let power = align_power(take_number(words)?)?;
+            Ok(Statement::Directive(AsmDirective::Align(power)))
+        }
     }
 }
 

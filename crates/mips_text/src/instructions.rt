@@ -1,8 +1,8 @@
-//! Statements that begin with a mnemonic, taken from the words of a line.
+//! Instructions, taken from the words of a line.
 
 ghost use Rattle.std.specs.Prelude.{IfOk};
 ghost use Rattle.mips_isa.specs.Words.{IsImmediate};
-ghost use Rattle.mips_isa.specs.Lines.{IsInRange, statement_of};
+ghost use Rattle.mips_isa.specs.Lines.{IsInstructionInRange, instruction_of};
 
 use crate::flaw::Flaw;
 use crate::mnemonics::Mnemonic;
@@ -14,18 +14,18 @@ use crate::ranges::{jump_index, shift_count, signed, unsigned, word_number};
 use crate::words::{Word, Words};
 use mips_isa::register::RA;
 use mips_isa::{
-    FromOp, ImmOp, Instr, JumpOp, MemOp, MulDivOp, OneOp, OrderOp, Reg, ShiftOp, ShiftRegOp,
-    Statement, ThreeOp, ToOp, TwoOp, ZeroOp,
+    AsmInstr, FromOp, ImmOp, Instr, JumpOp, MemOp, MulDivOp, OneOp, OrderOp, Reg, ShiftOp,
+    ShiftRegOp, ThreeOp, ToOp, TwoOp, ZeroOp,
 };
 use std::alloc::Global;
 
-/// The statement of a mnemonic, with its operands.
+/// The instruction of a mnemonic, with its operands.
 pub(crate) fn take_instruction(
     alloc: Global,
     mnemonic: Mnemonic,
     words: &mut Words,
-) -> Result<Statement, Flaw>
-    ensures { IfOk result (λ s. IsInRange (statement_of s)) }
+) -> Result<AsmInstr, Flaw>
+    ensures { IfOk result (λ i. IsInstructionInRange (instruction_of i)) }
 {
     match mnemonic {
         Mnemonic::Three(op) => take_three(op, words),
@@ -33,7 +33,7 @@ pub(crate) fn take_instruction(
         Mnemonic::ShiftReg(op) => take_shift_reg(op, words),
         Mnemonic::Jr => take_jr(words),
         Mnemonic::Jalr => take_jalr(words),
-        Mnemonic::Syscall => Ok(Statement::Plain(Instr::Syscall)),
+        Mnemonic::Syscall => Ok(AsmInstr::Plain(Instr::Syscall)),
         Mnemonic::MoveFrom(op) => take_move_from(op, words),
         Mnemonic::MoveTo(op) => take_move_to(op, words),
         Mnemonic::MulDiv(op) => take_mul_div(op, words),
@@ -47,7 +47,7 @@ pub(crate) fn take_instruction(
         Mnemonic::Li => take_li(words),
         Mnemonic::Move => take_move(words),
         Mnemonic::Neg => take_neg(words),
-        Mnemonic::Nop => Ok(Statement::Nop),
+        Mnemonic::Nop => Ok(AsmInstr::Nop),
         Mnemonic::B => take_b(alloc, words),
         Mnemonic::BranchZero(op) => take_branch_zero(alloc, op, words),
         Mnemonic::BranchOrder(op) => take_branch_order(alloc, op, words),
@@ -55,87 +55,87 @@ pub(crate) fn take_instruction(
     }
 }
 
-fn take_three(op: ThreeOp, words: &mut Words) -> Result<Statement, Flaw>
-    ensures { IfOk result (λ s. IsInRange (statement_of s)) }
+fn take_three(op: ThreeOp, words: &mut Words) -> Result<AsmInstr, Flaw>
+    ensures { IfOk result (λ i. IsInstructionInRange (instruction_of i)) }
 {
     let rd = take_register(words)?;
     let rs = take_register(words)?;
     let rt = take_register(words)?;
-    Ok(Statement::Plain(Instr::Three { op, rd, rs, rt }))
+    Ok(AsmInstr::Plain(Instr::Three { op, rd, rs, rt }))
 }
 
-fn take_shift(op: ShiftOp, words: &mut Words) -> Result<Statement, Flaw>
-    ensures { IfOk result (λ s. IsInRange (statement_of s)) }
+fn take_shift(op: ShiftOp, words: &mut Words) -> Result<AsmInstr, Flaw>
+    ensures { IfOk result (λ i. IsInstructionInRange (instruction_of i)) }
 {
     let rd = take_register(words)?;
     let rt = take_register(words)?;
     let sh = shift_count(take_number(words)?)?;
-    Ok(Statement::Plain(Instr::Shift { op, rd, rt, sh }))
+    Ok(AsmInstr::Plain(Instr::Shift { op, rd, rt, sh }))
 }
 
-fn take_shift_reg(op: ShiftRegOp, words: &mut Words) -> Result<Statement, Flaw>
-    ensures { IfOk result (λ s. IsInRange (statement_of s)) }
+fn take_shift_reg(op: ShiftRegOp, words: &mut Words) -> Result<AsmInstr, Flaw>
+    ensures { IfOk result (λ i. IsInstructionInRange (instruction_of i)) }
 {
     let rd = take_register(words)?;
     let rt = take_register(words)?;
     let rs = take_register(words)?;
-    Ok(Statement::Plain(Instr::ShiftReg { op, rd, rt, rs }))
+    Ok(AsmInstr::Plain(Instr::ShiftReg { op, rd, rt, rs }))
 }
 
-fn take_jr(words: &mut Words) -> Result<Statement, Flaw>
-    ensures { IfOk result (λ s. IsInRange (statement_of s)) }
+fn take_jr(words: &mut Words) -> Result<AsmInstr, Flaw>
+    ensures { IfOk result (λ i. IsInstructionInRange (instruction_of i)) }
 {
     let rs = take_register(words)?;
-    Ok(Statement::Plain(Instr::Jr { rs }))
+    Ok(AsmInstr::Plain(Instr::Jr { rs }))
 }
 
 /// One register alone is where the jump goes; the address behind it is then saved in `$ra`.
-fn take_jalr(words: &mut Words) -> Result<Statement, Flaw>
-    ensures { IfOk result (λ s. IsInRange (statement_of s)) }
+fn take_jalr(words: &mut Words) -> Result<AsmInstr, Flaw>
+    ensures { IfOk result (λ i. IsInstructionInRange (instruction_of i)) }
 {
     let first = take_register(words)?;
     match words.take() {
-        None => Ok(Statement::Plain(Instr::Jalr {
+        None => Ok(AsmInstr::Plain(Instr::Jalr {
             rd: Reg::new(RA),
             rs: first,
         })),
         Some(Word::Register(name)) => {
             let rs = register_of(name)?;
-            Ok(Statement::Plain(Instr::Jalr { rd: first, rs }))
+            Ok(AsmInstr::Plain(Instr::Jalr { rd: first, rs }))
         }
         other => Err(misplaced(other)),
     }
 }
 
-fn take_move_from(op: FromOp, words: &mut Words) -> Result<Statement, Flaw>
-    ensures { IfOk result (λ s. IsInRange (statement_of s)) }
+fn take_move_from(op: FromOp, words: &mut Words) -> Result<AsmInstr, Flaw>
+    ensures { IfOk result (λ i. IsInstructionInRange (instruction_of i)) }
 {
     let rd = take_register(words)?;
-    Ok(Statement::Plain(Instr::MoveFrom { op, rd }))
+    Ok(AsmInstr::Plain(Instr::MoveFrom { op, rd }))
 }
 
-fn take_move_to(op: ToOp, words: &mut Words) -> Result<Statement, Flaw>
-    ensures { IfOk result (λ s. IsInRange (statement_of s)) }
+fn take_move_to(op: ToOp, words: &mut Words) -> Result<AsmInstr, Flaw>
+    ensures { IfOk result (λ i. IsInstructionInRange (instruction_of i)) }
 {
     let rs = take_register(words)?;
-    Ok(Statement::Plain(Instr::MoveTo { op, rs }))
+    Ok(AsmInstr::Plain(Instr::MoveTo { op, rs }))
 }
 
-fn take_mul_div(op: MulDivOp, words: &mut Words) -> Result<Statement, Flaw>
-    ensures { IfOk result (λ s. IsInRange (statement_of s)) }
+fn take_mul_div(op: MulDivOp, words: &mut Words) -> Result<AsmInstr, Flaw>
+    ensures { IfOk result (λ i. IsInstructionInRange (instruction_of i)) }
 {
     let rs = take_register(words)?;
     let rt = take_register(words)?;
-    Ok(Statement::Plain(Instr::MulDiv { op, rs, rt }))
+    Ok(AsmInstr::Plain(Instr::MulDiv { op, rs, rt }))
 }
 
-fn take_imm(op: ImmOp, words: &mut Words) -> Result<Statement, Flaw>
-    ensures { IfOk result (λ s. IsInRange (statement_of s)) }
+fn take_imm(op: ImmOp, words: &mut Words) -> Result<AsmInstr, Flaw>
+    ensures { IfOk result (λ i. IsInstructionInRange (instruction_of i)) }
 {
     let rt = take_register(words)?;
     let rs = take_register(words)?;
     let imm = immediate(op, take_number(words)?)?;
-    Ok(Statement::Plain(Instr::Imm { op, rt, rs, imm }))
+    Ok(AsmInstr::Plain(Instr::Imm { op, rt, rs, imm }))
 }
 
 /// The immediate of an operation, in its range.
@@ -148,59 +148,59 @@ fn immediate(op: ImmOp, value: i64) -> Result<i32, Flaw>
     }
 }
 
-fn take_lui(words: &mut Words) -> Result<Statement, Flaw>
-    ensures { IfOk result (λ s. IsInRange (statement_of s)) }
+fn take_lui(words: &mut Words) -> Result<AsmInstr, Flaw>
+    ensures { IfOk result (λ i. IsInstructionInRange (instruction_of i)) }
 {
     let rt = take_register(words)?;
     let imm = unsigned(take_number(words)?)?;
-    Ok(Statement::Plain(Instr::Lui { rt, imm }))
+    Ok(AsmInstr::Plain(Instr::Lui { rt, imm }))
 }
 
-fn take_branch_two(alloc: Global, op: TwoOp, words: &mut Words) -> Result<Statement, Flaw>
-    ensures { IfOk result (λ s. IsInRange (statement_of s)) }
+fn take_branch_two(alloc: Global, op: TwoOp, words: &mut Words) -> Result<AsmInstr, Flaw>
+    ensures { IfOk result (λ i. IsInstructionInRange (instruction_of i)) }
 {
     let rs = take_register(words)?;
     let rt = take_register(words)?;
     match take_target(alloc, words)? {
         Target::Field(value) => {
             let imm = signed(value)?;
-            Ok(Statement::Plain(Instr::BranchTwo { op, rs, rt, imm }))
+            Ok(AsmInstr::Plain(Instr::BranchTwo { op, rs, rt, imm }))
         }
-        Target::Place(target) => Ok(Statement::ToTwo { op, rs, rt, target }),
+        Target::Place(target) => Ok(AsmInstr::ToTwo { op, rs, rt, target }),
     }
 }
 
-fn take_branch_one(alloc: Global, op: OneOp, words: &mut Words) -> Result<Statement, Flaw>
-    ensures { IfOk result (λ s. IsInRange (statement_of s)) }
+fn take_branch_one(alloc: Global, op: OneOp, words: &mut Words) -> Result<AsmInstr, Flaw>
+    ensures { IfOk result (λ i. IsInstructionInRange (instruction_of i)) }
 {
     let rs = take_register(words)?;
     match take_target(alloc, words)? {
         Target::Field(value) => {
             let imm = signed(value)?;
-            Ok(Statement::Plain(Instr::BranchOne { op, rs, imm }))
+            Ok(AsmInstr::Plain(Instr::BranchOne { op, rs, imm }))
         }
-        Target::Place(target) => Ok(Statement::ToOne { op, rs, target }),
+        Target::Place(target) => Ok(AsmInstr::ToOne { op, rs, target }),
     }
 }
 
-fn take_jump(alloc: Global, op: JumpOp, words: &mut Words) -> Result<Statement, Flaw>
-    ensures { IfOk result (λ s. IsInRange (statement_of s)) }
+fn take_jump(alloc: Global, op: JumpOp, words: &mut Words) -> Result<AsmInstr, Flaw>
+    ensures { IfOk result (λ i. IsInstructionInRange (instruction_of i)) }
 {
     match take_target(alloc, words)? {
         Target::Field(value) => {
             let index = jump_index(value)?;
-            Ok(Statement::Plain(Instr::Jump { op, index }))
+            Ok(AsmInstr::Plain(Instr::Jump { op, index }))
         }
-        Target::Place(target) => Ok(Statement::ToJump { op, target }),
+        Target::Place(target) => Ok(AsmInstr::ToJump { op, target }),
     }
 }
 
-fn take_mem(op: MemOp, words: &mut Words) -> Result<Statement, Flaw>
-    ensures { IfOk result (λ s. IsInRange (statement_of s)) }
+fn take_mem(op: MemOp, words: &mut Words) -> Result<AsmInstr, Flaw>
+    ensures { IfOk result (λ i. IsInstructionInRange (instruction_of i)) }
 {
     let rt = take_register(words)?;
     let Memory { offset, base } = take_memory(words)?;
-    Ok(Statement::Plain(Instr::Mem {
+    Ok(AsmInstr::Plain(Instr::Mem {
         op,
         rt,
         rs: base,
@@ -208,67 +208,67 @@ fn take_mem(op: MemOp, words: &mut Words) -> Result<Statement, Flaw>
     }))
 }
 
-fn take_la(alloc: Global, words: &mut Words) -> Result<Statement, Flaw>
-    ensures { IfOk result (λ s. IsInRange (statement_of s)) }
+fn take_la(alloc: Global, words: &mut Words) -> Result<AsmInstr, Flaw>
+    ensures { IfOk result (λ i. IsInstructionInRange (instruction_of i)) }
 {
     let rd = take_register(words)?;
     let label = take_label(alloc, words)?;
-    Ok(Statement::La { rd, label })
+    Ok(AsmInstr::La { rd, label })
 }
 
-fn take_li(words: &mut Words) -> Result<Statement, Flaw>
-    ensures { IfOk result (λ s. IsInRange (statement_of s)) }
+fn take_li(words: &mut Words) -> Result<AsmInstr, Flaw>
+    ensures { IfOk result (λ i. IsInstructionInRange (instruction_of i)) }
 {
     let rd = take_register(words)?;
     let value = word_number(take_number(words)?)?;
-    Ok(Statement::Li { rd, value })
+    Ok(AsmInstr::Li { rd, value })
 }
 
-fn take_move(words: &mut Words) -> Result<Statement, Flaw>
-    ensures { IfOk result (λ s. IsInRange (statement_of s)) }
+fn take_move(words: &mut Words) -> Result<AsmInstr, Flaw>
+    ensures { IfOk result (λ i. IsInstructionInRange (instruction_of i)) }
 {
     let rd = take_register(words)?;
     let rs = take_register(words)?;
-    Ok(Statement::Move { rd, rs })
+    Ok(AsmInstr::Move { rd, rs })
 }
 
-fn take_neg(words: &mut Words) -> Result<Statement, Flaw>
-    ensures { IfOk result (λ s. IsInRange (statement_of s)) }
+fn take_neg(words: &mut Words) -> Result<AsmInstr, Flaw>
+    ensures { IfOk result (λ i. IsInstructionInRange (instruction_of i)) }
 {
     let rd = take_register(words)?;
     let rs = take_register(words)?;
-    Ok(Statement::Neg { rd, rs })
+    Ok(AsmInstr::Neg { rd, rs })
 }
 
-fn take_b(alloc: Global, words: &mut Words) -> Result<Statement, Flaw>
-    ensures { IfOk result (λ s. IsInRange (statement_of s)) }
+fn take_b(alloc: Global, words: &mut Words) -> Result<AsmInstr, Flaw>
+    ensures { IfOk result (λ i. IsInstructionInRange (instruction_of i)) }
 {
     let target = take_label(alloc, words)?;
-    Ok(Statement::B { target })
+    Ok(AsmInstr::B { target })
 }
 
-fn take_branch_zero(alloc: Global, op: ZeroOp, words: &mut Words) -> Result<Statement, Flaw>
-    ensures { IfOk result (λ s. IsInRange (statement_of s)) }
+fn take_branch_zero(alloc: Global, op: ZeroOp, words: &mut Words) -> Result<AsmInstr, Flaw>
+    ensures { IfOk result (λ i. IsInstructionInRange (instruction_of i)) }
 {
     let rs = take_register(words)?;
     let target = take_label(alloc, words)?;
-    Ok(Statement::BranchZero { op, rs, target })
+    Ok(AsmInstr::BranchZero { op, rs, target })
 }
 
-fn take_branch_order(alloc: Global, op: OrderOp, words: &mut Words) -> Result<Statement, Flaw>
-    ensures { IfOk result (λ s. IsInRange (statement_of s)) }
+fn take_branch_order(alloc: Global, op: OrderOp, words: &mut Words) -> Result<AsmInstr, Flaw>
+    ensures { IfOk result (λ i. IsInstructionInRange (instruction_of i)) }
 {
     let rs = take_register(words)?;
     let rt = take_register(words)?;
     let target = take_label(alloc, words)?;
-    Ok(Statement::BranchOrder { op, rs, rt, target })
+    Ok(AsmInstr::BranchOrder { op, rs, rt, target })
 }
 
-fn take_mul(words: &mut Words) -> Result<Statement, Flaw>
-    ensures { IfOk result (λ s. IsInRange (statement_of s)) }
+fn take_mul(words: &mut Words) -> Result<AsmInstr, Flaw>
+    ensures { IfOk result (λ i. IsInstructionInRange (instruction_of i)) }
 {
     let rd = take_register(words)?;
     let rs = take_register(words)?;
     let rt = take_register(words)?;
-    Ok(Statement::Mul { rd, rs, rt })
+    Ok(AsmInstr::Mul { rd, rs, rt })
 }

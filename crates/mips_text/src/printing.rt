@@ -1,8 +1,8 @@
 //! The text of lines.
 
 ghost use Rattle.std.specs.Prelude.{◌≡◌, ◌++◌, IfOk, OnOk, flat_map};
-ghost use Rattle.mips_isa.specs.Lines.{line_of, lines_of, statement_of};
-ghost use Rattle.mips_text.specs.Printing.{instruction_text, label_text, line_text, printed, statement_text};
+ghost use Rattle.mips_isa.specs.Lines.{line_of, lines_of, instruction_of, data_item_of, directive_of, statement_of};
+ghost use Rattle.mips_text.specs.Printing.{plain_text, instruction_text, data_text, other_directive_text, statement_text, label_text, line_text, printed};
 
 use crate::directives::Directive;
 use crate::mnemonics::Mnemonic;
@@ -10,7 +10,7 @@ use crate::rows::{
     put_bytes, put_directive, put_directive_named, put_directive_numbered, put_in_memory,
     put_named, put_numbered, put_registers, put_text, put_words,
 };
-use mips_isa::{Instr, Label, Line, Statement};
+use mips_isa::{AsmDirective, AsmInstr, DataItem, Instr, Label, Line, Statement};
 use std::alloc::{AllocError, Global};
 
 /// The text of lines, in the one spelling, which `docs/assembly.md` has under Printing.
@@ -53,42 +53,71 @@ fn put_statement(out: &mut Vec<u8>, statement: &Statement) -> Result<(), AllocEr
 {
     match statement {
         Statement::Empty => Ok(()),
-        Statement::Plain(instruction) => put_instruction(out, *instruction),
-        Statement::ToTwo { op, rs, rt, target } => {
-            put_named(out, Mnemonic::BranchTwo(*op), &[*rs, *rt], target)
-        }
-        Statement::ToOne { op, rs, target } => {
-            put_named(out, Mnemonic::BranchOne(*op), &[*rs], target)
-        }
-        Statement::ToJump { op, target } => put_named(out, Mnemonic::Jump(*op), &[], target),
-        Statement::La { rd, label } => put_named(out, Mnemonic::La, &[*rd], label),
-        Statement::Li { rd, value } => put_numbered(out, Mnemonic::Li, &[*rd], *value),
-        Statement::Move { rd, rs } => put_registers(out, Mnemonic::Move, &[*rd, *rs]),
-        Statement::Neg { rd, rs } => put_registers(out, Mnemonic::Neg, &[*rd, *rs]),
-        Statement::Nop => put_registers(out, Mnemonic::Nop, &[]),
-        Statement::B { target } => put_named(out, Mnemonic::B, &[], target),
-        Statement::BranchZero { op, rs, target } => {
-            put_named(out, Mnemonic::BranchZero(*op), &[*rs], target)
-        }
-        Statement::BranchOrder { op, rs, rt, target } => {
-            put_named(out, Mnemonic::BranchOrder(*op), &[*rs, *rt], target)
-        }
-        Statement::Mul { rd, rs, rt } => put_registers(out, Mnemonic::Mul, &[*rd, *rs, *rt]),
-        Statement::ToText => put_directive(out, Directive::Text),
-        Statement::ToData => put_directive(out, Directive::Data),
-        Statement::Globl(label) => put_directive_named(out, Directive::Globl, label),
-        Statement::Word(items) => put_words(out, items),
-        Statement::Byte(values) => put_bytes(out, values),
-        Statement::Ascii(bytes) => put_text(out, Directive::Ascii, bytes),
-        Statement::Asciiz(bytes) => put_text(out, Directive::Asciiz, bytes),
-        Statement::Space(size) => put_directive_numbered(out, Directive::Space, i64::from(*size)),
-        Statement::Align(power) => put_directive_numbered(out, Directive::Align, i64::from(*power)),
+        Statement::Instruction(instruction) => put_instruction(out, instruction),
+        Statement::Data(item) => put_data(out, item),
+        Statement::Directive(directive) => put_other_directive(out, directive),
     }
 }
 
-/// Writes an instruction.
-fn put_instruction(out: &mut Vec<u8>, instruction: Instr) -> Result<(), AllocError>
-    ensures { OnOk result (out.new.items ≡ out.old.items ++ instruction_text instruction) }
+/// Writes an item of data.
+fn put_data(out: &mut Vec<u8>, item: &DataItem) -> Result<(), AllocError>
+    ensures { OnOk result (out.new.items ≡ out.old.items ++ data_text (data_item_of item.now)) }
+{
+    match item {
+        DataItem::Word(items) => put_words(out, items),
+        DataItem::Byte(values) => put_bytes(out, values),
+        DataItem::Ascii(bytes) => put_text(out, Directive::Ascii, bytes),
+        DataItem::Asciiz(bytes) => put_text(out, Directive::Asciiz, bytes),
+        DataItem::Space(size) => put_directive_numbered(out, Directive::Space, i64::from(*size)),
+    }
+}
+
+/// Writes a directive that is no item of data.
+fn put_other_directive(out: &mut Vec<u8>, directive: &AsmDirective) -> Result<(), AllocError>
+    ensures { OnOk result (out.new.items ≡ out.old.items ++ other_directive_text (directive_of directive.now)) }
+{
+    match directive {
+        AsmDirective::ToText => put_directive(out, Directive::Text),
+        AsmDirective::ToData => put_directive(out, Directive::Data),
+        AsmDirective::Globl(label) => put_directive_named(out, Directive::Globl, label),
+        AsmDirective::Align(power) => {
+            put_directive_numbered(out, Directive::Align, i64::from(*power))
+        }
+    }
+}
+
+/// Writes an instruction or a pseudoinstruction.
+fn put_instruction(out: &mut Vec<u8>, instruction: &AsmInstr) -> Result<(), AllocError>
+    ensures { OnOk result (out.new.items ≡ out.old.items ++ instruction_text (instruction_of instruction.now)) }
+{
+    match instruction {
+        AsmInstr::Plain(instruction) => put_plain(out, *instruction),
+        AsmInstr::ToTwo { op, rs, rt, target } => {
+            put_named(out, Mnemonic::BranchTwo(*op), &[*rs, *rt], target)
+        }
+        AsmInstr::ToOne { op, rs, target } => {
+            put_named(out, Mnemonic::BranchOne(*op), &[*rs], target)
+        }
+        AsmInstr::ToJump { op, target } => put_named(out, Mnemonic::Jump(*op), &[], target),
+        AsmInstr::La { rd, label } => put_named(out, Mnemonic::La, &[*rd], label),
+        AsmInstr::Li { rd, value } => put_numbered(out, Mnemonic::Li, &[*rd], *value),
+        AsmInstr::Move { rd, rs } => put_registers(out, Mnemonic::Move, &[*rd, *rs]),
+        AsmInstr::Neg { rd, rs } => put_registers(out, Mnemonic::Neg, &[*rd, *rs]),
+        AsmInstr::Nop => put_registers(out, Mnemonic::Nop, &[]),
+        AsmInstr::B { target } => put_named(out, Mnemonic::B, &[], target),
+        AsmInstr::BranchZero { op, rs, target } => {
+            put_named(out, Mnemonic::BranchZero(*op), &[*rs], target)
+        }
+        AsmInstr::BranchOrder { op, rs, rt, target } => {
+            put_named(out, Mnemonic::BranchOrder(*op), &[*rs, *rt], target)
+        }
+        AsmInstr::Mul { rd, rs, rt } => put_registers(out, Mnemonic::Mul, &[*rd, *rs, *rt]),
+    }
+}
+
+/// Writes an instruction whose operands are registers and numbers.
+fn put_plain(out: &mut Vec<u8>, instruction: Instr) -> Result<(), AllocError>
+    ensures { OnOk result (out.new.items ≡ out.old.items ++ plain_text instruction) }
 {
     match instruction {
         Instr::Three { op, rd, rs, rt } => put_registers(out, Mnemonic::Three(op), &[rd, rs, rt]),

@@ -104,7 +104,7 @@ fn take_statement(alloc: Global, first: &[u8], words: &mut Words) -> Result<Stat
             None => Err(Flaw::Directive),
         },
         _ => match Mnemonic::named(first) {
-            Some(mnemonic) => take_instruction(alloc, mnemonic, words),
+            Some(mnemonic) => Ok(Statement::Instruction(take_instruction(alloc, mnemonic, words)?)),
             None => Err(Flaw::Word),
         },
     }

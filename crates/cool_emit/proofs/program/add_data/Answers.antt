@@ -1,8 +1,8 @@
 -- The layout stands behind the directive, then the constants, and then the word of the heap.
 use Rattle.std.proofs.Common.{◌≡◌, ◌∙◌, ◌++◌, ◌∷◌, ℕ, List, [], ap, append_assoc, arith}
 use Rattle.std.proofs.lemmas.List.{map_push}
-use Rattle.mips_isa.specs.Assembly.{unlabelled}
-use Rattle.mips_isa.specs.Lines.{Line, ToData, lines_of}
+use Rattle.mips_isa.specs.Assembly.{directive_line}
+use Rattle.mips_isa.specs.Lines.{Line, Directive, ToData, lines_of}
 use Rattle.cool_classes.specs.Chains.{Class, class_number}
 use Rattle.cool_consts.specs.LinesOfConstants.{constants_lines}
 use Rattle.cool_layout.specs.LinesOfLayout.{layout_lines}
@@ -28,8 +28,8 @@ returns c =
     let string : c.tag-3.result ≡ tag p (class_number 4) = c.tag-3.ensures p c.requires.sound.layout (omega arith) in
     let l1 = lines_of c.push.new.self.items in
     let l2 = lines_of c.add_lines.new.lines.items in
-    let directive : l1 ≡ lines_of c.args.lines.now.items ++ unlabelled ToData ∷ [] =
-    ap lines_of c.in_ok-push.ensures.items ∙ (map_push _ _ _ ∙ ap (λ labels. lines_of c.args.lines.now.items ++ record { labels = labels; statement = ToData } ∷ []) c.new.ensures.items) in
+    let directive : l1 ≡ lines_of c.args.lines.now.items ++ directive_line ToData ∷ [] =
+    ap lines_of c.in_ok-push.ensures.items ∙ (map_push _ _ _ ∙ ap (λ labels. lines_of c.args.lines.now.items ++ record { labels = labels; statement = Directive ToData } ∷ []) c.new.ensures.items) in
     let layout : l2 ≡ l1 ++ layout_lines p =
     c.in_ok-add_lines.ensures ∙ (ap (λ ls. l1 ++ ls) c.in_ok-lines.ensures ∙ ap (λ (q : List Class). l1 ++ layout_lines q) c.table.ensures) in
     let constants : lines_of c.add_lines-2.new.lines.items ≡ l2 ++ constants_lines (tag p (class_number 2)) (tag p (class_number 3)) (tag p (class_number 4)) c.args.consts.now =
@@ -40,5 +40,5 @@ returns c =
     ∙ ap (λ (n : ℕ). l2 ++ constants_lines (tag p (class_number 2)) (tag p (class_number 3)) n c.args.consts.now) string))) in
     then c.add_heap.result
     (λ h. in_turn (lines_of c.args.lines.now.items) l1 l2 (lines_of c.add_lines-2.new.lines.items) (lines_of c.add_heap.new.lines.items)
-    (unlabelled ToData ∷ []) (layout_lines p) (constants_lines (tag p (class_number 2)) (tag p (class_number 3)) (tag p (class_number 4)) c.args.consts.now) heap_lines directive layout constants h)
+    (directive_line ToData ∷ []) (layout_lines p) (constants_lines (tag p (class_number 2)) (tag p (class_number 3)) (tag p (class_number 4)) c.args.consts.now) heap_lines directive layout constants h)
     c.add_heap.ensures

@@ -1,7 +1,7 @@
 -- The routines, the classes and the data stand behind one another, and the constants are those that all features ask for.
 use Rattle.std.proofs.Common.{◌≡◌, ◌∙◌, ◌++◌, ◌∷◌, List, map, ap}
 use Rattle.std.specs.Prelude.{string_bytes}
-use Rattle.mips_isa.specs.Assembly.{unlabelled}
+use Rattle.mips_isa.specs.Assembly.{directive_line}
 use Rattle.mips_isa.specs.Lines.{Line, ToData, lines_of}
 use Rattle.cool_runtime.specs.RoutineLines.{all_routine_lines}
 use Rattle.cool_consts.specs.Constants.{Constants}
@@ -27,9 +27,9 @@ returns-clause-lines c =
     let text : lines_of c.routines.new.lines.items ≡ all_routine_lines =
     c.in_ok-routines.ensures ∙ ap (λ ls. lines_of ls ++ all_routine_lines) c.new-lines.ensures.items in
     c.in_ok-add_data.ensures
-    ∙ (ap (λ (ls : List Line). ls ++ unlabelled ToData ∷ data_lines p constants)
+    ∙ (ap (λ (ls : List Line). ls ++ directive_line ToData ∷ data_lines p constants)
     (classes.lines constants (extends_same constants) ∙ ap (λ (ls : List Line). ls ++ classes_code p files constants) text)
-    ∙ ap (λ (t : Constants). (all_routine_lines ++ classes_code p files t) ++ unlabelled ToData ∷ data_lines p t) all)
+    ∙ ap (λ (t : Constants). (all_routine_lines ++ classes_code p files t) ++ directive_line ToData ∷ data_lines p t) all)
 
 pub returns-in_err-layout-clause-sound : goal.returns-in_err-layout-clause-sound
 returns-in_err-layout-clause-sound c = names_sound c.args.p.now c.table.result.now c.args.names.now c.table.ensures.table c.requires.fits c.requires.names c.table.ensures.typed

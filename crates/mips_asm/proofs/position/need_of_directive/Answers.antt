@@ -1,7 +1,7 @@
 -- The unit of `.align` is small.
 use Rattle.std.proofs.Common.{rules, ◌≤◌}
 use Rattle.mips_asm.proofs.SmallUnits.{shifted_unit}
-use Rattle.mips_asm.proofs.position.need_of_statement.Goals as goal
+use Rattle.mips_asm.proofs.position.need_of_directive.Goals as goal
 
 pub returns-in-Align-clause-small : goal.returns-in-Align-clause-small
 returns-in-Align-clause-small c = let h : c.in-Align.exponent ≤ 12 = search rules in shifted_unit c.in-Align.exponent h
