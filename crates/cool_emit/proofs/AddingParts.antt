@@ -1,4 +1,4 @@
--- What parts of a program add, put together: lines and constants behind lines and constants.
+-- What parts of a program add, put together: lines and constants after lines and constants.
 use Rattle.std.proofs.Common.{◌≡◌, ℕ, zero, suc, ◌+◌, ◌≤◌, ◌<◌, List, [], ◌∷◌, ◌++◌, length, flat_map, take, get_or, Bool, true, false, ap, refl, sym, subst, ◌∙◌, arith, append_assoc, append-nil}
 use native.Mathlib.Numerals.{add-one}
 use Rattle.std.proofs.lemmas.Grind.{flat_map-append}
@@ -29,7 +29,7 @@ adds_nothing files t ls = adds_lines files t [] ls ls (sym (append-nil ls))
 pub extended : (files : List (List ℕ)) (fs : List Placed) (code : Constants → List Line) (a b g : Constants) (x y : List Line) → Adds files fs code a b x y → Extends b g → Extends a g
 extended files fs code a b g x y h e = extends_before a g (integers_asked fs) (strings_asked files fs) (subst (λ (t : Constants). Extends t g) h.constants e)
 
--- one part behind another
+-- one part after another
 pub adds_both : (files : List (List ℕ)) (fs gs : List Placed) (code more : Constants → List Line) (a b c : Constants) (x y z : List Line)
     → Adds files fs code a b x y → Adds files gs more b c y z → Adds files (fs ++ gs) (λ g. code g ++ more g) a c x z
 adds_both files fs gs code more a b c x y z h k = record {
@@ -58,7 +58,7 @@ abbrev pub part_from : Part → ℕ → List Feature → List Placed
 part_from Attributes k fs = attributes_from k fs
 part_from Methods k fs = methods_from k fs
 
--- a feature behind others, where it belongs to the part
+-- a feature after others, where it belongs to the part
 abbrev pub one_more : Bool → ℕ → Feature → List Placed
 one_more true k x = record { place = k; feature = x } ∷ []
 one_more false k x = []
@@ -86,7 +86,7 @@ take_more xs i x less is = subst (λ (j : ℕ). take j xs ≡ take i xs ++ x ∷
 abbrev pub code_in : List Class → List (List ℕ) → ClassId → List Placed → Constants → List Line
 code_in p files c fs g = flat_map (placed_code p files g c) fs
 
--- a feature of the part is added behind others
+-- a feature of the part is added after others
 pub one_belongs : (p : List Class) (files : List (List ℕ)) (c : ClassId) (part : Part) (fs : List Feature) (n : ℕ) (x : Feature) (a b d : Constants) (front middle behind : List Line)
     → belongs part x ≡ true → n ≡ length fs
     → Adds files (part_from part 0 fs) (code_in p files c (part_from part 0 fs)) a b front middle

@@ -15,13 +15,13 @@ use Rattle.cool_emit.specs.Programs.{Placed, attributes_from, methods_from, clas
 use Rattle.cool_emit.proofs.Totals.{total, total-append, total-flat_map, total-le}
 
 -- what is counted of each class, counted by the numbers of the classes
-numbers_behind : (g : Class → ℕ) (front p : List Class)
+numbers_after : (g : Class → ℕ) (front p : List Class)
     → total (λ c. g (class_at (front ++ p) c)) (numbers_from (length front) (length p)) ≡ total g p
-numbers_behind g front [] = refl
-numbers_behind g front (c ∷ p) =
+numbers_after g front [] = refl
+numbers_after g front (c ∷ p) =
     let here : g (class_at (front ++ c ∷ p) (class_number (length front))) ≡ g c = ap g (get_or-append_seam front c p nothing) in
     let next : total (λ d. g (class_at ((front ++ c ∷ []) ++ p) d)) (numbers_from (length (front ++ c ∷ [])) (length p)) ≡ total g p =
-    numbers_behind g (front ++ c ∷ []) p in
+    numbers_after g (front ++ c ∷ []) p in
     let long : length (front ++ c ∷ []) ≡ length front + 1 = length-append front (c ∷ []) in
     let same : total (λ d. g (class_at (front ++ c ∷ p) d)) (numbers_from (length front + 1) (length p)) ≡ total g p =
     subst (λ (n : ℕ). total (λ d. g (class_at (front ++ c ∷ p) d)) (numbers_from n (length p)) ≡ total g p) long
@@ -30,7 +30,7 @@ numbers_behind g front (c ∷ p) =
 
 -- the same from the first class on
 pub by_number : (g : Class → ℕ) (p : List Class) → total (λ c. g (class_at p c)) (numbers_from 0 (length p)) ≡ total g p
-by_number g p = numbers_behind g [] p
+by_number g p = numbers_after g [] p
 
 -- what a class weighs
 abbrev pub class_weight : Class → ℕ
@@ -71,9 +71,9 @@ features_weigh p =
           parts_weigh 0 (features_of p c),
         )
 
--- A table weighs little more than its classes behind the basic ones, which weigh no more than a text may have bytes.
+-- A table weighs little more than its classes after the basic ones, which weigh no more than a text may have bytes.
 
--- what tables weigh, one behind the other
+-- what tables weigh, one after the other
 weight-append : (p q : List Class) → weight_of (p ++ q) ≡ weight_of p + weight_of q
 weight-append [] q = omega arith
 weight-append (c ∷ p) q = omega (arith, weight-append p q)

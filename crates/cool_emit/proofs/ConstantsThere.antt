@@ -1,4 +1,4 @@
--- The labels of the data of a program that stand behind its layout: those of the constants, by their numbers and by their values, and that
+-- The labels of the data of a program that stand after its layout: those of the constants, by their numbers and by their values, and that
 -- of the heap.
 use Rattle.std.proofs.Common.{◌≡◌, ℕ, zero, suc, ◌+◌, ◌<◌, List, [], ◌∷◌, ◌++◌, length, Contains, true, subst, arith}
 use Rattle.std.specs.Prelude.{pos, nat_eq, bytes_eq}
@@ -77,10 +77,10 @@ module _ (p : List Class) (files : List (List ℕ)) where
       (has_left (bool_lines true_constant (tag p (class_number 3)) 1) (integers ++ strings) true_constant
       (has_object true_constant (tag p (class_number 3)) 4 bool_table (Number (pos 1) ∷ []))))
 
-  -- the integers and the strings stand behind them
-  behind_bools : (n : Name) → Has (integers ++ strings) n → Has (program_lines p files) n
+  -- the integers and the strings stand after them
+  after_bools : (n : Name) → Has (integers ++ strings) n → Has (program_lines p files) n
   unfolding integers strings
-  behind_bools n h =
+  after_bools n h =
       constants_there n (has_right (bool_lines false_constant (tag p (class_number 3)) 0)
       (bool_lines true_constant (tag p (class_number 3)) 1 ++ (integers ++ strings)) n
       (has_right (bool_lines true_constant (tag p (class_number 3)) 1) (integers ++ strings) n h))
@@ -90,14 +90,14 @@ module _ (p : List Class) (files : List (List ℕ)) where
   unfolding integers
   int_constant_there k less =
       let e : 0 + k ≡ k = omega arith in
-      behind_bools (int_constant k) (has_left integers strings (int_constant k)
+      after_bools (int_constant k) (has_left integers strings (int_constant k)
       (subst (λ i. Has integers (int_constant i)) e (int_at (tag p (class_number 2)) 0 (program_constants p files).integers k less)))
 
   pub string_constant_there : (k : ℕ) → k < length (program_constants p files).strings → Has (program_lines p files) (string_constant k)
   unfolding strings
   string_constant_there k less =
       let e : 0 + k ≡ k = omega arith in
-      behind_bools (string_constant k) (has_right integers strings (string_constant k)
+      after_bools (string_constant k) (has_right integers strings (string_constant k)
       (subst (λ i. Has strings (string_constant i)) e
       (string_at string_constant (tag p (class_number 2)) (tag p (class_number 4))
       (λ j bytes. has_string (string_constant j) (string_length j) (tag p (class_number 2)) (tag p (class_number 4)) bytes) 0
@@ -107,7 +107,7 @@ module _ (p : List Class) (files : List (List ℕ)) where
   unfolding strings
   string_length_there k less =
       let e : 0 + k ≡ k = omega arith in
-      behind_bools (string_length k) (has_right integers strings (string_length k)
+      after_bools (string_length k) (has_right integers strings (string_length k)
       (subst (λ i. Has strings (string_length i)) e
       (string_at string_length (tag p (class_number 2)) (tag p (class_number 4))
       (λ j bytes. has_string_length (string_constant j) (string_length j) (tag p (class_number 2)) (tag p (class_number 4)) bytes) 0

@@ -21,7 +21,7 @@ abbrev pub total_from : (ℕ → ℕ) → ℕ → ℕ → ℕ
 total_from f k zero = 0
 total_from f k (suc n) = f k + total_from f (k + 1) n
 
--- those in a list and in the one behind it
+-- those in a list and in the one after it
 pub times-append : (x : List ℕ) (xs ys : List (List ℕ)) → times x (xs ++ ys) ≡ times x xs + times x ys
 times-append x [] ys = omega arith
 times-append x (y ∷ xs) ys = let e : times x (xs ++ ys) ≡ times x xs + times x ys = times-append x xs ys in omega arith
@@ -61,7 +61,7 @@ hit P x y h = by (bytes_eq x y) refl
 pub beside : (l m h n : ℕ) → l ≤ m → m ≤ h → one (between l m n) + one (between m h n) ≤ one (between l h n)
 beside l m h n lm mh = grind arith
 
--- the same behind another test
+-- the same after another test
 pub under : (a p q r : Bool) → one p + one q ≤ one r → one (a && p) + one (a && q) ≤ one (a && r)
 under true p q r h = h
 under false p q r h = omega arith
@@ -71,7 +71,7 @@ pub at_most_one : (b : Bool) → one b ≤ 1
 at_most_one true = omega arith
 at_most_one false = omega arith
 
--- a sum over two ranges, one behind the other, and over one more number
+-- a sum over two ranges, one after the other, and over one more number
 pub total_from-append : (f : ℕ → ℕ) (k m n : ℕ) → total_from f k (m + n) ≡ total_from f k m + total_from f (k + m) n
 total_from-append f k zero n =
     let a : 0 + n ≡ n = omega arith in
@@ -91,7 +91,7 @@ total_from_more f k n =
     let e : total_from f k (n + 1) ≡ total_from f k n + total_from f (k + n) 1 = total_from-append f k n 1 in
     omega arith
 
--- nothing counts behind the place that does
+-- nothing counts after the place that does
 none : (f : ℕ → ℕ) (k n o : ℕ) (b : Bool) → o < k → ((i : ℕ) → k ≤ i → i < k + n → f i ≤ one (nat_eq i o && b)) → total_from f k n ≤ 0
 none f k zero o b less h = omega arith
 none f k (suc n) o b less h =

@@ -30,7 +30,7 @@ use Rattle.cool_consts.specs.LinesOfConstants.{integers_lines, strings_lines}
 use Rattle.cool_emit.specs.SoundLines.{IsData, IsDataWord, AreData, labels_of}
 use Rattle.cool_emit.specs.Programs.{program_constants, heap_lines, program_data, program_lines, IsBuildable}
 use Rattle.cool_emit.proofs.RootedTables.{rooted}
-use Rattle.cool_emit.proofs.LabelsThere.{bytes_behind, string_behind, lines_of_default_string, text_there, initializer_there, method_there, from_defaults, from_prototypes, from_tables, from_objects, lines_of_constants, default_int_there, default_string_there, dispatch_table_there, prototype_there, class_name_there, class_name_length_there}
+use Rattle.cool_emit.proofs.LabelsThere.{bytes_after, string_after, lines_of_default_string, text_there, initializer_there, method_there, from_defaults, from_prototypes, from_tables, from_objects, lines_of_constants, default_int_there, default_string_there, dispatch_table_there, prototype_there, class_name_there, class_name_length_there}
 use Rattle.cool_emit.proofs.ConstantsThere.{false_constant_there, string_length_there}
 use Rattle.cool_emit.proofs.FixedNamesThere.{basic_within, basic_named, int_table_there, bool_table_there, string_table_there}
 use Rattle.cool_emit.proofs.ConstantsInRange.{all_flat, IsInt, IsShort, integers_in_range, strings_in_range}
@@ -63,9 +63,9 @@ module _ (known : Name → Type 0) where
       → AreData known (string_lines name length_name of_int of_string bytes)
   string_data name length_name of_int of_string bytes int_low string_low short there int_there string_there =
       let size : ℕ = 4 + words_of_bytes (length bytes) in
-      all_append IsPart (int_lines length_name of_int (length bytes)) (string_behind name length_name of_string bytes)
+      all_append IsPart (int_lines length_name of_int (length bytes)) (string_after name length_name of_string bytes)
       (int_data length_name of_int (length bytes) int_low (omega arith) int_there)
-      (all_append IsPart (string_head_lines name length_name of_string size) (bytes_behind bytes)
+      (all_append IsPart (string_head_lines name length_name of_string size) (bytes_after bytes)
       (object_data name of_string size string_table (Address length_name ∷ []) string_low (omega arith) string_there (there, tt))
       (tt, (refl, tt)))
 
@@ -211,7 +211,7 @@ module _ (p : List Class) (files : List (List ℕ)) (b : IsBuildable p files) wh
   empty_data : AllByRecursion (IsDataWord Known) empty_string_fields
   empty_data = (default_int_there p files, (omega arith, tt))
 
-  -- the words behind the head of a new object
+  -- the words after the head of a new object
   fields_data : (c : ClassId) → AllByRecursion (IsDataWord Known) (new_fields p c)
   fields_data c = by (nat_eq c.0 2 || nat_eq c.0 3) (nat_eq c.0 4)
     where

@@ -42,7 +42,7 @@ use Rattle.cool_emit.proofs.NamesApart.{kinds}
 abbrev pub marks : Name → List Line → ℕ
 marks x ls = times x (labels_of ls)
 
--- among lines and those behind them
+-- among lines and those after them
 pub marks-append : (x : Name) (xs ys : List Line) → marks x (xs ++ ys) ≡ marks x xs + marks x ys
 marks-append x xs ys = ap (times x) (flat_map-append (λ line. line.labels) xs ys) ∙ times-append x (labels_of xs) (labels_of ys)
 
@@ -180,7 +180,7 @@ module _ (x : Name) where
     abbrev within : ℕ → ℕ → ℕ
     within k n = hits s.class.0 s.feature k n
 
-    -- the labels of two and of three runs of nodes, one behind the other, and of the node behind a run
+    -- the labels of two and of three runs of nodes, one after the other, and of the node after a run
 
     hits_two : (k a b : ℕ) → within k (a + b) ≡ within k a + within (k + a) b
     hits_two k a b = total_from-append own_hits k a b
@@ -235,7 +235,7 @@ module _ (x : Name) where
     some_fits : (r : ℕ) → own_hit r (codes "some") + own_hit r (codes "fits") + own_hit r (codes "next") ≤ own_hits r
     some_fits r = omega (arith, hits_are s.class.0 s.feature r)
 
-    -- the labels behind the code of operands
+    -- the labels after the code of operands
 
     int_marks : (at : Place) (id : NodeId) → marks x (int_code s g at id) ≡ own_hit id.0 (codes "fits")
     unfolding ends_where_lines

@@ -12,7 +12,7 @@ use Rattle.cool_layout.specs.Preorder.{numbers_from}
 use Rattle.cool_runtime.specs.Instructions.{label}
 use Rattle.cool_emit.specs.SoundLines.{labels_of}
 
--- a list contains its first element, and those behind it
+-- a list contains its first element, and those after it
 pub first_there : {X : Type 0} (x : X) (xs : List X) → Contains (x ∷ xs) x
 first_there x xs = (0, omega arith, refl)
 
@@ -58,7 +58,7 @@ pub has_right : (xs ys : List Line) (n : Name) → Has ys n → Has (xs ++ ys) n
 has_right xs ys n h =
     subst (λ ns. Contains ns n) (sym (flat_map-append (λ line. line.labels) xs ys)) (Contains-append_right (labels_of xs) (labels_of ys) n h)
 
--- the label of a first line, and the labels behind a line
+-- the label of a first line, and the labels after a line
 pub has_label : (n : Name) (rest : List Line) → Has (label n ∷ rest) n
 has_label n rest = first_there n (labels_of rest)
 

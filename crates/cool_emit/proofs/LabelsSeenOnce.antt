@@ -34,19 +34,19 @@ one_more_seen first seen (name ∷ names) apart new =
     by false e = refl
 
 -- what holds of names holds of the last of them
-all_behind : (P : Name → Type 0) (front back : List Name) → AllByRecursion P (front ++ back) → AllByRecursion P back
-all_behind P [] back h = h
-all_behind P (name ∷ front) back h = all_behind P front back h.1
+all_after : (P : Name → Type 0) (front back : List Name) → AllByRecursion P (front ++ back) → AllByRecursion P back
+all_after P [] back h = h
+all_after P (name ∷ front) back h = all_after P front back h.1
 
 -- of different names, the last are different from the first
-behind_new : (front back : List Name) → AreDifferent (front ++ back) → AreNew front back
-behind_new [] back apart = nothing_seen back
-behind_new (name ∷ front) back apart = one_more_seen name front back (all_behind (λ (other : Name). other ≢ name) front back apart.0) (behind_new front back apart.1)
+after_new : (front back : List Name) → AreDifferent (front ++ back) → AreNew front back
+after_new [] back apart = nothing_seen back
+after_new (name ∷ front) back apart = one_more_seen name front back (all_after (λ (other : Name). other ≢ name) front back apart.0) (after_new front back apart.1)
 
 -- and from each other
-behind_different : (front back : List Name) → AreDifferent (front ++ back) → AreDifferent back
-behind_different [] back apart = apart
-behind_different (name ∷ front) back apart = behind_different front back apart.1
+after_different : (front back : List Name) → AreDifferent (front ++ back) → AreDifferent back
+after_different [] back apart = apart
+after_different (name ∷ front) back apart = after_different front back apart.1
 
 -- what is new to two lists is new to both together
 both_seen : (seen more names : List Name) → AreNew seen names → AreNew more names → AreNew (seen ++ more) names
@@ -71,6 +71,6 @@ pub record LeftOnce (seen front back : List Name) : Type 0 where
 pub left_once : (seen front back : List Name) → AreNew seen (front ++ back) → AreDifferent (front ++ back) → LeftOnce seen front back
 left_once seen front back new apart = record {
   once = none_twice seen front back new apart;
-  new = both_seen seen front back (all_behind (λ (name : Name). has seen name ≡ false) front back new) (behind_new front back apart);
-  different = behind_different front back apart;
+  new = both_seen seen front back (all_after (λ (name : Name). has seen name ≡ false) front back new) (after_new front back apart);
+  different = after_different front back apart;
 }

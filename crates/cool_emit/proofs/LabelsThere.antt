@@ -120,7 +120,7 @@ module _ (p : List Class) (files : List (List ℕ)) where
 
 -- The data
 
--- the parts of the layout, each with those behind it
+-- the parts of the layout, each with those after it
 abbrev pub from_defaults : List Class → List Line
 from_defaults p = default_lines p ++ (flat_map (name_lines p) (preorder p) ++ texts_lines)
 
@@ -148,25 +148,25 @@ has_object n tag size table fields =
     has_later (words (Number (negsuc 0) ∷ [])) (label n ∷ words (object_words tag size table fields) ∷ []) n
     (has_label n (words (object_words tag size table fields) ∷ []))
 
--- the bytes of a String, and its lines behind the Int of its length
-abbrev pub bytes_behind : List ℕ → List Line
-bytes_behind bytes = data_line (Asciiz bytes) ∷ directive_line (Align 2) ∷ []
+-- the bytes of a String, and its lines after the Int of its length
+abbrev pub bytes_after : List ℕ → List Line
+bytes_after bytes = data_line (Asciiz bytes) ∷ directive_line (Align 2) ∷ []
 
-abbrev pub string_behind : Name → Name → ℕ → List ℕ → List Line
-string_behind name length_name tag bytes = string_head_lines name length_name tag (4 + words_of_bytes (length bytes)) ++ bytes_behind bytes
+abbrev pub string_after : Name → Name → ℕ → List ℕ → List Line
+string_after name length_name tag bytes = string_head_lines name length_name tag (4 + words_of_bytes (length bytes)) ++ bytes_after bytes
 
 -- the label of a String, and that of its length
 pub has_string : (name length_name : Name) (int_tag string_tag : ℕ) (bytes : List ℕ)
     → Has (string_lines name length_name int_tag string_tag bytes) name
 has_string name length_name int_tag string_tag bytes =
-    has_right (int_lines length_name int_tag (length bytes)) (string_behind name length_name string_tag bytes) name
-    (has_left (string_head_lines name length_name string_tag (4 + words_of_bytes (length bytes))) (bytes_behind bytes) name
+    has_right (int_lines length_name int_tag (length bytes)) (string_after name length_name string_tag bytes) name
+    (has_left (string_head_lines name length_name string_tag (4 + words_of_bytes (length bytes))) (bytes_after bytes) name
     (has_object name string_tag (4 + words_of_bytes (length bytes)) string_table (Address length_name ∷ [])))
 
 pub has_string_length : (name length_name : Name) (int_tag string_tag : ℕ) (bytes : List ℕ)
     → Has (string_lines name length_name int_tag string_tag bytes) length_name
 has_string_length name length_name int_tag string_tag bytes =
-    has_left (int_lines length_name int_tag (length bytes)) (string_behind name length_name string_tag bytes) length_name
+    has_left (int_lines length_name int_tag (length bytes)) (string_after name length_name string_tag bytes) length_name
     (has_object length_name int_tag 4 int_table (Number (pos (length bytes)) ∷ []))
 
 module _ (p : List Class) (files : List (List ℕ)) where

@@ -24,12 +24,12 @@ abbrev pub IsFound : List Feature → ℕ → Feature → Type 0
 IsFound all k (Method m) = (slice_get all k ≡ Some (Method m)) × (first_method 0 all m.name ≡ Some k)
 IsFound all k (Attribute a) = Unit {0}
 
--- the feature behind others
+-- the feature after others
 get_there : (front : List Feature) (f : Feature) (fs : List Feature) → slice_get (front ++ f ∷ fs) (length front) ≡ Some f
 get_there [] f fs = refl
 get_there (g ∷ front) f fs = get_there front f fs
 
--- the method behind others has a property that the names of all have
+-- the method after others has a property that the names of all have
 last_of : (P : List ℕ → Type 0) (front : List Feature) (name : List ℕ) (names : List (List ℕ)) (all : List Feature) → method_names all ≡ name ∷ names → AllByRecursion P (method_names (front ++ all)) → P name
 last_of P [] name names all e h = (subst (AllByRecursion P) e h).0
 last_of P (Method m ∷ front) name names all e h = last_of P front name names all e h.1
@@ -52,13 +52,13 @@ search k (Attribute a ∷ front) all name names e d =
     let l : k + 1 + length front ≡ k + suc (length front) = omega arith in
     search (k + 1) front all name names e d ∙ ap (λ j. first_method j all name) l
 
--- features behind others are found
-found_behind : (front fs : List Feature) → AreDifferent (method_names (front ++ fs)) → EachInPlace (IsFound (front ++ fs)) (length front) fs
-found_behind front [] d = tt
-found_behind front (f ∷ fs) d =
+-- features after others are found
+found_after : (front fs : List Feature) → AreDifferent (method_names (front ++ fs)) → EachInPlace (IsFound (front ++ fs)) (length front) fs
+found_after front [] d = tt
+found_after front (f ∷ fs) d =
     let back : (front ++ f ∷ []) ++ fs ≡ front ++ f ∷ fs = append_assoc front (f ∷ []) fs in
     let l : length (front ++ f ∷ []) ≡ length front + 1 = length-append front (f ∷ []) in
-    let rest = found_behind (front ++ f ∷ []) fs (subst (λ (gs : List Feature). AreDifferent (method_names gs)) (sym back) d) in
+    let rest = found_after (front ++ f ∷ []) fs (subst (λ (gs : List Feature). AreDifferent (method_names gs)) (sym back) d) in
     (here f d, subst (λ (j : ℕ). EachInPlace (IsFound (front ++ f ∷ fs)) j fs) l (subst (λ (gs : List Feature). EachInPlace (IsFound gs) (length (front ++ f ∷ [])) fs) back rest))
   where
     here : (f : Feature) → AreDifferent (method_names (front ++ f ∷ fs)) → IsFound (front ++ f ∷ fs) (length front) f
@@ -71,4 +71,4 @@ found_behind front (f ∷ fs) d =
 
 -- each feature of a class is found
 pub all_found : (fs : List Feature) → AreDifferent (method_names fs) → EachInPlace (IsFound fs) 0 fs
-all_found fs d = found_behind [] fs d
+all_found fs d = found_after [] fs d

@@ -13,7 +13,7 @@ use Rattle.mips_isa.specs.Lines.{Name}
 use Rattle.cool_syntax.specs.Lexemes.{is_capital, is_digit, is_in_word}
 use Rattle.cool_codegen.specs.Labels.{inner}
 
--- the bytes before the first one of a kind, and those behind it
+-- the bytes before the first one of a kind, and those after it
 
 abbrev pub has : ℕ → List ℕ → Bool
 has b = list_any (λ c. nat_eq c b)
@@ -22,9 +22,9 @@ abbrev pub before : ℕ → List ℕ → List ℕ
 before b [] = []
 before b (c ∷ cs) = if nat_eq c b then [] else c ∷ before b cs
 
-abbrev pub behind : ℕ → List ℕ → List ℕ
-behind b [] = []
-behind b (c ∷ cs) = if nat_eq c b then cs else behind b cs
+abbrev pub after : ℕ → List ℕ → List ℕ
+after b [] = []
+after b (c ∷ cs) = if nat_eq c b then cs else after b cs
 
 -- where the byte is not in the text before it
 pub before_first : (b : ℕ) (xs ys : List ℕ) → has b xs ≡ false → before b (xs ++ b ∷ ys) ≡ xs
@@ -35,11 +35,11 @@ before_first b (x ∷ xs) ys h = by (nat_eq x b) refl h (before_first b xs ys)
     by true e h rest = absurd (true≢false h)
     by false e h rest = rw e (ap (λ (zs : List ℕ). x ∷ zs) (rest h))
 
-pub behind_first : (b : ℕ) (xs ys : List ℕ) → has b xs ≡ false → behind b (xs ++ b ∷ ys) ≡ ys
-behind_first b [] ys h = let e : nat_eq b b ≡ true = grind arith in rw e refl
-behind_first b (x ∷ xs) ys h = by (nat_eq x b) refl h (behind_first b xs ys)
+pub after_first : (b : ℕ) (xs ys : List ℕ) → has b xs ≡ false → after b (xs ++ b ∷ ys) ≡ ys
+after_first b [] ys h = let e : nat_eq b b ≡ true = grind arith in rw e refl
+after_first b (x ∷ xs) ys h = by (nat_eq x b) refl h (after_first b xs ys)
   where
-    by : (t : Bool) → nat_eq x b ≡ t → (t || has b xs) ≡ false → (has b xs ≡ false → behind b (xs ++ b ∷ ys) ≡ ys) → behind b (x ∷ xs ++ b ∷ ys) ≡ ys
+    by : (t : Bool) → nat_eq x b ≡ t → (t || has b xs) ≡ false → (has b xs ≡ false → after b (xs ++ b ∷ ys) ≡ ys) → after b (x ∷ xs ++ b ∷ ys) ≡ ys
     by true e h rest = absurd (true≢false h)
     by false e h rest = rw e (rest h)
 
@@ -96,7 +96,7 @@ last_byte (c ∷ d ∷ cs) = last_byte (d ∷ cs)
 abbrev pub without : ℕ → List ℕ → List ℕ
 without n x = take (length x - n) x
 
--- of a text and one behind it
+-- of a text and one after it
 pub last_of_append : (xs : List ℕ) (b : ℕ) (bs : List ℕ) → last_byte (xs ++ b ∷ bs) ≡ last_byte (b ∷ bs)
 last_of_append [] b bs = refl
 last_of_append (x ∷ []) b bs = refl
@@ -203,7 +203,7 @@ class_text x =
     else if nat_eq (last_byte x) 116 then without 5 x else without 8 x
 
 abbrev pub method_text : Name → List ℕ
-method_text x = behind 46 x
+method_text x = after 46 x
 
 -- the sorts of what a class is named by
 
@@ -237,7 +237,7 @@ method_class name method w =
 
 -- the method
 pub method_is : (name method : List ℕ) → IsWord name → method_text (name ++ (codes "." ++ method)) ≡ method
-method_is name method w = behind_first 46 name method (no_dot name w)
+method_is name method w = after_first 46 name method (no_dot name w)
 
 -- labels with numbers at their ends
 
@@ -302,13 +302,13 @@ abbrev pub inner_kind : Name → ℕ
 inner_kind x = position_or_len (bytes_eq (before 95 x)) kinds
 
 abbrev pub inner_class : Name → ℕ
-inner_class x = digits_value 10 (before 95 (behind 95 x))
+inner_class x = digits_value 10 (before 95 (after 95 x))
 
 abbrev pub inner_feature : Name → ℕ
-inner_feature x = digits_value 10 (before 95 (behind 95 (behind 95 x)))
+inner_feature x = digits_value 10 (before 95 (after 95 (after 95 x)))
 
 abbrev pub inner_node : Name → ℕ
-inner_node x = digits_value 10 (behind 95 (behind 95 (behind 95 x)))
+inner_node x = digits_value 10 (after 95 (after 95 (after 95 x)))
 
 module _ (place : ℕ) (kind : List ℕ) (is : IsKind place kind) (class feature node : ℕ) where
   rest : List ℕ
@@ -330,19 +330,19 @@ module _ (place : ℕ) (kind : List ℕ) (is : IsKind place kind) (class feature
     class_plain : has 95 (decimal class) ≡ false
     class_plain = no_underscore (decimal class) (digits_only class few)
 
-    behind_kind : behind 95 (inner kind class feature node) ≡ rest
+    after_kind : after 95 (inner kind class feature node) ≡ rest
     unfolding rest
-    behind_kind = behind_first 95 kind rest is.plain
+    after_kind = after_first 95 kind rest is.plain
 
     pub class_is : inner_class (inner kind class feature node) ≡ class
     unfolding rest
     class_is =
-        ap (λ zs. digits_value 10 (before 95 zs)) behind_kind
+        ap (λ zs. digits_value 10 (before 95 zs)) after_kind
         ∙ ap (digits_value 10) (before_first 95 (decimal class) (decimal feature ++ (codes "_" ++ decimal node)) class_plain) ∙ number_read class few
 
-    behind_class : behind 95 (behind 95 (inner kind class feature node)) ≡ decimal feature ++ (codes "_" ++ decimal node)
+    after_class : after 95 (after 95 (inner kind class feature node)) ≡ decimal feature ++ (codes "_" ++ decimal node)
     unfolding rest
-    behind_class = ap (behind 95) behind_kind ∙ behind_first 95 (decimal class) (decimal feature ++ (codes "_" ++ decimal node)) class_plain
+    after_class = ap (after 95) after_kind ∙ after_first 95 (decimal class) (decimal feature ++ (codes "_" ++ decimal node)) class_plain
 
     module _ (few_features : feature < 2 ^ 64) where
       feature_plain : has 95 (decimal feature) ≡ false
@@ -350,10 +350,10 @@ module _ (place : ℕ) (kind : List ℕ) (is : IsKind place kind) (class feature
 
       pub feature_is : inner_feature (inner kind class feature node) ≡ feature
       feature_is =
-          ap (λ zs. digits_value 10 (before 95 zs)) behind_class
+          ap (λ zs. digits_value 10 (before 95 zs)) after_class
           ∙ ap (digits_value 10) (before_first 95 (decimal feature) (decimal node) feature_plain) ∙ number_read feature few_features
 
       pub node_is : node < 2 ^ 64 → inner_node (inner kind class feature node) ≡ node
       node_is few_nodes =
-          ap (λ zs. digits_value 10 (behind 95 zs)) behind_class
-          ∙ ap (digits_value 10) (behind_first 95 (decimal feature) (decimal node) feature_plain) ∙ number_read node few_nodes
+          ap (λ zs. digits_value 10 (after 95 zs)) after_class
+          ∙ ap (digits_value 10) (after_first 95 (decimal feature) (decimal node) feature_plain) ∙ number_read node few_nodes

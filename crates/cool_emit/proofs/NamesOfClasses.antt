@@ -1,4 +1,4 @@
--- The names of classes are words, tell each class from the others, and are no basic names behind the basic classes.
+-- The names of classes are words, tell each class from the others, and are no basic names after the basic classes.
 use Rattle.std.proofs.Common.{◌≡◌, ℕ, zero, suc, ◌<◌, ◌≤◌, List, [], ◌∷◌, length, map, get_or, get_or-take, Option, Some, None, Bool, true, false, ◌==◌, refl, sym, ap, ◌∙◌, arith, true≢false}
 use Rattle.std.specs.Prelude.{bytes_eq, if◌then◌else◌}
 use Rattle.std.specs.List.{list_all, list_any, position_or_len}
@@ -125,7 +125,7 @@ module _ (p : List Class) (table : IsTable p) (c : ClassId) (within : c.0 < leng
           let n : k ≡ c.0 = ap (λ (d : ClassId). d.0) is in
           absurd (omega arith)
 
-  -- a class behind the basic ones has another name than each of those
+  -- a class after the basic ones has another name than each of those
   other_name : (k : ℕ) → k < 5 → 5 ≤ c.0 → bytes_eq (name_of p c) (name_of basic_classes (class_number k)) ≡ false
   other_name k low high = by (bytes_eq (name_of p c) (name_of basic_classes (class_number k))) refl
     where

@@ -33,7 +33,7 @@ use Rattle.cool_emit.proofs.SlotsInLimits.{few_slots, few_attributes}
 use Rattle.cool_emit.proofs.RootedTables.{rooted}
 use Rattle.cool_emit.proofs.TotalsByTag.{by_tag}
 
--- the room of lines, one behind the other
+-- the room of lines, one after the other
 data_room-append : (xs ys : List Line) → data_room (xs ++ ys) ≡ data_room xs + data_room ys
 data_room-append [] ys = omega arith
 data_room-append (x ∷ xs) ys = omega (arith, data_room-append xs ys)
@@ -59,7 +59,7 @@ room_of_int name t value = refl
 room_of_bool : (name : Name) (t value : ℕ) → data_room (bool_lines name t value) ≡ 32
 room_of_bool name t value = refl
 
--- a String, behind the Int of its length
+-- a String, after the Int of its length
 room_of_string : (name length_name : Name) (i t : ℕ) (bytes : List ℕ)
     → data_room (string_lines name length_name i t bytes) ≡ 73 + length bytes
 room_of_string name length_name i t bytes = omega arith

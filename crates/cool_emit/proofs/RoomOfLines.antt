@@ -6,7 +6,7 @@ use Rattle.mips_isa.specs.declared.place.Segment.{Segment}
 use Rattle.mips_isa.specs.declared.place.Segment.TheVariants.{Text, Data}
 use Rattle.mips_isa.specs.Lines as statements
 use Rattle.mips_isa.specs.Lines.{Name, Word, Asciiz, Align, Statement, Empty, Instruction, Directive, Line}
-use Rattle.mips_isa.specs.Assembly.{Need, Nothing, Words, Item, Switch, Padding, need, Position, start_position, up, padded, behind, behind_line, is_text, is_wrong, is_too_large}
+use Rattle.mips_isa.specs.Assembly.{Need, Nothing, Words, Item, Switch, Padding, need, Position, start_position, up, padded, after_need, after_line, is_text, is_wrong, is_too_large}
 use Rattle.cool_runtime.specs.Images.{IsTextNeed}
 use Rattle.cool_emit.specs.SoundLines.{IsText, IsData, AreText, AreData, text_need, text_room, data_need, data_room, joined_lines}
 
@@ -54,10 +54,10 @@ pub record HasRoom (p : Position) (segment : Segment) (words bytes : ℕ) : Type
   pub words_left : p.words + words ≤ 66000000
   pub bytes_left : p.bytes + bytes ≤ 268435456
 
--- behind text
-pub behind_text : (n : Need) (p : Position) (words bytes : ℕ) → IsTextNeed n → HasRoom p Text (text_need n + words) bytes → HasRoom (behind n p) Text words bytes
-behind_text Nothing p words bytes fits room = let w = room.words_left in record { in_segment = room.in_segment; words_left = omega arith; bytes_left = room.bytes_left }
-behind_text (Words n) p words bytes fits room =
+-- after text
+pub after_text : (n : Need) (p : Position) (words bytes : ℕ) → IsTextNeed n → HasRoom p Text (text_need n + words) bytes → HasRoom (after_need n p) Text words bytes
+after_text Nothing p words bytes fits room = let w = room.words_left in record { in_segment = room.in_segment; words_left = omega arith; bytes_left = room.bytes_left }
+after_text (Words n) p words bytes fits room =
     let w = room.words_left in
     let most = at_least n in
     record { in_segment = room.in_segment; words_left = omega arith; bytes_left = room.bytes_left }
@@ -65,27 +65,27 @@ behind_text (Words n) p words bytes fits room =
     at_least : (n : ℕ) → n ≤ text_need (Words n)
     at_least zero = omega arith
     at_least (suc n) = omega arith
-behind_text (Item unit size) p words bytes fits room = absurd fits
-behind_text (Switch segment) p words bytes fits room = absurd fits
-behind_text (Padding unit) p words bytes fits room = absurd fits
+after_text (Item unit size) p words bytes fits room = absurd fits
+after_text (Switch segment) p words bytes fits room = absurd fits
+after_text (Padding unit) p words bytes fits room = absurd fits
 
--- behind data
-pub behind_data : (n : Need) (p : Position) (words bytes : ℕ) → IsDataNeed n → HasRoom p Data words (data_need n + bytes) → HasRoom (behind n p) Data words bytes
-behind_data Nothing p words bytes fits room = let b = room.bytes_left in record { in_segment = room.in_segment; words_left = room.words_left; bytes_left = omega arith }
-behind_data (Words n) p words bytes fits room = absurd fits
-behind_data (Item unit size) p words bytes fits room =
+-- after data
+pub after_data : (n : Need) (p : Position) (words bytes : ℕ) → IsDataNeed n → HasRoom p Data words (data_need n + bytes) → HasRoom (after_need n p) Data words bytes
+after_data Nothing p words bytes fits room = let b = room.bytes_left in record { in_segment = room.in_segment; words_left = room.words_left; bytes_left = omega arith }
+after_data (Words n) p words bytes fits room = absurd fits
+after_data (Item unit size) p words bytes fits room =
     let b = room.bytes_left in
     let pad = fits p.bytes in
     record { in_segment = room.in_segment; words_left = room.words_left; bytes_left = omega arith }
-behind_data (Switch segment) p words bytes fits room = absurd fits
-behind_data (Padding unit) p words bytes fits room = by p.segment room.in_segment
+after_data (Switch segment) p words bytes fits room = absurd fits
+after_data (Padding unit) p words bytes fits room = by p.segment room.in_segment
   where
     by : (g : Segment) → g ≡ Data → HasRoom (padded g unit p) Data words bytes
     by Text e = cc
     by Data e = let b = room.bytes_left in let pad = fits p.bytes in record { in_segment = room.in_segment; words_left = room.words_left; bytes_left = omega arith }
 
 -- in the data from here on
-pub in_data : (p : Position) (words bytes : ℕ) → HasRoom p Text words bytes → HasRoom (behind (Switch Data) p) Data words bytes
+pub in_data : (p : Position) (words bytes : ℕ) → HasRoom p Text words bytes → HasRoom (after_need (Switch Data) p) Data words bytes
 in_data p words bytes room = record { in_segment = refl; words_left = room.words_left; bytes_left = room.bytes_left }
 
 -- with room left, no segment is too large
@@ -114,7 +114,7 @@ data_not_wrong (Padding unit) g e fits = ap (λ (x : Segment). is_text x && nat_
 -- Lines that stand where they may, from a position on: none is in the wrong segment, and none makes a segment too large.
 abbrev pub StandWell : Position → List Line → Type 0
 StandWell p [] = Unit {0}
-StandWell p (line ∷ rest) = (is_wrong (need line.statement) p.segment ≡ false) × (is_too_large (behind_line line p) ≡ false) × StandWell (behind_line line p) rest
+StandWell p (line ∷ rest) = (is_wrong (need line.statement) p.segment ≡ false) × (is_too_large (after_line line p) ≡ false) × StandWell (after_line line p) rest
 
 -- data that has room stands well
 data_stands : (known : Name → Type 0) (p : Position) (words : ℕ) (lines : List Line) → AreData known lines
@@ -122,24 +122,24 @@ data_stands : (known : Name → Type 0) (p : Position) (words : ℕ) (lines : Li
 data_stands known p words [] all room = tt
 data_stands known p words (line ∷ rest) all room =
     let fits = needs_data known line.statement all.0 in
-    let next = behind_data (need line.statement) p words (data_room rest) fits room in (
+    let next = after_data (need line.statement) p words (data_room rest) fits room in (
       data_not_wrong (need line.statement) p.segment room.in_segment fits,
-      not_too_large (behind_line line p) Data words (data_room rest) next,
-      data_stands known (behind_line line p) words rest all.1 next,
+      not_too_large (after_line line p) Data words (data_room rest) next,
+      data_stands known (after_line line p) words rest all.1 next,
     )
 
--- and so does text with the data behind it
+-- and so does text with the data after it
 text_stands : (target known : Name → Type 0) (p : Position) (text items : List Line) → AreText target known text → AreData known items
     → HasRoom p Text (text_room text) (data_room items) → StandWell p (joined_lines text items)
 text_stands target known p [] items all more room =
     let next = in_data p 0 (data_room items) room in
-    (refl, not_too_large (behind (Switch Data) p) Data 0 (data_room items) next, data_stands known (behind (Switch Data) p) 0 items more next)
+    (refl, not_too_large (after_need (Switch Data) p) Data 0 (data_room items) next, data_stands known (after_need (Switch Data) p) 0 items more next)
 text_stands target known p (line ∷ rest) items all more room =
     let fits = needs_text target known line.statement all.0 in
-    let next = behind_text (need line.statement) p (text_room rest) (data_room items) fits room in (
+    let next = after_text (need line.statement) p (text_room rest) (data_room items) fits room in (
       text_not_wrong (need line.statement) p.segment room.in_segment fits,
-      not_too_large (behind_line line p) Text (text_room rest) (data_room items) next,
-      text_stands target known (behind_line line p) rest items all.1 more next,
+      not_too_large (after_line line p) Text (text_room rest) (data_room items) next,
+      text_stands target known (after_line line p) rest items all.1 more next,
     )
 
 -- text and data that have room stand well from the start on

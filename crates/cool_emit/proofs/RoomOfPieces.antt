@@ -25,7 +25,7 @@ use Rattle.cool_codegen.specs.Code.{Context, label_at, file_label, divisor_code,
 use Rattle.cool_emit.specs.SoundLines.{text_room}
 use Rattle.cool_emit.proofs.Totals.{total}
 
--- the room of lines, one behind the other, and of lines that are joined
+-- the room of lines, one after the other, and of lines that are joined
 pub text_room-append : (xs ys : List Line) → text_room (xs ++ ys) ≡ text_room xs + text_room ys
 text_room-append [] ys = omega arith
 text_room-append (x ∷ xs) ys = omega (arith, text_room-append xs ys)

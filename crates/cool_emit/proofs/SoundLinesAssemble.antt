@@ -13,15 +13,15 @@ use Rattle.mips_isa.specs.declared.place.Segment.TheVariants.{Text, Data}
 use Rattle.mips_isa.specs.declared.address_map.TheConstants.{TEXT_START}
 use Rattle.mips_isa.specs.Lines as statements
 use Rattle.mips_isa.specs.Lines.{Name, WordItem, Number, Address, Plain, ToJump, La, Li, Move, Word, Asciiz, ToData, Align, Statement, Empty, Instruction, Directive, Line, IsItem, IsInRange, AreInRange}
-use Rattle.mips_isa.specs.Assembly.{Need, Nothing, Words, Item, Switch, Padding, need, Position, start_position, behind_line, place_in, place_from, place_of, has, in_text, start_name, main_name, directive_line, added_lines, completed, is_wrong, any_twice, is_too_large, fault_or, first_pass, names_of_items, used, jump_reaches, reaches, any_without_place, start_fault, second_pass, first_or, fault_of_all, fault_of}
-use Rattle.cool_runtime.specs.Images.{behind_lines}
+use Rattle.mips_isa.specs.Assembly.{Need, Nothing, Words, Item, Switch, Padding, need, Position, start_position, after_line, place_in, place_from, place_of, has, in_text, start_name, main_name, directive_line, added_lines, completed, is_wrong, any_twice, is_too_large, fault_or, first_pass, names_of_items, used, jump_reaches, reaches, any_without_place, start_fault, second_pass, first_or, fault_of_all, fault_of}
+use Rattle.cool_runtime.specs.Images.{after_lines}
 use Rattle.cool_runtime.specs.Instructions.{label, la}
 use Rattle.cool_classes.specs.Limits.{AreDifferent}
 use Rattle.cool_emit.specs.SoundLines.{IsText, IsDataWord, IsData, AreText, AreData, labels_of, text_need, text_room, data_need, data_room, joined_lines, AreSound}
 use Rattle.cool_classes.proofs.AllOfLists.{all_append, all_then}
 use Rattle.cool_runtime.proofs.PlacesOfLabels.{words_grow}
 use Rattle.cool_emit.proofs.LabelsSeenOnce.{AreNew, found_among, left_once, nothing_seen}
-use Rattle.cool_emit.proofs.RoomOfLines.{HasRoom, StandWell, needs_text, behind_text, lines_stand}
+use Rattle.cool_emit.proofs.RoomOfLines.{HasRoom, StandWell, needs_text, after_text, lines_stand}
 
 -- The first pass
 
@@ -38,13 +38,13 @@ first_passes : (seen : List Name) (p : Position) (number : ℕ) (lines : List Li
 first_passes seen p number [] well new apart = refl
 first_passes seen p number (line ∷ rest) well new apart =
     let left = left_once seen line.labels (labels_of rest) new apart in
-    ap (λ (o : Option AsmKind). fault_or number o (first_pass (seen ++ line.labels) (behind_line line p) (suc number) rest))
-    (no_first_fault (is_wrong (need line.statement) p.segment) (any_twice seen line.labels) (is_too_large (behind_line line p)) well.0 left.once well.1)
-    ∙ first_passes (seen ++ line.labels) (behind_line line p) (suc number) rest well.2 left.new left.different
+    ap (λ (o : Option AsmKind). fault_or number o (first_pass (seen ++ line.labels) (after_line line p) (suc number) rest))
+    (no_first_fault (is_wrong (need line.statement) p.segment) (any_twice seen line.labels) (is_too_large (after_line line p)) well.0 left.once well.1)
+    ∙ first_passes (seen ++ line.labels) (after_line line p) (suc number) rest well.2 left.new left.different
 
 -- The places of names
 
--- a name among the labels that is not on the first line is on one behind it
+-- a name among the labels that is not on the first line is on one after it
 
 one_of : (a b : Bool) → (a || b) ≡ true → (a ≡ false → b ≡ true)
 one_of true b h e = cc
@@ -58,10 +58,10 @@ has_label line rest name there not_here =
 -- a label of lines has a place
 has_place : (p : Position) (lines : List Line) (name : Name) → has (labels_of lines) name ≡ true → is_some (place_from p lines name) ≡ true
 has_place p [] name there = there
-has_place p (line ∷ rest) name there = by (has line.labels name) (λ e. has_place (behind_line line p) rest name (has_label line rest name there e))
+has_place p (line ∷ rest) name there = by (has line.labels name) (λ e. has_place (after_line line p) rest name (has_label line rest name there e))
   where
-    by : (b : Bool) → (b ≡ false → is_some (place_from (behind_line line p) rest name) ≡ true)
-        → is_some (if b then Some (place_in p.segment p (line ∷ rest)) else place_from (behind_line line p) rest name) ≡ true
+    by : (b : Bool) → (b ≡ false → is_some (place_from (after_line line p) rest name) ≡ true)
+        → is_some (if b then Some (place_in p.segment p (line ∷ rest)) else place_from (after_line line p) rest name) ≡ true
     by true more = refl
     by false more = more refl
 
@@ -71,11 +71,11 @@ has_target : (target known : Name → Type 0) (p : Position) (text back : List L
 has_target target known p [] back bytes name all room there = absurd (cc)
 has_target target known p (line ∷ text) back bytes name all room there =
     by (has line.labels name) p.segment room.in_segment
-    (λ e. has_target target known (behind_line line p) text back bytes name all.1
-    (behind_text (need line.statement) p (text_room text) bytes (needs_text target known line.statement all.0) room) (has_label line text name there e))
+    (λ e. has_target target known (after_line line p) text back bytes name all.1
+    (after_text (need line.statement) p (text_room text) bytes (needs_text target known line.statement all.0) room) (has_label line text name there e))
   where
-    by : (b : Bool) (g : Segment) → g ≡ Text → (b ≡ false → jump_reaches (place_from (behind_line line p) (text ++ back) name) ≡ true)
-        → jump_reaches (if b then Some (place_in g p (line ∷ (text ++ back))) else place_from (behind_line line p) (text ++ back) name) ≡ true
+    by : (b : Bool) (g : Segment) → g ≡ Text → (b ≡ false → jump_reaches (place_from (after_line line p) (text ++ back) name) ≡ true)
+        → jump_reaches (if b then Some (place_in g p (line ∷ (text ++ back))) else place_from (after_line line p) (text ++ back) name) ≡ true
     by true Text e more = let w = room.words_left in lt-ltb (TEXT_START + 4 * p.words) 268435456 (omega arith)
     by true Data e more = cc
     by false g e more = more refl
@@ -95,13 +95,13 @@ no_second_fault false false h k = cc
 
 -- lines that use places, and a start, have no fault in the second pass
 second_passes : (place : Name → Option Place) (p : Position) (number : ℕ) (lines : List Line)
-    → AllByRecursion (λ (line : Line). UsesPlaces place line.statement) lines → start_fault (place start_name) (behind_lines p lines) ≡ None → second_pass place p number lines ≡ None
+    → AllByRecursion (λ (line : Line). UsesPlaces place line.statement) lines → start_fault (place start_name) (after_lines p lines) ≡ None → second_pass place p number lines ≡ None
 second_passes place p number [] all start = ap (λ (o : Option AsmKind). fault_or number o None) start
 second_passes place p number (line ∷ rest) all start =
-    ap (λ (o : Option AsmKind). fault_or number o (second_pass place (behind_line line p) (suc number) rest))
+    ap (λ (o : Option AsmKind). fault_or number o (second_pass place (after_line line p) (suc number) rest))
     (no_second_fault (any_without_place place (used line.statement)) (reaches place (TEXT_START + 4 * p.words) line.statement)
     all.0.placed (all.0.reached (TEXT_START + 4 * p.words)))
-    ∙ second_passes place (behind_line line p) (suc number) rest all.1 start
+    ∙ second_passes place (after_line line p) (suc number) rest all.1 start
 
 -- Names that are known have places, and targets are reached by jumps.
 module _ (place : Name → Option Place) (target known : Name → Type 0) (placed : (name : Name) → known name → is_some (place name) ≡ true)
@@ -155,11 +155,11 @@ start_found : (text items : List Line) (main : Name) (behind : List Line) → te
     → place_of (joined_lines text items) start_name ≡ Some (record { segment = Text; address = TEXT_START })
 start_found text items main behind e = ap (λ (lines : List Line). place_of (joined_lines lines items) start_name) e
 
--- there is an instruction behind it
+-- there is an instruction after it
 some_words : (text items : List Line) (main : Name) (behind : List Line) → text ≡ label start_name ∷ la 4 main ∷ behind
-    → 2 ≤ (behind_lines start_position (joined_lines text items)).words
+    → 2 ≤ (after_lines start_position (joined_lines text items)).words
 some_words text items main behind e =
-    subst (λ (lines : List Line). 2 ≤ (behind_lines start_position (joined_lines lines items)).words) (sym e)
+    subst (λ (lines : List Line). 2 ≤ (after_lines start_position (joined_lines lines items)).words) (sym e)
     (words_grow (record { words = 2; bytes = 0; segment = Text }) (behind ++ directive_line ToData ∷ items))
 
 -- a run can start there
@@ -192,7 +192,7 @@ no_fault text items sound =
     λ name h. has_target target known start_position text (directive_line ToData ∷ items) 0 name sound.text_lines room (found_among (labels_of text) name h) in
     let second : second_pass (place_of lines) start_position 1 lines ≡ None =
     second_passes (place_of lines) start_position 1 lines (all_use (place_of lines) target known placed reached text items sound.text_lines sound.data_lines)
-    (starts_at (place_of lines start_name) (behind_lines start_position lines) start (some_words text items sound.main sound.behind sound.starts)) in
+    (starts_at (place_of lines start_name) (after_lines start_position lines) start (some_words text items sound.main sound.behind sound.starts)) in
     ap fault_of_all (complete lines (ap is_some start))
     ∙ ap (λ (o : Option AsmFault). first_or o (second_pass (place_of lines) start_position 1 lines)) first ∙ second
 

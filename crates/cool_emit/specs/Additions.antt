@@ -21,7 +21,7 @@ integers_asked = flat_map (λ f. feature_integers f.feature)
 abbrev pub strings_asked : List (List ℕ) → List Placed → List (List ℕ)
 strings_asked files = flat_map (λ f. feature_strings files f.feature)
 
--- Code is added behind lines, the same by every table that has the constants so far and more; the constants are those before with what
+-- Code is added after lines, the same by every table that has the constants so far and more; the constants are those before with what
 -- these features ask for.
 pub record Adds (files : List (List ℕ)) (features : List Placed) (code : Constants → List Line) (old new : Constants) (lines_before lines_after : List Line) : Type 0 where
   pub lines : (g : Constants) → Extends new g → lines_after ≡ lines_before ++ code g

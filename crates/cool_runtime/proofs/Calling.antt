@@ -22,7 +22,7 @@ use Rattle.cool_runtime.proofs.Allocating.{stack_exit, not_less, less}
 use Rattle.cool_runtime.proofs.Copying.{same_numbers}
 use Rattle.cool_runtime.proofs.Pieces.{done}
 
--- a dispatch behind its first line
+-- a dispatch after its first line
 abbrev dispatch_rest : ℕ → ℕ → List Line
 dispatch_rest line slot = instruction_line (Li 25 (pos line)) ∷ bne 4 0 ∷ j dispatch_abort ∷ lw 8 (pos 8) 4 ∷ lw 8 (pos (4 * slot)) 8 ∷ jalr 8 ∷ []
 

@@ -14,7 +14,7 @@ copied_other m from to (suc n) q h =
     let off : (q < to) ⊎ (to + 4 ≤ q) = grind arith in
     copied_other (set_word m to (word m from)) (from + 4) (to + 4) n q on ∙ byte_other m to (word m from) q off
 
--- a byte of a text, or a zero behind it, is a byte
+-- a byte of a text, or a zero after it, is a byte
 pub text_byte : (bytes : List ℕ) (i : ℕ) → IsText bytes → get_or bytes i 0 < 256
 text_byte [] i text = omega arith
 text_byte (b ∷ rest) zero text = text.0.1

@@ -8,55 +8,55 @@ use Rattle.mips_isa.specs.ImageBounds.{ImageParts}
 use Rattle.mips_isa.specs.declared.address_map.TheConstants.{DATA_START, HEAP_START}
 use Rattle.mips_isa.specs.Bytes.{Bytes, word, bytes_of_image}
 use Rattle.mips_isa.specs.Lines.{Name, Line, WordItem, Statement, Word}
-use Rattle.mips_isa.specs.Assembly.{Need, Nothing, Words, Item, Switch, Padding, need, Position, start_position, behind, behind_line, padded, padding, padding_to, up, first_pass, second_pass, image_of_all, place_from, place_in, place_of, next_item, item_or, address_or_zero, bytes_from, bytes_of_data, item_bytes, item_value}
+use Rattle.mips_isa.specs.Assembly.{Need, Nothing, Words, Item, Switch, Padding, need, Position, start_position, after_need, after_line, padded, padding, padding_to, up, first_pass, second_pass, image_of_all, place_from, place_in, place_of, next_item, item_or, address_or_zero, bytes_from, bytes_of_data, item_bytes, item_value}
 use Rattle.mips_asm.proofs.Assembled.{length_of_item, bytes_needed, HasUnit, unit_of, up_from}
 use Rattle.cool_runtime.specs.Reaches.{World}
 use Rattle.cool_runtime.specs.Standing.{PlacedAt}
-use Rattle.cool_runtime.specs.Images.{IsImageOf, behind_lines}
+use Rattle.cool_runtime.specs.Images.{IsImageOf, after_lines}
 use Rattle.cool_runtime.proofs.PlacesOfLabels.{placed_there}
 use Rattle.cool_runtime.proofs.LinesOfImages.{placed_all, first_none}
 
 -- the bytes of lines, in parts
 
-bytes_split : (address : Name → ℕ) (p : Position) (front back : List Line) → bytes_from address p (front ++ back) ≡ bytes_from address p front ++ bytes_from address (behind_lines p front) back
+bytes_split : (address : Name → ℕ) (p : Position) (front back : List Line) → bytes_from address p (front ++ back) ≡ bytes_from address p front ++ bytes_from address (after_lines p front) back
 bytes_split address p [] back = refl
 bytes_split address p (line ∷ front) back =
     let zeros : List ℕ = replicate (padding (need line.statement) p) 0 in
     let item : List ℕ = item_bytes address line.statement in
-    ap (λ l. zeros ++ (item ++ l)) (bytes_split address (behind_line line p) front back)
-    ∙ ap (λ l. zeros ++ l) (sym (append_assoc item (bytes_from address (behind_line line p) front) _))
-    ∙ sym (append_assoc zeros (item ++ bytes_from address (behind_line line p) front) _)
+    ap (λ l. zeros ++ (item ++ l)) (bytes_split address (after_line line p) front back)
+    ∙ ap (λ l. zeros ++ l) (sym (append_assoc item (bytes_from address (after_line line p) front) _))
+    ∙ sym (append_assoc zeros (item ++ bytes_from address (after_line line p) front) _)
 
-bytes_behind : (n : Need) (p : Position) → HasUnit n → p.bytes + (padding n p + bytes_needed n) ≡ (behind n p).bytes
-bytes_behind Nothing p unit = omega arith
-bytes_behind (Words n) p unit = omega arith
-bytes_behind (Item unit size) p some = let h = up_from unit p.bytes some in omega arith
-bytes_behind (Switch segment) p unit = omega arith
-bytes_behind (Padding unit) p some = by p.segment
+bytes_after : (n : Need) (p : Position) → HasUnit n → p.bytes + (padding n p + bytes_needed n) ≡ (after_need n p).bytes
+bytes_after Nothing p unit = omega arith
+bytes_after (Words n) p unit = omega arith
+bytes_after (Item unit size) p some = let h = up_from unit p.bytes some in omega arith
+bytes_after (Switch segment) p unit = omega arith
+bytes_after (Padding unit) p some = by p.segment
   where
     by : (g : Segment) → p.bytes + (padding_to g unit p.bytes + 0) ≡ (padded g unit p).bytes
     by Text = omega arith
     by Data = let h = up_from unit p.bytes some in omega arith
 
-bytes_length : (address : Name → ℕ) (p : Position) (front : List Line) → p.bytes + length (bytes_from address p front) ≡ (behind_lines p front).bytes
+bytes_length : (address : Name → ℕ) (p : Position) (front : List Line) → p.bytes + length (bytes_from address p front) ≡ (after_lines p front).bytes
 bytes_length address p [] = omega arith
 bytes_length address p (line ∷ front) =
     let n = need line.statement in
     let zeros : List ℕ = replicate (padding n p) 0 in
     let item : List ℕ = item_bytes address line.statement in
-    let rest : List ℕ = bytes_from address (behind_line line p) front in
+    let rest : List ℕ = bytes_from address (after_line line p) front in
     let a : length (bytes_from address p (line ∷ front)) ≡ length zeros + length (item ++ rest) = length-append zeros (item ++ rest) in
     let b : length zeros ≡ padding n p = length-replicate (padding n p) 0 in
     let c : length (item ++ rest) ≡ length item + length rest = length-append item rest in
     let d : length item ≡ bytes_needed n = length_of_item address line.statement in
-    let e : p.bytes + (padding n p + bytes_needed n) ≡ (behind_line line p).bytes = bytes_behind n p (unit_of line.statement) in
-    let f : (behind_line line p).bytes + length rest ≡ (behind_lines p (line ∷ front)).bytes = bytes_length address (behind_line line p) front in
+    let e : p.bytes + (padding n p + bytes_needed n) ≡ (after_line line p).bytes = bytes_after n p (unit_of line.statement) in
+    let f : (after_line line p).bytes + length rest ≡ (after_lines p (line ∷ front)).bytes = bytes_length address (after_line line p) front in
     omega arith
 
 place_in_data : (g : Segment) (p : Position) (line : Line) (rest : List Line) (unit size : ℕ) → g ≡ Data → need line.statement ≡ Item unit size
     → address_or_zero (Some (place_in g p (line ∷ rest))) ≡ DATA_START + up unit p.bytes
 place_in_data Text p line rest unit size segment is = cc
-place_in_data Data p line rest unit size segment is = ap (λ n. DATA_START + item_or n p (next_item (behind_line line p) rest)) is
+place_in_data Data p line rest unit size segment is = ap (λ n. DATA_START + item_or n p (next_item (after_line line p) rest)) is
 
 -- the data of an image in memory
 pub data_byte : (image : ImageParts) (k : ℕ) → k < 268435456 → bytes_of_image image (DATA_START + k) ≡ get_or image.bytes k 0
@@ -68,21 +68,21 @@ data_byte image k low =
 
 module _ (w : World) (all : List Line) (image : IsImageOf w all) where
   -- an item of data stands at its place, under its labels
-  pub has_item : (front : List Line) (line : Line) (rest : List Line) (unit size : ℕ) → all ≡ front ++ line ∷ rest → (behind_lines start_position front).segment ≡ Data
+  pub has_item : (front : List Line) (line : Line) (rest : List Line) (unit size : ℕ) → all ≡ front ++ line ∷ rest → (after_lines start_position front).segment ≡ Data
       → need line.statement ≡ Item unit size
-      → PlacedAt w (DATA_START + up unit (behind_lines start_position front).bytes) line.labels
+      → PlacedAt w (DATA_START + up unit (after_lines start_position front).bytes) line.labels
       × ((i : ℕ) → i < length (item_bytes w.place line.statement)
-      → get_or (image_of_all all).bytes (up unit (behind_lines start_position front).bytes + i) 0 ≡ get_or (item_bytes w.place line.statement) i 0)
+      → get_or (image_of_all all).bytes (up unit (after_lines start_position front).bytes + i) 0 ≡ get_or (item_bytes w.place line.statement) i 0)
   has_item front line rest unit size split segment is =
       let address : Name → ℕ = λ name. address_or_zero (place_of all name) in
-      let q : Position = behind_lines start_position front in
+      let q : Position = after_lines start_position front in
       let s : Statement = line.statement in
       let first : first_pass [] start_position 1 all ≡ None = (first_none (first_pass [] start_position 1 all) (second_pass (place_of all) start_position 1 all) image.faultless).0 in
       let fine : first_pass [] start_position 1 (front ++ line ∷ rest) ≡ None = ap (first_pass [] start_position 1) (sym split) ∙ first in
       let before : List ℕ = bytes_from address start_position front in
       let zeros : List ℕ = replicate (padding (need s) q) 0 in
       let item : List ℕ = item_bytes address s in
-      let after : List ℕ = bytes_from address (behind_line line q) rest in
+      let after : List ℕ = bytes_from address (after_line line q) rest in
       let bytes : (image_of_all all).bytes ≡ before ++ (zeros ++ (item ++ after)) = ap (bytes_from address start_position) split ∙ bytes_split address start_position front (line ∷ rest) in
       let long : length before ≡ q.bytes = (let h = bytes_length address start_position front in omega arith) in
       let gap : length zeros ≡ up unit q.bytes - q.bytes = length-replicate (padding (need s) q) 0 ∙ ap (λ n. padding n q) is in

@@ -16,7 +16,7 @@ use Rattle.mips_isa.specs.Decoding.{decoded}
 use Rattle.mips_isa.specs.Machine.{word_of_text}
 use Rattle.mips_isa.specs.declared.address_map.TheConstants.{TEXT_START}
 use Rattle.mips_isa.specs.Lines.{Name, Line, AreInRange, IsInRange, AsmInstr, ToTwo, ToOne, ToJump, La, B, BranchZero, BranchOrder, Statement, Instruction}
-use Rattle.mips_isa.specs.Assembly.{Need, Nothing, Words, Item, Switch, Padding, need, Position, start_position, behind, behind_line, first_pass, second_pass, first_or, using_fault, has, place_from, place_in, place_of, address_or_zero, in_text, instructions, text_from, any_without_place, used, instruction_reaches, reaches}
+use Rattle.mips_isa.specs.Assembly.{Need, Nothing, Words, Item, Switch, Padding, need, Position, start_position, after_need, after_line, first_pass, second_pass, first_or, using_fault, has, place_from, place_in, place_of, address_or_zero, in_text, instructions, text_from, any_without_place, used, instruction_reaches, reaches}
 use Rattle.mips_isa.proofs.WordsAreDecoded.{decoded-word_of}
 use Rattle.mips_asm.specs.Parts.{IsWordPlace, statement_fault, target_address, target_in, found}
 use Rattle.mips_asm.proofs.Targets.{instruction_in_range, expansion_of_target}
@@ -24,8 +24,8 @@ use Rattle.mips_asm.proofs.Assembled.{using_is, length_of_instructions}
 use Rattle.mips_asm.proofs.AllAssembled.{word_place}
 use Rattle.cool_runtime.specs.Reaches.{World}
 use Rattle.cool_runtime.specs.Standing.{InstructionsAt, IsTarget, InstructionHolds, Holds, PlacedAt, LineAt, HasLines, words_of_need, size}
-use Rattle.cool_runtime.specs.Images.{IsImageOf, behind_lines, IsTextNeed, AreText}
-use Rattle.cool_runtime.proofs.PlacesOfLabels.{none_here, placed_there, words_behind, behind_append, below_end, InTextBelow, address_fits}
+use Rattle.cool_runtime.specs.Images.{IsImageOf, after_lines, IsTextNeed, AreText}
+use Rattle.cool_runtime.proofs.PlacesOfLabels.{none_here, placed_there, words_after, after_append, below_end, InTextBelow, address_fits}
 
 -- the words of a text
 
@@ -45,21 +45,21 @@ words_at w before after (i ∷ list) pc text at end room ranges =
 
 -- the text of lines, in parts
 
-text_split : (address : Name → ℕ) (p : Position) (front back : List Line) → text_from address p (front ++ back) ≡ text_from address p front ++ text_from address (behind_lines p front) back
+text_split : (address : Name → ℕ) (p : Position) (front back : List Line) → text_from address p (front ++ back) ≡ text_from address p front ++ text_from address (after_lines p front) back
 text_split address p [] back = refl
 text_split address p (line ∷ front) back =
     let words = map word_of (instructions address (TEXT_START + 4 * p.words) line.statement) in
-    ap (λ l. words ++ l) (text_split address (behind_line line p) front back) ∙ sym (append_assoc words (text_from address (behind_line line p) front) _)
+    ap (λ l. words ++ l) (text_split address (after_line line p) front back) ∙ sym (append_assoc words (text_from address (after_line line p) front) _)
 
-text_length : (address : Name → ℕ) (p : Position) (front : List Line) → p.words + length (text_from address p front) ≡ (behind_lines p front).words
+text_length : (address : Name → ℕ) (p : Position) (front : List Line) → p.words + length (text_from address p front) ≡ (after_lines p front).words
 text_length address p [] = omega arith
 text_length address p (line ∷ front) =
     let list = instructions address (TEXT_START + 4 * p.words) line.statement in
-    let more : text_from address p (line ∷ front) ≡ map word_of list ++ text_from address (behind_line line p) front = refl in
-    let a : length (text_from address p (line ∷ front)) ≡ length (map word_of list) + length (text_from address (behind_line line p) front) = length-append (map word_of list) _ in
+    let more : text_from address p (line ∷ front) ≡ map word_of list ++ text_from address (after_line line p) front = refl in
+    let a : length (text_from address p (line ∷ front)) ≡ length (map word_of list) + length (text_from address (after_line line p) front) = length-append (map word_of list) _ in
     let b : length (map word_of list) ≡ words_of_need (need line.statement) = length-map list word_of ∙ length_of_instructions address (TEXT_START + 4 * p.words) line.statement in
-    let c : (behind_line line p).words ≡ p.words + words_of_need (need line.statement) = words_behind (need line.statement) p in
-    let d : (behind_line line p).words + length (text_from address (behind_line line p) front) ≡ (behind_lines p (line ∷ front)).words = text_length address (behind_line line p) front in
+    let c : (after_line line p).words ≡ p.words + words_of_need (need line.statement) = words_after (need line.statement) p in
+    let d : (after_line line p).words + length (text_from address (after_line line p) front) ≡ (after_lines p (line ∷ front)).words = text_length address (after_line line p) front in
     omega arith
 
 -- no line of lines without a fault has one
@@ -69,10 +69,10 @@ first_none None other h = (refl, h)
 first_none (Some fault) other h = cc
 
 using_none : (place : Name → Option Place) (p : Position) (number : ℕ) (front : List Line) (line : Line) (rest : List Line)
-    → second_pass place p number (front ++ line ∷ rest) ≡ None → using_fault place (behind_lines p front) line ≡ None
+    → second_pass place p number (front ++ line ∷ rest) ≡ None → using_fault place (after_lines p front) line ≡ None
 using_none place p number [] line rest fine = (none_here number (using_fault place p line) _ fine).0
 using_none place p number (first ∷ front) line rest fine =
-    using_none place (behind_line first p) (suc number) front line rest (none_here number (using_fault place p first) _ fine).1
+    using_none place (after_line first p) (suc number) front line rest (none_here number (using_fault place p first) _ fine).1
 
 reaches_of : (a b : Bool) → (if a then Some A6 else (if not b then Some A7 else None)) ≡ None → b ≡ true
 reaches_of true b h = cc
@@ -148,7 +148,7 @@ placed_all w pc (l ∷ rest) there = (
     or_true true b h = refl
     or_true false b h = h
 
-text_goes_on : (n : Need) (p : Position) → IsTextNeed n → p.segment ≡ Text → (behind n p).segment ≡ Text
+text_goes_on : (n : Need) (p : Position) → IsTextNeed n → p.segment ≡ Text → (after_need n p).segment ≡ Text
 text_goes_on Nothing p need text = text
 text_goes_on (Words n) p need text = text
 text_goes_on (Item unit size) p need text = absurd need
@@ -173,17 +173,17 @@ module _ (w : World) (all : List Line) (image : IsImageOf w all) where
   place_at l = ap (λ f. f l) image.place_is
 
   -- the words of all lines
-  words_of_all : (behind_lines start_position all).words ≡ length w.text
+  words_of_all : (after_lines start_position all).words ≡ length w.text
   words_of_all =
       let h = text_length (λ name. address_or_zero (place_of all name)) start_position all in
       let e : length w.text ≡ length (text_from (λ name. address_or_zero (place_of all name)) start_position all) = ap length image.text_is in
       omega arith
 
-  line_at : (front : List Line) (line : Line) (rest : List Line) → all ≡ front ++ line ∷ rest → (behind_lines start_position front).segment ≡ Text
-      → LineAt w (TEXT_START + 4 * (behind_lines start_position front).words) line
+  line_at : (front : List Line) (line : Line) (rest : List Line) → all ≡ front ++ line ∷ rest → (after_lines start_position front).segment ≡ Text
+      → LineAt w (TEXT_START + 4 * (after_lines start_position front).words) line
   line_at front line rest split text =
       let address : Name → ℕ = λ name. address_or_zero (place_of all name) in
-      let q : Position = behind_lines start_position front in
+      let q : Position = after_lines start_position front in
       let pc : ℕ = TEXT_START + 4 * q.words in
       let s : Statement = line.statement in
       let fine : first_pass [] start_position 1 (front ++ line ∷ rest) ≡ None = ap (first_pass [] start_position 1) (sym split) ∙ first in
@@ -193,26 +193,26 @@ module _ (w : World) (all : List Line) (image : IsImageOf w all) where
       let range : IsInRange s = ranges_at front line rest (subst AreInRange split image.ranges) in
       let ranges : AllByRecursion InRange (instructions address pc s) = in_range (place_of all) q.words s range faultless fits in
       let before : List ℕ = text_from address start_position front in
-      let after : List ℕ = text_from address (behind_line line q) rest in
+      let after : List ℕ = text_from address (after_line line q) rest in
       let words : w.text ≡ before ++ (map word_of (instructions address pc s) ++ after) = image.text_is ∙ ap (text_from address start_position) split ∙ text_split address start_position front (line ∷ rest) in
       let long : length before ≡ q.words = (let h = text_length address start_position front in omega arith) in
       let there : InstructionsAt w pc (instructions address pc s) = words_at w before after (instructions address pc s) pc words (omega arith) image.end_is image.room ranges in
       record {
         labels = placed_all w pc line.labels (λ l h. place_at l ∙ ap (λ lines. address_or_zero (place_from start_position lines l)) split ∙ ap address_or_zero (placed_there [] start_position 1 front line rest l fine h) ∙ place_in_text q.segment q (line ∷ rest) text);
         words = subst (λ f. InstructionsAt w pc (instructions f pc s)) (sym image.place_is) there;
-        names = held w (place_of all) (behind_lines start_position all).words pc s place_at (λ l. word_place (place_of all) all l refl) (below_end start_position all)
+        names = held w (place_of all) (after_lines start_position all).words pc s place_at (λ l. word_place (place_of all) all l refl) (below_end start_position all)
             (let e = words_of_all in let r = image.room in omega arith) fits (reaches_of (any_without_place (place_of all) (used s)) (reaches (place_of all) pc s) unused);
       }
 
   -- lines of text stand at their place
-  pub has_lines : (front part back : List Line) → all ≡ front ++ (part ++ back) → AreText part → (behind_lines start_position front).segment ≡ Text
-      → HasLines w (TEXT_START + 4 * (behind_lines start_position front).words) part
+  pub has_lines : (front part back : List Line) → all ≡ front ++ (part ++ back) → AreText part → (after_lines start_position front).segment ≡ Text
+      → HasLines w (TEXT_START + 4 * (after_lines start_position front).words) part
   has_lines front [] back split are text = tt
   has_lines front (line ∷ part) back split are text =
-      let q : Position = behind_lines start_position front in
-      let next : behind_lines start_position (front ++ line ∷ []) ≡ behind_line line q = behind_append start_position front (line ∷ []) in
-      let grown : (behind_line line q).words ≡ q.words + words_of_need (need line.statement) = words_behind (need line.statement) q in
-      let at : TEXT_START + 4 * (behind_lines start_position (front ++ line ∷ [])).words ≡ TEXT_START + 4 * q.words + size line =
+      let q : Position = after_lines start_position front in
+      let next : after_lines start_position (front ++ line ∷ []) ≡ after_line line q = after_append start_position front (line ∷ []) in
+      let grown : (after_line line q).words ≡ q.words + words_of_need (need line.statement) = words_after (need line.statement) q in
+      let at : TEXT_START + 4 * (after_lines start_position (front ++ line ∷ [])).words ≡ TEXT_START + 4 * q.words + size line =
       ap (λ (p : Position). TEXT_START + 4 * p.words) next ∙ omega arith in (
         line_at front line (part ++ back) split text,
         subst (λ pc. HasLines w pc part) at

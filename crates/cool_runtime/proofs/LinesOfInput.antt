@@ -41,7 +41,7 @@ line_text (b ∷ input) bytes = by (b == 0) (b == 10) refl (line_text input byte
     by false true null more = tt
     by false false null more = ((grind arith, bytes.0), more)
 
--- the input left behind a line is a suffix
+-- the input left after a line is a suffix
 
 pub suffix_more : (back whole front : List ℕ) → IsSuffix back whole → IsSuffix back (front ++ whole)
 suffix_more back whole front h = (front ++ h.0, ap (λ l. front ++ l) h.1 ∙ sym (append_assoc front h.0 back))

@@ -42,7 +42,7 @@ zeros m a (suc (suc (suc (suc j)))) less = absurd (omega arith)
 
 -- bytes that were stored one after another, word by word
 
--- what stands before them and behind their room is the same
+-- what stands before them and after their room is the same
 pub filled_other : (m : Bytes) (a left : ℕ) (bytes : List ℕ) (q : ℕ) → left ≤ 3 → (q < a) ⊎ (a + (left + 1) + 4 * ((length bytes + (3 - left)) / 4) ≤ q) → filled m a left bytes q ≡ m q
 filled_other m a left [] q some h = refl
 filled_other m a zero (b ∷ rest) q some h =
@@ -72,7 +72,7 @@ filled_at m a (suc left) (b ∷ rest) (suc i) some h =
     let on : a + suc i ≡ a + 1 + i = omega arith in
     ap (filled m a (suc left) (b ∷ rest)) on ∙ filled_at (set_byte m a b) (a + 1) left rest i (omega arith) (omega arith)
 
--- where zeros were in the room, they are behind the bytes
+-- where zeros were in the room, they are after the bytes
 pub filled_zeros : (m : Bytes) (a left : ℕ) (bytes : List ℕ) → left ≤ 3 → ((q : ℕ) → a ≤ q → q < a + (left + 1) → m q ≡ 0)
     → (q : ℕ) → a + length bytes ≤ q → q < a + (left + 1) + 4 * ((length bytes + (3 - left)) / 4) → filled m a left bytes q ≡ 0
 filled_zeros m a left [] some before q from to = before q (omega arith) (omega arith)
@@ -114,14 +114,14 @@ module _ (w : World) where
     over = λ q h. head_other _ (gp + 20) _ _ _ _ q (inr (omega arith)) ∙ head_other m gp _ _ _ _ q (inr (omega arith));
   }
 
-  -- the bytes behind a text, in its last word
+  -- the bytes after a text, in its last word
   pub rest_of_word : (m : Bytes) (gp n : ℕ) (i : ℕ) → n ≤ i → i < 4 * words_of_bytes n → with_string w m gp n (gp + 40 + i) ≡ 0
   rest_of_word m gp n i more less =
       let j = i - 4 * (n / 4) in
       let last : gp + 40 + i ≡ gp + 40 + 4 * (n / 4) + j = omega arith in
       ap (with_string w m gp n) last ∙ zeros _ (gp + 40 + 4 * (n / 4)) j (omega arith)
 
-  -- the head is there, the bytes are these, and behind them are zeros
+  -- the head is there, the bytes are these, and after them are zeros
   pub made_string : (m m' : Bytes) (gp a b : ℕ) (bytes other : List ℕ) → 536870912 ≤ gp → gp < 2147483648 → gp % 4 ≡ 0 → length bytes < 1073741824
       → IntAt w m gp a 0 → StringAt w m gp b other → IsText bytes
       → ((q : ℕ) → q < gp + 40 → m' q ≡ with_string_head w m gp (length bytes) q)

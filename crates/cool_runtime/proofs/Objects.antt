@@ -11,7 +11,7 @@ pub head_other : (m : Bytes) (a tag size table v q : ℕ) → (q < a) ⊎ (a + 2
 unfolding with_head
 head_other m a tag size table v q h = grind (arith, byte_other)
 
--- the words of a head, and the one behind it
+-- the words of a head, and the one after it
 pub head_words : (m : Bytes) (a tag size table v : ℕ) → HeadFits tag size table → v < 4294967296
     → HeadAt (with_head m a tag size table v) (a + 4) tag size table × (word (with_head m a tag size table v) (a + 16) ≡ v)
 unfolding with_head

@@ -11,11 +11,11 @@ use Rattle.mips_isa.specs.declared.place.Segment.{Segment}
 use Rattle.mips_isa.specs.declared.place.Segment.TheVariants.{Text, Data}
 use Rattle.mips_isa.specs.Lines.{Name, Line}
 use Rattle.mips_isa.specs.declared.address_map.TheConstants.{TEXT_START}
-use Rattle.mips_isa.specs.Assembly.{Need, Nothing, Words, Item, Switch, Padding, need, Position, behind, behind_line, padded, first_pass, fault_or, defining_fault, is_wrong, any_twice, is_too_large, has, place_from, place_in, next_item, item_or, address_or_zero, is_text}
+use Rattle.mips_isa.specs.Assembly.{Need, Nothing, Words, Item, Switch, Padding, need, Position, after_need, after_line, padded, first_pass, fault_or, defining_fault, is_wrong, any_twice, is_too_large, has, place_from, place_in, next_item, item_or, address_or_zero, is_text}
 use Rattle.mips_asm.specs.Passes.{Fits}
 use Rattle.mips_asm.proofs.LinePlaces.{position_fits}
 use Rattle.cool_runtime.specs.Standing.{words_of_need}
-use Rattle.cool_runtime.specs.Images.{behind_lines}
+use Rattle.cool_runtime.specs.Images.{after_lines}
 
 -- the first of several faults is none
 pub none_here : (number : ℕ) (o : Option AsmKind) (other : Option AsmFault) → fault_or number o other ≡ None → (o ≡ None) × (other ≡ None)
@@ -57,24 +57,24 @@ seen_before : (seen : List Name) (p : Position) (number : ℕ) (front : List Lin
     → first_pass seen p number (front ++ line ∷ rest) ≡ None → has seen name ≡ true → has line.labels name ≡ true → ⊥
 seen_before seen p number [] line rest name fine before here =
     let parts = none_here number (defining_fault seen p line) _ fine in
-    seen_once seen line.labels name (not_twice (is_wrong (need line.statement) p.segment) (any_twice seen line.labels) (is_too_large (behind_line line p)) parts.0) before here
+    seen_once seen line.labels name (not_twice (is_wrong (need line.statement) p.segment) (any_twice seen line.labels) (is_too_large (after_line line p)) parts.0) before here
 seen_before seen p number (first ∷ front) line rest name fine before here =
     let parts = none_here number (defining_fault seen p first) _ fine in
-    seen_before (seen ++ first.labels) (behind_line first p) (suc number) front line rest name parts.1
+    seen_before (seen ++ first.labels) (after_line first p) (suc number) front line rest name parts.1
     (list_any-append (bytes_eq name) seen first.labels ∙ in_either (has seen name) (has first.labels name) before) here
 
 -- the place of a label is that of its line
 pub placed_there : (seen : List Name) (p : Position) (number : ℕ) (front : List Line) (line : Line) (rest : List Line) (name : Name)
     → first_pass seen p number (front ++ line ∷ rest) ≡ None → has line.labels name ≡ true
-    → place_from p (front ++ line ∷ rest) name ≡ Some (place_in (behind_lines p front).segment (behind_lines p front) (line ∷ rest))
+    → place_from p (front ++ line ∷ rest) name ≡ Some (place_in (after_lines p front).segment (after_lines p front) (line ∷ rest))
 placed_there seen p number [] line rest name fine here =
-    ap (λ t. if t then Some (place_in p.segment p (line ∷ rest)) else place_from (behind_line line p) rest name) here
+    ap (λ t. if t then Some (place_in p.segment p (line ∷ rest)) else place_from (after_line line p) rest name) here
 placed_there seen p number (first ∷ front) line rest name fine here =
     let parts = none_here number (defining_fault seen p first) _ fine in
     by (has first.labels name) _ _ _
-    (λ e. seen_before (seen ++ first.labels) (behind_line first p) (suc number) front line rest name parts.1
+    (λ e. seen_before (seen ++ first.labels) (after_line first p) (suc number) front line rest name parts.1
     (list_any-append (bytes_eq name) seen first.labels ∙ in_other (has seen name) (has first.labels name) e) here)
-    (placed_there (seen ++ first.labels) (behind_line first p) (suc number) front line rest name parts.1 here)
+    (placed_there (seen ++ first.labels) (after_line first p) (suc number) front line rest name parts.1 here)
   where
     by : (t : Bool) (o other found : Option Place) → (t ≡ true → ⊥) → other ≡ found → (if t then o else other) ≡ found
     by true o other found never h = absurd (never refl)
@@ -82,24 +82,24 @@ placed_there seen p number (first ∷ front) line rest name fine here =
 
 -- how the words grow
 
-pub words_behind : (n : Need) (p : Position) → (behind n p).words ≡ p.words + words_of_need n
-words_behind Nothing p = omega arith
-words_behind (Words n) p = refl
-words_behind (Item unit size) p = omega arith
-words_behind (Switch segment) p = omega arith
-words_behind (Padding unit) p = by p.segment ∙ omega arith
+pub words_after : (n : Need) (p : Position) → (after_need n p).words ≡ p.words + words_of_need n
+words_after Nothing p = omega arith
+words_after (Words n) p = refl
+words_after (Item unit size) p = omega arith
+words_after (Switch segment) p = omega arith
+words_after (Padding unit) p = by p.segment ∙ omega arith
   where
     by : (g : Segment) → (padded g unit p).words ≡ p.words
     by Text = refl
     by Data = refl
 
-pub words_grow : (p : Position) (lines : List Line) → p.words ≤ (behind_lines p lines).words
+pub words_grow : (p : Position) (lines : List Line) → p.words ≤ (after_lines p lines).words
 words_grow p [] = omega arith
-words_grow p (line ∷ rest) = let h = words_grow (behind_line line p) rest in let k = words_behind (need line.statement) p in omega arith
+words_grow p (line ∷ rest) = let h = words_grow (after_line line p) rest in let k = words_after (need line.statement) p in omega arith
 
-pub behind_append : (p : Position) (front back : List Line) → behind_lines p (front ++ back) ≡ behind_lines (behind_lines p front) back
-behind_append p [] back = refl
-behind_append p (line ∷ front) back = behind_append (behind_line line p) front back
+pub after_append : (p : Position) (front back : List Line) → after_lines p (front ++ back) ≡ after_lines (after_lines p front) back
+after_append p [] back = refl
+after_append p (line ∷ front) back = after_append (after_line line p) front back
 
 -- a place in text is at most at the end of the text
 
@@ -107,13 +107,13 @@ abbrev pub InTextBelow : ℕ → Option Place → Type 0
 InTextBelow words None = Unit {0}
 InTextBelow words (Some place) = is_text place.segment ≡ true → place.address ≤ TEXT_START + 4 * words
 
-pub below_end : (p : Position) (lines : List Line) (name : Name) → InTextBelow (behind_lines p lines).words (place_from p lines name)
+pub below_end : (p : Position) (lines : List Line) (name : Name) → InTextBelow (after_lines p lines).words (place_from p lines name)
 below_end p [] name = tt
 below_end p (line ∷ rest) name =
-    by (has line.labels name) _ _ (here p.segment) (below_end (behind_line line p) rest name)
+    by (has line.labels name) _ _ (here p.segment) (below_end (after_line line p) rest name)
   where
     total : ℕ
-    total = (behind_lines p (line ∷ rest)).words
+    total = (after_lines p (line ∷ rest)).words
 
     by : (t : Bool) (o other : Option Place) → InTextBelow total o → InTextBelow total other → InTextBelow total (if t then o else other)
     by true o other h k = h
@@ -125,7 +125,7 @@ below_end p (line ∷ rest) name =
 
 -- every address has 32 bits
 
-item_or_fits : (n : Need) (p : Position) (other : ℕ) → Fits (behind n p).words (behind n p).bytes → other ≤ 268435456 → item_or n p other ≤ 268435456
+item_or_fits : (n : Need) (p : Position) (other : ℕ) → Fits (after_need n p).words (after_need n p).bytes → other ≤ 268435456 → item_or n p other ≤ 268435456
 item_or_fits Nothing p other fits h = h
 item_or_fits (Words n) p other fits h = h
 item_or_fits (Item unit size) p other fits h = let k = fits.bytes_fit in omega arith
@@ -136,16 +136,16 @@ next_fits : (seen : List Name) (p : Position) (number : ℕ) (lines : List Line)
 next_fits seen p number [] fits fine = fits.bytes_fit
 next_fits seen p number (line ∷ rest) fits fine =
     let parts = none_here number (defining_fault seen p line) _ fine in
-    let after : Fits (behind_line line p).words (behind_line line p).bytes = position_fits seen p number (line ∷ rest) 1 fits fine in
-    item_or_fits (need line.statement) p _ after (next_fits (seen ++ line.labels) (behind_line line p) (suc number) rest after parts.1)
+    let after : Fits (after_line line p).words (after_line line p).bytes = position_fits seen p number (line ∷ rest) 1 fits fine in
+    item_or_fits (need line.statement) p _ after (next_fits (seen ++ line.labels) (after_line line p) (suc number) rest after parts.1)
 
 pub address_fits : (seen : List Name) (p : Position) (number : ℕ) (lines : List Line) (name : Name) → Fits p.words p.bytes → first_pass seen p number lines ≡ None
     → address_or_zero (place_from p lines name) < 4294967296
 address_fits seen p number [] name fits fine = omega arith
 address_fits seen p number (line ∷ rest) name fits fine =
     let parts = none_here number (defining_fault seen p line) _ fine in
-    let after : Fits (behind_line line p).words (behind_line line p).bytes = position_fits seen p number (line ∷ rest) 1 fits fine in
-    by (has line.labels name) _ _ (here p.segment (next_fits seen p number (line ∷ rest) fits fine)) (address_fits (seen ++ line.labels) (behind_line line p) (suc number) rest name after parts.1)
+    let after : Fits (after_line line p).words (after_line line p).bytes = position_fits seen p number (line ∷ rest) 1 fits fine in
+    by (has line.labels name) _ _ (here p.segment (next_fits seen p number (line ∷ rest) fits fine)) (address_fits (seen ++ line.labels) (after_line line p) (suc number) rest name after parts.1)
   where
     by : (t : Bool) (o other : Option Place) → address_or_zero o < 4294967296 → address_or_zero other < 4294967296 → address_or_zero (if t then o else other) < 4294967296
     by true o other h k = h

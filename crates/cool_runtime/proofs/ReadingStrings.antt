@@ -37,7 +37,7 @@ equal x y t = grind arith
 unequal : (x y : ℕ) → (x == y) ≡ false → x ≡ y → ⊥
 unequal x y f e = grind arith
 
--- How the room for a line stands: k bytes are there, and so many bytes of the last word are behind the next one.
+-- How the room for a line stands: k bytes are there, and so many bytes of the last word are after the next one.
 pub record Filling (w : World) (p : Pointers) (t : Temporaries) (k left : ℕ) : Type 0 where
   pub next_is : t.t4 ≡ p.gp + 40 + k
   pub end_is : t.t1 ≡ t.t4 + (left + 1)
@@ -325,7 +325,7 @@ module _ (w : World) where
       walk w string_return_lines 0 s.core.registers s.core.pc s.core.memory (beside s) p.pc 0 0 _ has (omega arith)
       (here w _ _ (record { numbers = omega arith; memory_is = at.memory_is; input_is = at.input_is; ended_is = at.ended_is; output_is = at.output_is }))
 
-  -- what a text and the zeros behind it leave
+  -- what a text and the zeros after it leave
   text_same : (m : Bytes) (gp sp : ℕ) (bytes : List ℕ) → gp + 44 + 4 * (length bytes / 4) ≤ sp → Same m (with_text m gp bytes) gp sp
   text_same m gp sp bytes room = record {
     below = λ q h. filled_other (set_word m (gp + 40) 0) (gp + 40) 3 bytes q (omega arith) (inl (omega arith)) ∙ byte_other m (gp + 40) 0 q (inl (omega arith));

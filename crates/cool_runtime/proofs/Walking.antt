@@ -76,7 +76,7 @@ module _ (w : World) where
     abbrev Ahead : State → Type 0
     Ahead s = Reaches w s (suc lo) (suc hi) goal
 
-    -- what follows, behind any number of lines that are passed over
+    -- what follows, after any number of lines that are passed over
     abbrev From : ℕ → Next → Type 0
     From pc go = (k : ℕ) (r : Registers) (pc' : ℕ) (m : Bytes) (x : Beside) → pc' ≡ pc + 4 + 4 * k → go k r pc' m x → Reaches w (st r pc' m x) lo hi goal
 
@@ -219,7 +219,7 @@ module _ (w : World) where
     counted_two : (s : State) → Reaches w s (suc (suc lo)) (suc (suc hi)) goal → Reaches w s (2 + lo) (2 + hi) goal
     counted_two s h = wider w s (suc (suc lo)) (2 + lo) (suc (suc hi)) (2 + hi) goal (omega arith) (omega arith) h
 
-    -- what follows a statement, behind any number of lines that are passed over
+    -- what follows a statement, after any number of lines that are passed over
     abbrev Behind : Statement → ℕ → Next → Type 0
     Behind s pc go = (k : ℕ) (r : Registers) (pc' : ℕ) (m : Bytes) (x : Beside) → pc' ≡ pc + 4 * words_of_need (need s) + 4 * k → go k r pc' m x → Reaches w (st r pc' m x) lo hi goal
 

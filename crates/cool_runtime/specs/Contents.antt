@@ -64,7 +64,7 @@ pub record Same (m m' : Bytes) (gp sp : ℕ) : Type 0 where
   pub below : (a : ℕ) → a < gp → m' a ≡ m a
   pub over : (a : ℕ) → sp ≤ a → m' a ≡ m a
 
--- bytes of data, and a zero behind them
+-- bytes of data, and a zero after them
 pub record TextAt (w : World) (m : Bytes) (a : ℕ) (bytes : List ℕ) : Type 0 where
   pub from : DATA_START ≤ a
   pub to : a + length bytes < w.segments.data_end

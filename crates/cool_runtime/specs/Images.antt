@@ -2,7 +2,7 @@
 use Rattle.std.specs.Prelude.{◌≡◌, ◌+◌, ◌*◌, ◌<◌, List, [], ◌∷◌, length, None}
 use Rattle.mips_isa.specs.declared.address_map.TheConstants.{TEXT_START, MOST_TEXT_WORDS}
 use Rattle.mips_isa.specs.Lines.{Line, AreInRange}
-use Rattle.mips_isa.specs.Assembly.{Need, Nothing, Words, Item, Switch, Padding, need, Position, behind_line, fault_of_all, image_of_all, place_of, address_or_zero}
+use Rattle.mips_isa.specs.Assembly.{Need, Nothing, Words, Item, Switch, Padding, need, Position, after_line, fault_of_all, image_of_all, place_of, address_or_zero}
 use Rattle.cool_runtime.specs.Reaches.{World}
 
 -- the text of a run is that of the image of lines, which are already completed, have no fault and do not fill the text to its end
@@ -14,10 +14,10 @@ pub record IsImageOf (w : World) (all : List Line) : Type 0 where
   pub end_is : w.segments.text_end ≡ TEXT_START + 4 * length w.text
   pub room : length w.text < MOST_TEXT_WORDS
 
--- the position behind lines
-abbrev pub behind_lines : Position → List Line → Position
-behind_lines p [] = p
-behind_lines p (line ∷ rest) = behind_lines (behind_line line p) rest
+-- the position after lines
+abbrev pub after_lines : Position → List Line → Position
+after_lines p [] = p
+after_lines p (line ∷ rest) = after_lines (after_line line p) rest
 
 -- a line that takes words of text, or nothing
 abbrev pub IsTextNeed : Need → Type 0

@@ -15,7 +15,7 @@ number value = Number (pos value)
 abbrev pub address : Name → WordItem
 address name = Address name
 
--- the words of an object: its tag, its size in words, its dispatch table, and what stands behind that head
+-- the words of an object: its tag, its size in words, its dispatch table, and what stands after that head
 abbrev pub object_words : ℕ → ℕ → Name → List WordItem → List WordItem
 object_words tag size table fields = Number (pos tag) ∷ Number (pos size) ∷ Address table ∷ fields
 
@@ -36,7 +36,7 @@ bool_lines name tag value = number_lines name tag bool_table value
 abbrev pub string_head_lines : Name → Name → ℕ → ℕ → List Line
 string_head_lines name length_name tag size = object_lines name tag size string_table (Address length_name ∷ [])
 
--- a String, behind the Int of its length
+-- a String, after the Int of its length
 abbrev pub string_lines : Name → Name → ℕ → ℕ → List ℕ → List Line
 string_lines name length_name int_tag string_tag bytes =
     int_lines length_name int_tag (length bytes)

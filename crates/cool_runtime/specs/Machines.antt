@@ -82,15 +82,15 @@ wrote c bytes = record c { output = c.output ++ bytes }
 abbrev pub got : Console → Taken → Console
 got c t = record c { input = t.rest; ended = t.ended }
 
--- the memory with the head of an object and its first attribute behind an address
+-- the memory with the head of an object and its first attribute after an address
 unfoldable pub with_head : Bytes → ℕ → ℕ → ℕ → ℕ → ℕ → Bytes
 with_head m a tag size table v = set_word (set_word (set_word (set_word (set_word m a 4294967295) (a + 4) tag) (a + 8) size) (a + 12) table) (a + 16) v
 
--- the memory with the object of an Int behind an address
+-- the memory with the object of an Int after an address
 abbrev pub with_int : Bytes → ℕ → ℕ → ℕ → ℕ → Bytes
 with_int m a tag table v = with_head m a tag 4 table v
 
--- the memory with the length and the head of a String of so many bytes behind an address
+-- the memory with the length and the head of a String of so many bytes after an address
 abbrev pub with_string_head : World → Bytes → ℕ → ℕ → Bytes
 with_string_head w m a n = with_head (with_int m a w.tags.int (w.place int_table) n) (a + 20) w.tags.string (4 + words_of_bytes n) (w.place string_table) (a + 4)
 
@@ -124,22 +124,22 @@ line_of (b ∷ input) =
 abbrev pub line_asked : Bool → List ℕ → Taken
 line_asked ended input = if ended then record { got = []; rest = input; ended = true } else line_of input
 
--- the memory with two Strings joined behind gp
+-- the memory with two Strings joined after gp
 abbrev pub with_joined : World → Bytes → ℕ → ℕ → ℕ → ℕ → ℕ → Bytes
 with_joined w m gp a b la lb = copied_bytes (copied_bytes (with_string w m gp (la + lb)) (a + 16) (gp + 40) la) (b + 16) (gp + 40 + la) lb
 
--- the memory with so many bytes of a String, from a position on, behind gp
+-- the memory with so many bytes of a String, from a position on, after gp
 abbrev pub with_cut : World → Bytes → ℕ → ℕ → ℕ → ℕ → Bytes
 with_cut w m gp a i l = copied_bytes (with_string w m gp l) (a + 16 + i) (gp + 40) l
 
--- The memory where bytes were stored from an address on: so many bytes of its word are behind the first one, and a word that is
--- full has a word of zeros behind it.
+-- The memory where bytes were stored from an address on: so many bytes of its word are after the first one, and a word that is
+-- full has a word of zeros after it.
 abbrev pub filled : Bytes → ℕ → ℕ → List ℕ → Bytes
 filled m a left [] = m
 filled m a zero (b ∷ rest) = filled (set_word (set_byte m a b) (a + 1) 0) (a + 1) 3 rest
 filled m a (suc left) (b ∷ rest) = filled (set_byte m a b) (a + 1) left rest
 
--- the memory with a text behind gp, and zeros behind it, up to a full word
+-- the memory with a text after gp, and zeros after it, up to a full word
 abbrev pub with_text : Bytes → ℕ → List ℕ → Bytes
 with_text m gp bytes = filled (set_word m (gp + 40) 0) (gp + 40) 3 bytes
 

@@ -37,7 +37,7 @@ pub record World : Type 0 where
   pub output : List ℕ
   pub left : List ℕ
 
--- bytes before others, and bytes behind others
+-- bytes before others, and bytes after others
 
 abbrev pub IsPrefix : List ℕ → List ℕ → Type 0
 IsPrefix front whole = (more : List ℕ) × (whole ≡ front ++ more)

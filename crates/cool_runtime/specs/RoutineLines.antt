@@ -30,7 +30,7 @@ routine_lines routines.Overflow = error_lines overflow_abort overflow_text
 routine_lines routines.HeapLimit = heap_limit_lines
 routine_lines routines.StackLimit = stack_limit_lines
 
--- all routines, one behind the other
+-- all routines, one after the other
 
 abbrev pub object_routines_lines : List Line
 object_routines_lines = routine_lines routines.Start ++ (routine_lines routines.Copy ++ (routine_lines routines.Abort ++ (routine_lines routines.TypeName)))

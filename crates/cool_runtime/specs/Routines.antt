@@ -94,7 +94,7 @@ int_head_lines =
     la 5 int_prototype ∷ lw 2 (pos 0) 5 ∷ lw 3 (pos 8) 5
     ∷ addiu 8 0 (negsuc 0) ∷ sw 8 (pos 0) 28 ∷ sw 2 (pos 4) 28 ∷ addiu 2 0 (pos 4) ∷ sw 2 (pos 8) 28 ∷ sw 3 (pos 12) 28 ∷ sw 13 (pos 16) 28 ∷ []
 
--- Puts the head of a String of $t5 bytes behind that Int.
+-- Puts the head of a String of $t5 bytes after that Int.
 abbrev pub string_head_lines : List Line
 string_head_lines =
     la 5 string_prototype ∷ lw 2 (pos 0) 5 ∷ lw 3 (pos 8) 5
@@ -111,7 +111,7 @@ bytes_lines begin end =
     label begin ∷ bne 11 0 ∷ j end
     ∷ lbu 8 (pos 0) 10 ∷ sb 8 (pos 0) 12 ∷ addiu 10 10 (pos 1) ∷ addiu 12 12 (pos 1) ∷ addiu 11 11 (negsuc 0) ∷ j begin ∷ []
 
--- The String behind $gp is the result, $t1 the new $gp; so many bytes of arguments are taken from the stack.
+-- The String after $gp is the result, $t1 the new $gp; so many bytes of arguments are taken from the stack.
 abbrev pub string_end_lines : Name → ℕ → List Line
 string_end_lines name arguments = label name ∷ addiu 4 28 (pos 24) ∷ move 28 9 ∷ addiu 29 29 (pos arguments) ∷ jr 31 ∷ []
 
@@ -177,7 +177,7 @@ in_string_byte_lines =
     ∷ bne 2 11 ∷ j in_string_end
     ∷ sb 2 (pos 0) 12 ∷ addiu 12 12 (pos 1) ∷ []
 
--- Stores a word of zeros behind the one that the bytes have filled.
+-- Stores a word of zeros after the one that the bytes have filled.
 abbrev pub in_string_zeros_lines : List Line
 in_string_zeros_lines = sw 0 (pos 0) 9 ∷ addiu 9 9 (pos 4) ∷ j in_string_bytes ∷ []
 

@@ -56,7 +56,7 @@ Parts = Registers → ℕ → Bytes → Beside → Type 0
 abbrev pub Ending : Type 1
 Ending = ℕ → State → Type 0
 
--- what a block goes on with, so many lines behind the next one
+-- what a block goes on with, so many lines after the next one
 abbrev pub Next : Type 1
 Next = ℕ → Parts
 

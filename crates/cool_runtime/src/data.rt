@@ -1,4 +1,4 @@
-//! Lines of data that are added behind others: objects, and texts.
+//! Lines of data that are added after others: objects, and texts.
 
 ghost use Rattle.std.specs.Prelude.{◌≡◌, ℕ, ◌+◌, ◌<◌, ◌^◌, ◌++◌, ◌∷◌, [], map, length, OnOk, IfOk};
 ghost use Rattle.mips_isa.specs.Lines.{lines_of, statement_of, item_of};
@@ -77,7 +77,7 @@ pub fn labelled_text(
     text(alloc, lines, bytes)
 }
 
-/// The words of an object: its head, and what stands behind that.
+/// The words of an object: its head, and what stands after that.
 fn object_words(
     alloc: Global,
     tag: u32,
@@ -98,7 +98,7 @@ fn object_words(
     Ok(items)
 }
 
-/// Adds an object with a tag, a size in words and a dispatch table, and what stands behind its head.
+/// Adds an object with a tag, a size in words and a dispatch table, and what stands after its head.
 pub fn object(
     alloc: Global,
     lines: &mut Vec<Line>,

@@ -1,4 +1,4 @@
-//! Lines of assembly by borrowed names, as a template gives them, and adding them behind others.
+//! Lines of assembly by borrowed names, as a template gives them, and adding them after others.
 
 ghost use Rattle.std.specs.Prelude.{◌≡◌, ◌++◌, ◌∷◌, [], ◌<◌, map, IfOk, OnOk};
 ghost use Rattle.mips_isa.specs.Lines.{line_of, lines_of, instruction_of, statement_of};

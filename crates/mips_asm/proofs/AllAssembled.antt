@@ -1,4 +1,4 @@
--- What the second pass answers behind the last line, or at a line with a fault.
+-- What the second pass answers after the last line, or at a line with a fault.
 use Rattle.std.proofs.Common.{◌≡◌, sym, ◌∙◌, ap, subst, ℕ, suc, ◌+◌, ◌*◌, List, [], ◌∷◌, ◌<◌, map, drop, get_or, add-one, length, Bool, true, false, Option, Some, None, Result, Ok, Err, if◌then◌else◌, arith}
 use Rattle.std.proofs.lemmas.List.{append-nil}
 use Rattle.std.proofs.Math.Seq.{drop-cons, drop-length}
@@ -12,7 +12,7 @@ use Rattle.mips_isa.specs.declared.asm_fault.AsmError.{AsmError}
 use Rattle.mips_isa.specs.declared.asm_fault.AsmError.TheVariants.{Memory, Fault}
 use Rattle.mips_isa.specs.ImageBounds.{ImageParts}
 use Rattle.mips_isa.specs.Lines.{Name, Line}
-use Rattle.mips_isa.specs.Assembly.{Position, start_position, start_name, behind_line, place_in, place_from, place_of, has, address_or_zero, text_from, bytes_from, fault_or, second_pass}
+use Rattle.mips_isa.specs.Assembly.{Position, start_position, start_name, after_line, place_in, place_from, place_of, has, address_or_zero, text_from, bytes_from, fault_or, second_pass}
 use Rattle.mips_asm.specs.Parts.{statement_fault, last_fault, IsError, IsWordPlace, IsImageOrFault}
 use Rattle.mips_asm.proofs.Assembled.{Assembled, filled, using_is}
 
@@ -29,7 +29,7 @@ word_place_in Data p lines = λ e. cc
 word_place_from : (p : Position) (lines : List Line) (name : Name) → IsWordPlace (place_from p lines name)
 word_place_from p [] name = tt
 word_place_from p (line ∷ rest) name =
-    one_of_two (has line.labels name) (Some (place_in p.segment p (line ∷ rest))) (place_from (behind_line line p) rest name) (word_place_in p.segment p (line ∷ rest)) (word_place_from (behind_line line p) rest name)
+    one_of_two (has line.labels name) (Some (place_in p.segment p (line ∷ rest))) (place_from (after_line line p) rest name) (word_place_in p.segment p (line ∷ rest)) (word_place_from (after_line line p) rest name)
 
 -- the place of a label of lines, where these are their places
 pub word_place : (place : Name → Option Place) (all : List Line) (name : Name) → place ≡ place_of all → IsWordPlace (place name)
@@ -47,21 +47,21 @@ pub fault_at_line : (place : Name → Option Place) (all : List Line) (line : Li
 fault_at_line place all line rest number text bytes g Memory are left h = tt
 fault_at_line place all line rest number text bytes g (Fault fault) are left h =
     let p : Position = filled (length text) (length bytes) g in
-    let other : Option AsmFault = second_pass place (behind_line line p) (suc number) rest in
+    let other : Option AsmFault = second_pass place (after_line line p) (suc number) rest in
     let P : (Name → Option Place) → Type 0 = λ f. second_pass f start_position 1 all ≡ Some fault in
     subst P are (
     sym left.fault
     ∙ ap (λ k. fault_or number k other) (using_is place (length text) line.statement)
     ∙ other_or number (statement_fault place (length text) line.statement) other fault h)
 
--- a fault behind the last line
+-- a fault after the last line
 pub fault_at_end : (place : Name → Option Place) (all : List Line) (number : ℕ) (text bytes : List ℕ) (g : Segment) (e : AsmError) → place ≡ place_of all → Assembled place all [] number text bytes g → IsError number (last_fault place (length text)) e → IsImageOrFault all (Err e)
 fault_at_end place all number text bytes g Memory are left h = tt
 fault_at_end place all number text bytes g (Fault fault) are left h =
     let P : (Name → Option Place) → Type 0 = λ f. second_pass f start_position 1 all ≡ Some fault in
     subst P are (sym left.fault ∙ h)
 
--- the image behind the last line
+-- the image after the last line
 pub image_at_end : (place : Name → Option Place) (all : List Line) (number : ℕ) (text bytes : List ℕ) (g : Segment) (image : ImageParts) → place ≡ place_of all → Assembled place all [] number text bytes g → last_fault place (length text) ≡ None → image ≡ record { entry = address_or_zero (place start_name); text = text; bytes = bytes } → IsImageOrFault all (Ok image)
 image_at_end place all number text bytes g image are left none is =
     let parts : (Name → Option Place) → ImageParts = λ f. record {
@@ -76,7 +76,7 @@ image_at_end place all number text bytes g image are left none is =
     let same : image ≡ parts place = is ∙ ap (λ list. record { entry = address_or_zero (place start_name); text = list; bytes = bytes }) text_is ∙ ap (λ list. record { entry = address_or_zero (place start_name); text = text_from (λ name. address_or_zero (place name)) start_position all; bytes = list }) bytes_is in
     (passed, same ∙ ap parts are)
 
--- what the second pass answers behind the last line
+-- what the second pass answers after the last line
 pub answer_at_end : (place : Name → Option Place) (all : List Line) (number : ℕ) (text bytes : List ℕ) (g : Segment) (result : Result ImageParts AsmError) → place ≡ place_of all → Assembled place all [] number text bytes g → OnOk result (last_fault place (length text) ≡ None) → IfOk result (λ image. image ≡ record { entry = address_or_zero (place start_name); text = text; bytes = bytes }) → IfErr result (IsError number (last_fault place (length text))) → IsImageOrFault all result
 answer_at_end place all number text bytes g (Ok image) are left none is error = image_at_end place all number text bytes g image are left none is
 answer_at_end place all number text bytes g (Err e) are left none is error = fault_at_end place all number text bytes g e are left error

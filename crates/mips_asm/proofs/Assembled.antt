@@ -16,8 +16,8 @@ use Rattle.mips_isa.specs.Words.{word_of, bits_of}
 use Rattle.mips_isa.specs.Lines as statements
 use Rattle.mips_isa.specs.Lines.{Name, WordItem, Line, AreInRange, AsmInstr, ToTwo, ToOne, ToJump, La, B, BranchZero, BranchOrder, DataItem, Word, Byte, Ascii, Asciiz, Space, AsmDirective, ToText, Align, Statement, Empty, Instruction, Directive}
 use Rattle.mips_isa.specs.Assembly as assembly
-use Rattle.mips_isa.specs.Assembly.{Need, need, Position, start_position, up, behind, behind_line, padding, words_of_instruction, need_of_data, need_of_directive, expansion, instructions, order_branch, bytes_of_data, item_bytes, item_value, four_bytes, address_or_zero, text_from, bytes_from, is_too_large, is_wrong, any_twice, defining_fault, fault_or, first_pass, second_pass, using_fault, any_without_place, used, reaches, instruction_reaches, names_of_instruction, offset, branch_reaches, jump_reaches}
-use Rattle.mips_asm.specs.Completing.{segment_behind}
+use Rattle.mips_isa.specs.Assembly.{Need, need, Position, start_position, up, after_need, after_line, padding, words_of_instruction, need_of_data, need_of_directive, expansion, instructions, order_branch, bytes_of_data, item_bytes, item_value, four_bytes, address_or_zero, text_from, bytes_from, is_too_large, is_wrong, any_twice, defining_fault, fault_or, first_pass, second_pass, using_fault, any_without_place, used, reaches, instruction_reaches, names_of_instruction, offset, branch_reaches, jump_reaches}
+use Rattle.mips_asm.specs.Completing.{segment_after_need}
 use Rattle.mips_asm.specs.Parts.{instruction_fault, statement_fault, target_fault, found, words_of_statement, bytes_of_statement, zeros}
 
 -- How much a statement adds
@@ -110,7 +110,7 @@ up_from unit n h = omega (arith, mul_comm ((n + (unit - 1)) / unit) unit)
 up_in_parts : (unit n size : ℕ) → 1 ≤ unit → up unit n + size ≡ n + (up unit n - n + size)
 up_in_parts unit n size h = let from = up_from unit n h in omega arith
 
--- the position behind a need
+-- the position after a need
 
 abbrev pub filled : ℕ → ℕ → Segment → Position
 filled words bytes segment = record { words = words; bytes = bytes; segment = segment }
@@ -118,16 +118,16 @@ filled words bytes segment = record { words = words; bytes = bytes; segment = se
 same_position : (w x b c : ℕ) (g : Segment) → w ≡ x → b ≡ c → filled w b g ≡ filled x c g
 same_position w x b c g e f = cc
 
-padding_behind : (unit w b : ℕ) (g : Segment) → 1 ≤ unit → behind (assembly.Padding unit) (filled w b g) ≡ filled (w + 0) (b + (zeros (assembly.Padding unit) g b + 0)) g
-padding_behind unit w b Text h = same_position _ _ _ _ Text (omega arith) (omega arith)
-padding_behind unit w b Data h = let from = up_from unit b h in same_position _ _ _ _ Data (omega arith) (omega arith)
+padding_after : (unit w b : ℕ) (g : Segment) → 1 ≤ unit → after_need (assembly.Padding unit) (filled w b g) ≡ filled (w + 0) (b + (zeros (assembly.Padding unit) g b + 0)) g
+padding_after unit w b Text h = same_position _ _ _ _ Text (omega arith) (omega arith)
+padding_after unit w b Data h = let from = up_from unit b h in same_position _ _ _ _ Data (omega arith) (omega arith)
 
-position_behind : (n : Need) (w b : ℕ) (g : Segment) → HasUnit n → behind n (filled w b g) ≡ filled (w + words_needed n) (b + (zeros n g b + bytes_needed n)) (segment_behind n g)
-position_behind assembly.Nothing w b g h = same_position _ _ _ _ g (omega arith) (omega arith)
-position_behind (assembly.Words n) w b g h = same_position _ _ _ _ g refl (omega arith)
-position_behind (assembly.Item unit size) w b g h = same_position _ _ _ _ g (omega arith) (up_in_parts unit b size h)
-position_behind (assembly.Switch segment) w b g h = same_position _ _ _ _ segment (omega arith) (omega arith)
-position_behind (assembly.Padding unit) w b g h = padding_behind unit w b g h
+position_after : (n : Need) (w b : ℕ) (g : Segment) → HasUnit n → after_need n (filled w b g) ≡ filled (w + words_needed n) (b + (zeros n g b + bytes_needed n)) (segment_after_need n g)
+position_after assembly.Nothing w b g h = same_position _ _ _ _ g (omega arith) (omega arith)
+position_after (assembly.Words n) w b g h = same_position _ _ _ _ g refl (omega arith)
+position_after (assembly.Item unit size) w b g h = same_position _ _ _ _ g (omega arith) (up_in_parts unit b size h)
+position_after (assembly.Switch segment) w b g h = same_position _ _ _ _ segment (omega arith) (omega arith)
+position_after (assembly.Padding unit) w b g h = padding_after unit w b g h
 
 padding_is : (n : Need) (w b : ℕ) (g : Segment) → padding n (filled w b g) ≡ zeros n g b
 padding_is assembly.Nothing w b g = refl
@@ -136,9 +136,9 @@ padding_is (assembly.Item unit size) w b g = refl
 padding_is (assembly.Switch segment) w b g = refl
 padding_is (assembly.Padding unit) w b g = refl
 
--- the position behind what a statement adds
-statement_behind : (place : Name → Option Place) (s : Statement) (text bytes : List ℕ) (g : Segment) → filled (length (text ++ words_of_statement place (length text) s)) (length (bytes ++ bytes_of_statement place g (length bytes) s)) (segment_behind (need s) g) ≡ behind (need s) (filled (length text) (length bytes) g)
-statement_behind place s text bytes g =
+-- the position after what a statement adds
+statement_after : (place : Name → Option Place) (s : Statement) (text bytes : List ℕ) (g : Segment) → filled (length (text ++ words_of_statement place (length text) s)) (length (bytes ++ bytes_of_statement place g (length bytes) s)) (segment_after_need (need s) g) ≡ after_need (need s) (filled (length text) (length bytes) g)
+statement_after place s text bytes g =
     let address : Name → ℕ = λ name. address_or_zero (place name) in
     let at : ℕ = TEXT_START + 4 * length text in
     let words : length (text ++ words_of_statement place (length text) s) ≡ length text + words_needed (need s) =
@@ -150,7 +150,7 @@ statement_behind place s text bytes g =
     ∙ ap (λ n. zeros (need s) g (length bytes) + n) (length_of_item address s) in
     let added : length (bytes ++ bytes_of_statement place g (length bytes) s) ≡ length bytes + (zeros (need s) g (length bytes) + bytes_needed (need s)) =
     length-append bytes (bytes_of_statement place g (length bytes) s) ∙ ap (λ n. length bytes + n) item in
-    same_position _ _ _ _ (segment_behind (need s) g) words added ∙ sym (position_behind (need s) (length text) (length bytes) g (unit_of s))
+    same_position _ _ _ _ (segment_after_need (need s) g) words added ∙ sym (position_after (need s) (length text) (length bytes) g (unit_of s))
 
 -- The fault of a statement is that of its instruction's target, or of its item of data
 
@@ -235,17 +235,17 @@ none_assembled place all ranges first = record {
 }
 
 -- one line further
-line_further : (place : Name → Option Place) (all : List Line) (line : Line) (rest : List Line) (number : ℕ) (text bytes : List ℕ) (g : Segment) → Assembled place all (line ∷ rest) number text bytes g → statement_fault place (length text) line.statement ≡ None → Assembled place all rest (suc number) (text ++ words_of_statement place (length text) line.statement) (bytes ++ bytes_of_statement place g (length bytes) line.statement) (segment_behind (need line.statement) g)
+line_further : (place : Name → Option Place) (all : List Line) (line : Line) (rest : List Line) (number : ℕ) (text bytes : List ℕ) (g : Segment) → Assembled place all (line ∷ rest) number text bytes g → statement_fault place (length text) line.statement ≡ None → Assembled place all rest (suc number) (text ++ words_of_statement place (length text) line.statement) (bytes ++ bytes_of_statement place g (length bytes) line.statement) (segment_after_need (need line.statement) g)
 line_further place all line rest number text bytes g left none =
     let address : Name → ℕ = λ name. address_or_zero (place name) in
     let s : Statement = line.statement in
     let p : Position = filled (length text) (length bytes) g in
     let words : List ℕ = words_of_statement place (length text) s in
     let item : List ℕ = bytes_of_statement place g (length bytes) s in
-    let q : Position = filled (length (text ++ words)) (length (bytes ++ item)) (segment_behind (need s) g) in
-    let here : q ≡ behind_line line p = statement_behind place s text bytes g in
+    let q : Position = filled (length (text ++ words)) (length (bytes ++ item)) (segment_after_need (need s) g) in
+    let here : q ≡ after_line line p = statement_after place s text bytes g in
     let defined : defining_fault left.seen p line ≡ None = no_kind left.from (defining_fault left.seen p line) _ left.first in
-    let fits : is_too_large (behind_line line p) ≡ false = last_test (is_wrong (need s) g) (any_twice left.seen line.labels) (is_too_large (behind_line line p)) defined in
+    let fits : is_too_large (after_line line p) ≡ false = last_test (is_wrong (need s) g) (any_twice left.seen line.labels) (is_too_large (after_line line p)) defined in
     let sizes = small q (ap is_too_large here ∙ fits) in
     let using : using_fault place p line ≡ None = using_is place (length text) s ∙ none in
     record {
@@ -255,7 +255,7 @@ line_further place all line rest number text bytes g left none =
       first = ap (λ r. first_pass (left.seen ++ line.labels) r (suc left.from) rest) here ∙ no_other left.from (defining_fault left.seen p line) _ left.first;
       fault =
           ap (λ r. second_pass place r (suc number) rest) here
-          ∙ sym (ap (λ k. fault_or number k (second_pass place (behind_line line p) (suc number) rest)) using)
+          ∙ sym (ap (λ k. fault_or number k (second_pass place (after_line line p) (suc number) rest)) using)
           ∙ left.fault;
       text_is =
           append_assoc text words (text_from address q rest)
@@ -264,14 +264,14 @@ line_further place all line rest number text bytes g left none =
       bytes_is =
           append_assoc bytes item (bytes_from address q rest)
           ∙ ap (λ r. bytes ++ (item ++ bytes_from address r rest)) here
-          ∙ ap (λ list. bytes ++ list) (append_assoc (replicate (zeros (need s) g (length bytes)) 0) (item_bytes address s) (bytes_from address (behind_line line p) rest))
-          ∙ ap (λ n. bytes ++ (replicate n 0 ++ (item_bytes address s ++ bytes_from address (behind_line line p) rest))) (sym (padding_is (need s) (length text) (length bytes) g))
+          ∙ ap (λ list. bytes ++ list) (append_assoc (replicate (zeros (need s) g (length bytes)) 0) (item_bytes address s) (bytes_from address (after_line line p) rest))
+          ∙ ap (λ n. bytes ++ (replicate n 0 ++ (item_bytes address s ++ bytes_from address (after_line line p) rest))) (sym (padding_is (need s) (length text) (length bytes) g))
           ∙ left.bytes_is;
       words_fit = sizes.0;
       bytes_fit = sizes.1;
     }
 
 -- the same, for a text and bytes that are equal to those
-pub one_further : (place : Name → Option Place) (all : List Line) (line : Line) (rest : List Line) (number : ℕ) (text bytes : List ℕ) (g : Segment) (longer_text longer_bytes : List ℕ) (open_now : Segment) → Assembled place all (line ∷ rest) number text bytes g → statement_fault place (length text) line.statement ≡ None → longer_text ≡ text ++ words_of_statement place (length text) line.statement → longer_bytes ≡ bytes ++ bytes_of_statement place g (length bytes) line.statement → open_now ≡ segment_behind (need line.statement) g → Assembled place all rest (suc number) longer_text longer_bytes open_now
+pub one_further : (place : Name → Option Place) (all : List Line) (line : Line) (rest : List Line) (number : ℕ) (text bytes : List ℕ) (g : Segment) (longer_text longer_bytes : List ℕ) (open_now : Segment) → Assembled place all (line ∷ rest) number text bytes g → statement_fault place (length text) line.statement ≡ None → longer_text ≡ text ++ words_of_statement place (length text) line.statement → longer_bytes ≡ bytes ++ bytes_of_statement place g (length bytes) line.statement → open_now ≡ segment_after_need (need line.statement) g → Assembled place all rest (suc number) longer_text longer_bytes open_now
 one_further place all line rest number text bytes g longer_text longer_bytes open_now left none a b c =
     rw (a, b, c) (line_further place all line rest number text bytes g left none)

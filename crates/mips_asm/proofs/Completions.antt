@@ -5,8 +5,8 @@ use Rattle.mips_isa.specs.declared.place.Segment.{Segment}
 use Rattle.mips_isa.specs.declared.place.Segment.TheVariants.{Text, Data}
 use Rattle.mips_isa.specs.declared.place.Place.{Place}
 use Rattle.mips_isa.specs.Lines.{Name, Line}
-use Rattle.mips_isa.specs.Assembly.{Need, Nothing, Words, Item, Switch, Padding, need, Position, start_position, padded, behind, behind_line, has, place_in, place_from, place_of, in_text, start_name, main_name}
-use Rattle.mips_asm.specs.Completing.{segment_behind, segment_of_name, is_text_segment}
+use Rattle.mips_isa.specs.Assembly.{Need, Nothing, Words, Item, Switch, Padding, need, Position, start_position, padded, after_need, after_line, has, place_in, place_from, place_of, in_text, start_name, main_name}
+use Rattle.mips_asm.specs.Completing.{segment_after_need, segment_of_name, is_text_segment}
 
 -- the segment of a place
 abbrev pub segment_in : Option Place → Option Segment
@@ -17,12 +17,12 @@ padded_segment : (segment : Segment) (unit : ℕ) (p : Position) → (padded seg
 padded_segment Text unit p = refl
 padded_segment Data unit p = refl
 
-behind_segment : (n : Need) (p : Position) → (behind n p).segment ≡ segment_behind n p.segment
-behind_segment Nothing p = refl
-behind_segment (Words n) p = refl
-behind_segment (Item unit size) p = refl
-behind_segment (Switch segment) p = refl
-behind_segment (Padding unit) p = padded_segment p.segment unit p
+after_segment : (n : Need) (p : Position) → (after_need n p).segment ≡ segment_after_need n p.segment
+after_segment Nothing p = refl
+after_segment (Words n) p = refl
+after_segment (Item unit size) p = refl
+after_segment (Switch segment) p = refl
+after_segment (Padding unit) p = padded_segment p.segment unit p
 
 place_segment : (segment : Segment) (p : Position) (lines : List Line) → (place_in segment p lines).segment ≡ segment
 place_segment Text p lines = refl
@@ -33,8 +33,8 @@ pub segment_of_place : (p : Position) (lines : List Line) (name : Name) → segm
 segment_of_place p [] name = refl
 segment_of_place p (line ∷ rest) name =
     either (has line.labels name) (place_in p.segment p (line ∷ rest)) p.segment (place_segment p.segment p (line ∷ rest))
-    (place_from (behind_line line p) rest name) (segment_of_name (segment_behind (need line.statement) p.segment) rest name)
-    (segment_of_place (behind_line line p) rest name ∙ ap (λ (s : Segment). segment_of_name s rest name) (behind_segment (need line.statement) p))
+    (place_from (after_line line p) rest name) (segment_of_name (segment_after_need (need line.statement) p.segment) rest name)
+    (segment_of_place (after_line line p) rest name ∙ ap (λ (s : Segment). segment_of_name s rest name) (after_segment (need line.statement) p))
   where
     either : (b : Bool) (place : Place) (segment : Segment) → place.segment ≡ segment → (o : Option Place) (s : Option Segment) → segment_in o ≡ s
         → segment_in (if b then Some place else o) ≡ (if b then Some segment else s)

@@ -9,7 +9,7 @@ use Rattle.std.proofs.lemmas.List.{map-append}
 use Rattle.mips_isa.specs.declared.asm_fault.AsmKind.{AsmKind}
 use Rattle.mips_isa.specs.declared.asm_fault.AsmFault.{AsmFault}
 use Rattle.mips_isa.specs.Lines.{Name, Line, AreInRange}
-use Rattle.mips_isa.specs.Assembly.{Position, start_position, behind_line, defining_fault, first_pass, fault_or}
+use Rattle.mips_isa.specs.Assembly.{Position, start_position, after_line, defining_fault, first_pass, fault_or}
 use Rattle.mips_asm.specs.Passes.{names_of, numbered, positions_from, table_from, position_of, Steps, Passes}
 
 -- the names of numbered labels are the labels
@@ -28,12 +28,12 @@ pub record Passing (lines rest : List Line) (p : Position) (table : List (Name �
 pub passing_start : (lines : List Line) → AreInRange lines → Passing lines lines start_position [] [] 0
 passing_start lines ranges = record { pass = refl; places = refl; labels = refl; ranges = ranges }
 
--- behind a line without a fault
+-- after a line without a fault
 pub passing_step : (lines : List Line) (line : Line) (rest : List Line) (p : Position) (table : List (Name × ℕ)) (positions : List Position) (index : ℕ)
     → Passing lines (line ∷ rest) p table positions index → defining_fault (names_of table) p line ≡ None
-    → Passing lines rest (behind_line line p) (table ++ numbered index line.labels) (positions ++ p ∷ []) (index + 1)
+    → Passing lines rest (after_line line p) (table ++ numbered index line.labels) (positions ++ p ∷ []) (index + 1)
 passing_step lines line rest p table positions index d fine =
-    let q : Position = behind_line line p in
+    let q : Position = after_line line p in
     let next : suc index ≡ index + 1 = omega arith in
     let names : names_of (table ++ numbered index line.labels) ≡ names_of table ++ line.labels =
     map-append (λ (entry : Name × ℕ). entry.0) table (numbered index line.labels) ∙ ap (λ (more : List Name). names_of table ++ more) (names_of_numbered index line.labels) in
@@ -56,10 +56,10 @@ pub passing_fault : (lines : List Line) (line : Line) (rest : List Line) (p : Po
     (fault : AsmFault) → Passing lines (line ∷ rest) p table positions index
     → (defining_fault (names_of table) p line ≡ Some fault.kind) × (fault.line ≡ suc index) → first_pass [] start_position 1 lines ≡ Some fault
 passing_fault lines line rest p table positions index fault d h =
-    sym d.pass ∙ ap (λ (o : Option AsmKind). fault_or (suc index) o (first_pass (names_of table ++ line.labels) (behind_line line p) (suc (suc index)) rest)) h.0
+    sym d.pass ∙ ap (λ (o : Option AsmKind). fault_or (suc index) o (first_pass (names_of table ++ line.labels) (after_line line p) (suc (suc index)) rest)) h.0
     ∙ ap (λ (k : ℕ). Some (let f : AsmFault = record { kind = fault.kind; line = k } in f)) (sym h.1)
 
--- behind the last line
+-- after the last line
 pub passing_end : (lines : List Line) (p : Position) (table : List (Name × ℕ)) (positions : List Position) (index : ℕ)
     → Passing lines [] p table positions index
     → (first_pass [] start_position 1 lines ≡ None) × (positions ++ p ∷ [] ≡ positions_from start_position lines) × (table ≡ table_from 0 lines)

@@ -12,7 +12,7 @@ use Rattle.mips_asm.specs.Parts.{items_fault, word_in, address_if}
 abbrev pub bytes_of_items : (Name → Option Place) → List WordItem → List ℕ
 bytes_of_items place = flat_map (λ item. four_bytes (item_value (λ name. address_or_zero (place name)) item))
 
--- Of all items these are left. The bytes so far and those of the items that are left are those of all behind what stood there.
+-- Of all items these are left. The bytes so far and those of the items that are left are those of all after what stood there.
 pub record ItemsLeft (place : Name → Option Place) (all : List WordItem) (before : List ℕ) (rest : List WordItem) (so_far : List ℕ) : Type 0 where
   pub ranges : AllByRecursion IsItem rest
   pub fault : items_fault place rest ≡ items_fault place all
@@ -34,9 +34,9 @@ value_found : (place : Name → Option Place) (item : WordItem) (w : ℕ) → wo
 value_found place (Number n) w e = cc
 value_found place (Address label) w e = address_found (place label) w e
 
-fault_behind : (place : Name → Option Place) (item : WordItem) (rest : List WordItem) (w : ℕ) → word_in place item ≡ Some w → items_fault place (item ∷ rest) ≡ items_fault place rest
-fault_behind place (Number n) rest w e = refl
-fault_behind place (Address label) rest w e = rw (is_found (place label) w e) refl
+fault_after : (place : Name → Option Place) (item : WordItem) (rest : List WordItem) (w : ℕ) → word_in place item ≡ Some w → items_fault place (item ∷ rest) ≡ items_fault place rest
+fault_after place (Number n) rest w e = refl
+fault_after place (Address label) rest w e = rw (is_found (place label) w e) refl
 
 -- a label without a place is a fault
 pub missing_item : (place : Name → Option Place) (item : WordItem) (rest : List WordItem) → word_in place item ≡ None → items_fault place (item ∷ rest) ≡ Some A6
@@ -47,7 +47,7 @@ missing_item place (Address label) rest e = rw (is_missing (place label) e) refl
 pub item_further : (place : Name → Option Place) (all : List WordItem) (before : List ℕ) (item : WordItem) (rest : List WordItem) (bytes : List ℕ) (w : ℕ) → word_in place item ≡ Some w → ItemsLeft place all before (item ∷ rest) bytes → ItemsLeft place all before rest (bytes ++ four_bytes w)
 item_further place all before item rest bytes w e left = record {
   ranges = left.ranges.1;
-  fault = sym (fault_behind place item rest w e) ∙ left.fault;
+  fault = sym (fault_after place item rest w e) ∙ left.fault;
   bytes =
       append_assoc bytes (four_bytes w) (bytes_of_items place rest)
       ∙ ap (λ v. bytes ++ (four_bytes v ++ bytes_of_items place rest)) (sym (value_found place item w e))

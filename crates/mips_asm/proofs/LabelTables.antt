@@ -35,13 +35,13 @@ any_twice_same s t (label ∷ rest) same =
     let next : any_twice (label ∷ s) rest ≡ any_twice (label ∷ t) rest = any_twice_same (label ∷ s) (label ∷ t) rest (λ q. ap (λ b. bytes_eq q label || b) (same q)) in
     ap (λ b. b || any_twice (label ∷ s) rest) here ∙ ap (λ b. has t label || b) next
 
--- a name is added in front, or behind
+-- a name is added in front, or at the end
 or_false : (b : Bool) → (b || false) ≡ b
 or_false true = refl
 or_false false = refl
 
-pub has_behind : (s : List Name) (label q : Name) → has (label ∷ s) q ≡ has (s ++ label ∷ []) q
-has_behind s label q =
+pub has_after : (s : List Name) (label q : Name) → has (label ∷ s) q ≡ has (s ++ label ∷ []) q
+has_after s label q =
     or_comm (bytes_eq q label) (has s q) ∙ ap (λ b. has s q || b) (sym (or_false (bytes_eq q label))) ∙ sym (list_any-append (bytes_eq q) s (label ∷ []))
 
 -- The labels of a line are put into the table one by one.
@@ -59,7 +59,7 @@ pub defining_step : (old now : List (Name × ℕ)) (labels : List Name) (label :
 defining_step old now labels label rest index d new = record {
   twice =
       ap (λ names. any_twice names rest) (map-append (λ (entry : Name × ℕ). entry.0) now ((label, index) ∷ []))
-      ∙ any_twice_same (names_of now ++ label ∷ []) (label ∷ names_of now) rest (λ q. sym (has_behind (names_of now) label q))
+      ∙ any_twice_same (names_of now ++ label ∷ []) (label ∷ names_of now) rest (λ q. sym (has_after (names_of now) label q))
       ∙ sym (ap (λ b. b || any_twice (label ∷ names_of now) rest) new)
       ∙ d.twice;
   entries = append_assoc now ((label, index) ∷ []) (numbered index rest) ∙ d.entries;

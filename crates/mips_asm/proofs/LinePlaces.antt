@@ -15,7 +15,7 @@ use Rattle.mips_isa.specs.declared.asm_fault.AsmKind.{AsmKind}
 use Rattle.mips_isa.specs.declared.asm_fault.AsmKind.TheVariants.{A5, A8, A9}
 use Rattle.mips_isa.specs.declared.asm_fault.AsmFault.{AsmFault}
 use Rattle.mips_isa.specs.Lines.{Name, Line, AreInRange}
-use Rattle.mips_isa.specs.Assembly.{Position, start_position, behind_line, need, next_item, item_or, place_in, place_from, place_of, has, first_pass, fault_or, defining_fault, is_wrong, any_twice, is_too_large}
+use Rattle.mips_isa.specs.Assembly.{Position, start_position, after_line, need, next_item, item_or, place_in, place_from, place_of, has, first_pass, fault_or, defining_fault, is_wrong, any_twice, is_too_large}
 use Rattle.mips_asm.specs.Passes.{Fits, numbered, shown, positions_from, position_at, placed, places_from, table_from, position_of}
 use Rattle.mips_asm.specs.Places.{place_at, places_of}
 
@@ -32,24 +32,24 @@ pub position_read : (p : Position) (lines : List Line) (k : ℕ) (d : Position) 
 position_read p [] zero d h = refl
 position_read p [] (suc k) d h = absurd (omega arith)
 position_read p (line ∷ rest) zero d h = refl
-position_read p (line ∷ rest) (suc k) d h = let less : k ≤ length rest = omega arith in position_read (behind_line line p) rest k d less
+position_read p (line ∷ rest) (suc k) d h = let less : k ≤ length rest = omega arith in position_read (after_line line p) rest k d less
 
 pub length_positions : (p : Position) (lines : List Line) → length (positions_from p lines) ≡ length lines + 1
 length_positions p [] = refl
-length_positions p (line ∷ rest) = let h : length (positions_from (behind_line line p) rest) ≡ length rest + 1 = length_positions (behind_line line p) rest in omega arith
+length_positions p (line ∷ rest) = let h : length (positions_from (after_line line p) rest) ≡ length rest + 1 = length_positions (after_line line p) rest in omega arith
 
 pub length_places : (p : Position) (lines : List Line) → length (places_from p lines) ≡ length lines
 length_places p [] = refl
-length_places p (line ∷ rest) = ap suc (length_places (behind_line line p) rest)
+length_places p (line ∷ rest) = ap suc (length_places (after_line line p) rest)
 
--- behind a line is the next position
+-- after a line is the next position
 pub position_next : (p : Position) (lines : List Line) (k : ℕ) (line : Line) (rest : List Line) → drop k lines ≡ line ∷ rest
-    → position_at p (suc k) lines ≡ behind_line line (position_at p k lines)
+    → position_at p (suc k) lines ≡ after_line line (position_at p k lines)
 position_next p [] zero line rest h = cc
 position_next p [] (suc k) line rest h = cc
 position_next p (first ∷ more) zero line rest h =
-    let same : first ≡ line = cc in ap (λ (l : Line). behind_line l p) same
-position_next p (first ∷ more) (suc k) line rest h = position_next (behind_line first p) more k line rest h
+    let same : first ≡ line = cc in ap (λ (l : Line). after_line l p) same
+position_next p (first ∷ more) (suc k) line rest h = position_next (after_line first p) more k line rest h
 
 -- What the way from the last line to the first knows of the lines from an index on.
 pub record Placing (lines : List Line) (k item : ℕ) (places : List Place) : Type 0 where
@@ -67,7 +67,7 @@ pub placing_step : (lines : List Line) (k item : ℕ) (places : List Place) (lin
     Placing lines k new (places ++ placed p.segment p.words new ∷ [])
 placing_step lines k item places line rest here behind d =
     let p : Position = position_at start_position k lines in
-    let q : Position = behind_line line p in
+    let q : Position = after_line line p in
     let step : position_at start_position (suc k) lines ≡ q = position_next start_position lines k line rest here in
     let next : item ≡ next_item q rest = d.next ∙ ap (λ (x : Position). next_item x (drop (suc k) lines)) step ∙ ap (next_item q) (sym behind) in
     let found : places ≡ reverse (places_from q rest) =
@@ -98,9 +98,9 @@ or_fits words bytes h = by (nat_lt 66060288 words) (nat_lt 268435456 bytes) refl
     by false true e f k = absurd (true≢false k)
     by false false e f k = record { words_fit = ltb-false 66060288 words e; bytes_fit = ltb-false 268435456 bytes f }
 
-fine_fits : (seen : List Name) (p : Position) (line : Line) → defining_fault seen p line ≡ None → Fits (behind_line line p).words (behind_line line p).bytes
+fine_fits : (seen : List Name) (p : Position) (line : Line) → defining_fault seen p line ≡ None → Fits (after_line line p).words (after_line line p).bytes
 fine_fits seen p line h =
-    let q : Position = behind_line line p in
+    let q : Position = after_line line p in
     or_fits q.words q.bytes (by (is_wrong (need line.statement) p.segment) (any_twice seen line.labels) (is_too_large q) h)
   where
     by : (a b d : Bool) → (if a then Some A8 else (if b then Some A5 else (if d then Some A9 else None))) ≡ None → d ≡ false
@@ -114,8 +114,8 @@ pub position_fits : (seen : List Name) (p : Position) (number : ℕ) (lines : Li
 position_fits seen p number lines zero fits fine = fits
 position_fits seen p number [] (suc k) fits fine = fits
 position_fits seen p number (line ∷ rest) (suc k) fits fine =
-    let both = fine_here number (defining_fault seen p line) (first_pass (seen ++ line.labels) (behind_line line p) (suc number) rest) fine in
-    position_fits (seen ++ line.labels) (behind_line line p) (suc number) rest k (fine_fits seen p line both.0) both.1
+    let both = fine_here number (defining_fault seen p line) (first_pass (seen ++ line.labels) (after_line line p) (suc number) rest) fine in
+    position_fits (seen ++ line.labels) (after_line line p) (suc number) rest k (fine_fits seen p line both.0) both.1
 
 -- The place of a name, by the table.
 
@@ -124,7 +124,7 @@ pub shown_lookup : (name : Name) (entries : List (Bor Name × ℕ)) → lookup (
 shown_lookup name [] = refl
 shown_lookup name (entry ∷ rest) = ap (λ (o : Option ℕ). cond (bytes_eq name entry.0.now) (Some entry.1) o) (shown_lookup name rest)
 
--- among the labels of a line, or behind them
+-- among the labels of a line, or after them
 numbered_lookup : (name : Name) (index : ℕ) (labels : List Name) (more : List (Name × ℕ))
     → lookup (bytes_eq name) (numbered index labels ++ more) ≡ (if has labels name then Some index else lookup (bytes_eq name) more)
 numbered_lookup name index [] more = refl
@@ -138,9 +138,9 @@ numbered_lookup name index (label ∷ rest) more = by (bytes_eq name label) (has
     by true b h = refl
     by false b h = h
 
-get_behind : {X : Type 0} (xs : List X) (x : X) (more : List X) → slice_get (xs ++ x ∷ more) (length xs) ≡ Some x
-get_behind [] x more = refl
-get_behind (y ∷ xs) x more = get_behind xs x more
+get_after : {X : Type 0} (xs : List X) (x : X) (more : List X) → slice_get (xs ++ x ∷ more) (length xs) ≡ Some x
+get_after [] x more = refl
+get_after (y ∷ xs) x more = get_after xs x more
 
 -- the table and the places of the lines say where a name is
 table_place : (name : Name) (front : List Place) (p : Position) (lines : List Line) (index : ℕ) → index ≡ length front
@@ -148,9 +148,9 @@ table_place : (name : Name) (front : List Place) (p : Position) (lines : List Li
 table_place name front p [] index h = refl
 table_place name front p (line ∷ rest) index h =
     let place : Place = place_in p.segment p (line ∷ rest) in
-    let q : Position = behind_line line p in
+    let q : Position = after_line line p in
     let places : List Place = front ++ place ∷ places_from q rest in
-    let here : place_at places (Some index) ≡ Some place = ap (slice_get places) h ∙ get_behind front place (places_from q rest) in
+    let here : place_at places (Some index) ≡ Some place = ap (slice_get places) h ∙ get_after front place (places_from q rest) in
     let longer : suc index ≡ length (front ++ place ∷ []) = let l = length-append front (place ∷ []) in omega arith in
     let behind : place_at places (lookup (bytes_eq name) (table_from (suc index) rest)) ≡ place_from q rest name =
     ap (λ (x : List Place). place_at x (lookup (bytes_eq name) (table_from (suc index) rest))) (sym (append_assoc front (place ∷ []) (places_from q rest)))

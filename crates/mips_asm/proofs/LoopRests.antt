@@ -7,7 +7,7 @@ use borrow.Author.Tests.{ltb-true}
 use denote.Ref.{Bor}
 use Rattle.std.proofs.Math.Seq.{drop-cons}
 
--- the item, and the rest behind it
+-- the item, and the rest after it
 pub rest_here : {X : Type 0} (xs : List X) (i : ℕ) (x : X) → i < length xs → x ≡ get_or xs i x → drop i xs ≡ x ∷ drop (i + 1) xs
 rest_here {X} xs i x h is =
     let e : drop i xs ≡ get_or xs i x ∷ drop (suc i) xs = drop-cons xs i x h in

@@ -100,7 +100,7 @@ statement_fault place words (Instruction i) = instruction_fault place (TEXT_STAR
 statement_fault place words (statements.Data item) = item_fault place item
 statement_fault place words (Directive directive) = None
 
--- what a statement is assembled to behind so many words, and behind so many bytes
+-- what a statement is assembled to after so many words, and after so many bytes
 
 abbrev pub words_of_statement : (Name → Option Place) → ℕ → Statement → List ℕ
 words_of_statement place words statement = map word_of (instructions (λ name. address_or_zero (place name)) (TEXT_START + 4 * words) statement)
@@ -109,7 +109,7 @@ abbrev pub bytes_of_statement : (Name → Option Place) → Segment → ℕ → 
 bytes_of_statement place segment n statement =
     replicate (zeros (need statement) segment n) 0 ++ item_bytes (λ name. address_or_zero (place name)) statement
 
--- what is wrong behind the last line, where there are so many words
+-- what is wrong after the last line, where there are so many words
 abbrev pub last_fault : (Name → Option Place) → ℕ → Option AsmKind
 last_fault place words = start_fault (place start_name) (record { words = words; bytes = 0; segment = Text })
 

@@ -12,7 +12,7 @@ use Rattle.mips_isa.specs.declared.place.Segment.TheVariants.{Text, Data}
 use Rattle.mips_isa.specs.declared.address_map.TheConstants.{TEXT_START, DATA_START, MOST_TEXT_WORDS, MOST_DATA_BYTES}
 use Rattle.mips_isa.specs.ImageBounds.{ImageParts}
 use Rattle.mips_isa.specs.Lines.{Name, Line, line_of}
-use Rattle.mips_isa.specs.Assembly.{Position, Need, Nothing, Words, Item, Switch, Padding, start_position, behind_line, place_in, first_pass, place_of, image_of_all, fault_of_all, defining_fault, is_too_large, any_twice, behind}
+use Rattle.mips_isa.specs.Assembly.{Position, Need, Nothing, Words, Item, Switch, Padding, start_position, after_line, place_in, first_pass, place_of, image_of_all, fault_of_all, defining_fault, is_too_large, any_twice, after_need}
 use Rattle.mips_asm.specs.Places.{LabelParts, places_of}
 use Rattle.mips_asm.specs.declared.position.Position as declared_position
 use Rattle.mips_asm.specs.declared.position.Need as declared_need
@@ -47,21 +47,21 @@ pub record Fits (words bytes : ℕ) : Type 0 where
   pub words_fit : words ≤ MOST_TEXT_WORDS
   pub bytes_fit : bytes ≤ MOST_DATA_BYTES
 
--- a position is the one behind a need, or none where a segment is then too large
-abbrev pub IsBehind : declared_need.Need → declared_position.Position → Option declared_position.Position → Type 0
-IsBehind need p None = is_too_large (behind (need_of need) (position_of p)) ≡ true
-IsBehind need p (Some next) = (position_of next ≡ behind (need_of need) (position_of p)) × (is_too_large (position_of next) ≡ false) × Fits next.words next.bytes
+-- a position is the one after a need, or none where a segment is then too large
+abbrev pub IsAfter : declared_need.Need → declared_position.Position → Option declared_position.Position → Type 0
+IsAfter need p None = is_too_large (after_need (need_of need) (position_of p)) ≡ true
+IsAfter need p (Some next) = (position_of next ≡ after_need (need_of need) (position_of p)) × (is_too_large (position_of next) ≡ false) × Fits next.words next.bytes
 
--- the position before each line, and behind the last one
+-- the position before each line, and after the last one
 abbrev pub positions_from : Position → List Line → List Position
 positions_from p [] = p ∷ []
-positions_from p (line ∷ rest) = p ∷ positions_from (behind_line line p) rest
+positions_from p (line ∷ rest) = p ∷ positions_from (after_line line p) rest
 
 -- the position before the line at an index
 abbrev pub position_at : Position → ℕ → List Line → Position
 position_at p zero lines = p
 position_at p (suc k) [] = p
-position_at p (suc k) (line ∷ rest) = position_at (behind_line line p) k rest
+position_at p (suc k) (line ∷ rest) = position_at (after_line line p) k rest
 
 -- the place of a label before an item
 abbrev pub placed : Segment → ℕ → ℕ → Place
@@ -71,7 +71,7 @@ placed Data words item = record { segment = Data; address = DATA_START + item }
 -- the place of a label of each line
 abbrev pub places_from : Position → List Line → List Place
 places_from p [] = []
-places_from p (line ∷ rest) = place_in p.segment p (line ∷ rest) ∷ places_from (behind_line line p) rest
+places_from p (line ∷ rest) = place_in p.segment p (line ∷ rest) ∷ places_from (after_line line p) rest
 
 -- each label of a line, with a number
 abbrev pub numbered : ℕ → List Name → List (Name × ℕ)
@@ -98,7 +98,7 @@ Defines old labels index number (Err (Fault fault)) new = (any_twice (names_of o
 -- one line of the first pass, with the table before and after it
 abbrev pub Steps : List (Name × ℕ) → declared_position.Position → Line → ℕ → Result declared_position.Position AsmError → List (Name × ℕ) → Type 0
 Steps old p line index (Ok next) new =
-    (defining_fault (names_of old) (position_of p) line ≡ None) × (position_of next ≡ behind_line line (position_of p))
+    (defining_fault (names_of old) (position_of p) line ≡ None) × (position_of next ≡ after_line line (position_of p))
     × (new ≡ old ++ numbered index line.labels) × Fits next.words next.bytes
 Steps old p line index (Err Memory) new = Unit {0}
 Steps old p line index (Err (Fault fault)) new =

@@ -6,7 +6,7 @@ ghost use Rattle.mips_isa.specs.Assembly.{has, need, place_of, in_text, start_na
 ghost use Rattle.mips_isa.specs.declared.instr.Instr.TheVariants.{Imm};
 ghost use Rattle.mips_isa.specs.declared.instr.ImmOp.TheVariants.{Ori};
 ghost use Rattle.mips_isa.specs.declared.place.Segment.TheVariants.{Text};
-ghost use Rattle.mips_asm.specs.Completing.{segment_behind, segment_of_name, is_text_segment as in_text_segment};
+ghost use Rattle.mips_asm.specs.Completing.{segment_after_need, segment_of_name, is_text_segment as in_text_segment};
 
 use mips_isa::register::{V0, ZERO};
 use mips_isa::system_call::EXIT;
@@ -66,7 +66,7 @@ fn is_labelled(line: &Line, name: &[u8]) -> bool
 
 /// The segment that is open after a statement.
 fn segment_after(statement: &Statement, segment: Segment) -> Segment
-    ensures { result ≡ segment_behind (need (statement_of statement.now)) segment }
+    ensures { result ≡ segment_after_need (need (statement_of statement.now)) segment }
 {
     match statement {
         Statement::Directive(AsmDirective::ToText) => Segment::Text,

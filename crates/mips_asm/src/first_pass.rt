@@ -4,12 +4,12 @@ ghost use Rattle.std.specs.Prelude.{◌≡◌, ◌+◌, ◌<◌, [], length};
 ghost use Rattle.mips_isa.specs.Lines.{statement_of, line_of, IsInRange, AreInRange};
 ghost use Rattle.mips_asm.specs.Passes.{Fits, seen_lines, shown, Steps, Passes};
 
-use crate::position::{Position, behind_need, is_in_wrong_segment, need_of_statement};
+use crate::position::{Position, is_in_wrong_segment, need_of_statement, position_after};
 use crate::table::{Table, define_labels};
 use mips_isa::{AsmError, AsmFault, AsmKind, Line, Segment};
 use std::alloc::Global;
 
-/// The position behind a line, whose labels are put into the table, or the line's fault.
+/// The position after a line, whose labels are put into the table, or the line's fault.
 fn step<'a>(
     table: &mut Table<'a>,
     position: Position,
@@ -30,7 +30,7 @@ fn step<'a>(
         }));
     }
     define_labels(table, &line.labels, index, number)?;
-    match behind_need(need, position) {
+    match position_after(need, position) {
         Some(next) => Ok(next),
         None => Err(AsmError::Fault(AsmFault {
             kind: AsmKind::A9,
@@ -39,7 +39,7 @@ fn step<'a>(
     }
 }
 
-/// The position before each line and behind the last one, or the first fault of the first pass. The labels are put into the table.
+/// The position before each line and after the last one, or the first fault of the first pass. The labels are put into the table.
 pub fn find_positions<'a>(
     alloc: Global,
     lines: &[&'a Line],

@@ -71,7 +71,7 @@ fn place_before(position: Position, item: u32) -> Place
     }
 }
 
-/// The place of a label of each line, from the position before each line and behind the last one.
+/// The place of a label of each line, from the position before each line and after the last one.
 fn find_places(
     alloc: Global,
     lines: &[&Line],

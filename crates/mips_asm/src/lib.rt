@@ -28,7 +28,7 @@ use std::alloc::{AllocError, Global};
 ///
 /// The first pass places the labels and finds, line by line, a statement in the wrong segment (A8), a label that was defined
 /// before (A5), and a segment that is too large (A9). The second one assembles, and finds a name without a place (A6), a target
-/// that is too far or not in text (A7), and, behind the last line, that `__start` is no label of a word (A6). Where only `main`
+/// that is too far or not in text (A7), and, after the last line, that `__start` is no label of a word (A6). Where only `main`
 /// is defined, a call of it and an exit are added. `Memory` comes only for want of memory.
 pub fn assemble(alloc: Global, lines: &[Line]) -> Result<Image, AsmError>
     requires few { length lines.now < 4294967292 }

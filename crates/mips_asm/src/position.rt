@@ -2,8 +2,8 @@
 
 ghost use Rattle.std.specs.Prelude.{◌≡◌, ◌+◌, ◌-◌, ◌*◌, ◌/◌, ◌<◌, ◌≤◌, MatchOption, true, false};
 ghost use Rattle.mips_isa.specs.Lines.{statement_of, instruction_of, data_item_of, directive_of, IsInRange, IsDirectiveInRange};
-ghost use Rattle.mips_isa.specs.Assembly.{need, words_of_instruction, need_of_data, need_of_directive, behind, is_wrong, item_or, up};
-ghost use Rattle.mips_asm.specs.Passes.{position_of, need_of, IsSmall, Fits, IsBehind};
+ghost use Rattle.mips_isa.specs.Assembly.{need, words_of_instruction, need_of_data, need_of_directive, after_need, is_wrong, item_or, up};
+ghost use Rattle.mips_asm.specs.Passes.{position_of, need_of, IsSmall, Fits, IsAfter};
 
 use mips_isa::{
     AsmDirective, AsmInstr, DataItem, MOST_DATA_BYTES, MOST_TEXT_WORDS, Segment, Statement,
@@ -121,7 +121,7 @@ pub fn is_in_wrong_segment(need: Need, segment: Segment) -> bool
 }
 
 /// The position after a number of bytes that begin at a place of the data, unless the data are then too large.
-fn behind_bytes(position: Position, first: u32, count: usize, unit: u32) -> Option<Position>
+fn after_bytes(position: Position, first: u32, count: usize, unit: u32) -> Option<Position>
     requires first { first ≤ MOST_DATA_BYTES + 4096 }
     requires unit { (0 < unit) × (unit ≤ 4) }
     ensures { MatchOption result (MOST_DATA_BYTES < first + unit * count) (λ p. (p ≡ record position { bytes = first + unit * count }) × (first + unit * count ≤ MOST_DATA_BYTES)) }
@@ -140,21 +140,19 @@ fn behind_bytes(position: Position, first: u32, count: usize, unit: u32) -> Opti
     })
 }
 
-/// The position behind a statement that needs this, unless a segment is then too large.
-pub fn behind_need(need: Need, position: Position) -> Option<Position>
+/// The position after a statement that needs this, unless a segment is then too large.
+pub fn position_after(need: Need, position: Position) -> Option<Position>
     requires fits { Fits position.words position.bytes }
     requires small { IsSmall need }
-    ensures { IsBehind need position result }
+    ensures { IsAfter need position result }
 {
     match need {
         Need::Nothing => Some(position),
-        Need::Words(count) => behind_words(position, count),
+        Need::Words(count) => after_words(position, count),
         Need::WordItems(count) => {
-            behind_bytes(position, up_to_multiple(4, position.bytes), count, 4)
+            after_bytes(position, up_to_multiple(4, position.bytes), count, 4)
         }
-        Need::Bytes(count) => {
-            behind_bytes(position, up_to_multiple(1, position.bytes), count, 1)
-        }
+        Need::Bytes(count) => { after_bytes(position, up_to_multiple(1, position.bytes), count, 1) }
         Need::Switch(segment) => Some(Position {
             words: position.words,
             bytes: position.bytes,
@@ -162,13 +160,13 @@ pub fn behind_need(need: Need, position: Position) -> Option<Position>
         }),
         Need::Padding(unit) => match position.segment {
             Segment::Text => Some(position),
-            Segment::Data => { behind_bytes(position, up_to_multiple(unit, position.bytes), 0, 1) }
+            Segment::Data => { after_bytes(position, up_to_multiple(unit, position.bytes), 0, 1) }
         },
     }
 }
 
 /// The position after a number of words of text, unless the text is then too large.
-fn behind_words(position: Position, count: u32) -> Option<Position>
+fn after_words(position: Position, count: u32) -> Option<Position>
     requires words { position.words ≤ MOST_TEXT_WORDS }
     requires count { count ≤ 2 }
     ensures { MatchOption result (MOST_TEXT_WORDS < position.words + count) (λ p. (p ≡ record position { words = position.words + count }) × (position.words + count ≤ MOST_TEXT_WORDS)) }

@@ -6,7 +6,7 @@ ghost use Rattle.mips_isa.specs.Words.{word_of, InRange};
 ghost use Rattle.mips_isa.specs.Lines.{line_of, statement_of, instruction_of, directive_of, IsInRange, IsInstructionInRange, IsDirectiveInRange, AreInRange};
 ghost use Rattle.mips_isa.specs.Assembly.{expansion, address_or_zero, need, need_of_directive, first_pass, start_position, start_name, place_of};
 ghost use Rattle.mips_asm.specs.Places.{places_of};
-ghost use Rattle.mips_asm.specs.Completing.{segment_behind};
+ghost use Rattle.mips_asm.specs.Completing.{segment_after_need};
 ghost use Rattle.mips_asm.specs.Parts.{expanded, instruction_fault, target_in, target_address, IsError, statement_fault, words_of_statement, bytes_of_statement, zeros, last_fault, IsWordPlace, IsImageOrFault};
 ghost use Rattle.mips_isa.specs.declared.asm_fault.AsmError.TheVariants.{Memory};
 
@@ -58,7 +58,7 @@ impl Output {
         ensures checked { OnOk result (statement_fault (places_of labels.now) (length self.old.text.items) (statement_of statement.now) ≡ None) }
         ensures text { OnOk result (self.new.text.items ≡ self.old.text.items ++ words_of_statement (places_of labels.now) (length self.old.text.items) (statement_of statement.now)) }
         ensures bytes { OnOk result (self.new.bytes.items ≡ self.old.bytes.items ++ bytes_of_statement (places_of labels.now) self.old.segment (length self.old.bytes.items) (statement_of statement.now)) }
-        ensures segment { OnOk result (self.new.segment ≡ segment_behind (need (statement_of statement.now)) self.old.segment) }
+        ensures segment { OnOk result (self.new.segment ≡ segment_after_need (need (statement_of statement.now)) self.old.segment) }
         ensures error { IfErr result (IsError number (statement_fault (places_of labels.now) (length self.old.text.items) (statement_of statement.now))) }
     {
         match statement {
@@ -78,7 +78,7 @@ impl Output {
         requires ranges { IsDirectiveInRange (directive_of directive.now) }
         ensures text { self.new.text ≡ self.old.text }
         ensures bytes { OnOk result (self.new.bytes.items ≡ self.old.bytes.items ++ replicate (zeros (need_of_directive (directive_of directive.now)) self.old.segment (length self.old.bytes.items)) 0) }
-        ensures segment { OnOk result (self.new.segment ≡ segment_behind (need_of_directive (directive_of directive.now)) self.old.segment) }
+        ensures segment { OnOk result (self.new.segment ≡ segment_after_need (need_of_directive (directive_of directive.now)) self.old.segment) }
     {
         match directive {
             AsmDirective::ToText => self.segment = Segment::Text,

@@ -104,7 +104,7 @@ fn is_half(words: i32) -> bool
     -32768 <= words && words <= 32767
 }
 
-/// The words from the instruction behind an address to a target.
+/// The words from the instruction after an address to a target.
 pub fn words_to(at: u32, target: u32) -> i32
     requires { at ≤ DATA_START + 4 }
     ensures { result ≡ offset at target }

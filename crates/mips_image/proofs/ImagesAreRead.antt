@@ -23,7 +23,7 @@ words_at-word_bytes [] rest h = refl
 words_at-word_bytes (n ∷ words) rest h =
     same_cons (word_at-word_bytes n (flat_map word_bytes words ++ rest) h.0) (words_at-word_bytes words rest h.1)
 
--- behind the words stands the rest
+-- after the words stands the rest
 drop-word_bytes : (words rest : List ℕ) → drop (4 * length words) (flat_map word_bytes words ++ rest) ≡ rest
 drop-word_bytes [] rest = refl
 drop-word_bytes (n ∷ words) rest =

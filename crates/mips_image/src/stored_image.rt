@@ -15,7 +15,7 @@ pub struct StoredImage {
 /// A byte that begins no text, and the letters CMI.
 pub const MAGIC: [u8; 4] = [0x7f, b'C', b'M', b'I'];
 
-/// Where the version stands in the bytes, behind the magic.
+/// Where the version stands in the bytes, after the magic.
 pub const VERSION_PLACE: usize = 4;
 
 /// Where the number of words of the text stands.

@@ -44,7 +44,7 @@ entry_of_zeros P false x y here same = absurd cc
 tested : {X : Type 0} (a b : ℕ) (x rest : Option X) (y : X) → (if a == b then x else rest) ≡ Some y → ((a ≡ b) × (x ≡ Some y)) ⊎ (rest ≡ Some y)
 tested a b x rest y same = grind arith
 
--- a row's test, and the rows behind it
+-- a row's test, and the rows after it
 test : {X : Type 0} (P : X → Type 0) (a b : ℕ) (x rest : Option X) (y : X) → (a ≡ b → x ≡ Some y → P y) → (rest ≡ Some y → P y) → (if a == b then x else rest) ≡ Some y → P y
 test P a b x rest y here behind same = elim (tested a b x rest y same) [ inl t ↦ here t.0 t.1 | inr t ↦ behind t ]
 

@@ -9,11 +9,11 @@ use Rattle.mips_isa.specs.Machine.{Core, Next, On, Call, step, act, word_of_text
 use Rattle.mips_isa.specs.Calls.{State, Outcome, call}
 use Rattle.mips_isa.specs.Run.{after, and_then, run}
 
--- the word behind k others
-word_behind : (k : ℕ) (text : List ℕ) (word : ℕ) (rest : List ℕ) → drop k text ≡ word ∷ rest → get_or text k 0 ≡ word
-word_behind zero text word rest there = ap (λ l. get_or l 0 0) there
-word_behind (suc k) [] word rest there = absurd cc
-word_behind (suc k) (w ∷ text) word rest there = word_behind k text word rest there
+-- the word after k others
+word_after : (k : ℕ) (text : List ℕ) (word : ℕ) (rest : List ℕ) → drop k text ≡ word ∷ rest → get_or text k 0 ≡ word
+word_after zero text word rest there = ap (λ l. get_or l 0 0) there
+word_after (suc k) [] word rest there = absurd cc
+word_after (suc k) (w ∷ text) word rest there = word_after k text word rest there
 
 pub drop_one_more : (k : ℕ) (text : List ℕ) (word : ℕ) (rest : List ℕ) → drop k text ≡ word ∷ rest → drop (suc k) text ≡ rest
 drop_one_more zero text word rest there = ap (λ l. drop 1 l) there
@@ -34,10 +34,10 @@ text_step text k word rest b s i end there at is =
     let even : (s.pc % 4 == 0) ≡ true = grind (arith, at) in
     let lying : lies TEXT_START b.text_end s.pc 4 ≡ true = grind (arith, at, end, within) in
     let index : (s.pc - TEXT_START) / 4 ≡ k = omega (arith, at) in
-    let here : word_of_text text s.pc ≡ word = rw index (word_behind k text word rest there) in
+    let here : word_of_text text s.pc ≡ word = rw index (word_after k text word rest there) in
     rw (even, lying, here, is) refl
 
--- a run goes on behind an instruction, and behind a call
+-- a run goes on after an instruction, and after a call
 pub run_on : (text : List ℕ) (b : Segments) (n : ℕ) (s : State) (core : Core) → step text b s.core ≡ On core → run text b (suc n) s ≡ run text b n (record s { core = core })
 run_on text b n s core done = ap (λ next. and_then (after b s next) (run text b n)) done
 

@@ -97,15 +97,15 @@ abbrev pub padded : Segment → ℕ → Position → Position
 padded Text unit p = p
 padded Data unit p = record p { bytes = up unit p.bytes }
 
-abbrev pub behind : Need → Position → Position
-behind Nothing p = p
-behind (Words n) p = record p { words = p.words + n }
-behind (Item unit size) p = record p { bytes = up unit p.bytes + size }
-behind (Switch segment) p = record p { segment = segment }
-behind (Padding unit) p = padded p.segment unit p
+abbrev pub after_need : Need → Position → Position
+after_need Nothing p = p
+after_need (Words n) p = record p { words = p.words + n }
+after_need (Item unit size) p = record p { bytes = up unit p.bytes + size }
+after_need (Switch segment) p = record p { segment = segment }
+after_need (Padding unit) p = padded p.segment unit p
 
-abbrev pub behind_line : Line → Position → Position
-behind_line line p = behind (need line.statement) p
+abbrev pub after_line : Line → Position → Position
+after_line line p = after_need (need line.statement) p
 
 -- Places
 
@@ -120,7 +120,7 @@ item_or (Padding unit) p other = other
 -- where the next item of data begins, after its padding; without one, the end of the data
 abbrev pub next_item : Position → List Line → ℕ
 next_item p [] = p.bytes
-next_item p (line ∷ rest) = item_or (need line.statement) p (next_item (behind_line line p) rest)
+next_item p (line ∷ rest) = item_or (need line.statement) p (next_item (after_line line p) rest)
 
 -- the place of a label before these lines
 abbrev pub place_in : Segment → Position → List Line → Place
@@ -134,7 +134,7 @@ has names name = list_any (bytes_eq name) names
 abbrev pub place_from : Position → List Line → Name → Option Place
 place_from p [] name = None
 place_from p (line ∷ rest) name =
-    if has line.labels name then Some (place_in p.segment p (line ∷ rest)) else place_from (behind_line line p) rest name
+    if has line.labels name then Some (place_in p.segment p (line ∷ rest)) else place_from (after_line line p) rest name
 
 abbrev pub place_of : List Line → Name → Option Place
 place_of lines name = place_from start_position lines name
@@ -183,7 +183,7 @@ completed lines = if not (is_some (place_of lines start_name)) && in_text (place
 
 -- What a statement is assembled to, where names have addresses
 
--- the words from the instruction behind an address to a target
+-- the words from the instruction after an address to a target
 abbrev pub offset : ℕ → ℕ → ℤ
 offset at target = if nat_le (at + 4) target then pos ((target - (at + 4)) / 4) else negsuc ((at + 4 - target) / 4 - 1)
 
@@ -260,12 +260,12 @@ padding (Padding unit) p = padding_to p.segment unit p.bytes
 abbrev pub text_from : (Name → ℕ) → Position → List Line → List ℕ
 text_from address p [] = []
 text_from address p (line ∷ rest) =
-    map word_of (instructions address (TEXT_START + 4 * p.words) line.statement) ++ text_from address (behind_line line p) rest
+    map word_of (instructions address (TEXT_START + 4 * p.words) line.statement) ++ text_from address (after_line line p) rest
 
 abbrev pub bytes_from : (Name → ℕ) → Position → List Line → List ℕ
 bytes_from address p [] = []
 bytes_from address p (line ∷ rest) =
-    replicate (padding (need line.statement) p) 0 ++ (item_bytes address line.statement ++ bytes_from address (behind_line line p) rest)
+    replicate (padding (need line.statement) p) 0 ++ (item_bytes address line.statement ++ bytes_from address (after_line line p) rest)
 
 -- the image of lines that are already completed
 abbrev pub image_of_all : List Line → ImageParts
@@ -297,7 +297,7 @@ abbrev pub defining_fault : List Name → Position → Line → Option AsmKind
 defining_fault seen p line =
     if is_wrong (need line.statement) p.segment then Some A8
     else (if any_twice seen line.labels then Some A5
-    else (if is_too_large (behind_line line p) then Some A9 else None))
+    else (if is_too_large (after_line line p) then Some A9 else None))
 
 abbrev pub fault_or : ℕ → Option AsmKind → Option AsmFault → Option AsmFault
 fault_or number None other = other
@@ -306,7 +306,7 @@ fault_or number (Some kind) other = Some (record { kind = kind; line = number })
 abbrev pub first_pass : List Name → Position → ℕ → List Line → Option AsmFault
 first_pass seen p number [] = None
 first_pass seen p number (line ∷ rest) =
-    fault_or number (defining_fault seen p line) (first_pass (seen ++ line.labels) (behind_line line p) (suc number) rest)
+    fault_or number (defining_fault seen p line) (first_pass (seen ++ line.labels) (after_line line p) (suc number) rest)
 
 -- Faults of the second pass: a name without a place, a target that is too far or not in text
 
@@ -344,7 +344,7 @@ used (Instruction i) = names_of_instruction i
 used (statements.Data item) = names_of_data item
 used (Directive directive) = []
 
--- a branch at an address reaches a label of text from -32768 to 32767 words behind the next instruction
+-- a branch at an address reaches a label of text from -32768 to 32767 words after the next instruction
 abbrev pub is_reach : ℤ → Bool
 is_reach (pos n) = nat_lt n 32768
 is_reach (negsuc n) = nat_lt n 32768
@@ -386,13 +386,13 @@ using_fault place p line =
     if any_without_place place (used line.statement) then Some A6
     else (if not (reaches place (TEXT_START + 4 * p.words) line.statement) then Some A7 else None)
 
--- behind the last line, `__start` has to be the label of a word of the text
+-- after the last line, `__start` has to be the label of a word of the text
 abbrev pub start_fault : Option Place → Position → Option AsmKind
 start_fault place p = if in_text place && nat_lt (address_or_zero place) (TEXT_START + 4 * p.words) then None else Some A6
 
 abbrev pub second_pass : (Name → Option Place) → Position → ℕ → List Line → Option AsmFault
 second_pass place p number [] = fault_or number (start_fault (place start_name) p) None
-second_pass place p number (line ∷ rest) = fault_or number (using_fault place p line) (second_pass place (behind_line line p) (suc number) rest)
+second_pass place p number (line ∷ rest) = fault_or number (using_fault place p line) (second_pass place (after_line line p) (suc number) rest)
 
 abbrev pub first_or : Option AsmFault → Option AsmFault → Option AsmFault
 first_or None other = other

@@ -119,7 +119,7 @@ with_v0 s v = record s { core = record s.core { registers = set_register s.core.
 abbrev pub after_taking : State → Taken → State
 after_taking s t = record s { input = t.rest; ended = t.ended }
 
--- pc stands behind the call
+-- pc stands after the call
 abbrev pub bad_address : State → Outcome
 bad_address s = Trapped (record { kind = BadAddress; address = a0 s; pc = s.core.pc - 4 }) s
 

@@ -9,7 +9,7 @@ pub const DATA_START: u32 = 0x1000_0000;
 /// The address of the first byte of the heap.
 pub const HEAP_START: u32 = 0x2000_0000;
 
-/// The address behind the last byte of the stack.
+/// The address after the last byte of the stack.
 pub const STACK_END: u32 = 0x8000_0000;
 
 /// The most words of a text: those up to where the data begins.

@@ -106,7 +106,7 @@ pub enum MemOp {
 
 /// An instruction of the integer R2000, one variant for each row of the instruction table.
 ///
-/// Immediates of branches count instructions from the one behind the branch. The index of a jump is its target divided
+/// Immediates of branches count instructions from the one after the branch. The index of a jump is its target divided
 /// by 4, without the upper four bits.
 #[derive(Clone, Copy, Debug, PartialEq, Eq)]
 pub enum Instr {

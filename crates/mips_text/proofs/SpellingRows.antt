@@ -26,16 +26,16 @@ operands_written {A} text out old start name xs index h e inv =
     sym (append-nil out) ∙ (sym done ∙ (inv ∙ (ap (λ (s : List ℕ). s ++ operands_left text 0 xs) e ∙ append_assoc old name (operands_left text 0 xs))))
 
 -- the same bytes, grouped from the right
-regroup_behind : (a b c d : List ℕ) → (a ++ (b ++ c)) ++ d ≡ a ++ (b ++ (c ++ d))
-regroup_behind a b c d = simp append_assoc
+regroup_after : (a b c d : List ℕ) → (a ++ (b ++ c)) ++ d ≡ a ++ (b ++ (c ++ d))
+regroup_after a b c d = simp append_assoc
 
--- an operand behind the others
+-- an operand after the others
 pub operands_snoc : (index : ℕ) (operands : List (List ℕ)) (last : List ℕ) → operands_text index (operands ++ last ∷ []) ≡ operands_text index operands ++ (gap_text (index + length operands) ++ last)
 operands_snoc index [] last = rw (append-nil last, add-zero index) refl
 operands_snoc index (operand ∷ operands) last =
     let n : suc index + length operands ≡ index + length (operand ∷ operands) = omega arith in
     let behind = operands_snoc (suc index) operands last ∙ ap (λ (k : ℕ). operands_text (suc index) operands ++ (gap_text k ++ last)) n in
-    ap (λ (t : List ℕ). gap_text index ++ (operand ++ t)) behind ∙ sym (regroup_behind (gap_text index) operand (operands_text (suc index) operands) (gap_text (index + length (operand ∷ operands)) ++ last))
+    ap (λ (t : List ℕ). gap_text index ++ (operand ++ t)) behind ∙ sym (regroup_after (gap_text index) operand (operands_text (suc index) operands) (gap_text (index + length (operand ∷ operands)) ++ last))
 
 -- the same bytes, grouped from the right
 regroup_row : (old name left gap last : List ℕ) → ((old ++ (name ++ left)) ++ gap) ++ last ≡ old ++ (name ++ (left ++ (gap ++ last)))

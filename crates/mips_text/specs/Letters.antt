@@ -11,6 +11,6 @@ blank byte = byte == 32 || byte == 9 || byte == 13 || byte == 44
 abbrev pub name_start : ℕ → Bool
 name_start byte = is_in_range 65 90 byte || is_in_range 97 122 byte || byte == 95 || byte == 46
 
--- a digit may stand behind
+-- a digit may follow
 abbrev pub name_rest : ℕ → Bool
 name_rest byte = name_start byte || is_ascii_digit byte

@@ -17,7 +17,7 @@ use Rattle.mips_text.specs.Spelling.{register_operand, letter_text, row_text}
 abbrev pub registers_text : Mnemonic → List ℕ → List ℕ
 registers_text mnemonic registers = row_text (mnemonic_text mnemonic) (map register_operand registers)
 
--- a mnemonic, registers, and an operand behind them
+-- a mnemonic, registers, and an operand after them
 abbrev pub ended_text : Mnemonic → List ℕ → List ℕ → List ℕ
 ended_text mnemonic registers last = row_text (mnemonic_text mnemonic) (map register_operand registers ++ last ∷ [])
 
@@ -106,7 +106,7 @@ line_text line = flat_map label_text line.labels ++ (statement_text line.stateme
 abbrev pub printed : List Line → List ℕ
 printed = flat_map line_text
 
--- worked examples: a label and registers, memory behind a negative offset, words, a string with an escape, and two lines
+-- worked examples: a label and registers, memory after a negative offset, words, a string with an escape, and two lines
 text_of_addu : line_text (record { labels = codes "main" ∷ []; statement = Instruction (Plain (instructions.Three Addu 2 4 0)) })
     ≡ codes "main: addu $v0, $a0, $zero\n"
 text_of_addu = refl

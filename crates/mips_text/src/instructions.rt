@@ -89,7 +89,7 @@ fn take_jr(words: &mut Words) -> Result<AsmInstr, Flaw>
     Ok(AsmInstr::Plain(Instr::Jr { rs }))
 }
 
-/// One register alone is where the jump goes; the address behind it is then saved in `$ra`.
+/// One register alone is where the jump goes; the address after it is then saved in `$ra`.
 fn take_jalr(words: &mut Words) -> Result<AsmInstr, Flaw>
     ensures { IfOk result (λ i. IsInstructionInRange (instruction_of i)) }
 {

@@ -18,14 +18,14 @@ pub(crate) fn begins_name(byte: u8) -> bool
     matches!(byte, b'A'..=b'Z' | b'a'..=b'z' | b'_' | b'.')
 }
 
-/// Whether a byte stands behind the first one of a name.
+/// Whether a byte stands after the first one of a name.
 pub(crate) fn continues_name(byte: u8) -> bool
     ensures { result ≡ name_rest byte }
 {
     begins_name(byte) || byte.is_ascii_digit()
 }
 
-/// Whether a byte stands behind the `$` of a register.
+/// Whether a byte stands after the `$` of a register.
 pub(crate) fn continues_register(byte: u8) -> bool
     ensures { result ≡ is_ascii_alphanumeric byte }
 {

@@ -33,14 +33,14 @@ impl Base {
     }
 }
 
-/// A number without its sign, and the bytes behind it.
+/// A number without its sign, and the bytes after it.
 #[derive(Clone, Copy, Debug)]
 struct Magnitude<'a> {
     value: u64,
     behind: &'a [u8],
 }
 
-/// A number, and the bytes behind it.
+/// A number, and the bytes after it.
 #[derive(Clone, Copy, Debug)]
 pub(crate) struct Number<'a> {
     pub(crate) value: i64,

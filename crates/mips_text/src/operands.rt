@@ -99,7 +99,7 @@ pub(crate) fn take_memory(words: &mut Words) -> Result<Memory, Flaw>
     }
 }
 
-/// Takes the offset of an operand in memory, and the parenthesis behind it.
+/// Takes the offset of an operand in memory, and the parenthesis after it.
 fn take_offset(words: &mut Words) -> Result<i32, Flaw>
     ensures { IfOk result IsSigned }
 {

@@ -39,7 +39,7 @@ pub fn read_asm(alloc: Global, bytes: &[u8]) -> Result<Vec<Line>, AsmError>
     Ok(lines)
 }
 
-/// The bytes of a line, without its newline, and those behind it.
+/// The bytes of a line, without its newline, and those after it.
 #[derive(Clone, Copy, Debug)]
 struct Parted<'a> {
     line: &'a [u8],

@@ -13,7 +13,7 @@ pub(crate) enum Word<'a> {
     Number(i64),
     /// What stands between the quotes of a string, with its escapes.
     Text(&'a [u8]),
-    /// What stands behind a `$`.
+    /// What stands after a `$`.
     Register(&'a [u8]),
     Colon,
     Open,
@@ -28,7 +28,7 @@ pub(crate) struct Words<'a> {
     rest: &'a [u8],
 }
 
-/// A word, and the bytes behind it.
+/// A word, and the bytes after it.
 #[derive(Clone, Copy, Debug)]
 struct Cut<'a> {
     word: Word<'a>,
@@ -74,12 +74,12 @@ impl<'a> Words<'a> {
     fn skip_blanks(&mut self)
         ensures { length self.new.rest.now ≤ length self.old.rest.now }
     {
-        self.rest = behind_blanks(self.rest);
+        self.rest = after_blanks(self.rest);
     }
 }
 
 /// The bytes from the first one that is no blank.
-fn behind_blanks(bytes: &[u8]) -> &[u8]
+fn after_blanks(bytes: &[u8]) -> &[u8]
     ensures { length result.now ≤ length bytes.now }
 {
     let mut rest = bytes;

@@ -7,7 +7,7 @@ use mips_isa::Trap;
 pub enum Step {
     /// The next instruction.
     Next,
-    /// A system call; pc stands behind it.
+    /// A system call; pc stands after it.
     Call,
     /// A trap, which changed nothing.
     Trap(Trap),

@@ -34,7 +34,7 @@ may_store_fewer s a (suc n) all =
     let parts = and_parts (writable s a 1) (all_writable s (a + 1) (n + 1)) (rw next at all) in
     rw (parts.0, may_store_fewer s (a + 1) n parts.1) refl
 
--- one more byte behind the others
+-- one more byte after the others
 pub set_bytes-append : (m : Bytes) (a : ℕ) (said : List ℕ) (byte : ℕ) → set_bytes m a (said ++ byte ∷ []) ≡ set_byte (set_bytes m a said) (a + length said) byte
 set_bytes-append m a [] byte =
     let here : a ≡ a + 0 = omega arith in
@@ -140,12 +140,12 @@ stored_failed was ended most before mid after old now address end failed s withi
     let some = took_some _ _ (asks_more t.0) mid after was ended failed gave in
     (some.0, taking_some _ _ before mid after s.said t.2 some.1)
 
--- one more byte may be stored behind those that a call took
+-- one more byte may be stored after those that a call took
 pub stored_within : (s : Segments) (was ended : Bool) (most : ℕ) (before after : Option (List ℕ)) (old new : Core) (address end : ℕ) → StoredAll was most before ended after old new address end → all_writable s address (most + 1) ≡ true → writable s end 1 ≡ true
 stored_within s was ended most before after old new address end (got, took, behind, count, core) all =
     may_store_at s address (most + 1) end all (omega (arith, behind)) (omega (arith, behind, count))
 
--- a 0 behind the bytes
+-- a 0 after the bytes
 pub stored_zero : (was ended last : Bool) (most : ℕ) (before after : Option (List ℕ)) (old now new : Core) (address end : ℕ) → StoredAll was most before ended after old now address end → last ≡ ended → new ≡ with_byte now end 0 → (got : List ℕ) × TookAll (asked was most) got before last after × (new ≡ with_bytes old address (got ++ 0 ∷ []))
 stored_zero was ended last most before after old now new address end (got, took, behind, count, core) same next =
     rw same (got, took, with_bytes-append old now new address end got 0 core behind next)

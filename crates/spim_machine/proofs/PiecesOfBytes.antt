@@ -11,7 +11,7 @@ are_bytes m (x ∷ xs) a each =
     let next : (i : ℕ) → a + suc i ≡ a + 1 + i = λ i. omega arith in
     ap₂ ◌∷◌ (each 0 (omega arith) ∙ ap m first) (are_bytes m xs (a + 1) (λ i within. each (suc i) (omega (arith, within)) ∙ ap m (next i)))
 
--- some bytes, and those behind them
+-- some bytes, and those after them
 pub two_pieces : (m : Bytes) (a n k : ℕ) → bytes_from m a n ++ bytes_from m (a + n) k ≡ bytes_from m a (n + k)
 two_pieces m a zero k =
     let same : a + 0 ≡ a = omega arith in
@@ -31,7 +31,7 @@ all_left m a count =
     let all : count - 0 ≡ count = omega arith in
     ap₂ (bytes_from m) start all
 
--- a piece of the bytes that are left, and those that are left behind it
+-- a piece of the bytes that are left, and those that are left after it
 pub next_piece : (m : Bytes) (a done size count : ℕ) (piece : List ℕ) → piece ≡ bytes_from m (a + done) size → done + size ≤ count
     → piece ++ bytes_from m (a + (done + size)) (count - (done + size)) ≡ bytes_from m (a + done) (count - done)
 next_piece m a done size count piece same within =

@@ -1,4 +1,4 @@
--- A run that goes on: one more instruction, the end in that instruction, and one budget behind another.
+-- A run that goes on: one more instruction, the end in that instruction, and one budget after another.
 use Rattle.std.proofs.Common.{◌≡◌, ◌≢◌, ◌∙◌, refl, sym, ap, ℕ, suc, ◌+◌, ◌-◌, ◌<◌, List, Option, Bool, arith}
 use Rattle.std.specs.Prelude.{Err}
 use Rattle.mips_isa.specs.declared.trap.Trap.{Trap}
@@ -13,22 +13,22 @@ use Rattle.spim_machine.specs.Machine.{MachineParts, state_of, IsIn}
 use Rattle.spim_cpu.specs.Cpu.{core_of}
 use Rattle.spim_machine.specs.Ends.{Cycled, ComesToCall, Ran}
 
--- behind an instruction that goes on comes the next one
+-- after an instruction that goes on comes the next one
 pub run_next : (text : List ℕ) (b : Segments) (k : ℕ) (s t u : State) → run text b k s ≡ Running t → cycle text b t ≡ Running u → run text b (k + 1) s ≡ Running u
 run_next text b k s t u runs next = run_sum text b k 1 s ∙ rw (runs, next) refl
 
--- of a longer run, what comes behind the instructions that go on
-run_behind : (text : List ℕ) (b : Segments) (k n : ℕ) (s t : State) → run text b k s ≡ Running t → k < n → run text b n s ≡ and_then (cycle text b t) (run text b (n - (k + 1)))
-run_behind text b k n s t runs below =
+-- of a longer run, what comes after the instructions that go on
+run_after : (text : List ℕ) (b : Segments) (k n : ℕ) (s t : State) → run text b k s ≡ Running t → k < n → run text b n s ≡ and_then (cycle text b t) (run text b (n - (k + 1)))
+run_after text b k n s t runs below =
     let parts : n ≡ k + suc (n - (k + 1)) = omega (arith, below) in
     ap (λ i. run text b i s) parts ∙ run_sum text b k (suc (n - (k + 1))) s ∙ rw runs refl
 
 -- where the next instruction exits or traps, so does each longer run
 pub run_exits : (text : List ℕ) (b : Segments) (k n code : ℕ) (s t u : State) → run text b k s ≡ Running t → cycle text b t ≡ Exited code u → k < n → run text b n s ≡ Exited code u
-run_exits text b k n code s t u runs next below = run_behind text b k n s t runs below ∙ rw next refl
+run_exits text b k n code s t u runs next below = run_after text b k n s t runs below ∙ rw next refl
 
 pub run_traps : (text : List ℕ) (b : Segments) (k n : ℕ) (trap : Trap) (s t u : State) → run text b k s ≡ Running t → cycle text b t ≡ Trapped trap u → k < n → run text b n s ≡ Trapped trap u
-run_traps text b k n trap s t u runs next below = run_behind text b k n s t runs below ∙ rw next refl
+run_traps text b k n trap s t u runs next below = run_after text b k n s t runs below ∙ rw next refl
 
 -- the end of the next instruction is that of each longer run
 pub ran_ends : (text : List ℕ) (b : Segments) (k n : ℕ) (s t : State) (first : Option (List ℕ)) (halt : Halt) (m : MachineParts) (left held : Option (List ℕ)) → run text b k s ≡ Running t → k < n → Cycled text b t first (Err halt) m left held → Ran text b n s first halt m left held
@@ -44,7 +44,7 @@ ran_ends text b k n s t first halts.WriteFault m left held runs below (core, cal
 pub ran_all : (text : List ℕ) (b : Segments) (k n : ℕ) (s t : State) (first : Option (List ℕ)) (m : MachineParts) (left held : Option (List ℕ)) → run text b k s ≡ Running t → k ≡ n → IsIn first t m left held → Ran text b n s first halts.StepLimit m left held
 ran_all text b k n s t first m left held runs all is = (t, ap (λ i. run text b i s) (sym all) ∙ runs, is)
 
--- a run behind a run, as one run
+-- a run after a run, as one run
 run_both : (text : List ℕ) (b : Segments) (m n : ℕ) (s t : State) → run text b m s ≡ Running t → run text b (m + n) s ≡ run text b n t
 run_both text b m n s t runs = run_sum text b m n s ∙ rw runs refl
 
@@ -68,7 +68,7 @@ ran_on_from text b m n s t first halts.StepLimit last left held runs (end, ends,
 ran_on_from text b m n s t first halts.ReadFault last left held runs (at, comes, fails) = (at, comes_on text b m n s t at runs comes, fails)
 ran_on_from text b m n s t first halts.WriteFault last left held runs (at, comes, fails) = (at, comes_on text b m n s t at runs comes, fails)
 
--- The law of two budgets: a run of n instructions behind one of m that spent its budget is as one of m + n.
+-- The law of two budgets: a run of n instructions after one of m that spent its budget is as one of m + n.
 pub ran_on : (text : List ℕ) (b : Segments) (m n : ℕ) (s : State) (first : Option (List ℕ)) (mid last : MachineParts) (halt : Halt) (left held left' held' : Option (List ℕ))
     → Ran text b m s first halts.StepLimit mid left held
     → ((t : State) → IsIn first t mid left held → Ran text b n t first halt last left' held')

@@ -88,7 +88,7 @@ front_of_two before mid after a b first second = first ∙ ap (with_front a) sec
 prepend-prepend : (a b : List ℕ) (t : Taken) → prepend a (prepend b t) ≡ prepend (a ++ b) t
 prepend-prepend a b t = ap (λ got. record t { got = got }) (sym (append_assoc a b t.got))
 
--- two parts of what it took, one behind the other
+-- two parts of what it took, one after the other
 pub taking_more : (ask mid_ask next : List ℕ → Taken) (before mid after : Option (List ℕ)) (a b : List ℕ) → TakingOn ask mid_ask before mid a → TakingOn mid_ask next mid after b → TakingOn ask next before after (a ++ b)
 taking_more ask mid_ask next before mid after a b s t = record {
   front = s.front ++ t.front;

@@ -79,7 +79,7 @@ Cycled text b s first (Err WriteFault) m left held =
     (core : Core) × (step text b s.core ≡ Call core) × FailsWriting (call_with b (record s { core = core })) (record s { core = core }) first left held
 Cycled text b s first (Err StepLimit) m left held = ⊥
 
--- A run from a state comes to a system call before its n-th instruction is done; pc stands behind the call.
+-- A run from a state comes to a system call before its n-th instruction is done; pc stands after the call.
 pub record ComesToCall (text : List ℕ) (b : Segments) (n : ℕ) (s at : State) : Type 0 where
   pub count : ℕ
   pub below : count < n

@@ -28,13 +28,13 @@ no_immediate : (op rs rt imm : ℕ) → 64 ≤ op → immediate_at op rs rt imm 
 no_immediate op rs rt imm large = rw (no_imm op large, no_mem op large) (no_branch op rs rt imm large)
 
 -- where op is that of none of the first three rows, the last is taken
-behind_rows : {X : Type 0} (op : ℕ) (x y z rest : X) → 64 ≤ op → (if op == 0 then x else (if op == 2 then y else (if op == 3 then z else rest))) ≡ rest
-behind_rows op x y z rest large = grind arith
+after_rows : {X : Type 0} (op : ℕ) (x y z rest : X) → 64 ≤ op → (if op == 0 then x else (if op == 2 then y else (if op == 3 then z else rest))) ≡ rest
+after_rows op x y z rest large = grind arith
 
 -- a number of more than 32 bits is the word of no instruction
 no_word : (word : ℕ) → 4294967296 ≤ word → decoded word ≡ None
 unfolding decoded
-no_word word large = behind_rows (word / 67108864) _ _ _ _ (omega (arith, large)) ∙ no_immediate (word / 67108864) _ _ _ (omega (arith, large))
+no_word word large = after_rows (word / 67108864) _ _ _ _ (omega (arith, large)) ∙ no_immediate (word / 67108864) _ _ _ (omega (arith, large))
 
 -- a number that is decoded has at most 32 bits
 decoded_is_word : (word : ℕ) (i : Instr) → decoded word ≡ Some i → word < 4294967296
@@ -52,17 +52,17 @@ item_of_map f l all i y d same within at =
     let inside : i < length l = omega (arith, within, same_length) in
     (inside, at y ∙ ap (λ k. get_or k i y) same ∙ get_or-map f l i d y inside)
 
--- how far behind the text's start an address is, as the machine's numbers wrap
-abbrev pub behind_start : ℕ → ℕ
-behind_start a = (a + 4290772992) % 4294967296
+-- how far after the text's start an address is, as the machine's numbers wrap
+abbrev pub after_start : ℕ → ℕ
+after_start a = (a + 4290772992) % 4294967296
 
 -- the instruction that is found for the address of a word is that of the word
 pub found_instruction : (text : List ℕ) (all : List (Option Instr)) (a : ℕ) (found : Option Instr) → length text ≤ 66060288 → all ≡ map decoded text → a < 4294967296 → a % 4 ≡ 0
-    → behind_start a / 4 < length all → ((e : Option Instr) → found ≡ get_or all (behind_start a / 4) e)
+    → after_start a / 4 < length all → ((e : Option Instr) → found ≡ get_or all (after_start a / 4) e)
     → Ok found ≡ accessed 4 (lies TEXT_START (TEXT_START + 4 * length text) a 4) a (decoded (word_of_text text a))
 found_instruction text all a found small same fits even within at =
-    let here = item_of_map decoded text all (behind_start a / 4) found 0 same within at in
-    let index : behind_start a / 4 ≡ (a - TEXT_START) / 4 = omega (arith, here.0, small, fits) in
+    let here = item_of_map decoded text all (after_start a / 4) found 0 same within at in
+    let index : after_start a / 4 ≡ (a - TEXT_START) / 4 = omega (arith, here.0, small, fits) in
     let may : lies TEXT_START (TEXT_START + 4 * length text) a 4 ≡ true = grind (arith, here.0, small, fits, even) in
     rw (even, may) (ap Ok (here.1 ∙ ap (λ i. decoded (get_or text i 0)) index))
 

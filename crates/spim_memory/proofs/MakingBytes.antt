@@ -10,11 +10,11 @@ use Rattle.mips_isa.specs.Bytes.{bytes_of_image}
 use Rattle.spim_memory.specs.Memory.{bytes_of}
 use Rattle.spim_memory.specs.Places.{whole_words}
 
--- zeros, and nothing behind them
+-- zeros, and nothing after them
 zeros : (n i : ℕ) → get_or {A = ℕ} (replicate n 0) i 0 ≡ 0
 zeros n i = grind (arith, get_or-replicate, get_or-eq_default, length-replicate)
 
--- zeros behind a list change nothing
+-- zeros after a list change nothing
 padded : (l : List ℕ) (n i : ℕ) → get_or (l ++ replicate n 0) i 0 ≡ get_or l i 0
 padded l n i = grind (arith, zeros, get_or-append, get_or-append_right, get_or-eq_default)
 

@@ -28,14 +28,14 @@ first_not_zero m a n each = ap (λ q. m q == 0) (sym (plus_zero a)) ∙ each 0 (
 first_may : (s : Segments) (a n : ℕ) → MayStore s a (suc n) → writable s a 1 ≡ true
 first_may s a n each = ap (λ q. writable s q 1) (sym (plus_zero a)) ∙ each 0 (omega arith)
 
--- the bytes behind the first
-no_zero-behind : (m : Bytes) (a n : ℕ) → HasNoZero m a (suc n) → HasNoZero m (a + 1) n
-no_zero-behind m a n each i within =
+-- the bytes after the first
+no_zero-after : (m : Bytes) (a n : ℕ) → HasNoZero m a (suc n) → HasNoZero m (a + 1) n
+no_zero-after m a n each i within =
     let next : a + 1 + i ≡ a + (i + 1) = omega arith in
     rw next (each (i + 1) (omega (arith, within)))
 
-may_store-behind : (s : Segments) (a n : ℕ) → MayStore s a (suc n) → MayStore s (a + 1) n
-may_store-behind s a n each i within =
+may_store-after : (s : Segments) (a n : ℕ) → MayStore s a (suc n) → MayStore s (a + 1) n
+may_store-after s a n each i within =
     let next : a + 1 + i ≡ a + (i + 1) = omega arith in
     rw next (each (i + 1) (omega (arith, within)))
 
@@ -48,12 +48,12 @@ first_zero m a zero (suc n) within ends each =
 first_zero m a (suc k) (suc n) within ends each =
     let next : a + suc k ≡ a + 1 + k = omega arith in
     let last : (m (a + 1 + k) == 0) ≡ true = rw next at ends in
-    rw (first_not_zero m a k each, first_zero m (a + 1) k n (omega (arith, within)) last (no_zero-behind m a k each)) refl
+    rw (first_not_zero m a k each, first_zero m (a + 1) k n (omega (arith, within)) last (no_zero-after m a k each)) refl
 
 -- no string
 pub no_zero : (m : Bytes) (a n : ℕ) → HasNoZero m a n → up_to_zero m a n ≡ None
 no_zero m a zero each = refl
-no_zero m a (suc n) each = rw (first_not_zero m a n each, no_zero m (a + 1) n (no_zero-behind m a n each)) refl
+no_zero m a (suc n) each = rw (first_not_zero m a n each, no_zero m (a + 1) n (no_zero-after m a n each)) refl
 
 -- a later byte before the end lies there, too
 lies_on : (low end a k : ℕ) → lies low end a 1 ≡ true → a + k < end → lies low end (a + k) 1 ≡ true
@@ -120,19 +120,19 @@ string_missing s m a end is each = rw (sym is) (no_zero m a (end - a) each)
 -- each byte may be stored
 pub all_may : (s : Segments) (a n : ℕ) → MayStore s a n → all_writable s a n ≡ true
 all_may s a zero each = refl
-all_may s a (suc n) each = rw (first_may s a n each, all_may s (a + 1) n (may_store-behind s a n each)) refl
+all_may s a (suc n) each = rw (first_may s a n each, all_may s (a + 1) n (may_store-after s a n each)) refl
 
 -- where the first bytes may be stored, the others decide
-pub all_behind : (s : Segments) (a k n : ℕ) → MayStore s a k → k ≤ n → all_writable s a n ≡ all_writable s (a + k) (n - k)
-all_behind s a zero n each within =
+pub all_after : (s : Segments) (a k n : ℕ) → MayStore s a k → k ≤ n → all_writable s a n ≡ all_writable s (a + k) (n - k)
+all_after s a zero n each within =
     let here : a + 0 ≡ a = omega arith in
     let all : n - 0 ≡ n = omega arith in
     rw (here, all) refl
-all_behind s a (suc k) zero each within = absurd (omega arith)
-all_behind s a (suc k) (suc n) each within =
+all_after s a (suc k) zero each within = absurd (omega arith)
+all_after s a (suc k) (suc n) each within =
     let next : a + suc k ≡ a + 1 + k = omega arith in
     let rest : suc n - suc k ≡ n - k = omega arith in
-    rw (next, rest, first_may s a k each) (all_behind s (a + 1) k n (may_store-behind s a k each) (omega (arith, within)))
+    rw (next, rest, first_may s a k each) (all_after s (a + 1) k n (may_store-after s a k each) (omega (arith, within)))
 
 -- the bytes of a segment of data, heap or stack may be stored
 store_within_at : (s : Segments) (a k end : ℕ) (d h w : Bool) → lies DATA_START s.data_end a 1 ≡ d → lies HEAP_START s.heap_end a 1 ≡ h → lies s.stack_low STACK_END a 1 ≡ w → (if d then Some s.data_end else (if h then Some s.heap_end else (if w then Some STACK_END else None))) ≡ Some end → a + k < end → writable s (a + k) 1 ≡ true

@@ -30,7 +30,7 @@ pub record IsMemory (m : MemoryParts) : Type 0 where
   pub heap_words : length m.heap % 4 ≡ 0
   pub stack_words : length m.stack % 4 ≡ 0
 
--- The byte at an address. Between the segments and behind the stack there is 0, and below the text its first byte, none of which
+-- The byte at an address. Between the segments and after the stack there is 0, and below the text its first byte, none of which
 -- may be loaded.
 abbrev pub bytes_of : MemoryParts → Bytes
 bytes_of m = λ a.

@@ -36,6 +36,6 @@ abbrev pub set_four : List ℕ → ℕ → ℕ → List ℕ
 set_four bytes i v =
     slice_set (slice_set (slice_set (slice_set bytes i (v % 256)) (i + 1) (v / 256 % 256)) (i + 2) (v / 65536 % 256)) (i + 3) (v / 16777216 % 256)
 
--- a list of bytes with zeros behind it up to a whole word
+-- a list of bytes with zeros after it up to a whole word
 abbrev pub whole_words : List ℕ → List ℕ
 whole_words bytes = bytes ++ replicate ((length bytes + 3) / 4 * 4 - length bytes) 0

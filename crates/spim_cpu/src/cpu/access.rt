@@ -118,7 +118,7 @@ impl Cpu {
         self.after_store(stored)
     }
 
-    /// Goes on behind a store that was done.
+    /// Goes on after a store that was done.
     fn after_store(&mut self, stored: Result<(), MemFault>) -> Step
         requires { self.old.pc < DATA_START }
         ensures stepped { Stepped (after_store (core_of self.old) stored) result self.old self.new }

@@ -29,7 +29,7 @@ use mips_isa::{Reg, STACK_END, Trap, TrapKind};
 const NO_ROOM: u32 = 0xffff_ffff;
 
 impl Machine {
-    /// The system call whose number is in `$v0`; pc stands behind it.
+    /// The system call whose number is in `$v0`; pc stands after it.
     ///
     /// `Exit` comes at exit and exit2. `Trap` comes at a number of no call, and at an address that the call may not touch;
     /// then nothing was read or written.
@@ -155,7 +155,7 @@ impl Machine {
         }
     }
 
-    /// Stores at most so many bytes of the input at an address, up to a newline, and a 0 behind them.
+    /// Stores at most so many bytes of the input at an address, up to a newline, and a 0 after them.
     fn fill<S: Source>(&mut self, address: u32, most: u32, source: &mut S) -> Result<(), Failed>
         requires writable { calls.all_writable (segments self.old.cpu.memory) address (most + 1) ≡ true }
         requires below { address + most < STACK_END }
@@ -172,7 +172,7 @@ impl Machine {
         Ok(())
     }
 
-    /// Stores at most so many bytes of the input at an address, up to a newline, and answers the address behind them.
+    /// Stores at most so many bytes of the input at an address, up to a newline, and answers the address after them.
     fn store_line<S: Source>(
         &mut self,
         address: u32,
@@ -285,7 +285,7 @@ impl Machine {
         self.cpu.set_register(Reg::new(V0), v);
     }
 
-    /// The address of the call, behind which pc stands.
+    /// The address of the call, after which pc stands.
     fn call_pc(&self) -> u32
         ensures { result ≡ self.now.cpu.pc - 4 }
     {

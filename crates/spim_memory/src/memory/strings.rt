@@ -63,7 +63,7 @@ impl Memory {
 
     /// Whether each of `count` bytes from an address on may be stored: the buffer that SPIM's `read_string` fills.
     ///
-    /// The bytes are looked up by segments, of which one may begin where another ends. No byte behind the last address may
+    /// The bytes are looked up by segments, of which one may begin where another ends. No byte after the last address may
     /// be stored.
     pub fn may_store(&self, a: u32, count: u32) -> bool
         ensures writable { result ≡ all_writable (segments self.now) a count }

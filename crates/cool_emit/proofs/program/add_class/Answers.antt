@@ -1,4 +1,4 @@
--- Constants stay few, and the methods stand behind the initializer.
+-- Constants stay few, and the methods stand after the initializer.
 use Rattle.std.proofs.Common.{flat_map, arith}
 use Rattle.mips_isa.specs.Lines.{lines_of}
 use Rattle.cool_emit.specs.Additions.{files_of}

@@ -1,4 +1,4 @@
--- Constants stay few, and each class is added behind those before it.
+-- Constants stay few, and each class is added after those before it.
 use Rattle.std.proofs.Common.{◌≡◌, ◌∙◌, ◌+◌, ◌<◌, ◌++◌, ◌∷◌, ℕ, List, [], length, flat_map, ap, sym, subst, append-nil, arith}
 use Rattle.std.proofs.lemmas.Grind.{flat_map-append}
 use Rattle.mips_isa.specs.Lines.{lines_of}

@@ -1,4 +1,4 @@
--- The layout stands behind the directive, then the constants, and then the word of the heap.
+-- The layout stands after the directive, then the constants, and then the word of the heap.
 use Rattle.std.proofs.Common.{◌≡◌, ◌∙◌, ◌++◌, ◌∷◌, ℕ, List, [], ap, append_assoc, arith}
 use Rattle.std.proofs.lemmas.List.{map_push}
 use Rattle.mips_isa.specs.Assembly.{directive_line}
@@ -12,7 +12,7 @@ use Rattle.cool_emit.specs.Programs.{heap_lines}
 use Rattle.cool_emit.proofs.ResultsOfCalls.{then}
 use Rattle.cool_emit.proofs.program.add_data.Goals as goal
 
--- four lists of lines, each behind those before it
+-- four lists of lines, each after those before it
 in_turn : (l0 l1 l2 l3 l4 a b c d : List Line) → l1 ≡ l0 ++ a → l2 ≡ l1 ++ b → l3 ≡ l2 ++ c → l4 ≡ l3 ++ d → l4 ≡ l0 ++ (a ++ (b ++ (c ++ d)))
 in_turn l0 l1 l2 l3 l4 a b c d e f g h =
     h ∙ (ap (λ ls. ls ++ d) (g ∙ (ap (λ ls. ls ++ c) (f ∙ ap (λ ls. ls ++ b) e)))

@@ -1,4 +1,4 @@
--- The routines, the classes and the data stand behind one another, and the constants are those that all features ask for.
+-- The routines, the classes and the data stand one after the other, and the constants are those that all features ask for.
 use Rattle.std.proofs.Common.{◌≡◌, ◌∙◌, ◌++◌, ◌∷◌, List, map, ap}
 use Rattle.std.specs.Prelude.{string_bytes}
 use Rattle.mips_isa.specs.Assembly.{directive_line}

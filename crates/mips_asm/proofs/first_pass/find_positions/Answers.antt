@@ -2,7 +2,7 @@
 use Rattle.std.proofs.Common.{◌≡◌, ◌+◌, ◌∷◌, [], ◌++◌, drop, ap, ◌∙◌, refl, subst, map, rules}
 use Rattle.std.proofs.lemmas.List.{drop_all, map-append}
 use Rattle.mips_isa.specs.Lines.{line_of, AreInRange}
-use Rattle.mips_isa.specs.Assembly.{start_position, behind_line}
+use Rattle.mips_isa.specs.Assembly.{start_position, after_line}
 use Rattle.mips_asm.specs.Passes.{seen_lines, shown, position_of, numbered}
 use Rattle.mips_asm.proofs.LoopRests.{rest_here}
 use Rattle.mips_asm.proofs.FirstPasses.{passing_start, passing_rest, passing_parts, passing_stops, passing_step, passing_end}
@@ -45,7 +45,7 @@ loop-index-preserved c =
     let h = c.in_ok-position.ensures in
     record {
       passing =
-          passing_parts lines rest (behind_line line p) (position_of c.in_ok-position.position) (table ++ numbered c.loop-index.index line.labels) (shown c.step.new.table.entries)
+          passing_parts lines rest (after_line line p) (position_of c.in_ok-position.position) (table ++ numbered c.loop-index.index line.labels) (shown c.step.new.table.entries)
           (positions ++ p ∷ []) (map position_of c.push.new.self.items) (c.loop-index.index + 1)
           h.1 h.2 (ap (map position_of) c.in_ok-push.ensures.items ∙ map-append position_of c.loop-index.positions.items (c.loop-index.position ∷ []))
           (passing_step lines line rest p table positions c.loop-index.index

@@ -46,7 +46,7 @@ bounds-positions-index c =
     let b : length lines ≡ length c.args.lines.now = length-map c.args.lines.now _ in
     omega arith
 
--- the line at an index, and those behind it
+-- the line at an index, and those after it
 line_there : (lines : List (Bor declared_line.Line)) (i : ℕ) (d : Bor declared_line.Line) → i < length lines
     → drop i (seen_lines lines) ≡ line_of (get_or lines i d).now ∷ drop (i + 1) (seen_lines lines)
 line_there lines i d h =

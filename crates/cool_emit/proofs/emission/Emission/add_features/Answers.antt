@@ -1,4 +1,4 @@
--- Constants stay few, and a feature of the part is added behind those before it.
+-- Constants stay few, and a feature of the part is added after those before it.
 use Rattle.std.proofs.Common.{◌≡◌, ◌∙◌, ◌<◌, ◌++◌, ◌∷◌, List, [], length, take, get_or, ap, sym, subst, arith}
 use Rattle.mips_isa.specs.Lines.{Line, lines_of}
 use Rattle.cool_syntax.specs.declared.file_tree.Feature.{Feature}

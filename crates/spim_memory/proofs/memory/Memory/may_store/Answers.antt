@@ -1,7 +1,7 @@
 use Rattle.std.proofs.Common.{◌≡◌, ◌+◌, ◌-◌, ◌∙◌, sym, ap, arith}
 use Rattle.mips_isa.specs.Calls.{all_writable}
 use Rattle.spim_memory.specs.Memory.{segments}
-use Rattle.spim_memory.proofs.StringsOfBytes.{all_may, all_behind, store_within}
+use Rattle.spim_memory.proofs.StringsOfBytes.{all_may, all_after, store_within}
 use Rattle.spim_memory.proofs.memory.Memory.may_store.Goals as goal
 
 -- the rest lies in the segment
@@ -22,5 +22,5 @@ loop-left-preserved c =
     record {
       rest = omega (arith, i.rest, c.if-left-end.false, c.in-Some.ensures.behind);
       some = λ _. omega (arith, c.if-left-end.false, c.in-Some.ensures.behind);
-      decide = i.decide ∙ all_behind s c.loop-left.start run c.loop-left.left each (omega (arith, c.if-left-end.false)) ∙ ap (λ a. all_writable s a (c.loop-left.left - run)) end;
+      decide = i.decide ∙ all_after s c.loop-left.start run c.loop-left.left each (omega (arith, c.if-left-end.false)) ∙ ap (λ a. all_writable s a (c.loop-left.left - run)) end;
     }

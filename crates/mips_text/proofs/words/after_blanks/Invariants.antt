@@ -1,5 +1,5 @@
 use Rattle.std.proofs.Common.{◌≤◌, length}
-use Rattle.mips_text.proofs.words.behind_blanks.Given as goal
+use Rattle.mips_text.proofs.words.after_blanks.Given as goal
 
 abbrev pub invariant-loop-rest : goal.invariant-loop-rest
 invariant-loop-rest l = length l.rest ≤ length l.bytes
