@@ -1,5 +1,5 @@
--- Objects whose attributes change. A proof keeps, beside a machine's memory, where each identity is and which words are attributes;
--- all other words below the heap's next address stay as they are.
+-- For proofs alone: objects whose attributes change. A proof keeps, beside a machine's memory, where each identity is and which words
+-- are attributes; all other words below the heap's next address stay as they are.
 use Rattle.std.specs.Prelude.{◌≡◌, ℕ, ◌+◌, ◌*◌, ◌/◌, ◌<◌, ◌≤◌, Bool, false, List, length}
 use Rattle.mips_isa.specs.Bytes.{Bytes, word}
 use Rattle.cool_runtime.specs.Reaches.{World}

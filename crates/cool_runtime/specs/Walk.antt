@@ -1,4 +1,5 @@
--- What is to be shown of a list of lines, so that a run from the first one comes to its goal: it is computed from the lines.
+-- For proofs alone: what is to be shown of a list of lines, so that a run from the first one comes to its goal. It is computed from the
+-- lines.
 use Rattle.std.specs.Prelude.{ℕ, zero, suc, ◌+◌, ◌*◌, ◌/◌, ◌%◌, ◌<◌, ◌≤◌, ◌≡◌, ◌==◌, ℤ, pos, negsuc, Bool, true, false, List, [], ◌∷◌, ◌++◌, Option, Some, None}
 use Rattle.std.specs.Fmt.{signed_decimal}
 use Rattle.mips_isa.specs.declared.address_map.TheConstants.{DATA_START, HEAP_START, STACK_END}
