@@ -5,8 +5,6 @@ pub mod VariablesHave
 pub mod CodeByNumbers
 pub mod NumbersAgree
 pub mod NodesThere
-pub mod NamesOfFeatures
-pub mod BasesOfVariables
 pub mod ArmsInOrder
 pub mod FeaturesThere
 pub mod NatsAreEqual

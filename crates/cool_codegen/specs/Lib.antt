@@ -8,3 +8,4 @@ pub mod Asked
 pub mod Features
 pub mod Numbered
 pub mod Settings
+pub mod AddedCode

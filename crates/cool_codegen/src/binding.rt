@@ -1,19 +1,20 @@
 //! The code of `let` and `case`.
 
-ghost use Rattle.std.specs.Prelude.{◌≡◌, ◌++◌, ◌+◌, ◌*◌, ◌-◌, ◌^◌, ◌<◌, ◌≤◌, [], None, length, map, unwrap_or, IfOk, IfSome, OnOk};
+ghost use Rattle.std.specs.Prelude.{◌≡◌, ◌++◌, ◌+◌, ◌^◌, ◌<◌, ◌≤◌, [], None, length, map, unwrap_or, IfSome, OnOk};
 ghost use Rattle.std.specs.List.{AllByRecursion};
 ghost use Rattle.std.specs.Option.{option_map};
 ghost use Rattle.mips_isa.specs.Lines.{lines_of};
 ghost use Rattle.cool_syntax.specs.Tree.{of_option, of_twigs};
 ghost use Rattle.cool_syntax.specs.NodeGroups.{IsBinding};
-ghost use Rattle.cool_syntax.specs.NodeLists.{all_trees, at_id, made, tree_at, twig_at, HasPartsBelow};
-ghost use Rattle.cool_syntax.specs.TreesWithinLimits.{AreCasesWithin, IsMaybeWithin, IsTreeWithin};
+ghost use Rattle.cool_syntax.specs.NodeLists.{all_trees, at_id, twig_at};
+ghost use Rattle.cool_syntax.specs.TreesWithinLimits.{AreCasesWithin, IsMaybeWithin};
 ghost use Rattle.cool_rules.specs.Conformance.{IsType};
+ghost use Rattle.cool_codegen.specs.AddedCode.{Adds, CanName, HasRoom, HasType, IsExpressionOf, IsNodeOf, IsReady};
 ghost use Rattle.cool_codegen.specs.Arms.{arm_of, arms_lines};
 ghost use Rattle.cool_codegen.specs.Code.{file_label, range_code};
 ghost use Rattle.cool_codegen.specs.Pieces.{case_begin_lines};
-ghost use Rattle.cool_codegen.specs.Numbered.{asked_at, branch_lines, branch_sizes_at, branches_arms, branches_asked, branches_type_at, class_of_branch, initial_lines, lines_at, maybe_asked, maybe_size_at, node_asked, node_lines, node_size, node_type, size_at, type_at, with_file, within_branch, AreBodies, HasRoots, IsRoot, MayBeRoot};
-ghost use Rattle.cool_codegen.specs.Settings.{context, HaveTypes, IsSound};
+ghost use Rattle.cool_codegen.specs.Numbered.{asked_at, branch_lines, branch_sizes_at, branches_arms, branches_asked, branches_type_at, class_of_branch, initial_lines, lines_at, maybe_asked, maybe_size_at, node_asked, node_lines, node_size, node_type, size_at, type_at, with_file, within_branch, AreBodies, MayBeRoot};
+ghost use Rattle.cool_codegen.specs.Settings.{context, IsSound};
 ghost use Rattle.cool_codegen.specs.Types.{joined, object};
 ghost use Rattle.cool_codegen.specs.Variables.{bind, pushed};
 
@@ -47,22 +48,12 @@ pub(crate) fn binding<'a>(
     lines: &mut Vec<Line>,
 ) -> Result<Ty, AllocError>
     requires group { IsBinding node.now }
-    requires roots { HasRoots setting.now.body.now node.now }
-    requires parts { HasPartsBelow id.0 node.now }
-    requires places { IsTreeWithin (length setting.now.names.now) (made (all_trees setting.now.body.now) node.now) }
-    requires sound { IsSound setting.now }
-    requires bases { AllByRecursion (λ v. v.variable.base < 32) variables.old }
-    requires types { HaveTypes setting.now.table.now variables.old }
-    requires deep { depth + node_size setting.now.body.now node.now < 2 ^ 28 }
-    requires integers { length consts.old.integers + node_size setting.now.body.now node.now < 2 ^ 32 - 1 }
-    requires strings { length consts.old.strings + 2 * node_size setting.now.body.now node.now < 2 ^ 32 - 1 }
-    ensures is_type { IfOk result (IsType setting.now.table.now) }
-    ensures typed { IfOk result (λ t. t ≡ node_type (context setting.now) setting.now.body.now variables.old depth node.now) }
+    requires node { IsNodeOf setting.now id node.now }
+    requires ready { IsReady setting.now variables.old }
+    requires room { HasRoom consts.old depth (node_size setting.now.body.now node.now) }
+    ensures typed { HasType setting.now.table.now (node_type (context setting.now) setting.now.body.now variables.old depth node.now) result }
     ensures scope { OnOk result (variables.new ≡ variables.old) }
-    ensures lines { OnOk result (lines_of lines.new.items ≡ lines_of lines.old.items ++ node_lines (context setting.now) setting.now.body.now consts.old variables.old depth id node.now) }
-    ensures asked { OnOk result (consts.new ≡ node_asked (context setting.now).files setting.now.body.now consts.old node.now) }
-    ensures more_integers { OnOk result (length consts.new.integers ≤ length consts.old.integers + node_size setting.now.body.now node.now) }
-    ensures more_strings { OnOk result (length consts.new.strings ≤ length consts.old.strings + 2 * node_size setting.now.body.now node.now) }
+    ensures made { Adds (node_lines (context setting.now) setting.now.body.now consts.old variables.old depth id node.now) (node_asked (context setting.now).files setting.now.body.now consts.old node.now) (node_size setting.now.body.now node.now) consts.old consts.new lines.old.items lines.new.items result }
 {
     let alloc = setting.alloc;
     match node {
@@ -122,24 +113,20 @@ fn initial<'a>(
     requires root { MayBeRoot setting.now.body.now init }
     requires parts { IfSome init (λ part. part.0 < end.0) }
     requires places { IsMaybeWithin (length setting.now.names.now) (of_option (option_map (at_id (all_trees setting.now.body.now)) init)) }
-    requires sound { IsSound setting.now }
-    requires bases { AllByRecursion (λ v. v.variable.base < 32) variables.old }
-    requires types { HaveTypes setting.now.table.now variables.old }
-    requires deep { depth + maybe_size_at setting.now.body.now init < 2 ^ 28 }
-    requires integers { length consts.old.integers + maybe_size_at setting.now.body.now init < 2 ^ 32 - 1 }
-    requires strings { length consts.old.strings + 2 * maybe_size_at setting.now.body.now init < 2 ^ 32 - 1 }
+    requires ready { IsReady setting.now variables.old }
+    requires room { HasRoom consts.old depth (maybe_size_at setting.now.body.now init) }
     ensures scope { OnOk result (variables.new ≡ variables.old) }
-    ensures lines { OnOk result (lines_of lines.new.items ≡ lines_of lines.old.items ++ initial_lines (context setting.now) setting.now.body.now consts.old variables.old depth bound init) }
-    ensures asked { OnOk result (consts.new ≡ maybe_asked (context setting.now).files setting.now.body.now consts.old init) }
-    ensures more_integers { OnOk result (length consts.new.integers ≤ length consts.old.integers + maybe_size_at setting.now.body.now init) }
-    ensures more_strings { OnOk result (length consts.new.strings ≤ length consts.old.strings + 2 * maybe_size_at setting.now.body.now init) }
+    ensures made { Adds (initial_lines (context setting.now) setting.now.body.now consts.old variables.old depth bound init) (maybe_asked (context setting.now).files setting.now.body.now consts.old init) (maybe_size_at setting.now.body.now init) consts.old consts.new lines.old.items lines.new.items result }
 {
     match init {
         Some(value) => {
             expression(setting, variables, depth, value, consts, lines)?;
             Ok(())
         }
-        None => take_default(setting.alloc, bound, lines),
+        None => {
+            take_default(setting.alloc, bound, lines)?;
+            Ok(())
+        }
     }
 }
 
@@ -155,22 +142,13 @@ fn within<'a>(
     consts: &mut Consts,
     lines: &mut Vec<Line>,
 ) -> Result<Ty, AllocError>
-    requires root { IsRoot setting.now.body.now body }
-    requires places { IsTreeWithin (length setting.now.names.now) (tree_at setting.now.body.now body) }
+    requires expression { IsExpressionOf setting.now body }
     requires bound { IsType setting.now.table.now bound }
-    requires sound { IsSound setting.now }
-    requires bases { AllByRecursion (λ v. v.variable.base < 32) variables.old }
-    requires types { HaveTypes setting.now.table.now variables.old }
-    requires deep { depth + 1 + size_at setting.now.body.now body < 2 ^ 28 }
-    requires integers { length consts.old.integers + size_at setting.now.body.now body < 2 ^ 32 - 1 }
-    requires strings { length consts.old.strings + 2 * size_at setting.now.body.now body < 2 ^ 32 - 1 }
-    ensures is_type { IfOk result (IsType setting.now.table.now) }
-    ensures typed { IfOk result (λ t. t ≡ type_at (context setting.now) setting.now.body.now (bind depth name.now bound variables.old) (depth + 1) body) }
+    requires ready { IsReady setting.now variables.old }
+    requires room { HasRoom consts.old (depth + 1) (size_at setting.now.body.now body) }
+    ensures typed { HasType setting.now.table.now (type_at (context setting.now) setting.now.body.now (bind depth name.now bound variables.old) (depth + 1) body) result }
     ensures scope { OnOk result (variables.new ≡ variables.old) }
-    ensures lines { OnOk result (lines_of lines.new.items ≡ lines_of lines.old.items ++ lines_at (context setting.now) setting.now.body.now consts.old (bind depth name.now bound variables.old) (depth + 1) body) }
-    ensures asked { OnOk result (consts.new ≡ asked_at (context setting.now).files setting.now.body.now consts.old body) }
-    ensures more_integers { OnOk result (length consts.new.integers ≤ length consts.old.integers + size_at setting.now.body.now body) }
-    ensures more_strings { OnOk result (length consts.new.strings ≤ length consts.old.strings + 2 * size_at setting.now.body.now body) }
+    ensures made { Adds (lines_at (context setting.now) setting.now.body.now consts.old (bind depth name.now bound variables.old) (depth + 1) body) (asked_at (context setting.now).files setting.now.body.now consts.old body) (size_at setting.now.body.now body) consts.old consts.new lines.old.items lines.new.items result }
 {
     variables.enter(name, pushed(depth, bound))?;
     let found = expression(setting, variables, depth + 1, body, consts, lines)?;
@@ -185,8 +163,7 @@ fn begin_case(
     consts: &mut Consts,
     lines: &mut Vec<Line>,
 ) -> Result<(), AllocError>
-    requires few { length consts.old.strings + 2 < 2 ^ 32 - 1 }
-    requires file { at.file < length setting.now.names.now }
+    requires { CanName setting.now consts.old at }
     ensures lines { OnOk result (lines_of lines.new.items ≡ lines_of lines.old.items ++ case_begin_lines (file_label (context setting.now) (with_file (context setting.now).files consts.old at) at) at.line) }
     ensures asked { OnOk result (consts.new ≡ with_file (context setting.now).files consts.old at) }
     ensures more_integers { OnOk result (length consts.new.integers ≡ length consts.old.integers) }
@@ -224,19 +201,11 @@ fn arms<'a>(
     requires roots { AreBodies setting.now.body.now branches.now }
     requires parts { AllByRecursion (λ branch. branch.body.0 < id.0) branches.now }
     requires places { AreCasesWithin (length setting.now.names.now) (of_twigs (map (twig_at (all_trees setting.now.body.now)) branches.now)) }
-    requires sound { IsSound setting.now }
-    requires bases { AllByRecursion (λ v. v.variable.base < 32) variables.old }
-    requires types { HaveTypes setting.now.table.now variables.old }
-    requires deep { depth + 1 + branch_sizes_at setting.now.body.now branches.now < 2 ^ 28 }
-    requires integers { length consts.old.integers + branch_sizes_at setting.now.body.now branches.now < 2 ^ 32 - 1 }
-    requires strings { length consts.old.strings + 2 * branch_sizes_at setting.now.body.now branches.now < 2 ^ 32 - 1 }
-    ensures is_type { IfOk result (IsType setting.now.table.now) }
-    ensures typed { IfOk result (λ t. t ≡ unwrap_or (branches_type_at (context setting.now) setting.now.body.now variables.old depth None branches.now) object) }
+    requires ready { IsReady setting.now variables.old }
+    requires room { HasRoom consts.old (depth + 1) (branch_sizes_at setting.now.body.now branches.now) }
+    ensures typed { HasType setting.now.table.now (unwrap_or (branches_type_at (context setting.now) setting.now.body.now variables.old depth None branches.now) object) result }
     ensures scope { OnOk result (variables.new ≡ variables.old) }
-    ensures lines { OnOk result (lines_of lines.new.items ≡ lines_of lines.old.items ++ arms_lines (branches_arms (context setting.now) setting.now.body.now consts.old variables.old depth end.now [] branches.now)) }
-    ensures asked { OnOk result (consts.new ≡ branches_asked (context setting.now).files setting.now.body.now consts.old branches.now) }
-    ensures more_integers { OnOk result (length consts.new.integers ≤ length consts.old.integers + branch_sizes_at setting.now.body.now branches.now) }
-    ensures more_strings { OnOk result (length consts.new.strings ≤ length consts.old.strings + 2 * branch_sizes_at setting.now.body.now branches.now) }
+    ensures made { Adds (arms_lines (branches_arms (context setting.now) setting.now.body.now consts.old variables.old depth end.now [] branches.now)) (branches_asked (context setting.now).files setting.now.body.now consts.old branches.now) (branch_sizes_at setting.now.body.now branches.now) consts.old consts.new lines.old.items lines.new.items result }
 {
     let mut sorted = Vec::new(setting.alloc);
     let mut joined = None;
@@ -312,23 +281,14 @@ fn arm<'a>(
     consts: &mut Consts,
     lines: &mut Vec<Line>,
 ) -> Result<Ty, AllocError>
-    requires root { IsRoot setting.now.body.now branch.now.body }
-    requires places { IsTreeWithin (length setting.now.names.now) (tree_at setting.now.body.now branch.now.body) }
+    requires expression { IsExpressionOf setting.now branch.now.body }
     requires class { class.0 < length setting.now.table.now }
     requires declared { class ≡ class_of_branch (context setting.now) branch.now }
-    requires sound { IsSound setting.now }
-    requires bases { AllByRecursion (λ v. v.variable.base < 32) variables.old }
-    requires types { HaveTypes setting.now.table.now variables.old }
-    requires deep { depth + 1 + size_at setting.now.body.now branch.now.body < 2 ^ 28 }
-    requires integers { length consts.old.integers + size_at setting.now.body.now branch.now.body < 2 ^ 32 - 1 }
-    requires strings { length consts.old.strings + 2 * size_at setting.now.body.now branch.now.body < 2 ^ 32 - 1 }
-    ensures is_type { IfOk result (IsType setting.now.table.now) }
-    ensures typed { IfOk result (λ t. t ≡ type_at (context setting.now) setting.now.body.now (within_branch (context setting.now) variables.old depth branch.now) (depth + 1) branch.now.body) }
+    requires ready { IsReady setting.now variables.old }
+    requires room { HasRoom consts.old (depth + 1) (size_at setting.now.body.now branch.now.body) }
+    ensures typed { HasType setting.now.table.now (type_at (context setting.now) setting.now.body.now (within_branch (context setting.now) variables.old depth branch.now) (depth + 1) branch.now.body) result }
     ensures scope { OnOk result (variables.new ≡ variables.old) }
-    ensures lines { OnOk result (lines_of lines.new.items ≡ lines_of lines.old.items ++ branch_lines (context setting.now) setting.now.body.now consts.old variables.old depth end.now branch.now) }
-    ensures asked { OnOk result (consts.new ≡ asked_at (context setting.now).files setting.now.body.now consts.old branch.now.body) }
-    ensures more_integers { OnOk result (length consts.new.integers ≤ length consts.old.integers + size_at setting.now.body.now branch.now.body) }
-    ensures more_strings { OnOk result (length consts.new.strings ≤ length consts.old.strings + 2 * size_at setting.now.body.now branch.now.body) }
+    ensures made { Adds (branch_lines (context setting.now) setting.now.body.now consts.old variables.old depth end.now branch.now) (asked_at (context setting.now).files setting.now.body.now consts.old branch.now.body) (size_at setting.now.body.now branch.now.body) consts.old consts.new lines.old.items lines.new.items result }
 {
     let alloc = setting.alloc;
     let next = inner_label(setting, "next", branch.body)?;

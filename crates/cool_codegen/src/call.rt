@@ -1,25 +1,22 @@
 //! The code of dispatches.
 
-ghost use Rattle.std.specs.Prelude.{◌≡◌, ◌++◌, ◌+◌, ◌*◌, ◌-◌, ◌^◌, ◌<◌, ◌≤◌, length, map, IfOk, OnOk};
-ghost use Rattle.std.specs.List.{AllByRecursion};
+ghost use Rattle.std.specs.Prelude.{◌≡◌, ◌++◌, ◌+◌, ◌<◌, ◌≤◌, length, IfOk, OnOk};
 ghost use Rattle.mips_isa.specs.Lines.{lines_of};
-ghost use Rattle.cool_syntax.specs.Tree.{of_list};
 ghost use Rattle.cool_syntax.specs.NodeGroups.{IsCall};
-ghost use Rattle.cool_syntax.specs.NodeLists.{all_trees, at_id, made, HasPartsBelow};
-ghost use Rattle.cool_syntax.specs.TreesWithinLimits.{AreTreesWithin, IsTreeWithin};
-ghost use Rattle.cool_rules.specs.Conformance.{IsType};
+ghost use Rattle.cool_codegen.specs.AddedCode.{Adds, AreExpressionsOf, CanName, HasRoom, HasType, IsNodeOf, IsReady};
 ghost use Rattle.cool_codegen.specs.Code.{slot_code, static_code};
-ghost use Rattle.cool_codegen.specs.Numbered.{all_asked, arguments_lines, node_asked, node_lines, node_size, node_type, sizes_at, with_file, AreRoots, HasRoots};
-ghost use Rattle.cool_codegen.specs.Settings.{context, HaveTypes, IsSound};
+ghost use Rattle.cool_codegen.specs.Numbered.{all_asked, arguments_lines, node_asked, node_lines, node_size, node_type, sizes_at, with_file};
+ghost use Rattle.cool_codegen.specs.Settings.{context, IsSound};
 ghost use Rattle.cool_codegen.specs.Types.{resulting};
 
 use crate::expression::expression;
-use crate::label::{file_label, method_label};
+use crate::label::file_label;
 use crate::piece::{call, call_static};
 use crate::setting::Setting;
 use crate::variables::Variables;
 use cool_classes::{ClassId, Ty};
 use cool_consts::Consts;
+use cool_layout::method_label;
 use cool_rules::class_of;
 use cool_runtime::piece::push;
 use cool_syntax::{Name, Node, NodeId, Place};
@@ -39,22 +36,12 @@ pub(crate) fn dispatch<'a>(
     lines: &mut Vec<Line>,
 ) -> Result<Ty, AllocError>
     requires group { IsCall node.now }
-    requires roots { HasRoots setting.now.body.now node.now }
-    requires parts { HasPartsBelow id.0 node.now }
-    requires places { IsTreeWithin (length setting.now.names.now) (made (all_trees setting.now.body.now) node.now) }
-    requires sound { IsSound setting.now }
-    requires bases { AllByRecursion (λ v. v.variable.base < 32) variables.old }
-    requires types { HaveTypes setting.now.table.now variables.old }
-    requires deep { depth + node_size setting.now.body.now node.now < 2 ^ 28 }
-    requires integers { length consts.old.integers + node_size setting.now.body.now node.now < 2 ^ 32 - 1 }
-    requires strings { length consts.old.strings + 2 * node_size setting.now.body.now node.now < 2 ^ 32 - 1 }
-    ensures is_type { IfOk result (IsType setting.now.table.now) }
-    ensures typed { IfOk result (λ t. t ≡ node_type (context setting.now) setting.now.body.now variables.old depth node.now) }
+    requires node { IsNodeOf setting.now id node.now }
+    requires ready { IsReady setting.now variables.old }
+    requires room { HasRoom consts.old depth (node_size setting.now.body.now node.now) }
+    ensures typed { HasType setting.now.table.now (node_type (context setting.now) setting.now.body.now variables.old depth node.now) result }
     ensures scope { OnOk result (variables.new ≡ variables.old) }
-    ensures lines { OnOk result (lines_of lines.new.items ≡ lines_of lines.old.items ++ node_lines (context setting.now) setting.now.body.now consts.old variables.old depth id node.now) }
-    ensures asked { OnOk result (consts.new ≡ node_asked (context setting.now).files setting.now.body.now consts.old node.now) }
-    ensures more_integers { OnOk result (length consts.new.integers ≤ length consts.old.integers + node_size setting.now.body.now node.now) }
-    ensures more_strings { OnOk result (length consts.new.strings ≤ length consts.old.strings + 2 * node_size setting.now.body.now node.now) }
+    ensures made { Adds (node_lines (context setting.now) setting.now.body.now consts.old variables.old depth id node.now) (node_asked (context setting.now).files setting.now.body.now consts.old node.now) (node_size setting.now.body.now node.now) consts.old consts.new lines.old.items lines.new.items result }
 {
     match node {
         Node::Dispatch {
@@ -111,22 +98,13 @@ fn arguments<'a>(
     consts: &mut Consts,
     lines: &mut Vec<Line>,
 ) -> Result<u32, AllocError>
-    requires roots { AreRoots setting.now.body.now args.now }
-    requires parts { AllByRecursion (λ arg. arg.0 < end.0) args.now }
-    requires places { AreTreesWithin (length setting.now.names.now) (of_list (map (at_id (all_trees setting.now.body.now)) args.now)) }
-    requires sound { IsSound setting.now }
-    requires bases { AllByRecursion (λ v. v.variable.base < 32) variables.old }
-    requires types { HaveTypes setting.now.table.now variables.old }
-    requires deep { depth + sizes_at setting.now.body.now args.now < 2 ^ 28 }
-    requires integers { length consts.old.integers + sizes_at setting.now.body.now args.now < 2 ^ 32 - 1 }
-    requires strings { length consts.old.strings + 2 * sizes_at setting.now.body.now args.now < 2 ^ 32 - 1 }
+    requires args { AreExpressionsOf setting.now end args.now }
+    requires ready { IsReady setting.now variables.old }
+    requires room { HasRoom consts.old depth (sizes_at setting.now.body.now args.now) }
     ensures pushed { IfOk result (λ inner. inner ≡ depth + length args.now) }
     ensures within { IfOk result (λ inner. inner ≤ depth + sizes_at setting.now.body.now args.now) }
     ensures scope { OnOk result (variables.new ≡ variables.old) }
-    ensures lines { OnOk result (lines_of lines.new.items ≡ lines_of lines.old.items ++ arguments_lines (context setting.now) setting.now.body.now consts.old variables.old depth args.now) }
-    ensures asked { OnOk result (consts.new ≡ all_asked (context setting.now).files setting.now.body.now consts.old args.now) }
-    ensures more_integers { OnOk result (length consts.new.integers ≤ length consts.old.integers + sizes_at setting.now.body.now args.now) }
-    ensures more_strings { OnOk result (length consts.new.strings ≤ length consts.old.strings + 2 * sizes_at setting.now.body.now args.now) }
+    ensures made { Adds (arguments_lines (context setting.now) setting.now.body.now consts.old variables.old depth args.now) (all_asked (context setting.now).files setting.now.body.now consts.old args.now) (sizes_at setting.now.body.now args.now) consts.old consts.new lines.old.items lines.new.items result }
 {
     let mut inner = depth;
     for arg in args {
@@ -148,8 +126,7 @@ fn call_by_slot(
 ) -> Result<(), AllocError>
     requires sound { IsSound setting.now }
     requires class { class.0 < length setting.now.table.now }
-    requires few { length consts.old.strings + 2 < 2 ^ 32 - 1 }
-    requires file { at.file < length setting.now.names.now }
+    requires names { CanName setting.now consts.old at }
     ensures lines { OnOk result (lines_of lines.new.items ≡ lines_of lines.old.items ++ slot_code (context setting.now) (with_file (context setting.now).files consts.old at) at class name.now) }
     ensures asked { OnOk result (consts.new ≡ with_file (context setting.now).files consts.old at) }
     ensures more_integers { OnOk result (length consts.new.integers ≡ length consts.old.integers) }
@@ -171,8 +148,7 @@ fn call_by_label(
 ) -> Result<(), AllocError>
     requires sound { IsSound setting.now }
     requires class { class.0 < length setting.now.table.now }
-    requires few { length consts.old.strings + 2 < 2 ^ 32 - 1 }
-    requires file { at.file < length setting.now.names.now }
+    requires names { CanName setting.now consts.old at }
     ensures lines { OnOk result (lines_of lines.new.items ≡ lines_of lines.old.items ++ static_code (context setting.now) (with_file (context setting.now).files consts.old at) at class name.now) }
     ensures asked { OnOk result (consts.new ≡ with_file (context setting.now).files consts.old at) }
     ensures more_integers { OnOk result (length consts.new.integers ≡ length consts.old.integers) }

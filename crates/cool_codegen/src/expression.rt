@@ -1,16 +1,12 @@
 //! The code of expressions: names, constants, new objects, conditions, loops and blocks.
 
-ghost use Rattle.std.specs.Prelude.{◌≡◌, ◌++◌, ◌+◌, ◌*◌, ◌-◌, ◌^◌, ◌<◌, ◌≤◌, length, map, IfOk, OnOk};
-ghost use Rattle.std.specs.List.{AllByRecursion};
-ghost use Rattle.mips_isa.specs.Lines.{lines_of};
-ghost use Rattle.cool_syntax.specs.Tree.{of_list};
+ghost use Rattle.std.specs.Prelude.{◌≡◌, ◌≤◌, OnOk};
 ghost use Rattle.cool_syntax.specs.NodeGroups.{IsControl, IsLeaf};
-ghost use Rattle.cool_syntax.specs.NodeLists.{all_trees, at_id, made, tree_at, HasPartsBelow};
-ghost use Rattle.cool_syntax.specs.TreesWithinLimits.{AreTreesWithin, IsTreeWithin};
 ghost use Rattle.cool_rules.specs.Conformance.{IsType};
+ghost use Rattle.cool_codegen.specs.AddedCode.{Adds, AreExpressionsOf, HasRoom, HasType, IsExpressionOf, IsNodeOf, IsReady};
 ghost use Rattle.cool_codegen.specs.Code.{truth_label};
-ghost use Rattle.cool_codegen.specs.Numbered.{all_asked, asked_at, items_lines, last_type_at, lines_at, node_asked, node_lines, node_size, node_type, size_at, sizes_at, type_at, AreRoots, HasRoots, IsRoot};
-ghost use Rattle.cool_codegen.specs.Settings.{context, HaveTypes, IsSound};
+ghost use Rattle.cool_codegen.specs.Numbered.{all_asked, asked_at, items_lines, last_type_at, lines_at, node_asked, node_lines, node_size, node_type, size_at, sizes_at, type_at};
+ghost use Rattle.cool_codegen.specs.Settings.{context};
 ghost use Rattle.cool_codegen.specs.Types.{object, type_of_named};
 
 use crate::binding::binding;
@@ -40,21 +36,12 @@ pub(crate) fn expression<'a>(
     consts: &mut Consts,
     lines: &mut Vec<Line>,
 ) -> Result<Ty, AllocError>
-    requires root { IsRoot setting.now.body.now id }
-    requires places { IsTreeWithin (length setting.now.names.now) (tree_at setting.now.body.now id) }
-    requires sound { IsSound setting.now }
-    requires bases { AllByRecursion (λ v. v.variable.base < 32) variables.old }
-    requires types { HaveTypes setting.now.table.now variables.old }
-    requires deep { depth + size_at setting.now.body.now id < 2 ^ 28 }
-    requires integers { length consts.old.integers + size_at setting.now.body.now id < 2 ^ 32 - 1 }
-    requires strings { length consts.old.strings + 2 * size_at setting.now.body.now id < 2 ^ 32 - 1 }
-    ensures is_type { IfOk result (IsType setting.now.table.now) }
-    ensures typed { IfOk result (λ t. t ≡ type_at (context setting.now) setting.now.body.now variables.old depth id) }
+    requires expression { IsExpressionOf setting.now id }
+    requires ready { IsReady setting.now variables.old }
+    requires room { HasRoom consts.old depth (size_at setting.now.body.now id) }
+    ensures typed { HasType setting.now.table.now (type_at (context setting.now) setting.now.body.now variables.old depth id) result }
     ensures scope { OnOk result (variables.new ≡ variables.old) }
-    ensures lines { OnOk result (lines_of lines.new.items ≡ lines_of lines.old.items ++ lines_at (context setting.now) setting.now.body.now consts.old variables.old depth id) }
-    ensures asked { OnOk result (consts.new ≡ asked_at (context setting.now).files setting.now.body.now consts.old id) }
-    ensures more_integers { OnOk result (length consts.new.integers ≤ length consts.old.integers + size_at setting.now.body.now id) }
-    ensures more_strings { OnOk result (length consts.new.strings ≤ length consts.old.strings + 2 * size_at setting.now.body.now id) }
+    ensures made { Adds (lines_at (context setting.now) setting.now.body.now consts.old variables.old depth id) (asked_at (context setting.now).files setting.now.body.now consts.old id) (size_at setting.now.body.now id) consts.old consts.new lines.old.items lines.new.items result }
     ensures some { 1 ≤ size_at setting.now.body.now id }
 {
     let node = node_of(setting, variables, depth, consts, id);
@@ -90,11 +77,8 @@ fn node_of<'a>(
     consts: &Consts,
     id: NodeId,
 ) -> &'a Node
-    requires root { IsRoot setting.now.body.now id }
-    requires places { IsTreeWithin (length setting.now.names.now) (tree_at setting.now.body.now id) }
-    ensures roots { HasRoots setting.now.body.now result.now }
-    ensures parts { HasPartsBelow id.0 result.now }
-    ensures places { IsTreeWithin (length setting.now.names.now) (made (all_trees setting.now.body.now) result.now) }
+    requires { IsExpressionOf setting.now id }
+    ensures node { IsNodeOf setting.now id result.now }
     ensures size { size_at setting.now.body.now id ≡ node_size setting.now.body.now result.now }
     ensures some { 1 ≤ size_at setting.now.body.now id }
     ensures typed { type_at (context setting.now) setting.now.body.now variables.now depth id ≡ node_type (context setting.now) setting.now.body.now variables.now depth result.now }
@@ -116,22 +100,12 @@ fn leaf(
     lines: &mut Vec<Line>,
 ) -> Result<Ty, AllocError>
     requires group { IsLeaf node.now }
-    requires roots { HasRoots setting.now.body.now node.now }
-    requires parts { HasPartsBelow id.0 node.now }
-    requires places { IsTreeWithin (length setting.now.names.now) (made (all_trees setting.now.body.now) node.now) }
-    requires sound { IsSound setting.now }
-    requires bases { AllByRecursion (λ v. v.variable.base < 32) variables.old }
-    requires types { HaveTypes setting.now.table.now variables.old }
-    requires deep { depth + node_size setting.now.body.now node.now < 2 ^ 28 }
-    requires integers { length consts.old.integers + node_size setting.now.body.now node.now < 2 ^ 32 - 1 }
-    requires strings { length consts.old.strings + 2 * node_size setting.now.body.now node.now < 2 ^ 32 - 1 }
-    ensures is_type { IfOk result (IsType setting.now.table.now) }
-    ensures typed { IfOk result (λ t. t ≡ node_type (context setting.now) setting.now.body.now variables.old depth node.now) }
+    requires node { IsNodeOf setting.now id node.now }
+    requires ready { IsReady setting.now variables.old }
+    requires room { HasRoom consts.old depth (node_size setting.now.body.now node.now) }
+    ensures typed { HasType setting.now.table.now (node_type (context setting.now) setting.now.body.now variables.old depth node.now) result }
     ensures scope { OnOk result (variables.new ≡ variables.old) }
-    ensures lines { OnOk result (lines_of lines.new.items ≡ lines_of lines.old.items ++ node_lines (context setting.now) setting.now.body.now consts.old variables.old depth id node.now) }
-    ensures asked { OnOk result (consts.new ≡ node_asked (context setting.now).files setting.now.body.now consts.old node.now) }
-    ensures more_integers { OnOk result (length consts.new.integers ≤ length consts.old.integers + node_size setting.now.body.now node.now) }
-    ensures more_strings { OnOk result (length consts.new.strings ≤ length consts.old.strings + 2 * node_size setting.now.body.now node.now) }
+    ensures made { Adds (node_lines (context setting.now) setting.now.body.now consts.old variables.old depth id node.now) (node_asked (context setting.now).files setting.now.body.now consts.old node.now) (node_size setting.now.body.now node.now) consts.old consts.new lines.old.items lines.new.items result }
 {
     let alloc = setting.alloc;
     match node {
@@ -176,8 +150,7 @@ fn truth_label(value: bool) -> &'static [u8]
 
 /// The type of a name: of `self`, or of a variable; Object where there is none.
 fn type_of_name(setting: &Setting<'_>, variables: &Variables<'_>, name: &Name) -> Ty
-    requires sound { IsSound setting.now }
-    requires types { HaveTypes setting.now.table.now variables.now }
+    requires { IsReady setting.now variables.now }
     ensures is_type { IsType setting.now.table.now result }
     ensures typed { result ≡ type_of_named variables.now name.now }
 {
@@ -203,22 +176,12 @@ fn control<'a>(
     lines: &mut Vec<Line>,
 ) -> Result<Ty, AllocError>
     requires group { IsControl node.now }
-    requires roots { HasRoots setting.now.body.now node.now }
-    requires parts { HasPartsBelow id.0 node.now }
-    requires places { IsTreeWithin (length setting.now.names.now) (made (all_trees setting.now.body.now) node.now) }
-    requires sound { IsSound setting.now }
-    requires bases { AllByRecursion (λ v. v.variable.base < 32) variables.old }
-    requires types { HaveTypes setting.now.table.now variables.old }
-    requires deep { depth + node_size setting.now.body.now node.now < 2 ^ 28 }
-    requires integers { length consts.old.integers + node_size setting.now.body.now node.now < 2 ^ 32 - 1 }
-    requires strings { length consts.old.strings + 2 * node_size setting.now.body.now node.now < 2 ^ 32 - 1 }
-    ensures is_type { IfOk result (IsType setting.now.table.now) }
-    ensures typed { IfOk result (λ t. t ≡ node_type (context setting.now) setting.now.body.now variables.old depth node.now) }
+    requires node { IsNodeOf setting.now id node.now }
+    requires ready { IsReady setting.now variables.old }
+    requires room { HasRoom consts.old depth (node_size setting.now.body.now node.now) }
+    ensures typed { HasType setting.now.table.now (node_type (context setting.now) setting.now.body.now variables.old depth node.now) result }
     ensures scope { OnOk result (variables.new ≡ variables.old) }
-    ensures lines { OnOk result (lines_of lines.new.items ≡ lines_of lines.old.items ++ node_lines (context setting.now) setting.now.body.now consts.old variables.old depth id node.now) }
-    ensures asked { OnOk result (consts.new ≡ node_asked (context setting.now).files setting.now.body.now consts.old node.now) }
-    ensures more_integers { OnOk result (length consts.new.integers ≤ length consts.old.integers + node_size setting.now.body.now node.now) }
-    ensures more_strings { OnOk result (length consts.new.strings ≤ length consts.old.strings + 2 * node_size setting.now.body.now node.now) }
+    ensures made { Adds (node_lines (context setting.now) setting.now.body.now consts.old variables.old depth id node.now) (node_asked (context setting.now).files setting.now.body.now consts.old node.now) (node_size setting.now.body.now node.now) consts.old consts.new lines.old.items lines.new.items result }
 {
     let alloc = setting.alloc;
     match node {
@@ -278,22 +241,12 @@ fn items<'a>(
     consts: &mut Consts,
     lines: &mut Vec<Line>,
 ) -> Result<Ty, AllocError>
-    requires roots { AreRoots setting.now.body.now items.now }
-    requires parts { AllByRecursion (λ item. item.0 < end.0) items.now }
-    requires places { AreTreesWithin (length setting.now.names.now) (of_list (map (at_id (all_trees setting.now.body.now)) items.now)) }
-    requires sound { IsSound setting.now }
-    requires bases { AllByRecursion (λ v. v.variable.base < 32) variables.old }
-    requires types { HaveTypes setting.now.table.now variables.old }
-    requires deep { depth + sizes_at setting.now.body.now items.now < 2 ^ 28 }
-    requires integers { length consts.old.integers + sizes_at setting.now.body.now items.now < 2 ^ 32 - 1 }
-    requires strings { length consts.old.strings + 2 * sizes_at setting.now.body.now items.now < 2 ^ 32 - 1 }
-    ensures is_type { IfOk result (IsType setting.now.table.now) }
-    ensures typed { IfOk result (λ t. t ≡ last_type_at (context setting.now) setting.now.body.now variables.old depth object items.now) }
+    requires items { AreExpressionsOf setting.now end items.now }
+    requires ready { IsReady setting.now variables.old }
+    requires room { HasRoom consts.old depth (sizes_at setting.now.body.now items.now) }
+    ensures typed { HasType setting.now.table.now (last_type_at (context setting.now) setting.now.body.now variables.old depth object items.now) result }
     ensures scope { OnOk result (variables.new ≡ variables.old) }
-    ensures lines { OnOk result (lines_of lines.new.items ≡ lines_of lines.old.items ++ items_lines (context setting.now) setting.now.body.now consts.old variables.old depth items.now) }
-    ensures asked { OnOk result (consts.new ≡ all_asked (context setting.now).files setting.now.body.now consts.old items.now) }
-    ensures more_integers { OnOk result (length consts.new.integers ≤ length consts.old.integers + sizes_at setting.now.body.now items.now) }
-    ensures more_strings { OnOk result (length consts.new.strings ≤ length consts.old.strings + 2 * sizes_at setting.now.body.now items.now) }
+    ensures made { Adds (items_lines (context setting.now) setting.now.body.now consts.old variables.old depth items.now) (all_asked (context setting.now).files setting.now.body.now consts.old items.now) (sizes_at setting.now.body.now items.now) consts.old consts.new lines.old.items lines.new.items result }
 {
     let mut last = Ty::Class(OBJECT);
     for item in items {

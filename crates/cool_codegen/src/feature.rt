@@ -1,7 +1,6 @@
 //! The code of methods, and of the initial values of attributes.
 
-ghost use Rattle.std.specs.Prelude.{◌≡◌, ◌++◌, ◌+◌, ◌*◌, ◌-◌, ◌^◌, ◌<◌, length, map, slice_get, string_bytes, Contains, IfOk, OnOk, Some};
-ghost use Rattle.std.specs.List.{AllByRecursion};
+ghost use Rattle.std.specs.Prelude.{◌≡◌, ◌^◌, ◌<◌, length, map, slice_get, string_bytes, Contains, IfOk, OnOk, Some};
 ghost use Rattle.mips_isa.specs.Lines.{lines_of};
 ghost use Rattle.cool_syntax.specs.declared.file_tree.Feature as syntax;
 ghost use Rattle.cool_syntax.specs.Tree.{tree_size};
@@ -13,20 +12,20 @@ ghost use Rattle.cool_consts.specs.Constants.{Constants};
 ghost use Rattle.cool_layout.specs.Layouts.{IsLayoutOf};
 ghost use Rattle.cool_layout.specs.Members.{attributes};
 ghost use Rattle.cool_rules.specs.Fits.{Fits};
-ghost use Rattle.cool_codegen.specs.Asked.{integers_in, strings_in, with_integers, with_strings, Extends};
+ghost use Rattle.cool_codegen.specs.AddedCode.{AddsBody, HasRoom, IsReady};
+ghost use Rattle.cool_codegen.specs.Asked.{with_integers, with_strings, Extends};
 ghost use Rattle.cool_codegen.specs.Code.{code};
 ghost use Rattle.cool_codegen.specs.Features.{attributes_in, feature_code, feature_integers, feature_strings, initial_value_code, method_code, with_formals};
-ghost use Rattle.cool_codegen.specs.Settings.{attribute_of, context, HaveTypes, IsSound};
+ghost use Rattle.cool_codegen.specs.Settings.{attribute_of, context, IsSound};
 
 use crate::expression::expression;
-use crate::label::method_label;
 use crate::number::signed;
 use crate::piece::{leave, mark, store};
 use crate::setting::Setting;
 use crate::variables::{Variable, Variables};
 use cool_classes::{AttributeRef, ClassId, MethodRef};
 use cool_consts::Consts;
-use cool_layout::Layout;
+use cool_layout::{Layout, method_label};
 use cool_rules::TypedProgram;
 use cool_runtime::piece::enter;
 use cool_syntax::{Feature, Formal};
@@ -98,16 +97,10 @@ fn body_lines<'a>(
     consts: &mut Consts,
     lines: &mut Vec<Line>,
 ) -> Result<(), AllocError>
-    requires sound { IsSound setting.now }
-    requires bases { AllByRecursion (λ v. v.variable.base < 32) variables.old }
-    requires types { HaveTypes setting.now.table.now variables.old }
     requires places { IsTreeWithin (length setting.now.names.now) setting.now.body.now }
-    requires deep { tree_size setting.now.body.now < 2 ^ 28 }
-    requires few_integers { length consts.old.integers + tree_size setting.now.body.now < 2 ^ 32 - 1 }
-    requires few_strings { length consts.old.strings + 2 * tree_size setting.now.body.now < 2 ^ 32 - 1 }
-    ensures lines { OnOk result ((g : Constants) → Extends consts.new g → lines_of lines.new.items ≡ lines_of lines.old.items ++ code (context setting.now) g variables.old 0 0 setting.now.body.now) }
-    ensures integers { OnOk result (consts.new.integers ≡ with_integers consts.old.integers (integers_in setting.now.body.now)) }
-    ensures strings { OnOk result (consts.new.strings ≡ with_strings consts.old.strings (strings_in (context setting.now).files setting.now.body.now)) }
+    requires ready { IsReady setting.now variables.old }
+    requires room { HasRoom consts.old 0 (tree_size setting.now.body.now) }
+    ensures { AddsBody setting.now (λ g. code (context setting.now) g variables.old 0 0 setting.now.body.now) consts.old consts.new lines.old.items lines.new.items result }
 {
     let root = setting.body.root();
     expression(setting, variables, 0, root, consts, lines)?;
@@ -118,8 +111,7 @@ fn body_lines<'a>(
 fn attribute_variables<'a>(setting: &Setting<'a>) -> Result<Variables<'a>, AllocError>
     requires sound { IsSound setting.now }
     ensures variables { IfOk result (λ vs. vs ≡ attributes_in setting.now.table.now setting.now.class) }
-    ensures bases { IfOk result (AllByRecursion (λ v. v.variable.base < 32)) }
-    ensures types { IfOk result (HaveTypes setting.now.table.now) }
+    ensures ready { IfOk result (IsReady setting.now) }
 {
     let mut variables = Variables::new(setting.alloc);
     for attribute in setting.table.attributes(setting.alloc, setting.class)? {
@@ -139,13 +131,10 @@ fn formal_variables<'a>(
     variables: &mut Variables<'a>,
     formals: &'a [Formal],
 ) -> Result<(), AllocError>
-    requires sound { IsSound setting.now }
     requires few { length formals.now < 2 ^ 28 }
-    requires bases { AllByRecursion (λ v. v.variable.base < 32) variables.old }
-    requires types { HaveTypes setting.now.table.now variables.old }
+    requires ready { IsReady setting.now variables.old }
     ensures variables { OnOk result (variables.new ≡ with_formals setting.now.table.now formals.now variables.old) }
-    ensures bases { OnOk result (AllByRecursion (λ v. v.variable.base < 32) variables.new) }
-    ensures types { OnOk result (HaveTypes setting.now.table.now variables.new) }
+    ensures ready { OnOk result (IsReady setting.now variables.new) }
 {
     let mut after = formals.len() as u32;
     for formal in formals {
@@ -171,12 +160,8 @@ fn method_lines<'a>(
     requires has { HasMethod setting.now.table.now (User setting.now.class setting.now.feature) }
     requires few { length formals.now < 2 ^ 28 }
     requires places { IsTreeWithin (length setting.now.names.now) setting.now.body.now }
-    requires deep { tree_size setting.now.body.now < 2 ^ 28 }
-    requires few_integers { length consts.old.integers + tree_size setting.now.body.now < 2 ^ 32 - 1 }
-    requires few_strings { length consts.old.strings + 2 * tree_size setting.now.body.now < 2 ^ 32 - 1 }
-    ensures lines { OnOk result ((g : Constants) → Extends consts.new g → lines_of lines.new.items ≡ lines_of lines.old.items ++ method_code (context setting.now) g formals.now setting.now.body.now) }
-    ensures integers { OnOk result (consts.new.integers ≡ with_integers consts.old.integers (integers_in setting.now.body.now)) }
-    ensures strings { OnOk result (consts.new.strings ≡ with_strings consts.old.strings (strings_in (context setting.now).files setting.now.body.now)) }
+    requires room { HasRoom consts.old 0 (tree_size setting.now.body.now) }
+    ensures { AddsBody setting.now (λ g. method_code (context setting.now) g formals.now setting.now.body.now) consts.old consts.new lines.old.items lines.new.items result }
 {
     let alloc = setting.alloc;
     let method = MethodRef::User {
@@ -203,12 +188,8 @@ fn attribute_lines<'a>(
     requires sound { IsSound setting.now }
     requires there { Contains (attributes setting.now.table.now setting.now.class) (attribute_of setting.now) }
     requires places { IsTreeWithin (length setting.now.names.now) setting.now.body.now }
-    requires deep { tree_size setting.now.body.now < 2 ^ 28 }
-    requires few_integers { length consts.old.integers + tree_size setting.now.body.now < 2 ^ 32 - 1 }
-    requires few_strings { length consts.old.strings + 2 * tree_size setting.now.body.now < 2 ^ 32 - 1 }
-    ensures lines { OnOk result ((g : Constants) → Extends consts.new g → lines_of lines.new.items ≡ lines_of lines.old.items ++ initial_value_code (context setting.now) g (Some setting.now.body.now)) }
-    ensures integers { OnOk result (consts.new.integers ≡ with_integers consts.old.integers (integers_in setting.now.body.now)) }
-    ensures strings { OnOk result (consts.new.strings ≡ with_strings consts.old.strings (strings_in (context setting.now).files setting.now.body.now)) }
+    requires room { HasRoom consts.old 0 (tree_size setting.now.body.now) }
+    ensures { AddsBody setting.now (λ g. initial_value_code (context setting.now) g (Some setting.now.body.now)) consts.old consts.new lines.old.items lines.new.items result }
 {
     let attribute = AttributeRef {
         owner: setting.class,

@@ -10,7 +10,7 @@ mod binding;
 mod call;
 mod expression;
 mod feature;
-pub mod label;
+mod label;
 mod number;
 mod operation;
 mod operator;

@@ -1,7 +1,6 @@
 //! The code of operations, after the code of their operands, which asks for no expression.
 
 ghost use Rattle.std.specs.Prelude.{◌≡◌, ◌<◌, ◌-◌, ◌^◌, ◌++◌, length, OnOk};
-ghost use Rattle.std.specs.List.{AllByRecursion};
 ghost use Rattle.mips_isa.specs.Lines.{lines_of};
 ghost use Rattle.cool_rules.specs.Conformance.{IsType};
 ghost use Rattle.cool_consts.specs.Constants.{Constants, with_string};
@@ -10,7 +9,7 @@ ghost use Rattle.cool_codegen.specs.Code.{assign_code, bool_code, compare_code, 
 ghost use Rattle.cool_codegen.specs.Settings.{context};
 ghost use Rattle.cool_codegen.specs.Types.{is_self};
 
-use crate::label::{file_label, initializer, inner_label, prototype};
+use crate::label::{file_label, inner_label};
 use crate::piece::{
     compare_equal, create, create_self, ends_where, flag, is_zero, less, less_equal, load, store,
     take, take_self, take_void, values,
@@ -19,6 +18,7 @@ use crate::setting::Setting;
 use crate::variables::Variables;
 use cool_classes::{BOOL, INT, STRING, Ty};
 use cool_consts::Consts;
+use cool_layout::{initializer_label, prototype_label};
 use cool_runtime::piece::new_int;
 use cool_syntax::{CompareOp, Name, NodeId, Place};
 use mips_isa::Line;
@@ -106,7 +106,6 @@ pub fn take_name(
     name: &Name,
     lines: &mut Vec<Line>,
 ) -> Result<(), AllocError>
-    requires bases { AllByRecursion (λ v. v.variable.base < 32) variables.now }
     ensures { OnOk result (lines_of lines.new.items ≡ lines_of lines.old.items ++ name_code variables.now name.now) }
 {
     if is_self(name) {
@@ -126,7 +125,6 @@ pub fn assign(
     name: &Name,
     lines: &mut Vec<Line>,
 ) -> Result<(), AllocError>
-    requires bases { AllByRecursion (λ v. v.variable.base < 32) variables.now }
     ensures { OnOk result (lines_of lines.new.items ≡ lines_of lines.old.items ++ assign_code variables.now name.now) }
 {
     if is_self(name) {
@@ -190,8 +188,8 @@ pub fn take_new(setting: &Setting<'_>, made: Ty, lines: &mut Vec<Line>) -> Resul
     match made {
         Ty::SelfType => create_self(alloc, lines)?,
         Ty::Class(class) => {
-            let object = prototype(alloc, setting.table, class)?;
-            let values = initializer(alloc, setting.table, class)?;
+            let object = prototype_label(alloc, setting.table, class)?;
+            let values = initializer_label(alloc, setting.table, class)?;
             create(alloc, lines, &object, &values)?;
         }
     }

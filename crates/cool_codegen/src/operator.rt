@@ -1,18 +1,15 @@
 //! The code of assignments and operators.
 
-ghost use Rattle.std.specs.Prelude.{◌≡◌, ◌++◌, ◌+◌, ◌*◌, ◌-◌, ◌^◌, ◌<◌, ◌≤◌, length, IfOk, OnOk};
-ghost use Rattle.std.specs.List.{AllByRecursion};
+ghost use Rattle.std.specs.Prelude.{◌≡◌, ◌++◌, ◌+◌, ◌<◌, ◌≤◌, length, OnOk};
 ghost use Rattle.mips_isa.specs.Lines.{lines_of};
 ghost use Rattle.cool_syntax.specs.NodeGroups.{IsBinary, IsUnary};
-ghost use Rattle.cool_syntax.specs.NodeLists.{all_trees, made, tree_at, HasPartsBelow};
-ghost use Rattle.cool_syntax.specs.TreesWithinLimits.{IsTreeWithin};
-ghost use Rattle.cool_rules.specs.Conformance.{IsType};
 ghost use Rattle.cool_runtime.specs.Routines.{push_lines};
-ghost use Rattle.cool_codegen.specs.Numbered.{asked_at, lines_at, node_asked, node_lines, node_size, node_type, operation_asked, operation_lines, size_at, tested_strings, HasRoots, IsRoot};
+ghost use Rattle.cool_codegen.specs.AddedCode.{Adds, CanName, HasRoom, HasType, IsExpressionOf, IsNodeOf, IsReady};
+ghost use Rattle.cool_codegen.specs.Numbered.{asked_at, lines_at, node_asked, node_lines, node_size, node_type, operation_asked, operation_lines, size_at, tested_strings};
 ghost use Rattle.cool_consts.specs.Constants.{Constants};
 ghost use Rattle.cool_codegen.specs.Asked.{Extends};
 ghost use Rattle.cool_codegen.specs.Code.{operation_code};
-ghost use Rattle.cool_codegen.specs.Settings.{context, HaveTypes, IsSound};
+ghost use Rattle.cool_codegen.specs.Settings.{context};
 
 use crate::expression::expression;
 use crate::operation::{assign, compare, make_bool, make_int, test_divisor};
@@ -39,22 +36,12 @@ pub(crate) fn unary<'a>(
     lines: &mut Vec<Line>,
 ) -> Result<Ty, AllocError>
     requires group { IsUnary node.now }
-    requires roots { HasRoots setting.now.body.now node.now }
-    requires parts { HasPartsBelow id.0 node.now }
-    requires places { IsTreeWithin (length setting.now.names.now) (made (all_trees setting.now.body.now) node.now) }
-    requires sound { IsSound setting.now }
-    requires bases { AllByRecursion (λ v. v.variable.base < 32) variables.old }
-    requires types { HaveTypes setting.now.table.now variables.old }
-    requires deep { depth + node_size setting.now.body.now node.now < 2 ^ 28 }
-    requires integers { length consts.old.integers + node_size setting.now.body.now node.now < 2 ^ 32 - 1 }
-    requires strings { length consts.old.strings + 2 * node_size setting.now.body.now node.now < 2 ^ 32 - 1 }
-    ensures is_type { IfOk result (IsType setting.now.table.now) }
-    ensures typed { IfOk result (λ t. t ≡ node_type (context setting.now) setting.now.body.now variables.old depth node.now) }
+    requires node { IsNodeOf setting.now id node.now }
+    requires ready { IsReady setting.now variables.old }
+    requires room { HasRoom consts.old depth (node_size setting.now.body.now node.now) }
+    ensures typed { HasType setting.now.table.now (node_type (context setting.now) setting.now.body.now variables.old depth node.now) result }
     ensures scope { OnOk result (variables.new ≡ variables.old) }
-    ensures lines { OnOk result (lines_of lines.new.items ≡ lines_of lines.old.items ++ node_lines (context setting.now) setting.now.body.now consts.old variables.old depth id node.now) }
-    ensures asked { OnOk result (consts.new ≡ node_asked (context setting.now).files setting.now.body.now consts.old node.now) }
-    ensures more_integers { OnOk result (length consts.new.integers ≤ length consts.old.integers + node_size setting.now.body.now node.now) }
-    ensures more_strings { OnOk result (length consts.new.strings ≤ length consts.old.strings + 2 * node_size setting.now.body.now node.now) }
+    ensures made { Adds (node_lines (context setting.now) setting.now.body.now consts.old variables.old depth id node.now) (node_asked (context setting.now).files setting.now.body.now consts.old node.now) (node_size setting.now.body.now node.now) consts.old consts.new lines.old.items lines.new.items result }
 {
     let alloc = setting.alloc;
     match node {
@@ -98,22 +85,12 @@ pub(crate) fn binary<'a>(
     lines: &mut Vec<Line>,
 ) -> Result<Ty, AllocError>
     requires group { IsBinary node.now }
-    requires roots { HasRoots setting.now.body.now node.now }
-    requires parts { HasPartsBelow id.0 node.now }
-    requires places { IsTreeWithin (length setting.now.names.now) (made (all_trees setting.now.body.now) node.now) }
-    requires sound { IsSound setting.now }
-    requires bases { AllByRecursion (λ v. v.variable.base < 32) variables.old }
-    requires types { HaveTypes setting.now.table.now variables.old }
-    requires deep { depth + node_size setting.now.body.now node.now < 2 ^ 28 }
-    requires integers { length consts.old.integers + node_size setting.now.body.now node.now < 2 ^ 32 - 1 }
-    requires strings { length consts.old.strings + 2 * node_size setting.now.body.now node.now < 2 ^ 32 - 1 }
-    ensures is_type { IfOk result (IsType setting.now.table.now) }
-    ensures typed { IfOk result (λ t. t ≡ node_type (context setting.now) setting.now.body.now variables.old depth node.now) }
+    requires node { IsNodeOf setting.now id node.now }
+    requires ready { IsReady setting.now variables.old }
+    requires room { HasRoom consts.old depth (node_size setting.now.body.now node.now) }
+    ensures typed { HasType setting.now.table.now (node_type (context setting.now) setting.now.body.now variables.old depth node.now) result }
     ensures scope { OnOk result (variables.new ≡ variables.old) }
-    ensures lines { OnOk result (lines_of lines.new.items ≡ lines_of lines.old.items ++ node_lines (context setting.now) setting.now.body.now consts.old variables.old depth id node.now) }
-    ensures asked { OnOk result (consts.new ≡ node_asked (context setting.now).files setting.now.body.now consts.old node.now) }
-    ensures more_integers { OnOk result (length consts.new.integers ≤ length consts.old.integers + node_size setting.now.body.now node.now) }
-    ensures more_strings { OnOk result (length consts.new.strings ≤ length consts.old.strings + 2 * node_size setting.now.body.now node.now) }
+    ensures made { Adds (node_lines (context setting.now) setting.now.body.now consts.old variables.old depth id node.now) (node_asked (context setting.now).files setting.now.body.now consts.old node.now) (node_size setting.now.body.now node.now) consts.old consts.new lines.old.items lines.new.items result }
 {
     match node {
         Node::Arith {
@@ -154,21 +131,12 @@ fn operands<'a>(
 ) -> Result<(), AllocError>
     requires left_below { left.0 < end.0 }
     requires right_below { right.0 < end.0 }
-    requires left_root { IsRoot setting.now.body.now left }
-    requires right_root { IsRoot setting.now.body.now right }
-    requires left_places { IsTreeWithin (length setting.now.names.now) (tree_at setting.now.body.now left) }
-    requires right_places { IsTreeWithin (length setting.now.names.now) (tree_at setting.now.body.now right) }
-    requires sound { IsSound setting.now }
-    requires bases { AllByRecursion (λ v. v.variable.base < 32) variables.old }
-    requires types { HaveTypes setting.now.table.now variables.old }
-    requires deep { depth + (size_at setting.now.body.now left + size_at setting.now.body.now right + 1) < 2 ^ 28 }
-    requires integers { length consts.old.integers + (size_at setting.now.body.now left + size_at setting.now.body.now right + 1) < 2 ^ 32 - 1 }
-    requires strings { length consts.old.strings + 2 * (size_at setting.now.body.now left + size_at setting.now.body.now right + 1) < 2 ^ 32 - 1 }
+    requires left { IsExpressionOf setting.now left }
+    requires right { IsExpressionOf setting.now right }
+    requires ready { IsReady setting.now variables.old }
+    requires room { HasRoom consts.old depth (size_at setting.now.body.now left + size_at setting.now.body.now right + 1) }
     ensures scope { OnOk result (variables.new ≡ variables.old) }
-    ensures lines { OnOk result (lines_of lines.new.items ≡ lines_of lines.old.items ++ (lines_at (context setting.now) setting.now.body.now consts.old variables.old depth left ++ (push_lines ++ lines_at (context setting.now) setting.now.body.now (asked_at (context setting.now).files setting.now.body.now consts.old left) variables.old (depth + 1) right))) }
-    ensures asked { OnOk result (consts.new ≡ asked_at (context setting.now).files setting.now.body.now (asked_at (context setting.now).files setting.now.body.now consts.old left) right) }
-    ensures more_integers { OnOk result (length consts.new.integers ≤ length consts.old.integers + (size_at setting.now.body.now left + size_at setting.now.body.now right)) }
-    ensures more_strings { OnOk result (length consts.new.strings ≤ length consts.old.strings + 2 * (size_at setting.now.body.now left + size_at setting.now.body.now right)) }
+    ensures made { Adds (lines_at (context setting.now) setting.now.body.now consts.old variables.old depth left ++ (push_lines ++ lines_at (context setting.now) setting.now.body.now (asked_at (context setting.now).files setting.now.body.now consts.old left) variables.old (depth + 1) right)) (asked_at (context setting.now).files setting.now.body.now (asked_at (context setting.now).files setting.now.body.now consts.old left) right) (size_at setting.now.body.now left + size_at setting.now.body.now right) consts.old consts.new lines.old.items lines.new.items result }
 {
     expression(setting, variables, depth, left, consts, lines)?;
     push(setting.alloc, lines)?;
@@ -185,8 +153,7 @@ fn compute(
     consts: &mut Consts,
     lines: &mut Vec<Line>,
 ) -> Result<(), AllocError>
-    requires few { length consts.old.strings + 2 < 2 ^ 32 - 1 }
-    requires file { at.file < length setting.now.names.now }
+    requires { CanName setting.now consts.old at }
     ensures lines { OnOk result (lines_of lines.new.items ≡ lines_of lines.old.items ++ operation_lines (context setting.now) consts.old op at id) }
     ensures asked { OnOk result (consts.new ≡ operation_asked (context setting.now).files op at consts.old) }
     ensures more_integers { OnOk result (length consts.new.integers ≡ length consts.old.integers) }
@@ -207,8 +174,7 @@ fn operate(
     consts: &mut Consts,
     lines: &mut Vec<Line>,
 ) -> Result<(), AllocError>
-    requires few { length consts.old.strings + 2 < 2 ^ 32 - 1 }
-    requires file { at.file < length setting.now.names.now }
+    requires { CanName setting.now consts.old at }
     ensures lines { OnOk result ((g : Constants) → Extends consts.new g → lines_of lines.new.items ≡ lines_of lines.old.items ++ operation_code (context setting.now) g op at id) }
     ensures integers { consts.new.integers ≡ consts.old.integers }
     ensures strings { OnOk result (consts.new.strings ≡ tested_strings (context setting.now).files op at consts.old.strings) }

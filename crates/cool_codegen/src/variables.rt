@@ -1,6 +1,6 @@
 //! The names in scope, with the words that hold their values.
 
-ghost use Rattle.std.specs.Prelude.{◌≡◌, ◌≢◌, [], ◌∷◌, IsTrue, if◌then◌else◌};
+ghost use Rattle.std.specs.Prelude.{◌≡◌, ◌≢◌, ◌<◌, [], ◌∷◌, IfSome, IsTrue, if◌then◌else◌};
 ghost use Rattle.std.specs.Result.{is_ok};
 ghost use Rattle.cool_codegen.specs.Variables.{found, left};
 
@@ -24,19 +24,22 @@ struct Entry<'a> {
     variable: Variable,
 }
 
-/// The names in scope with their variables. A contract sees them with the latest first.
+/// The names in scope with their variables, whose words are addressed from registers. A contract sees them with the latest first.
 #[derive(Drop)]
 pub struct Variables<'a> {
     entries: Vec<Entry<'a>>,
 }
 
 impl<'a> Model for Variables<'a> {
-    ghost use Rattle.std.specs.Prelude.{List};
+    ghost use Rattle.std.specs.Prelude.{◌<◌, List};
+    ghost use Rattle.std.specs.List.{AllByRecursion};
     ghost use Rattle.cool_codegen.specs.Variables.{Named, latest_first};
 
     ghost Value = { List Named };
 
     ghost view = { λ s. latest_first s.entries.items };
+
+    ghost invariant = { λ s. AllByRecursion (λ e. e.variable.base < 32) s.entries.items };
 }
 
 impl<'a> Variables<'a> {
@@ -51,6 +54,7 @@ impl<'a> Variables<'a> {
 
     /// Adds a name, in front of an earlier one of the same name.
     pub fn enter(&mut self, name: &'a Name, variable: Variable) -> Result<(), AllocError>
+        requires { variable.base < 32 }
         ensures { self.new ≡ (if is_ok result then record { name = name.now; variable = variable } ∷ self.old else self.old) }
     {
         self.entries.push(Entry {
@@ -70,7 +74,8 @@ impl<'a> Variables<'a> {
 
     /// The variable of a name, by its latest entry.
     pub fn find(&self, name: &Name) -> Option<Variable>
-        ensures { result ≡ found self.now name.now }
+        ensures found { result ≡ found self.now name.now }
+        ensures register { IfSome result (λ variable. variable.base < 32) }
     {
         for index in (0..self.entries.len()).rev() {
             let entry = &self.entries[index];

@@ -1,5 +1,5 @@
 -- The lines of a branch are its test, its body, and the way to the end.
-use Rattle.std.proofs.Common.{◌+◌, ◌++◌, ap, ◌∙◌, append_assoc}
+use Rattle.std.proofs.Common.{◌+◌, ◌++◌, ap, ◌∙◌, append_assoc, rules}
 use Rattle.std.specs.Prelude.{codes}
 use Rattle.mips_isa.specs.Lines.{lines_of}
 use Rattle.cool_classes.specs.declared.class_id.Ty.TheVariants.{Class as IsClass}
@@ -10,8 +10,8 @@ use Rattle.cool_codegen.specs.Settings.{context}
 use Rattle.cool_codegen.specs.Variables.{bind}
 use Rattle.cool_codegen.proofs.+coding.Goals as goal
 
-pub binding::arm-returns-clause-lines : goal.binding::arm-returns-clause-lines
-binding::arm-returns-clause-lines t c =
+pub binding::arm-returns-clause-made : goal.binding::arm-returns-clause-made
+binding::arm-returns-clause-made t c =
     let s = context c.args.setting.now in
     let b = c.args.setting.now.body.now in
     let body = c.args.branch.now.body in
@@ -20,9 +20,15 @@ binding::arm-returns-clause-lines t c =
     let here = c.as_bytes.ensures.value ∙ c.in_ok-next.ensures in
     let there = c.as_bytes-2.ensures.value ∙ c.in_ok-next.ensures in
     let code = lines_at s b c.args.consts.now (bind c.args.depth c.args.branch.now.name (IsClass c.args.class) c.args.variables.now) (c.args.depth + 1) body in
-    c.in_ok-turn.ensures
-    ∙ (λ i. c.in_ok-found.ensures.lines i ++ turn_lines c.args.end.now (there i))
-    ∙ ap (λ xs. (xs ++ code) ++ turn_lines c.args.end.now next) (c.in_ok-try_class.ensures ∙ ap (λ n. before ++ range_code s c.args.class n) here)
-    ∙ append_assoc (before ++ range_code s c.args.class next) code (turn_lines c.args.end.now next)
-    ∙ append_assoc before (range_code s c.args.class next) (code ++ turn_lines c.args.end.now next)
-    ∙ ap (λ k. before ++ (range_code s k next ++ (lines_at s b c.args.consts.now (bind c.args.depth c.args.branch.now.name (IsClass k) c.args.variables.now) (c.args.depth + 1) body ++ turn_lines c.args.end.now next))) c.requires.declared
+    record {
+      lines =
+          c.in_ok-turn.ensures
+          ∙ (λ i. c.in_ok-found.ensures.made.lines i ++ turn_lines c.args.end.now (there i))
+          ∙ ap (λ xs. (xs ++ code) ++ turn_lines c.args.end.now next) (c.in_ok-try_class.ensures ∙ ap (λ n. before ++ range_code s c.args.class n) here)
+          ∙ append_assoc (before ++ range_code s c.args.class next) code (turn_lines c.args.end.now next)
+          ∙ append_assoc before (range_code s c.args.class next) (code ++ turn_lines c.args.end.now next)
+          ∙ ap (λ k. before ++ (range_code s k next ++ (lines_at s b c.args.consts.now (bind c.args.depth c.args.branch.now.name (IsClass k) c.args.variables.now) (c.args.depth + 1) body ++ turn_lines c.args.end.now next))) c.requires.declared;
+      asked = search rules;
+      more_integers = search rules;
+      more_strings = search rules;
+    }

@@ -1,5 +1,5 @@
 -- The number is that of a root, so all stands by the node there.
-use Rattle.std.proofs.Common.{length, subst}
+use Rattle.std.proofs.Common.{length, subst, rules}
 use Rattle.cool_syntax.specs.Falls.{one_le_size}
 use Rattle.cool_syntax.specs.NodeLists.{tree_at}
 use Rattle.cool_syntax.specs.TreesWithinLimits.{IsTreeWithin}
@@ -12,11 +12,12 @@ use Rattle.cool_codegen.proofs.expression.node_of.Goals as goal
 pub node-requires : goal.node-requires
 node-requires c = record { below = root_within c.args.setting.now.body.now c.args.id c.requires.root }
 
-pub returns-clause-roots : goal.returns-clause-roots
-returns-clause-roots c = has_roots c.args.setting.now.body.now c.args.id _ c.requires.root c.node.ensures.node
-
-pub returns-clause-places : goal.returns-clause-places
-returns-clause-places c = subst (IsTreeWithin (length c.args.setting.now.names.now)) c.node.ensures.tree c.requires.places
+pub returns-clause-node : goal.returns-clause-node
+returns-clause-node c = record {
+  roots = has_roots c.args.setting.now.body.now c.args.id _ c.requires.root c.node.ensures.node;
+  parts = search rules;
+  places = subst (IsTreeWithin (length c.args.setting.now.names.now)) c.node.ensures.tree c.requires.places;
+}
 
 pub returns-clause-size : goal.returns-clause-size
 returns-clause-size c = size_of_node c.args.setting.now.body.now c.args.id _ c.requires.root c.node.ensures.node

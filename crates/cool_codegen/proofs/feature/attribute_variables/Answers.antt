@@ -17,7 +17,6 @@ loop-attribute-init c =
     let none = c.new-variables.ensures in
     let all = all_there (attributes p k) (attributes p k) (λ a h. h) in
     record {
-      bases = search rules;
       types = search rules;
       has = search rules;
       there = subst (AllByRecursion (Contains (attributes p k))) (sym items) all;

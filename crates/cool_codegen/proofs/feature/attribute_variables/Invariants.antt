@@ -1,5 +1,5 @@
 -- The attributes that are left are those of the class, and with them the variables are all.
-use Rattle.std.proofs.Common.{◌≡◌, ◌<◌, Contains}
+use Rattle.std.proofs.Common.{◌≡◌, Contains}
 use Rattle.std.specs.List.{AllByRecursion}
 use Rattle.cool_classes.specs.Features.{HasAttribute}
 use Rattle.cool_layout.specs.Members.{attributes}
@@ -9,7 +9,6 @@ use Rattle.cool_codegen.proofs.feature.attribute_variables.Given as goal
 
 abbrev pub invariant-loop-attribute : goal.invariant-loop-attribute
 invariant-loop-attribute l = record {
-  bases : AllByRecursion (λ v. v.variable.base < 32) l.variables;
   types : HaveTypes l.setting.table.now l.variables;
   has : AllByRecursion (HasAttribute l.setting.table.now) l.attribute-iterator.rest.items;
   there : AllByRecursion (Contains (attributes l.setting.table.now l.setting.class)) l.attribute-iterator.rest.items;

@@ -22,24 +22,14 @@ attribute_lines-requires-clause-there c =
     let here = stands (features_of t c.args.c) c.features.result.now c.args.feature c.index-features-feature.result c.features.ensures.features less c.index-features-feature.is in
     attribute_there t c.args.c c.args.feature c.in-Attribute.attribute (here ∙ ap Some c.in-Attribute.is)
 
-pub attribute_lines-requires-clause-deep : goal.attribute_lines-requires-clause-deep
-attribute_lines-requires-clause-deep c =
+pub attribute_lines-requires-clause-room : goal.attribute_lines-requires-clause-room
+attribute_lines-requires-clause-room c =
     let same = c.features.ensures.features ∙ ap (λ (p : List Class). features_of p c.args.c) c.table-table.ensures.table in
     let here = stands (features_of c.args.p.now c.args.c) c.features.result.now c.args.feature c.index-features-feature.result same c.requires.feature c.index-features-feature.is in
     let small = small_value c.args.p.now (length c.args.names.now) c.args.c c.args.feature c.in-Attribute.attribute c.in-Some.body c.requires.fits c.requires.class (here ∙ ap Some c.in-Attribute.is) c.in-Some.is in
-    omega arith
-
-pub attribute_lines-requires-clause-few_integers : goal.attribute_lines-requires-clause-few_integers
-attribute_lines-requires-clause-few_integers c =
-    let small = attribute_lines-requires-clause-deep c in
-    let few = c.requires.few_integers in
-    omega arith
-
-pub attribute_lines-requires-clause-few_strings : goal.attribute_lines-requires-clause-few_strings
-attribute_lines-requires-clause-few_strings c =
-    let small = attribute_lines-requires-clause-deep c in
-    let few = c.requires.few_strings in
-    omega arith
+    let few_integers = c.requires.few_integers in
+    let few_strings = c.requires.few_strings in
+    record { deep = omega arith; integers = omega arith; strings = omega arith }
 
 pub returns-clause-lines : goal.returns-clause-lines
 returns-clause-lines c x is g more =

@@ -1,13 +1,11 @@
 -- The formals that are left are entered after those that were.
 use Rattle.std.proofs.Common.{◌≡◌, ◌<◌, ◌^◌, length, drop}
-use Rattle.std.specs.List.{AllByRecursion}
 use Rattle.cool_codegen.specs.Features.{with_formals}
 use Rattle.cool_codegen.specs.Settings.{HaveTypes}
 use Rattle.cool_codegen.proofs.feature.formal_variables.Given as goal
 
 abbrev pub invariant-loop-formal : goal.invariant-loop-formal
 invariant-loop-formal l = record {
-  bases : AllByRecursion (λ v. v.variable.base < 32) l.variables;
   types : HaveTypes l.setting.table.now l.variables;
   after : l.after ≡ length (drop l.formal-index l.formals);
   few : length l.formals < 2 ^ 28;

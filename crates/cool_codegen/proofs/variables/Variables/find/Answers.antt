@@ -11,8 +11,8 @@ loop-index-init c =
     let es = c.self.inside.entries.items in
     ap (λ bs. found bs c.args.name.now) (sym c.self.view_is ∙ ap latest_first (sym (take-length es) ∙ ap (λ (k : ℕ). take k es) (sym (c.len-index.ensures ∙ c.self.inside.entries.ok.0))))
 
-pub returns-then-eq : goal.returns-then-eq
-returns-then-eq c =
+pub returns-then-eq-clause-found : goal.returns-then-eq-clause-found
+returns-then-eq-clause-found c =
     let es = c.self.inside.entries.items in
     let t = c.loop-index-test.true in
     let b = c.loop-index.auto.index in
@@ -37,8 +37,8 @@ loop-index-preserved c =
     c.loop-index.invariant ∙ ap (λ (k : ℕ). found (latest_first (take k es)) c.args.name.now) (sym next)
     ∙ found_there es (c.loop-index.index - 1) c.index-entry.result.now c.args.name.now within c.index-entry.ensures other
 
-pub returns : goal.returns
-returns c =
+pub returns-clause-found : goal.returns-clause-found
+returns-clause-found c =
     let es = c.self.inside.entries.items in
     let zero_there : c.loop-index.index ≡ 0 = let t = c.loop-index-test.false in omega arith in
     sym (c.loop-index.invariant ∙ ap (λ (k : ℕ). found (latest_first (take k es)) c.args.name.now) zero_there)

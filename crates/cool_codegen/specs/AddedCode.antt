@@ -1,0 +1,71 @@
+-- What a part of a body asks for before its code is made, and what the code adds to the lines and to the constants.
+use Rattle.std.specs.Prelude.{◌≡◌, ℕ, ◌+◌, ◌*◌, ◌-◌, ◌^◌, ◌<◌, ◌≤◌, List, ◌++◌, length, map, Result, IfOk, OnOk}
+use Rattle.std.specs.List.{AllByRecursion}
+use Rattle.mips_isa.specs.declared.line.Line as declared_line
+use Rattle.mips_isa.specs.Lines.{Line, lines_of}
+use Rattle.cool_syntax.specs.declared.node.Node.{Node}
+use Rattle.cool_syntax.specs.declared.node.NodeId.{NodeId}
+use Rattle.cool_syntax.specs.declared.place.Place.{Place}
+use Rattle.cool_syntax.specs.Tree.{of_list}
+use Rattle.cool_syntax.specs.NodeLists.{all_trees, at_id, made, tree_at, HasPartsBelow}
+use Rattle.cool_syntax.specs.TreesWithinLimits.{AreTreesWithin, IsTreeWithin}
+use Rattle.cool_classes.specs.declared.class_id.Ty.{Ty}
+use Rattle.cool_classes.specs.Chains.{Class}
+use Rattle.cool_rules.specs.Conformance.{IsType}
+use Rattle.cool_consts.specs.Constants.{Constants}
+use Rattle.cool_codegen.specs.declared.setting.Setting.{Setting}
+use Rattle.cool_codegen.specs.Asked.{integers_in, strings_in, with_integers, with_strings, Extends}
+use Rattle.cool_codegen.specs.Numbered.{AreRoots, HasRoots, IsRoot}
+use Rattle.cool_codegen.specs.Settings.{context, HaveTypes, IsSound}
+use Rattle.cool_codegen.specs.Variables.{Named}
+
+-- The setting is sound, and the variables in scope have types of its table.
+pub record IsReady (s : Setting) (vs : List Named) : Type 0 where
+  pub sound : IsSound s
+  pub types : HaveTypes s.table.now vs
+
+-- What is answered is this type, which is one of the table.
+pub record HasType {E : Type 0} (p : List Class) (type : Ty) (result : Result Ty E) : Type 0 where
+  pub is_type : IfOk result (IsType p)
+  pub typed : IfOk result (λ t. t ≡ type)
+
+-- At this depth, after these constants, there is room for the words that so many nodes push and the constants that they name.
+pub record HasRoom (t : Constants) (depth size : ℕ) : Type 0 where
+  pub deep : depth + size < 2 ^ 28
+  pub integers : length t.integers + size < 2 ^ 32 - 1
+  pub strings : length t.strings + 2 * size < 2 ^ 32 - 1
+
+-- A number is that of an expression of the body, whose places are in the files.
+pub record IsExpressionOf (s : Setting) (id : NodeId) : Type 0 where
+  pub root : IsRoot s.body.now id
+  pub places : IsTreeWithin (length s.names.now) (tree_at s.body.now id)
+
+-- Numbers are those of expressions of the body that are parts of the one at this number.
+pub record AreExpressionsOf (s : Setting) (end : NodeId) (ids : List NodeId) : Type 0 where
+  pub roots : AreRoots s.body.now ids
+  pub parts : AllByRecursion (λ id. id.0 < end.0) ids
+  pub places : AreTreesWithin (length s.names.now) (of_list (map (at_id (all_trees s.body.now)) ids))
+
+-- A node of this number has expressions of the body as parts.
+pub record IsNodeOf (s : Setting) (id : NodeId) (node : Node) : Type 0 where
+  pub roots : HasRoots s.body.now node
+  pub parts : HasPartsBelow id.0 node
+  pub places : IsTreeWithin (length s.names.now) (made (all_trees s.body.now) node)
+
+-- Code was added for so many nodes, and the constants are those after it.
+pub record Adds {X E : Type 0} (code : List Line) (named : Constants) (size : ℕ) (t u : Constants) (before after : List declared_line.Line) (result : Result X E) : Type 0 where
+  pub lines : OnOk result (lines_of after ≡ lines_of before ++ code)
+  pub asked : OnOk result (u ≡ named)
+  pub more_integers : OnOk result (length u.integers ≤ length t.integers + size)
+  pub more_strings : OnOk result (length u.strings ≤ length t.strings + 2 * size)
+
+-- The file of a place has a name, for which there is room among the strings, and for one more.
+pub record CanName (s : Setting) (t : Constants) (at : Place) : Type 0 where
+  pub few : length t.strings + 2 < 2 ^ 32 - 1
+  pub file : at.file < length s.names.now
+
+-- Code for the whole body was added, which is the same by each table that goes on from the constants after it.
+pub record AddsBody {X E : Type 0} (s : Setting) (code : Constants → List Line) (t u : Constants) (before after : List declared_line.Line) (result : Result X E) : Type 0 where
+  pub lines : OnOk result ((g : Constants) → Extends u g → lines_of after ≡ lines_of before ++ code g)
+  pub integers : OnOk result (u.integers ≡ with_integers t.integers (integers_in s.body.now))
+  pub strings : OnOk result (u.strings ≡ with_strings t.strings (strings_in (context s).files s.body.now))
