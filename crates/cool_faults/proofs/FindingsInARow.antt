@@ -24,7 +24,7 @@ found_same {I} {T} IsGood IsBad all ts us fs gs e f h =
 one_more : {X : Type 0} (old new : List X) (x : X) (xs : List X) → new ≡ old ++ x ∷ [] → old ++ (x ∷ xs) ≡ new ++ xs
 one_more {X} old new x xs e = sym (ap (λ (l : List X). l ++ xs) e ∙ append_assoc old (x ∷ []) xs)
 
--- one finding more goes on behind its input
+-- one finding more goes on after its input
 pub found_more : {I T : Type 0} (IsGood : ℕ → I → T → Type 0) (IsBad : ℕ → I → Fault → Type 0) (all : List I) (i : ℕ) (here left : List I) (x : I) (old new : Findings T)
     → here ≡ x ∷ left → GoesOn IsGood IsBad all i here old → Adds (IsGood i x) (IsBad i x) old new → GoesOn IsGood IsBad all (i + 1) left new
 found_more {I} {T} IsGood IsBad all i here left x old new e h (inl (t, g, r, f)) =
@@ -79,6 +79,6 @@ all_found IsGood IsBad (none i) e = tt
 all_found IsGood IsBad (good i x xs t ts fs g rest) e = (g, all_found IsGood IsBad rest e)
 all_found IsGood IsBad (bad i x xs f ts fs b rest) e = absurd (cc)
 
--- what a loop has left is an item and the rest behind it
+-- what a loop has left is an item and the rest after it
 pub item_here : {X : Type 0} (xs : List X) (i : ℕ) (x : X) → i < length xs → x ≡ get_or xs i x → drop i xs ≡ x ∷ drop (i + 1) xs
 item_here {X} xs i x h is = drop_more xs i x h ∙ ap (λ (y : X). y ∷ drop (i + 1) xs) (sym is)

@@ -55,7 +55,7 @@ rank (Typing f) = 25 + type_rank f.kind
 abbrev pub standing_of : Fault → Standing
 standing_of f = record { at = place_of f; rank = rank f }
 
--- the place behind the last byte of a file
+-- the place after the last byte of a file
 abbrev pub end_of : ℕ → List ℕ → Place
 end_of file bytes = place_at file bytes (length bytes)
 

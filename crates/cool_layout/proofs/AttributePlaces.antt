@@ -87,9 +87,9 @@ method_pushed above i fs f m low read is xs count old number =
 
 -- places
 
-place_behind : (a : AttributeRef) (xs ys : List AttributeRef) → list_any (is_attribute a) xs ≡ false → place_of a (xs ++ ys) ≡ length xs + place_of a ys
-place_behind a [] ys none = omega arith
-place_behind a (x ∷ xs) ys none = by (is_attribute a x) none (λ h. place_behind a xs ys h)
+place_after : (a : AttributeRef) (xs ys : List AttributeRef) → list_any (is_attribute a) xs ≡ false → place_of a (xs ++ ys) ≡ length xs + place_of a ys
+place_after a [] ys none = omega arith
+place_after a (x ∷ xs) ys none = by (is_attribute a x) none (λ h. place_after a xs ys h)
   where
     by : (b : Bool) → (b || list_any (is_attribute a) xs) ≡ false → (list_any (is_attribute a) xs ≡ false → place_of a (xs ++ ys) ≡ length xs + place_of a ys) → cond (not b) (1 + place_of a (xs ++ ys)) 0 ≡ suc (length xs) + place_of a ys
     by true h more = absurd (true≢false h)
@@ -103,9 +103,9 @@ place_here a (x ∷ xs) ys some = by (is_attribute a x) some (λ h. place_here a
     by true h more = refl
     by false h more = ap (λ n. 1 + n) (more h)
 
-any_behind : (a : AttributeRef) (xs ys : List AttributeRef) → list_any (is_attribute a) ys ≡ true → list_any (is_attribute a) (xs ++ ys) ≡ true
-any_behind a [] ys h = h
-any_behind a (x ∷ xs) ys h = by (is_attribute a x) (any_behind a xs ys h)
+any_after : (a : AttributeRef) (xs ys : List AttributeRef) → list_any (is_attribute a) ys ≡ true → list_any (is_attribute a) (xs ++ ys) ≡ true
+any_after a [] ys h = h
+any_after a (x ∷ xs) ys h = by (is_attribute a x) (any_after a xs ys h)
   where
     by : (b : Bool) → list_any (is_attribute a) (xs ++ ys) ≡ true → (b || list_any (is_attribute a) (xs ++ ys)) ≡ true
     by true t = refl
@@ -253,7 +253,7 @@ owner_offset p r a within some =
     by None e = (let z : 0 + place_of a (own_attributes a.owner 0 (features_of p a.owner)) ≡ place_of a (own_attributes a.owner 0 (features_of p a.owner)) = omega arith in z) ∙ ap (place_of a) (sym (attributes_top p r a.owner within e))
     by (Some q) e =
         let none : list_any (is_attribute a) (attributes p q) ≡ false = not_above_is q e in
-        sym (ap (place_of a) (attributes_step p r a.owner q within e) ∙ place_behind a (attributes p q) (own_attributes a.owner 0 (features_of p a.owner)) none)
+        sym (ap (place_of a) (attributes_step p r a.owner q within e) ∙ place_after a (attributes p q) (own_attributes a.owner 0 (features_of p a.owner)) none)
       where
         not_above_is : (q : ClassId) → parent_of p a.owner ≡ Some q → list_any (is_attribute a) (attributes p q) ≡ false
         not_above_is q e = not_above p r a q within e (list_any (is_attribute a) (attributes p q)) refl
@@ -264,4 +264,4 @@ own_among p r a within some = by (parent_of p a.owner) refl
   where
     by : (o : Option ClassId) → parent_of p a.owner ≡ o → list_any (is_attribute a) (attributes p a.owner) ≡ true
     by None e = ap (list_any (is_attribute a)) (attributes_top p r a.owner within e) ∙ some
-    by (Some q) e = ap (list_any (is_attribute a)) (attributes_step p r a.owner q within e) ∙ any_behind a (attributes p q) (own_attributes a.owner 0 (features_of p a.owner)) some
+    by (Some q) e = ap (list_any (is_attribute a)) (attributes_step p r a.owner q within e) ∙ any_after a (attributes p q) (own_attributes a.owner 0 (features_of p a.owner)) some

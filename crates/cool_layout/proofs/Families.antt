@@ -130,15 +130,15 @@ pub family_cut : (p : List Class) → IsRooted p → (c : ClassId) → c.0 < len
 family_cut p r c within = by c within (chain p c) (chain_is p r c within)
   where
     step : (q k : ClassId) → q.0 < length p → IsChild p q k → Cut p q → Cut p k
-    step q k q_in child (before, behind, e) =
+    step q k q_in child (before, after, e) =
         let m = member_cut k (children p q) (child_there p q k child) in
         let f = family p in
         let front : List ClassId = flat_map f m.0 in
         let back : List ClassId = flat_map f m.1 in
         let parts : family p q ≡ q ∷ (front ++ (f k ++ back)) =
         family_step p r q q_in ∙ ap (λ (xs : List ClassId). q ∷ flat_map f xs) m.2 ∙ ap (λ (xs : List ClassId). q ∷ xs) (flat_map-append f m.0 (k ∷ m.1)) in
-        let joined : before ++ ((q ∷ (front ++ (f k ++ back))) ++ behind) ≡ (before ++ q ∷ front) ++ (f k ++ (back ++ behind)) = simp append_assoc in
-        (before ++ q ∷ front, back ++ behind, e ∙ ap (λ (xs : List ClassId). before ++ (xs ++ behind)) parts ∙ joined)
+        let joined : before ++ ((q ∷ (front ++ (f k ++ back))) ++ after) ≡ (before ++ q ∷ front) ++ (f k ++ (back ++ after)) = simp append_assoc in
+        (before ++ q ∷ front, back ++ after, e ∙ ap (λ (xs : List ClassId). before ++ (xs ++ after)) parts ∙ joined)
 
     by : (d : ClassId) → d.0 < length p → (ds : List ClassId) → IsChain p (Some d) ds → Cut p d
     by d w [] h = absurd h

@@ -89,7 +89,7 @@ user_more c k (Attribute a ∷ fs) f =
     let e : k + 1 + length fs ≡ k + suc (length fs) = omega arith in
     user_more c (k + 1) fs f ∙ ap (λ n. user_own c (k + 1) fs ++ user_own c n (f ∷ [])) e
 
--- each table stands behind the one above it
+-- each table stands after the one above it
 pub are_low : (p : List Class) (n : ℕ) (all : List Table) → AreTables p n all → AreLow all
 are_low p n all are k d low = by (get_or all k d).above (let s = are.same in (are.tables k d (omega arith)).above)
   where

@@ -37,7 +37,7 @@ equal_comm f g = by (bytes_eq f g) refl (bytes_eq g f) refl
     by true e false k = absurd (true≢false (sym ((bytes_eq-Decides g f).1 (sym (same_bytes f g e))) ∙ k))
     by false e true k = absurd (true≢false (sym ((bytes_eq-Decides f g).1 (sym (same_bytes g f k))) ∙ e))
 
--- names with new ones behind them
+-- names with new ones after them
 or_true : (b : Bool) → (b || true) ≡ true
 or_true true = refl
 or_true false = refl
@@ -132,7 +132,7 @@ position_is f xs = by (has f xs) refl
     by true h = ap is_some (position_some f xs h)
     by false h = ap is_some (position_none f xs h)
 
--- a name keeps its place when names come behind
+-- a name keeps its place when names come after it
 pub position_front : (f : List ℕ) (xs ys : List (List ℕ)) → has f xs ≡ true → position_in f (xs ++ ys) ≡ position_in f xs
 position_front f xs ys h =
     let there : has f (xs ++ ys) ≡ true = list_any-append (bytes_eq f) xs ys ∙ ap (λ b. b || has f ys) h in

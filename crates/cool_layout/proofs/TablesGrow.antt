@@ -37,7 +37,7 @@ pub copied_some : (o : Option (Bor ℕ)) → is_some (option_copied o) ≡ is_so
 copied_some None = refl
 copied_some (Some c) = refl
 
--- what is found among entries with one behind them
+-- what is found among entries with one after them
 found_more : (f name : List ℕ) (es : List (List ℕ × ℕ)) (k j : ℕ) → lookup (bytes_eq f) (es ++ (name, k) ∷ []) ≡ Some j → (lookup (bytes_eq f) es ≡ Some j) ⊎ ((bytes_eq f name ≡ true) × (k ≡ j))
 found_more f name [] k j h = by (bytes_eq f name) refl h
   where

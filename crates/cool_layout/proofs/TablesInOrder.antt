@@ -21,7 +21,7 @@ parent_tag p r c q within up =
     let there : class_of p (tag p q) ≡ q = (at_tag p r q q_in).1 in
     let chain_q = chain_is p r q q_in in
     let first : Contains (chain p q) q = at (chain p q) chain_q in
-    let below : Below p c q = (c ∷ chain p q, (refl, subst (λ (o : Option ClassId). IsChain p o (chain p q)) (sym up) chain_q), behind (chain p q) first) in
+    let below : Below p c q = (c ∷ chain p q, (refl, subst (λ (o : Option ClassId). IsChain p o (chain p q)) (sym up) chain_q), after (chain p q) first) in
     let le = ((are_tags p r).below q c q_in within below).0 in
     let other : tag p c ≢ tag p q = λ e.
     let same : c ≡ q = (are_tags p r).one c q within q_in e in
@@ -32,8 +32,8 @@ parent_tag p r c q within up =
     at [] h = absurd h
     at (d ∷ ds) h = (0, omega arith, h.0)
 
-    behind : (ds : List ClassId) → Contains ds q → Contains (c ∷ ds) q
-    behind ds (k, l, e) = (suc k, omega arith, e)
+    after : (ds : List ClassId) → Contains ds q → Contains (c ∷ ds) q
+    after ds (k, l, e) = (suc k, omega arith, e)
 
     apart : (m n : ℕ) → n ≤ m → m ≢ n → n < m
     apart m n l other = omega arith

@@ -20,9 +20,9 @@ use Rattle.cool_layout.proofs.Families.{subtree_in, object_in, object_top, famil
 abbrev pub place : ClassId → List ClassId → ℕ
 place d xs = position_or_len (is_class d) xs
 
-pub place_behind : (d : ClassId) (xs ys : List ClassId) → times d xs ≡ 0 → place d (xs ++ ys) ≡ length xs + place d ys
-place_behind d [] ys none = omega arith
-place_behind d (x ∷ xs) ys none = by (nat_eq x.0 d.0) refl none (λ h. place_behind d xs ys h)
+pub place_after : (d : ClassId) (xs ys : List ClassId) → times d xs ≡ 0 → place d (xs ++ ys) ≡ length xs + place d ys
+place_after d [] ys none = omega arith
+place_after d (x ∷ xs) ys none = by (nat_eq x.0 d.0) refl none (λ h. place_after d xs ys h)
   where
     by : (b : Bool) → nat_eq x.0 d.0 ≡ b → one b + times d xs ≡ 0 → (times d xs ≡ 0 → place d (xs ++ ys) ≡ length xs + place d ys) → cond (not b) (1 + place d (xs ++ ys)) 0 ≡ suc (length xs) + place d ys
     by true e h more = absurd (omega arith)
@@ -128,7 +128,7 @@ tag_cut p r c within =
     let some : 1 ≤ times c (family p c) = head.0 in
     let none : times c front ≡ 0 = omega arith in
     let here : place c (family p c ++ back) ≡ 0 = (place_here c (family p c) back some).0 ∙ head.1 in
-    (front, back, cut.2, ap (place c) cut.2 ∙ place_behind c front (family p c ++ back) none ∙ (let e : length front + place c (family p c ++ back) ≡ length front = omega arith in e))
+    (front, back, cut.2, ap (place c) cut.2 ∙ place_after c front (family p c ++ back) none ∙ (let e : length front + place c (family p c ++ back) ≡ length front = omega arith in e))
 
 -- the tags of a family are those from that of its head on
 pub range : (p : List Class) → IsRooted p → (c d : ClassId) → c.0 < length p → d.0 < length p → 1 ≤ times d (family p c) → (tag p c ≤ tag p d) × (tag p d ≤ last_tag p c)
@@ -140,7 +140,7 @@ range p r c d c_in d_in some =
     let is : times d (preorder p) ≡ 1 = once p r d d_in in
     let none : times d front ≡ 0 = omega arith in
     let here = place_here d (family p c) back some in
-    let at : tag p d ≡ length front + place d (family p c ++ back) = ap (place d) cut.2 ∙ place_behind d front (family p c ++ back) none in
+    let at : tag p d ≡ length front + place d (family p c ++ back) = ap (place d) cut.2 ∙ place_after d front (family p c ++ back) none in
     let same : place d (family p c ++ back) ≡ place d (family p c) = here.0 in
     let less : place d (family p c) < length (family p c) = here.1 in
     let first : tag p c ≡ length front = cut.3 in
@@ -167,7 +167,7 @@ only_range p r c d c_in d_in low high zero e =
         absurd (omega arith)
     by front back zero t cut all is first long =
         let at : tag p d ≡ length front + (length (family p c) + place d back) =
-        ap (place d) cut ∙ place_behind d front (family p c ++ back) t ∙ ap (λ n. length front + n) (place_behind d (family p c) back e) in
+        ap (place d) cut ∙ place_after d front (family p c ++ back) t ∙ ap (λ n. length front + n) (place_after d (family p c) back e) in
         absurd (omega arith)
 
 -- the preorder has as many classes as there are
@@ -212,7 +212,7 @@ tag_at p r k l =
     let none : times c (take k xs) ≡ 0 = omega arith in
     let here : place c (c ∷ drop (k + 1) xs) ≡ 0 = ap (λ b. cond (not b) (1 + place c (drop (k + 1) xs)) 0) (same_self c.0) in
     let before : length (take k xs) ≡ k = length-take-le k xs (omega arith) in
-    (ap (place c) cut ∙ place_behind c (take k xs) (c ∷ drop (k + 1) xs) none ∙ (let e : length (take k xs) + place c (c ∷ drop (k + 1) xs) ≡ k = omega arith in e), c_in)
+    (ap (place c) cut ∙ place_after c (take k xs) (c ∷ drop (k + 1) xs) none ∙ (let e : length (take k xs) + place c (c ∷ drop (k + 1) xs) ≡ k = omega arith in e), c_in)
   where
     at : (ys : List ClassId) (j : ℕ) → AllByRecursion (λ d. d.0 < length p) ys → j < length ys → (get_or ys j (class_number 0)).0 < length p
     at [] j all less = absurd (omega arith)

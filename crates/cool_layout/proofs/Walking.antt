@@ -80,25 +80,25 @@ walking_step p order next waiting rest c o popped is w =
     let f = family p in
     let inside = all_parts (λ d. d.0 < length p) rest (c ∷ []) (subst (AllByRecursion (λ d. d.0 < length p)) popped w.within) in
     let c_in : c.0 < length p = inside.1.0 in
-    let behind : List ClassId = flat_map f (reverse rest) in
-    let cut : preorder p ≡ order ++ (f c ++ behind) = sym w.split ∙ ap (λ (xs : List ClassId). order ++ flat_map f (reverse xs)) popped ∙ ap (λ (xs : List ClassId). order ++ flat_map f xs) (turned rest c) in
+    let after : List ClassId = flat_map f (reverse rest) in
+    let cut : preorder p ≡ order ++ (f c ++ after) = sym w.split ∙ ap (λ (xs : List ClassId). order ++ flat_map f (reverse xs)) popped ∙ ap (λ (xs : List ClassId). order ++ flat_map f xs) (turned rest c) in
     let below : List ClassId = flat_map f (children p c) in
     let back : reverse (rest ++ reverse (children p c)) ≡ children p c ++ reverse rest = reverse-append rest (reverse (children p c)) ∙ ap (λ (xs : List ClassId). xs ++ reverse rest) (reverse-reverse (children p c)) in
-    let joined : (order ++ c ∷ []) ++ (below ++ behind) ≡ order ++ ((c ∷ below) ++ behind) = simp append_assoc in
+    let joined : (order ++ c ∷ []) ++ (below ++ after) ≡ order ++ ((c ∷ below) ++ after) = simp append_assoc in
     record {
       rooted = r;
       split =
           ap (λ (xs : List ClassId). (order ++ c ∷ []) ++ flat_map f xs) back ∙ ap (λ (xs : List ClassId). (order ++ c ∷ []) ++ xs) (flat_map-append f (children p c) (reverse rest)) ∙ joined
-          ∙ ap (λ (xs : List ClassId). order ++ (xs ++ behind)) (sym (family_step p r c c_in)) ∙ sym cut;
+          ∙ ap (λ (xs : List ClassId). order ++ (xs ++ after)) (sym (family_step p r c c_in)) ∙ sym cut;
       within = all_joined (λ d. d.0 < length p) rest (reverse (children p c)) inside.0 (all_turned (λ d. d.0 < length p) (children p c) (all_in p c (children p c) (children_are p c)));
       same = (let a = length_push next o in let b = length_push order c in let s = w.same in omega arith);
       nexts = λ k l. elim (cases_eq k (length order)) [
         | inl e ↦
             let here : get_or (order ++ c ∷ []) k (class_number 0) ≡ c = get_or_push order c (class_number 0) k (sym e) in
             let there : get_or (next ++ o ∷ []) k None ≡ o = get_or_push next o None k (let s = w.same in omega arith) in
-            let at : slice_get (preorder p) (length order + length (f c)) ≡ slice_get behind 0 =
-            ap (λ (xs : List ClassId). slice_get xs (length order + length (f c))) cut ∙ skip order (f c ++ behind) (length (f c))
-            ∙ ap (slice_get (f c ++ behind)) (let z : length (f c) ≡ length (f c) + 0 = omega arith in z) ∙ skip (f c) behind 0 in
+            let at : slice_get (preorder p) (length order + length (f c)) ≡ slice_get after 0 =
+            ap (λ (xs : List ClassId). slice_get xs (length order + length (f c))) cut ∙ skip order (f c ++ after) (length (f c))
+            ∙ ap (slice_get (f c ++ after)) (let z : length (f c) ≡ length (f c) + 0 = omega arith in z) ∙ skip (f c) after 0 in
             there ∙ is ∙ last_first rest ∙ first_of p r (reverse rest) (all_turned (λ d. d.0 < length p) rest inside.0) ∙ sym at
             ∙ ap (λ n. slice_get (preorder p) (n + length (f c))) (sym e) ∙ ap (λ (d : ClassId). slice_get (preorder p) (k + length (f d))) (sym here)
         | inr other ↦
@@ -115,14 +115,14 @@ fewer p order next waiting rest c popped w =
     let r = w.rooted in
     let f = family p in
     let inside = all_parts (λ d. d.0 < length p) rest (c ∷ []) (subst (AllByRecursion (λ d. d.0 < length p)) popped w.within) in
-    let behind : List ClassId = flat_map f (reverse rest) in
+    let after : List ClassId = flat_map f (reverse rest) in
     let below : List ClassId = flat_map f (children p c) in
     let back : reverse (rest ++ reverse (children p c)) ≡ children p c ++ reverse rest = reverse-append rest (reverse (children p c)) ∙ ap (λ (xs : List ClassId). xs ++ reverse rest) (reverse-reverse (children p c)) in
-    let new : flat_map f (reverse (rest ++ reverse (children p c))) ≡ below ++ behind = ap (flat_map f) back ∙ flat_map-append f (children p c) (reverse rest) in
-    let old : flat_map f (reverse waiting) ≡ c ∷ (below ++ behind) =
-    ap (λ (xs : List ClassId). flat_map f (reverse xs)) popped ∙ ap (flat_map f) (turned rest c) ∙ ap (λ (xs : List ClassId). xs ++ behind) (family_step p r c inside.1.0) in
-    let a : length (flat_map f (reverse (rest ++ reverse (children p c)))) ≡ length (below ++ behind) = ap length new in
-    let b : length (flat_map f (reverse waiting)) ≡ suc (length (below ++ behind)) = ap length old in
+    let new : flat_map f (reverse (rest ++ reverse (children p c))) ≡ below ++ after = ap (flat_map f) back ∙ flat_map-append f (children p c) (reverse rest) in
+    let old : flat_map f (reverse waiting) ≡ c ∷ (below ++ after) =
+    ap (λ (xs : List ClassId). flat_map f (reverse xs)) popped ∙ ap (flat_map f) (turned rest c) ∙ ap (λ (xs : List ClassId). xs ++ after) (family_step p r c inside.1.0) in
+    let a : length (flat_map f (reverse (rest ++ reverse (children p c)))) ≡ length (below ++ after) = ap length new in
+    let b : length (flat_map f (reverse waiting)) ≡ suc (length (below ++ after)) = ap length old in
     omega arith
 
 pub walking_end : (p : List Class) (order : List ClassId) (next : List (Option ClassId)) → Walking p order next [] → order ≡ preorder p

@@ -1,4 +1,4 @@
--- Worked examples: the tags, offsets and slots of two small programs, behind the basic classes.
+-- Worked examples: the tags, offsets and slots of two small programs, after the basic classes.
 use Rattle.std.specs.Prelude.{◌≡◌, ℕ, List, [], ◌∷◌, ◌++◌, Some, None, codes, refl}
 use Rattle.cool_syntax.specs.declared.place.Place.{Place}
 use Rattle.cool_syntax.specs.declared.file_tree.Feature.{Feature}
@@ -39,7 +39,7 @@ tag_of_b = refl
 last_of_b : last_tag one_chain (class_number 6) ≡ 8
 last_of_b = refl
 
--- the slot of out_int in Main, behind the three methods of Object and out_string
+-- the slot of out_int in Main, after the three methods of Object and out_string
 out_int_in_main : slot one_chain (class_number 8) (codes "out_int") ≡ Some 4
 unfolding climbed above chain
 out_int_in_main = refl

@@ -39,11 +39,11 @@ default_value name =
     else if bytes_eq name (codes "String") then Address default_string
     else Number (pos 0)
 
--- what stands behind the head of the String of no bytes: its length, and a zero
+-- what stands after the head of the String of no bytes: its length, and a zero
 abbrev pub empty_string_fields : List WordItem
 empty_string_fields = Address default_int ∷ Number (pos 0) ∷ []
 
--- the words behind the head of a new object: Int and Bool have a value, and String a length and the zero of no bytes
+-- the words after the head of a new object: Int and Bool have a value, and String a length and the zero of no bytes
 abbrev pub new_fields : List Class → ClassId → List WordItem
 new_fields p c =
     if nat_eq c.0 2 || nat_eq c.0 3 then Number (pos 0) ∷ []

@@ -19,7 +19,7 @@ attributes p c = attributes_of p (chain p c)
 abbrev pub is_attribute : AttributeRef → AttributeRef → Bool
 is_attribute a b = nat_eq b.owner.0 a.owner.0 && nat_eq b.index a.index
 
--- where an attribute stands in the objects of a class: behind a head of three words
+-- where an attribute stands in the objects of a class: after a head of three words
 abbrev pub offset : List Class → ClassId → AttributeRef → ℕ
 offset p c a = 12 + 4 * position_or_len (is_attribute a) (attributes p c)
 
@@ -31,7 +31,7 @@ method_name (Attribute a) = []
 abbrev pub own_names : List Class → ClassId → List (List ℕ)
 own_names p c = if nat_lt c.0 5 then map (λ m. m.name) (basic_methods c.0) else flat_map method_name (features_of p c)
 
--- names with those behind them that are not among them, each once
+-- names with those after them that are not among them, each once
 abbrev pub with_new : List (List ℕ) → List (List ℕ) → List (List ℕ)
 with_new names [] = names
 with_new names (f ∷ fs) = with_new (if list_any (bytes_eq f) names then names else names ++ f ∷ []) fs

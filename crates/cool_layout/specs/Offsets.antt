@@ -7,7 +7,7 @@ use Rattle.cool_classes.specs.declared.class_id.ClassId.{ClassId}
 use Rattle.cool_classes.specs.Chains.{Class, class_number, parent_of, features_of}
 use Rattle.cool_layout.specs.Members.{attributes}
 
--- the offset of each attribute among features, behind so many others; a method has 0
+-- the offset of each attribute among features, after so many others; a method has 0
 abbrev pub offsets_among : ℕ → List Feature → List ℕ
 offsets_among above [] = []
 offsets_among above (Method m ∷ fs) = 0 ∷ offsets_among above fs

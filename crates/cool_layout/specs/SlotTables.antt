@@ -47,7 +47,7 @@ slots_shown = map (λ entry. (entry.0.items, entry.1))
 abbrev pub AreOnce : List (List ℕ) → Type 0
 AreOnce xs = (j : ℕ) (d : List ℕ) → j < length xs → position_or_len (bytes_eq (get_or xs j d)) xs ≡ j
 
--- A table has these methods of a class's own, behind these names of slots above it, which have these methods.
+-- A table has these methods of a class's own, after these names of slots above it, which have these methods.
 pub record IsTableFor (above : List (List ℕ)) (inherited : List ℕ → Option MethodRef) (own : List OwnMethod) (t : Table) : Type 0 where
   pub found : (f : List ℕ) (k : ℕ) → lookup (bytes_eq f) (slots_shown t.own.entries) ≡ Some k → position (bytes_eq f) (with_new above (names_of own)) ≡ Some k
   pub seen : (f : List ℕ) (k : ℕ) → lookup (bytes_eq f) (slots_shown t.own.entries) ≡ Some k → list_any (bytes_eq f) (names_of own) ≡ true
@@ -77,7 +77,7 @@ pub record IsTableAt (p : List Class) (k : ℕ) (t : Table) : Type 0 where
   pub above : IsAbove p k t.above
   pub table : IsTableFor (slots_in p t.above) (methods_in p t.above) (own_methods p (class_of p k)) t
 
--- each table stands behind the one above it
+-- each table stands after the one above it
 abbrev pub AreLow : List Table → Type 0
 AreLow all = (k : ℕ) (d : Table) → k < length all → IfSome (get_or all k d).above (λ j. j < k)
 

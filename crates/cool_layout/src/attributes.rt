@@ -12,7 +12,7 @@ use cool_classes::{AttributeRef, ClassId, ClassTable};
 use cool_syntax::Feature;
 use std::alloc::{AllocError, Global};
 
-/// Attributes with those behind them that a class has of its own, in textual order.
+/// Attributes with those after them that a class has of its own, in textual order.
 fn with_own(
     alloc: Global,
     t: &ClassTable,

@@ -8,7 +8,7 @@ use cool_classes::{BasicMethod, ClassId, ClassTable, MethodRef};
 use cool_syntax::Feature;
 use std::alloc::{AllocError, Global};
 
-/// Bytes with others behind them.
+/// Bytes with others after them.
 fn joined(alloc: Global, front: &[u8], back: &[u8]) -> Result<Vec<u8>, AllocError>
     ensures { IfOk result (λ name. name.items ≡ front.now ++ back.now) }
 {

@@ -7,7 +7,7 @@ ghost use Rattle.cool_layout.specs.Walks.{AreChildren, IsWalk};
 use cool_classes::{ClassId, ClassTable, OBJECT};
 use std::alloc::{AllocError, Global};
 
-/// The classes in preorder, and for each the next class behind it that is not below it.
+/// The classes in preorder, and for each the next class after it that is not below it.
 #[derive(Drop)]
 pub(crate) struct Walk {
     pub(crate) order: Vec<ClassId>,

@@ -78,7 +78,7 @@ fn default_values(
     Ok(fields)
 }
 
-/// What stands behind the head of a new object of a class with these attributes.
+/// What stands after the head of a new object of a class with these attributes.
 fn new_fields(
     alloc: Global,
     t: &ClassTable,
@@ -99,7 +99,7 @@ fn new_fields(
     }
 }
 
-/// What stands behind the head of the String of no bytes: its length, and a zero.
+/// What stands after the head of the String of no bytes: its length, and a zero.
 #[tactic(auto, unfolding(cool_runtime::specs::RoutineLabels::default_int))]
 fn empty_string_fields(alloc: Global) -> Result<Vec<WordItem>, AllocError>
     ensures { IfOk result (λ fields. map item_of fields.items ≡ written.empty_string_fields) }

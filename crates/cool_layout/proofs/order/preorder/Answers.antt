@@ -29,6 +29,6 @@ loop-class-preserved c =
     let kids : c.as_slice-in-Some.result.now ≡ children p d =
     c.as_slice-in-Some.ensures.value ∙ ap (λ v. v.items) c.index.ensures ∙ c.in_ok-children.ensures.children.children d.0 c.index.result.now within in
     let now : c.add_reversed.new.waiting.items ≡ rest ++ reverse (children p d) = c.in_ok-add_reversed.ensures ∙ ap (λ (xs : List ClassId). rest ++ reverse xs) kids in
-    let behind : c.copied.result ≡ slice_get rest (length rest - 1) = c.copied.ensures ∙ c.last.ensures.value ∙ ap (λ (xs : List ClassId). slice_get xs (length xs - 1)) c.as_slice.ensures.value in
-    let next = walking_step p c.loop-class.order.items c.loop-class.next.items c.loop-class.waiting.items rest d c.copied.result c.in-Some.ensures.items behind w in
+    let after : c.copied.result ≡ slice_get rest (length rest - 1) = c.copied.ensures ∙ c.last.ensures.value ∙ ap (λ (xs : List ClassId). slice_get xs (length xs - 1)) c.as_slice.ensures.value in
+    let next = walking_step p c.loop-class.order.items c.loop-class.next.items c.loop-class.waiting.items rest d c.copied.result c.in-Some.ensures.items after w in
     rw (c.in_ok-push.ensures.items, c.in_ok-push-2.ensures.items, now) next

@@ -1,4 +1,4 @@
--- The Int, and the String behind it.
+-- The Int, and the String after it.
 use Rattle.std.proofs.Common.{◌≡◌, ℕ, List, ◌++◌, OnOk, ap, ◌∙◌, subst, append_assoc}
 use Rattle.mips_isa.specs.Lines.{Line, WordItem, lines_of}
 use Rattle.cool_runtime.specs.Labels.{string_table}

@@ -1,4 +1,4 @@
--- The label, and the addresses behind it.
+-- The label, and the addresses after it.
 use Rattle.std.proofs.Common.{◌≡◌, List, [], ◌∷◌, ◌++◌, map, OnOk, ap, ◌∙◌, subst, append_assoc}
 use Rattle.mips_isa.specs.Lines.{Line, WordItem, Address, lines_of}
 use Rattle.cool_runtime.specs.Instructions.{label}

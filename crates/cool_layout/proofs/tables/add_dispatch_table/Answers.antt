@@ -1,4 +1,4 @@
--- The label, and the addresses of the methods behind it.
+-- The label, and the addresses of the methods after it.
 use Rattle.std.proofs.Common.{◌≡◌, List, [], ◌∷◌, ◌++◌, map, OnOk, sym, ap, ◌∙◌, subst, append_assoc}
 use Rattle.std.specs.List.{AllByRecursion}
 use Rattle.mips_isa.specs.Lines.{Name, Line, WordItem, Address, lines_of}

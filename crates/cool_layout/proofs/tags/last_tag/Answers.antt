@@ -1,4 +1,4 @@
--- The tag of the class behind the family, less one, or the last tag of all.
+-- The tag of the class after the family, less one, or the last tag of all.
 use Rattle.std.proofs.Common.{◌-◌, sym, ap, ◌∙◌, arith}
 use Rattle.cool_layout.proofs.LastTags.{tag_low, read_next, some_next, none_next}
 use Rattle.cool_layout.proofs.tags.last_tag.Goals as goal
