@@ -2,7 +2,7 @@
 use Rattle.std.proofs.Common.{◌≡◌, ◌∙◌, sym, ap, refl, arith, inl, inr, ◌⊎◌, ℕ, zero, suc, ◌+◌, ◌≤◌, List, [], ◌∷◌, ◌++◌, length, take, drop}
 use Rattle.std.specs.Prelude.{Option, Some, None, option_map}
 use Rattle.std.proofs.lemmas.List.{take-append-drop}
-use Rattle.cool_syntax.specs.Lexemes.{Mark, Opens, Closes, Plain, mark, depth_behind, more_bytes, ended, comment_size}
+use Rattle.cool_syntax.specs.Lexemes.{Mark, Opens, Closes, Plain, mark, depth_after, more_bytes, ended, comment_size}
 
 -- what is there stays
 abbrev Kept : Option ℕ → Option ℕ → Type 0
@@ -28,7 +28,7 @@ kept d (suc k) (b ∷ xs) ys = kept_more _ _ (kept d k xs ys)
 kept d zero (b ∷ []) ys = inl refl
 kept d zero (b ∷ c ∷ xs) ys =
     let m : Mark = mark (b ∷ c ∷ xs) in
-    kept_ended m d _ _ (kept (depth_behind m d) (more_bytes m) (c ∷ xs) ys)
+    kept_ended m d _ _ (kept (depth_after m d) (more_bytes m) (c ∷ xs) ys)
 
 -- the size that is there stays
 kept_some : (o more : Option ℕ) (n : ℕ) → Kept o more → o ≡ Some n → more ≡ Some n
@@ -40,7 +40,7 @@ pub closed_front : (d k m n : ℕ) (bs : List ℕ) → comment_size d k (take m 
 closed_front d k m n bs h =
     ap (comment_size d k) (sym (take-append-drop m bs)) ∙ kept_some _ _ n (kept d k (take m bs) (drop m bs)) h
 
--- a size behind one byte is one less
+-- a size after one byte is one less
 pub one_less : (o : Option ℕ) (n : ℕ) → option_map (λ n. n + 1) o ≡ Some n → (m : ℕ) × (o ≡ Some m) × (n ≡ m + 1)
 one_less None n h = absurd (cc)
 one_less (Some m) n h = (m, refl, cc)
@@ -61,15 +61,15 @@ ends Closes (suc (suc d)) o n h = inr (one_less o n h)
 abbrev There : ℕ → ℕ → List ℕ → ℕ → Type 0
 There d k bs n = (n ≤ length bs) × (comment_size d k (take n bs) ≡ Some n)
 
--- behind a byte that is passed over
+-- after a byte that is passed over
 there_passed : (d k b : ℕ) (bs : List ℕ) (n m : ℕ) → n ≡ m + 1 → There d k bs m → There d (suc k) (b ∷ bs) n
 there_passed d k b bs n m e h =
     let next : n ≡ suc m = omega arith in
     (omega arith, ap (λ x. comment_size d (suc k) (take x (b ∷ bs))) next ∙ ap (option_map (λ x. x + 1)) h.1 ∙ ap Some (sym e))
 
--- behind a mark that does not end the comment
+-- after a mark that does not end the comment
 there_marked : (d b c : ℕ) (bs : List ℕ) (n m : ℕ) → n ≡ m + 1 → ended (mark (b ∷ c ∷ bs)) d (Some m) ≡ Some n
-    → There (depth_behind (mark (b ∷ c ∷ bs)) d) (more_bytes (mark (b ∷ c ∷ bs))) (c ∷ bs) m → There d zero (b ∷ c ∷ bs) n
+    → There (depth_after (mark (b ∷ c ∷ bs)) d) (more_bytes (mark (b ∷ c ∷ bs))) (c ∷ bs) m → There d zero (b ∷ c ∷ bs) n
 there_marked d b c bs n zero e last h = absurd (let none = h.1 in cc)
 there_marked d b c bs n (suc m) e last h =
     let next : n ≡ suc (suc m) = omega arith in
@@ -77,9 +77,9 @@ there_marked d b c bs n (suc m) e last h =
 
 -- at a mark
 there_ended : (d b c : ℕ) (bs : List ℕ) (n : ℕ) → comment_size d zero (b ∷ c ∷ bs) ≡ Some n
-    → Ends (mark (b ∷ c ∷ bs)) d (comment_size (depth_behind (mark (b ∷ c ∷ bs)) d) (more_bytes (mark (b ∷ c ∷ bs))) (c ∷ bs)) n
-    → ((m : ℕ) → comment_size (depth_behind (mark (b ∷ c ∷ bs)) d) (more_bytes (mark (b ∷ c ∷ bs))) (c ∷ bs) ≡ Some m
-    → There (depth_behind (mark (b ∷ c ∷ bs)) d) (more_bytes (mark (b ∷ c ∷ bs))) (c ∷ bs) m)
+    → Ends (mark (b ∷ c ∷ bs)) d (comment_size (depth_after (mark (b ∷ c ∷ bs)) d) (more_bytes (mark (b ∷ c ∷ bs))) (c ∷ bs)) n
+    → ((m : ℕ) → comment_size (depth_after (mark (b ∷ c ∷ bs)) d) (more_bytes (mark (b ∷ c ∷ bs))) (c ∷ bs) ≡ Some m
+    → There (depth_after (mark (b ∷ c ∷ bs)) d) (more_bytes (mark (b ∷ c ∷ bs))) (c ∷ bs) m)
     → There d zero (b ∷ c ∷ bs) n
 there_ended d b c bs n h (inl e) rec = (omega (arith, e.0), ap (λ x. comment_size d zero (take x (b ∷ c ∷ bs))) e.0 ∙ e.1 _ ∙ ap Some (sym e.0))
 there_ended d b c bs n h (inr e) rec =
@@ -93,4 +93,4 @@ closed_there d (suc k) (b ∷ bs) n h =
     there_passed d k b bs n less.0 less.2 (closed_there d k bs less.0 less.1)
 closed_there d zero (b ∷ []) n h = absurd (cc)
 closed_there d zero (b ∷ c ∷ bs) n h =
-    there_ended d b c bs n h (ends (mark (b ∷ c ∷ bs)) d _ n h) (λ m e. closed_there (depth_behind (mark (b ∷ c ∷ bs)) d) (more_bytes (mark (b ∷ c ∷ bs))) (c ∷ bs) m e)
+    there_ended d b c bs n h (ends (mark (b ∷ c ∷ bs)) d _ n h) (λ m e. closed_there (depth_after (mark (b ∷ c ∷ bs)) d) (more_bytes (mark (b ∷ c ∷ bs))) (c ∷ bs) m e)

@@ -43,7 +43,7 @@ less_longest b bs (suc zero) other no_equal no_dash l h = absurd (let none : ang
 less_longest b [] (suc (suc m)) other no_equal no_dash l h = absurd (omega arith)
 less_longest b (c ∷ bs) (suc (suc m)) other no_equal no_dash l h = absurd (cc)
 
--- what `<` begins, by the byte behind it
+-- what `<` begins, by the byte after it
 angle_by : (a : ℕ) (b : ℕ) (bs : List ℕ) (e d : Bool) → (b == 61) ≡ e → (b == 45) ≡ d
     → IsFront Angle a (b ∷ bs) (if e then single_front sign.LessEqual 1 else (if d then single_front sign.Arrow 1 else single_front sign.Less 0))
 angle_by a b bs true d is_equal is_dash = record { good = refl; within = omega arith; is_form = rw is_equal refl; longest = λ m other l h. angle_longest (b ∷ bs) m other l h }
@@ -70,7 +70,7 @@ equal_longest b bs (suc zero) other no_angle l h = absurd (let none : equals (b 
 equal_longest b [] (suc (suc m)) other no_angle l h = absurd (omega arith)
 equal_longest b (c ∷ bs) (suc (suc m)) other no_angle l h = absurd (cc)
 
--- what `=` begins, by the byte behind it
+-- what `=` begins, by the byte after it
 equals_by : (a : ℕ) (b : ℕ) (bs : List ℕ) (e : Bool) → (b == 62) ≡ e → IsFront Equals a (b ∷ bs) (if e then single_front sign.FatArrow 1 else single_front sign.Equal 0)
 equals_by a b bs true is_angle = record { good = refl; within = omega arith; is_form = rw is_angle refl; longest = λ m other l h. equals_longest (b ∷ bs) m other l h }
 equals_by a b bs false is_angle = record { good = refl; within = omega arith; is_form = refl; longest = λ m other l h. equal_longest b bs m other is_angle l h }
@@ -80,7 +80,7 @@ equals_is : (a : ℕ) (bs : List ℕ) → IsFront Equals a bs (equals_front bs)
 equals_is a [] = record { good = refl; within = omega arith; is_form = refl; longest = λ m other l h. omega arith }
 equals_is a (b ∷ bs) = equals_by a b bs (b == 62) refl
 
--- what `*` begins, by the byte behind it
+-- what `*` begins, by the byte after it
 star_by : (a : ℕ) (b : ℕ) (bs : List ℕ) (e : Bool) → (b == 41) ≡ e → IsFront Star a (b ∷ bs) (if e then Fault L6 0 else single_front sign.Star 0)
 star_by a b bs true closes = (rw closes refl, omega arith)
 star_by a b bs false closes = record { good = rw closes refl; within = omega arith; is_form = refl; longest = λ m other l h. alone_longest _ (b ∷ bs) m other l h }
@@ -169,7 +169,7 @@ line_longest b bs (suc m) other l h =
 line_form : (b : ℕ) (bs : List ℕ) (n : ℕ) → (b == 45) ≡ true → list_all (takes span.Line) (take n bs) ≡ true → dash (take (suc n) (b ∷ bs)) ≡ Some Comment
 line_form b bs n is_dash all = ap (λ e. comment_if (e && list_all (takes span.Line) (take n bs))) is_dash ∙ ap comment_if all
 
--- what `-` begins, by the byte behind it
+-- what `-` begins, by the byte after it
 dash_by : (a : ℕ) (b : ℕ) (bs : List ℕ) (e : Bool) → (b == 45) ≡ e → IsFront Dash a (b ∷ bs) (if e then Item scan.Comment (1 + prefix_len (takes span.Line) bs) else single_front sign.Minus 0)
 dash_by a b bs true is_dash =
     let next : 1 + prefix_len (takes span.Line) bs ≡ suc (prefix_len (takes span.Line) bs) = omega arith in
@@ -227,7 +227,7 @@ block_by a b bs (Some n) is_star is =
       longest = λ m other l h. block_longest b bs m n other is l h;
     }
 
--- what `(` begins, by the byte behind it
+-- what `(` begins, by the byte after it
 open_by : (a : ℕ) (b : ℕ) (bs : List ℕ) (e : Bool) → (b == 42) ≡ e → IsFront Open a (b ∷ bs) (if e then block_front (comment_size 1 0 bs) else single_front sign.LParen 0)
 open_by a b bs true is_star = block_by a b bs (comment_size 1 0 bs) is_star refl
 open_by a b bs false is_star = record { good = rw is_star refl; within = omega arith; is_form = refl; longest = λ m other l h. paren_longest b bs m other is_star l h }
@@ -259,7 +259,7 @@ neither : (test : Bool) (c d : Class) → (c ≡ Digit → ⊥) → (d ≡ Digit
 neither true c d h k = h
 neither false c d h k = k
 
--- behind the tests of letters Digit comes by its test alone
+-- after the tests of letters Digit comes by its test alone
 digit_by : (capital small digit : Bool) (c : Class) → (c ≡ Digit → ⊥) → (if capital then Capital else (if small then Small else (if digit then Digit else c))) ≡ Digit → digit ≡ true
 digit_by true small digit c h is = absurd (cc)
 digit_by false true digit c h is = absurd (cc)

@@ -6,36 +6,36 @@ use Rattle.cool_syntax.specs.LexicalStructure.{IsItem}
 use Rattle.cool_lexer.specs.declared.front.Front.{Front}
 use Rattle.cool_lexer.specs.declared.front.Front.TheVariants.{Item, Fault}
 use Rattle.cool_lexer.specs.Views.{form_seen}
-use Rattle.cool_lexer.specs.Fronts.{IsBehind, IsFront, front_of, Begins}
+use Rattle.cool_lexer.specs.Fronts.{IsAfter, IsFront, front_of, Begins}
 use Rattle.std.proofs.lemmas.List.{take_all}
 use Rattle.cool_lexer.proofs.FrontsAreItems.{front_is}
 
--- no longer form begins the text than one behind its first byte
-behind_longest : (b : ℕ) (bs : List ℕ) (f : Form) (n : ℕ) → IsBehind (class_of b) b bs f n → (m : ℕ) (other : Form) → m ≤ length (b ∷ bs) → form (take m (b ∷ bs)) ≡ Some other → m ≤ n + 1
-behind_longest b bs f n h zero other l k = omega arith
-behind_longest b bs f n h (suc m) other l k = omega (arith, h.longest m other (omega arith) k)
+-- no longer form begins the text than one after its first byte
+after_longest : (b : ℕ) (bs : List ℕ) (f : Form) (n : ℕ) → IsAfter (class_of b) b bs f n → (m : ℕ) (other : Form) → m ≤ length (b ∷ bs) → form (take m (b ∷ bs)) ≡ Some other → m ≤ n + 1
+after_longest b bs f n h zero other l k = omega arith
+after_longest b bs f n h (suc m) other l k = omega (arith, h.longest m other (omega arith) k)
 
--- an item by its bytes behind the first
-pub item_behind : (b : ℕ) (bs : List ℕ) (f : Form) (n : ℕ) → IsBehind (class_of b) b bs f n → IsItem (b ∷ bs) f (n + 1)
-item_behind b bs f n h =
+-- an item by its bytes after the first
+pub item_after : (b : ℕ) (bs : List ℕ) (f : Form) (n : ℕ) → IsAfter (class_of b) b bs f n → IsItem (b ∷ bs) f (n + 1)
+item_after b bs f n h =
     let next : n + 1 ≡ suc n = omega arith in
     record {
       good = h.good;
       within = omega (arith, h.within);
       is_form = ap (λ m. form (take m (b ∷ bs))) next ∙ h.is_form;
-      longest = λ m other l k. behind_longest b bs f n h m other l k;
+      longest = λ m other l k. after_longest b bs f n h m other l k;
     }
 
 -- the front of a text by its first byte
 begins_by : (b : ℕ) (bs : List ℕ) (r : Front) → IsFront (class_of b) b bs r → Begins (b ∷ bs) r
-begins_by b bs (Item f n) h = item_behind b bs (form_seen f) n h
+begins_by b bs (Item f n) h = item_after b bs (form_seen f) n h
 begins_by b bs (Fault k n) h = (h.0, omega (arith, h.1))
 
 -- each text that has a byte begins with the front of its class
 pub begins : (b : ℕ) (bs : List ℕ) → Begins (b ∷ bs) (front_of (class_of b) b bs)
 begins b bs = begins_by b bs _ (front_is b bs)
 
--- the code's first byte and those behind it are the rest
+-- the code's first byte and those after it are the rest
 pub first_and_tail : (rest : List ℕ) → 0 < length rest → get_or rest 0 0 ∷ take (length rest - 1) (drop 1 rest) ≡ rest
 first_and_tail [] h = absurd (omega arith)
 first_and_tail (b ∷ bs) h = ap (λ l. b ∷ l) (take_all _ bs (omega arith))

@@ -9,7 +9,7 @@ use Rattle.cool_syntax.specs.declared.token.TokenKind.{TokenKind}
 use Rattle.cool_syntax.specs.declared.token.TokenKind.TheVariants as kind
 use Rattle.cool_syntax.specs.declared.token.Key.TheVariants as key
 use Rattle.cool_syntax.specs.declared.token.Sign.TheVariants as sign
-use Rattle.cool_syntax.specs.LexicalStructure.{IsItem, Item, Leads, token_of, tokens_of, place_at, Run, run_of, run_behind, depth_behind, ends_run, FitsRuns}
+use Rattle.cool_syntax.specs.LexicalStructure.{IsItem, Item, Leads, token_of, tokens_of, place_at, Run, run_of, run_after, depth_after, ends_run, FitsRuns}
 use Rattle.cool_lexer.proofs.Items.{item_size}
 
 -- one more item
@@ -34,25 +34,25 @@ tokens_append file bytes (j ∷ items) i =
 -- more tokens that fit their runs
 pub fits_append : (r : Run) (ts us : List Token) → FitsRuns r ts → FitsRuns (run_of r ts) us → FitsRuns r (ts ++ us)
 fits_append r [] us h k = k
-fits_append r (t ∷ ts) us h k = (h.0, fits_append (run_behind r t.kind) ts us h.1 k)
+fits_append r (t ∷ ts) us h k = (h.0, fits_append (run_after r t.kind) ts us h.1 k)
 
 -- the first tokens of those that fit do
 pub fits_front : (r : Run) (ts us : List Token) → FitsRuns r (ts ++ us) → FitsRuns r ts
 fits_front r [] us h = tt
-fits_front r (t ∷ ts) us h = (h.0, fits_front (run_behind r t.kind) ts us h.1)
+fits_front r (t ∷ ts) us h = (h.0, fits_front (run_after r t.kind) ts us h.1)
 
--- and those behind them do
-pub fits_behind : (r : Run) (ts us : List Token) → FitsRuns r (ts ++ us) → FitsRuns (run_of r ts) us
-fits_behind r [] us h = h
-fits_behind r (t ∷ ts) us h = fits_behind (run_behind r t.kind) ts us h.1
+-- and those after them do
+pub fits_after : (r : Run) (ts us : List Token) → FitsRuns r (ts ++ us) → FitsRuns (run_of r ts) us
+fits_after r [] us h = h
+fits_after r (t ∷ ts) us h = fits_after (run_after r t.kind) ts us h.1
 
--- the run behind more tokens
+-- the run after more tokens
 pub run_append : (r : Run) (ts us : List Token) → run_of r (ts ++ us) ≡ run_of (run_of r ts) us
 run_append r [] us = refl
-run_append r (t ∷ ts) us = run_append (run_behind r t.kind) ts us
+run_append r (t ∷ ts) us = run_append (run_after r t.kind) ts us
 
 -- a token deepens a run by one at most
-deeper : (k : TokenKind) (d : ℕ) → depth_behind k d ≤ d + 1
+deeper : (k : TokenKind) (d : ℕ) → depth_after k d ≤ d + 1
 deeper (kind.Sign sign.LBrace) d = omega arith
 deeper (kind.Key key.Case) d = omega arith
 deeper (kind.Sign sign.RBrace) d = omega arith
@@ -62,9 +62,9 @@ deeper _ d = omega arith
 -- a run is no deeper than its tokens are many
 pub run_deep : (r : Run) (ts : List Token) → (run_of r ts).depth ≤ r.depth + length ts
 run_deep r [] = omega arith
-run_deep r (t ∷ ts) = omega (arith, run_deep (run_behind r t.kind) ts, deeper t.kind r.depth)
+run_deep r (t ∷ ts) = omega (arith, run_deep (run_after r t.kind) ts, deeper t.kind r.depth)
 
--- a run that has room for a token is within the limit behind it
+-- a run that has room for a token is within the limit after it
 no_longer : (ended : Bool) (n : ℕ) → n < MOST_TOKENS → (if ended then 0 else n + 1) ≤ MOST_TOKENS
 no_longer true n h = omega arith
 no_longer false n h = omega arith
@@ -72,7 +72,7 @@ no_longer false n h = omega arith
 -- no run that fits is longer than the limit
 pub run_long : (r : Run) (ts : List Token) → r.length ≤ MOST_TOKENS → FitsRuns r ts → (run_of r ts).length ≤ MOST_TOKENS
 run_long r [] h fits = h
-run_long r (t ∷ ts) h fits = run_long (run_behind r t.kind) ts (no_longer (ends_run t.kind r.depth) r.length fits.0) fits.1
+run_long r (t ∷ ts) h fits = run_long (run_after r t.kind) ts (no_longer (ends_run t.kind r.depth) r.length fits.0) fits.1
 
 -- items end where they lead
 pub leads_length : (at : ℕ) (rest : List ℕ) (items : List Item) (to : ℕ) (left : List ℕ) → Leads at rest items to left → to + length left ≡ at + length rest

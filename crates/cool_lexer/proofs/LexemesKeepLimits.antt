@@ -17,7 +17,7 @@ use Rattle.cool_syntax.specs.TokenFacts.{IsWithinLimits, AreWithinLimits, AreRis
 use Rattle.cool_lexer.specs.declared.front.Front.{Front}
 use Rattle.cool_lexer.specs.declared.front.Front.TheVariants as front
 use Rattle.cool_lexer.specs.declared.front.Scan.TheVariants as scan
-use Rattle.cool_lexer.specs.Fronts.{Begins, piece_front, held_behind, string_front, angle_front, equals_front, star_front, dash_front, block_front, open_front, integer_front, front_of}
+use Rattle.cool_lexer.specs.Fronts.{Begins, piece_front, held_after, string_front, angle_front, equals_front, star_front, dash_front, block_front, open_front, integer_front, front_of}
 use Rattle.cool_lexer.specs.Readings.{is_newline}
 use Rattle.cool_lexer.proofs.Prefixes.{front_passes}
 use Rattle.cool_lexer.proofs.Items.{begins, one_form, item_size}
@@ -64,7 +64,7 @@ escaped_some false false true e x h = omega arith
 escaped_some false false false true x h = omega arith
 escaped_some false false false false x h = h
 
--- behind a backslash a byte that is not null means one that is not 0
+-- after a backslash a byte that is not null means one that is not 0
 null_or : (null : Bool) (b x c : ℕ) → (b == 0) ≡ null → (1 ≤ b → 1 ≤ x) → (if null then Null else Means x) ≡ Means c → 1 ≤ c
 null_or true b x c h some is = absurd (cc)
 null_or false b x c h some is = let same : x ≡ c = cc in let there : 1 ≤ b = grind (arith, nat_tests) in omega (arith, some there)
@@ -94,7 +94,7 @@ full_keeps false held c rest h keeps l rec =
     rec (omega (arith, length-append held (c ∷ [])), all_append held c keeps.1 l)
 
 -- each piece keeps them
-piece_keeps : (p : Piece) (e : Bool) (b o : ℕ) (held : List ℕ) (rest : Front) → piece e b ≡ p → Held held → (Held (held_behind p held) → Keeps rest) → Keeps (piece_front p o held rest)
+piece_keeps : (p : Piece) (e : Bool) (b o : ℕ) (held : List ℕ) (rest : Front) → piece e b ≡ p → Held held → (Held (held_after p held) → Keeps rest) → Keeps (piece_front p o held rest)
 piece_keeps Ends e b o held rest h keeps rec = keeps
 piece_keeps Newline e b o held rest h keeps rec = tt
 piece_keeps Null e b o held rest h keeps rec = tt
@@ -105,8 +105,8 @@ piece_keeps (Means c) e b o held rest h keeps rec = full_keeps (length held == M
 string_keeps : (e : Bool) (o : ℕ) (held bs : List ℕ) → Held held → Keeps (string_front e o held bs)
 string_keeps e o held [] h = tt
 string_keeps e o held (b ∷ bs) h =
-    piece_keeps (piece e b) e b o held (string_front (is_backslash (piece e b)) (o + 1) (held_behind (piece e b) held) bs) refl h
-    (λ k. string_keeps (is_backslash (piece e b)) (o + 1) (held_behind (piece e b) held) bs k)
+    piece_keeps (piece e b) e b o held (string_front (is_backslash (piece e b)) (o + 1) (held_after (piece e b) held) bs) refl h
+    (λ k. string_keeps (is_backslash (piece e b)) (o + 1) (held_after (piece e b) held) bs k)
 
 -- Signs and comments
 
@@ -207,7 +207,7 @@ limits files file bytes at rest [] to left m l h = tt
 limits files file bytes at rest (i ∷ items) to left m l h =
     limits_more files file bytes i.form i.offset i.size rest (tokens_of file bytes items) m l h.1 (limits files file bytes (at + i.size) (drop i.size rest) items to left m l h.2)
 
--- one more item stands before those behind it
+-- one more item stands before those after it
 rising_more : (file : ℕ) (bytes : List ℕ) (f : Form) (low at size : ℕ) (rest : List ℕ) (ts : List Token) → low ≤ at → 1 ≤ size → ((next : ℕ) → next ≤ at + size → AreRising file next ts)
     → AreRising file low (token_of f (place_at file bytes at) ++ ts)
 rising_more file bytes Space low at size rest ts l s h = h low (omega arith)

@@ -2,7 +2,7 @@
 use Rattle.std.proofs.Common.{◌≡◌, ◌∙◌, ap, refl, arith, ℕ, zero, suc, ◌+◌, ◌-◌, ◌<◌, ◌≤◌, List, [], ◌∷◌, length, drop, length-drop}
 use Rattle.std.specs.Prelude.{Option, Some, None, option_map}
 use Rattle.std.proofs.lemmas.List.{drop-drop}
-use Rattle.cool_syntax.specs.Lexemes.{Opens, Closes, Plain, mark, depth_behind, more_bytes, ended, comment_size}
+use Rattle.cool_syntax.specs.Lexemes.{Opens, Closes, Plain, mark, depth_after, more_bytes, ended, comment_size}
 
 -- Two bytes make a mark.
 two : (bs : List ℕ) → (mark bs ≡ Plain → ⊥) → 2 ≤ length bs
@@ -14,7 +14,7 @@ two (b ∷ c ∷ bs) h = omega arith
 opens_step : (bs : List ℕ) (d : ℕ) → mark bs ≡ Opens → comment_size d 0 bs ≡ option_map (λ n. n + 1) (option_map (λ n. n + 1) (comment_size (d + 1) 0 (drop 2 bs)))
 opens_step [] d h = absurd (cc)
 opens_step (b ∷ []) d h = absurd (cc)
-opens_step (b ∷ c ∷ bs) d h = ap (λ m. ended m d (comment_size (depth_behind m d) (more_bytes m) (c ∷ bs))) h
+opens_step (b ∷ c ∷ bs) d h = ap (λ m. ended m d (comment_size (depth_after m d) (more_bytes m) (c ∷ bs))) h
 
 -- a `*)` at a depth of two or more ends nothing
 more_open : (d : ℕ) (rest : Option ℕ) → 2 ≤ d → ended Closes d rest ≡ option_map (λ n. n + 1) rest
@@ -26,13 +26,13 @@ more_open (suc (suc d)) rest h = refl
 closes_step : (bs : List ℕ) (d : ℕ) → 2 ≤ d → mark bs ≡ Closes → comment_size d 0 bs ≡ option_map (λ n. n + 1) (option_map (λ n. n + 1) (comment_size (d - 1) 0 (drop 2 bs)))
 closes_step [] d l h = absurd (cc)
 closes_step (b ∷ []) d l h = absurd (cc)
-closes_step (b ∷ c ∷ bs) d l h = ap (λ m. ended m d (comment_size (depth_behind m d) (more_bytes m) (c ∷ bs))) h ∙ more_open d (comment_size (d - 1) 1 (c ∷ bs)) l
+closes_step (b ∷ c ∷ bs) d l h = ap (λ m. ended m d (comment_size (depth_after m d) (more_bytes m) (c ∷ bs))) h ∙ more_open d (comment_size (d - 1) 1 (c ∷ bs)) l
 
 -- the size at another byte, one byte on
 plain_step : (bs : List ℕ) (d : ℕ) → 0 < length bs → mark bs ≡ Plain → comment_size d 0 bs ≡ option_map (λ n. n + 1) (comment_size d 0 (drop 1 bs))
 plain_step [] d l h = absurd (omega arith)
 plain_step (b ∷ []) d l h = refl
-plain_step (b ∷ c ∷ bs) d l h = ap (λ m. ended m d (comment_size (depth_behind m d) (more_bytes m) (c ∷ bs))) h
+plain_step (b ∷ c ∷ bs) d l h = ap (λ m. ended m d (comment_size (depth_after m d) (more_bytes m) (c ∷ bs))) h
 
 -- two bytes more before a place are a place two bytes on
 shift_two : (o : Option ℕ) (at : ℕ) → option_map (λ n. n + at) (option_map (λ n. n + 1) (option_map (λ n. n + 1) o)) ≡ option_map (λ n. n + (at + 2)) o

@@ -8,13 +8,13 @@ use Rattle.cool_syntax.specs.declared.lexical.LexKind.{LexKind}
 use Rattle.cool_syntax.specs.Lexemes.{Form, Lexeme}
 use Rattle.cool_syntax.specs.LexicalStructure.{fault, Fault, fault_at, IsItem, Item, Leads, token_of, tokens_of, place_at, Run, first_run, run_of, FitsRuns, Lexes, LexFault, Shows}
 use Rattle.cool_lexer.proofs.Items.{item_size, one_size, one_form}
-use Rattle.cool_lexer.proofs.ItemsInARow.{fits_front, fits_behind, run_append}
+use Rattle.cool_lexer.proofs.ItemsInARow.{fits_front, fits_after, run_append}
 
 -- no item begins an empty text
 no_item : (f : Form) (n : ℕ) (rest : List ℕ) → rest ≡ [] → IsItem rest f n → ⊥
 no_item f n rest nothing item = omega (arith, item.within, item_size rest f n item, ap length nothing)
 
--- two items at a place lead to one text behind them
+-- two items at a place lead to one text after them
 leads_same : (at m n : ℕ) (rest : List ℕ) (items : List Item) (to : ℕ) (left : List ℕ) → n ≡ m → Leads (at + n) (drop n rest) items to left → Leads (at + m) (drop m rest) items to left
 leads_same at m n rest items to left e h = subst (λ (k : ℕ). Leads (at + k) (drop k rest) items to left) e h
 
@@ -32,8 +32,8 @@ cut_same file bytes at rest [] (j ∷ js) to h k = absurd (no_item j.form j.size
 cut_same file bytes at rest (i ∷ is) [] to h k = absurd (no_item i.form i.size rest k.1 h.1)
 cut_same file bytes at rest (i ∷ is) (j ∷ js) to h k =
     let size : j.size ≡ i.size = one_size rest j.form i.form j.size i.size k.1 h.1 in
-    let behind = cut_same file bytes (at + i.size) (drop i.size rest) is js to h.2 (leads_same at i.size j.size rest js to [] size k.2) in
-    λ n. token_same file bytes at rest i j h.0 k.0 h.1 k.1 n ++ behind n
+    let after = cut_same file bytes (at + i.size) (drop i.size rest) is js to h.2 (leads_same at i.size j.size rest js to [] size k.2) in
+    λ n. token_same file bytes at rest i j h.0 k.0 h.1 k.1 n ++ after n
 
 -- a text has one list of tokens
 pub one_cutting : (file : ℕ) (bytes : List ℕ) (ts us : List Token) → Lexes file bytes ts → Lexes file bytes us → ts ≡ us
@@ -75,10 +75,10 @@ shows_here : (file : ℕ) (bytes : List ℕ) (at to : ℕ) (rest left : List ℕ
 shows_here file bytes at to rest left r k p e d h =
     subst (λ (n : ℕ). Shows file bytes n rest r k p) (sym e) (subst (λ (l : List ℕ). Shows file bytes to l r k p) (sym d) h)
 
--- and behind the first item its run goes on
-shows_behind : (file : ℕ) (bytes : List ℕ) (to : ℕ) (left : List ℕ) (r : Run) (ts us : List Token) (k : LexKind) (p : Place)
+-- and after the first item its run goes on
+shows_after : (file : ℕ) (bytes : List ℕ) (to : ℕ) (left : List ℕ) (r : Run) (ts us : List Token) (k : LexKind) (p : Place)
     → Shows file bytes to left (run_of r (ts ++ us)) k p → Shows file bytes to left (run_of (run_of r ts) us) k p
-shows_behind file bytes to left r ts us k p h = subst (λ (s : Run). Shows file bytes to left s k p) (run_append r ts us) h
+shows_after file bytes to left r ts us k p h = subst (λ (s : Run). Shows file bytes to left s k p) (run_append r ts us) h
 
 -- two rows of items that lead to a fault lead to one
 first_same : (file : ℕ) (bytes : List ℕ) (at : ℕ) (rest : List ℕ) (r : Run) (is js : List Item) (to also : ℕ) (left right : List ℕ) (k l : LexKind) (p q : Place)
@@ -97,10 +97,10 @@ first_same file bytes at rest r (i ∷ is) (j ∷ js) to also left right k l p q
     let same : token_of j.form (place_at file bytes j.offset) ≡ token_of i.form (place_at file bytes i.offset) = token_same file bytes at rest j i b.0 a.0 b.1 a.1 in
     first_same file bytes (at + i.size) (drop i.size rest) (run_of r (token_of i.form (place_at file bytes i.offset))) is js to also left right k l p q
     a.2 (leads_same at i.size j.size rest js also right size b.2)
-    (fits_behind r (token_of i.form (place_at file bytes i.offset)) (tokens_of file bytes is) fits)
-    (subst (λ (ts : List Token). FitsRuns (run_of r ts) (tokens_of file bytes js)) same (fits_behind r (token_of j.form (place_at file bytes j.offset)) (tokens_of file bytes js) also_fits))
-    (shows_behind file bytes to left r (token_of i.form (place_at file bytes i.offset)) (tokens_of file bytes is) k p s)
-    (subst (λ (ts : List Token). Shows file bytes also right (run_of (run_of r ts) (tokens_of file bytes js)) l q) same (shows_behind file bytes also right r (token_of j.form (place_at file bytes j.offset)) (tokens_of file bytes js) l q t))
+    (fits_after r (token_of i.form (place_at file bytes i.offset)) (tokens_of file bytes is) fits)
+    (subst (λ (ts : List Token). FitsRuns (run_of r ts) (tokens_of file bytes js)) same (fits_after r (token_of j.form (place_at file bytes j.offset)) (tokens_of file bytes js) also_fits))
+    (shows_after file bytes to left r (token_of i.form (place_at file bytes i.offset)) (tokens_of file bytes is) k p s)
+    (subst (λ (ts : List Token). Shows file bytes also right (run_of (run_of r ts) (tokens_of file bytes js)) l q) same (shows_after file bytes also right r (token_of j.form (place_at file bytes j.offset)) (tokens_of file bytes js) l q t))
 
 -- a text has one first fault
 pub one_first_fault : (file : ℕ) (bytes : List ℕ) (k l : LexKind) (p q : Place) → LexFault file bytes k p → LexFault file bytes l q → (k ≡ l) × (p ≡ q)
@@ -125,8 +125,8 @@ both_never file bytes at rest r (i ∷ is) (j ∷ js) to also right k p a b fits
     let same : token_of j.form (place_at file bytes j.offset) ≡ token_of i.form (place_at file bytes i.offset) = token_same file bytes at rest j i b.0 a.0 b.1 a.1 in
     both_never file bytes (at + i.size) (drop i.size rest) (run_of r (token_of i.form (place_at file bytes i.offset))) is js to also right k p
     a.2 (leads_same at i.size j.size rest js also right size b.2)
-    (fits_behind r (token_of i.form (place_at file bytes i.offset)) (tokens_of file bytes is) fits)
-    (subst (λ (ts : List Token). Shows file bytes also right (run_of (run_of r ts) (tokens_of file bytes js)) k p) same (shows_behind file bytes also right r (token_of j.form (place_at file bytes j.offset)) (tokens_of file bytes js) k p s))
+    (fits_after r (token_of i.form (place_at file bytes i.offset)) (tokens_of file bytes is) fits)
+    (subst (λ (ts : List Token). Shows file bytes also right (run_of (run_of r ts) (tokens_of file bytes js)) k p) same (shows_after file bytes also right r (token_of j.form (place_at file bytes j.offset)) (tokens_of file bytes js) k p s))
 
 -- no text has tokens and a first fault
 pub never_both : (file : ℕ) (bytes : List ℕ) (ts : List Token) (k : LexKind) (p : Place) → Lexes file bytes ts → LexFault file bytes k p → ⊥

@@ -14,7 +14,7 @@ use Rattle.cool_lexer.specs.declared.error.LexError.TheVariants as error
 use Rattle.cool_lexer.specs.declared.reading.Reading.{Reading}
 use Rattle.cool_lexer.specs.Views.{run_seen}
 use Rattle.cool_lexer.specs.Errors.{IsFirstFault}
-use Rattle.cool_lexer.specs.Readings.{is_newline, place_behind, Stops}
+use Rattle.cool_lexer.specs.Readings.{is_newline, place_after, Stops}
 use Rattle.cool_lexer.proofs.ItemsInARow.{leads_append, tokens_append, fits_append, run_append, run_deep, run_long, few}
 
 -- The text is read up to a place.
@@ -32,7 +32,7 @@ pub start : (file : ℕ) (bytes : List ℕ) → IsRead file bytes 0 [] first_run
 start file bytes = record { items = []; within = omega arith; leads = (refl, refl); lexemes = refl; runs = tt; run_is = refl; place_is = refl }
 
 -- the place some bytes on
-pub place_on : (file : ℕ) (bytes : List ℕ) (at n : ℕ) → at + n ≤ length bytes → place_at file bytes (at + n) ≡ place_behind (place_at file bytes at) (take n (drop at bytes))
+pub place_on : (file : ℕ) (bytes : List ℕ) (at n : ℕ) → at + n ≤ length bytes → place_at file bytes (at + n) ≡ place_after (place_at file bytes at) (take n (drop at bytes))
 place_on file bytes at n h =
     let lines : count_by is_newline (take (at + n) bytes) ≡ count_by is_newline (take at bytes) + count_by is_newline (take n (drop at bytes)) =
     ap (count_by is_newline) (take-add at n bytes) ∙ sum_by-append _ (take at bytes) (take n (drop at bytes)) in
@@ -41,10 +41,10 @@ place_on file bytes at n h =
     λ i. record { file = file; line = line i; byte = byte i }
 
 -- one more item
-pub goes_on : (file : ℕ) (bytes : List ℕ) (at : ℕ) (tokens more : List Token) (run next : Run) (place behind : Place) (f : Form) (size : ℕ) → IsRead file bytes at tokens run place
+pub goes_on : (file : ℕ) (bytes : List ℕ) (at : ℕ) (tokens more : List Token) (run next : Run) (place after : Place) (f : Form) (size : ℕ) → IsRead file bytes at tokens run place
     → IsItem (drop at bytes) f size → FitsRuns run (token_of f place) → more ≡ tokens ++ token_of f place → next ≡ run_of run (token_of f place)
-    → behind ≡ place_behind place (take size (drop at bytes)) → IsRead file bytes (at + size) more next behind
-goes_on file bytes at tokens more run next place behind f size read item fits is_more is_next is_behind =
+    → after ≡ place_after place (take size (drop at bytes)) → IsRead file bytes (at + size) more next after
+goes_on file bytes at tokens more run next place after f size read item fits is_more is_next is_after =
     let i : Item = record { form = f; offset = at; size = size } in
     let here : token_of f place ≡ token_of f (place_at file bytes at) = ap (token_of f) read.place_is in
     let within : at + size ≤ length bytes = omega (arith, read.within, item.within, length-drop at bytes) in
@@ -55,7 +55,7 @@ goes_on file bytes at tokens more run next place behind f size read item fits is
       lexemes = is_more ∙ (λ j. read.lexemes j ++ here j) ∙ sym (tokens_append file bytes read.items i);
       runs = subst (FitsRuns first_run) (sym is_more) (fits_append first_run tokens (token_of f place) read.runs (subst (λ (r : Run). FitsRuns r (token_of f place)) read.run_is fits));
       run_is = is_next ∙ ap (λ r. run_of r (token_of f place)) read.run_is ∙ sym (run_append first_run tokens (token_of f place)) ∙ ap (run_of first_run) (sym is_more);
-      place_is = is_behind ∙ ap (λ p. place_behind p (take size (drop at bytes))) read.place_is ∙ sym (place_on file bytes at size within);
+      place_is = is_after ∙ ap (λ p. place_after p (take size (drop at bytes))) read.place_is ∙ sym (place_on file bytes at size within);
     }
 
 -- nothing has grown beyond the bytes read
@@ -98,7 +98,7 @@ first_fault file bytes at reading (error.Fault f) read stops = record {
   leads = read.leads;
   runs = subst (FitsRuns first_run) read.lexemes read.runs;
   shows = elim stops as (λ _. Shows file bytes at (drop at bytes) (run_of first_run (tokens_of file bytes read.items)) f.kind f.at) [
-    | inl h ↦ inl (h.0, h.2, h.3 ∙ ap (λ p. place_behind p (take h.0 (drop at bytes))) read.place_is ∙ sym (place_on file bytes at h.0 (omega (arith, h.1, read.within, length-drop at bytes))))
+    | inl h ↦ inl (h.0, h.2, h.3 ∙ ap (λ p. place_after p (take h.0 (drop at bytes))) read.place_is ∙ sym (place_on file bytes at h.0 (omega (arith, h.1, read.within, length-drop at bytes))))
     | inr h ↦ inr (h.0, h.1, h.2, ap (λ (r : Run). r.length) (sym (read.run_is ∙ ap (run_of first_run) read.lexemes)) ∙ h.3, h.4, h.5 ∙ read.place_is)
   ];
 }

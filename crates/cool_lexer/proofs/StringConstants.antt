@@ -10,7 +10,7 @@ use Rattle.cool_syntax.specs.LexicalStructure as lexical
 use Rattle.cool_lexer.specs.declared.front.Front.{Front}
 use Rattle.cool_lexer.specs.declared.front.Front.TheVariants.{Item, Fault}
 use Rattle.cool_lexer.specs.declared.front.Scan.TheVariants as scan
-use Rattle.cool_lexer.specs.Fronts.{piece_front, held_behind, string_front}
+use Rattle.cool_lexer.specs.Fronts.{piece_front, held_after, string_front}
 
 -- the front is the string or the fault that stands from an offset on
 abbrev pub Stands : Bool → ℕ → List ℕ → List ℕ → Front → Type 0
@@ -19,7 +19,7 @@ Stands escaped offset held bs (Item f n) =
     (string_fault escaped offset (length held) bs ≡ None) × (cs : List ℕ) × (size : ℕ) × (f ≡ scan.Lexeme (kind.Str (held ++ cs))) × (n + 1 ≡ offset + size)
     × (size ≤ length bs) × (constant escaped (take size bs) ≡ Some cs)
 
--- a byte that ends nothing goes before what stands behind it
+-- a byte that ends nothing goes before what stands after it
 pass : (e next : Bool) (o : ℕ) (held more : List ℕ) (b : ℕ) (bs meant : List ℕ)
     → string_fault e o (length held) (b ∷ bs) ≡ string_fault next (o + 1) (length more) bs
     → ((cs rest : List ℕ) → constant next rest ≡ Some cs → constant e (b ∷ rest) ≡ Some (meant ++ cs))
@@ -29,8 +29,8 @@ pass e next o held more b bs meant same goes all (Item f n) s =
     (same ∙ s.0, meant ++ s.1, suc s.2, s.3 ∙ ap (λ l. scan.Lexeme (kind.Str l)) (ap (λ l. l ++ s.1) all ∙ append_assoc held meant s.1), omega (arith, s.4), omega (arith, s.5), goes s.1 (take s.2 bs) s.6)
 
 -- the same with the piece that the byte is
-faults : (p : Piece) (e : Bool) (o held b : ℕ) (bs : List ℕ) → piece e b ≡ p → string_fault e o held (b ∷ bs) ≡ shown p o held (string_fault (is_backslash p) (o + 1) (lexical.held_behind p held) bs)
-faults p e o held b bs h = ap (λ q. shown q o held (string_fault (is_backslash q) (o + 1) (lexical.held_behind q held) bs)) h
+faults : (p : Piece) (e : Bool) (o held b : ℕ) (bs : List ℕ) → piece e b ≡ p → string_fault e o held (b ∷ bs) ≡ shown p o held (string_fault (is_backslash p) (o + 1) (lexical.held_after p held) bs)
+faults p e o held b bs h = ap (λ q. shown q o held (string_fault (is_backslash q) (o + 1) (lexical.held_after q held) bs)) h
 
 -- what a text with this piece in front denotes
 denotes : (p : Piece) (e : Bool) (b : ℕ) (bs : List ℕ) → piece e b ≡ p → constant e (b ∷ bs) ≡ denoted p bs (constant (is_backslash p) bs)
@@ -56,8 +56,8 @@ meant_stands false c e o held b bs h l is s =
 
 -- each piece
 stands_piece : (p : Piece) (e : Bool) (o : ℕ) (held : List ℕ) (b : ℕ) (bs : List ℕ) → piece e b ≡ p → 1 ≤ o
-    → Stands (is_backslash p) (o + 1) (held_behind p held) bs (string_front (is_backslash p) (o + 1) (held_behind p held) bs)
-    → Stands e o held (b ∷ bs) (piece_front p o held (string_front (is_backslash p) (o + 1) (held_behind p held) bs))
+    → Stands (is_backslash p) (o + 1) (held_after p held) bs (string_front (is_backslash p) (o + 1) (held_after p held) bs)
+    → Stands e o held (b ∷ bs) (piece_front p o held (string_front (is_backslash p) (o + 1) (held_after p held) bs))
 stands_piece Ends e o held b bs h l s =
     (faults Ends e o (length held) b bs h, [], 1, ap (λ x. scan.Lexeme (kind.Str x)) (append_none held), refl, omega arith, denotes Ends e b [] h)
 stands_piece Newline e o held b bs h l s = (faults Newline e o (length held) b bs h, omega arith)
@@ -71,7 +71,7 @@ pub string_stands : (e : Bool) (o : ℕ) (held bs : List ℕ) → 1 ≤ o → St
 string_stands e o held [] l = (refl, omega arith)
 string_stands e o held (b ∷ bs) l =
     let p : Piece = piece e b in
-    stands_piece p e o held b bs refl l (string_stands (is_backslash p) (o + 1) (held_behind p held) bs (omega arith))
+    stands_piece p e o held b bs refl l (string_stands (is_backslash p) (o + 1) (held_after p held) bs (omega arith))
 
 -- No longer text has a constant.
 
@@ -80,7 +80,7 @@ pub mapped : {X Y : Type 0} (f : X → Y) (o : Option X) (y : Y) → option_map 
 mapped f None y h = absurd (cc)
 mapped f (Some x) y h = (x, refl)
 
--- behind the closing quote nothing stands in the constant's text
+-- after the closing quote nothing stands in the constant's text
 ends_now : (bs : List ℕ) (m : ℕ) (rest : Option (List ℕ)) (cs : List ℕ) → m ≤ length bs → denoted Ends (take m bs) rest ≡ Some cs → m ≡ 0
 ends_now bs zero rest cs l h = refl
 ends_now [] (suc m) rest cs l h = absurd (omega arith)

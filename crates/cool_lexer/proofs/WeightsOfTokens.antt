@@ -65,7 +65,7 @@ denoted_few Null bs rest h = tt
 denoted_few Backslash bs rest h = no_less rest (length bs) h
 denoted_few (Means c) bs rest h = one_more rest c (length bs) h
 
--- a constant has no more bytes than the text behind its opening quote
+-- a constant has no more bytes than the text after its opening quote
 constant_few : (e : Bool) (bs : List ℕ) → HasAtMost (constant e bs) (length bs)
 constant_few e [] = tt
 constant_few e (b ∷ bs) = denoted_few (piece e b) bs (constant (is_backslash (piece e b)) bs) (constant_few (is_backslash (piece e b)) bs)

@@ -8,7 +8,7 @@ use Rattle.cool_lexer.specs.declared.front.Scan.TheVariants.{Lexeme}
 use Rattle.cool_lexer.specs.declared.span.Span.TheVariants as span
 use Rattle.cool_lexer.specs.Fronts.{takes, word_front}
 
--- the text of a word is its first byte and those behind it
+-- the text of a word is its first byte and those after it
 pub word_text : (b n : ℕ) (bs text : List ℕ) → b ∷ bs ≡ text → take (n + 1) text ≡ b ∷ take n bs
 word_text b n bs text e =
     let next : n + 1 ≡ suc n = omega arith in

@@ -1,4 +1,4 @@
--- What the scanning functions find at the front of a text: for each class the item or the fault, as a function of the bytes behind
+-- What the scanning functions find at the front of a text: for each class the item or the fault, as a function of the bytes after
 -- the first. That it is the item or the fault of Cool's lexical structure is proved, not said here.
 use Rattle.std.specs.Prelude.{◌≡◌, ℕ, ◌+◌, ◌≤◌, Bool, false, not, ◌==◌, nat_lt, if◌then◌else◌, List, [], ◌∷◌, ◌++◌, length, take, Option, Some, None}
 use Rattle.std.specs.List.{prefix_len}
@@ -25,7 +25,7 @@ takes span.Line b = not (b == 10)
 -- Signs
 
 abbrev pub single_front : Sign → ℕ → Front
-single_front s behind = Item (scan.Lexeme (kind.Sign s)) behind
+single_front s after = Item (scan.Lexeme (kind.Sign s)) after
 
 abbrev pub angle_front : List ℕ → Front
 angle_front [] = single_front sign.Less 0
@@ -48,8 +48,8 @@ abbrev pub within_limit : ℕ → Option ℕ
 within_limit n = if nat_lt 2147483647 n then None else Some n
 
 abbrev pub integer_front : Option ℕ → ℕ → Front
-integer_front (Some n) behind = Item (scan.Lexeme (kind.Int n)) behind
-integer_front None behind = Fault L7 0
+integer_front (Some n) after = Item (scan.Lexeme (kind.Int n)) after
+integer_front None after = Fault L7 0
 
 abbrev pub number_front : ℕ → List ℕ → Front
 number_front b bs = integer_front (within_limit (lexemes.value (b ∷ take (prefix_len (takes span.Digits) bs) bs))) (prefix_len (takes span.Digits) bs)
@@ -64,16 +64,16 @@ piece_front lexemes.Null offset held rest = Fault L3 offset
 piece_front lexemes.Backslash offset held rest = rest
 piece_front (lexemes.Means c) offset held rest = if length held == MOST_BYTES then Fault L4 0 else rest
 
-abbrev pub held_behind : lexemes.Piece → List ℕ → List ℕ
-held_behind (lexemes.Means c) held = held ++ c ∷ []
-held_behind _ held = held
+abbrev pub held_after : lexemes.Piece → List ℕ → List ℕ
+held_after (lexemes.Means c) held = held ++ c ∷ []
+held_after _ held = held
 
 -- the front of a string, by its bytes from the offset on, with the constant so far
 abbrev pub string_front : Bool → ℕ → List ℕ → List ℕ → Front
 string_front escaped offset held [] = Fault L2 0
 string_front escaped offset held (b ∷ bs) =
     piece_front (lexemes.piece escaped b) offset held
-    (string_front (lexemes.is_backslash (lexemes.piece escaped b)) (offset + 1) (held_behind (lexemes.piece escaped b) held) bs)
+    (string_front (lexemes.is_backslash (lexemes.piece escaped b)) (offset + 1) (held_after (lexemes.piece escaped b) held) bs)
 
 -- Comments
 
@@ -105,19 +105,19 @@ front_of lexemes.Equals b bs = equals_front bs
 front_of (lexemes.Single s) b bs = single_front s 0
 front_of lexemes.Stray b bs = Fault L1 0
 
--- Behind a first byte of this class stand this many bytes of a good item of this form: it shows no fault, and no longer form begins so.
-pub record IsBehind (class : lexemes.Class) (b : ℕ) (bs : List ℕ) (f : lexemes.Form) (behind : ℕ) : Type 0 where
+-- After a first byte of this class stand this many bytes of a good item of this form: it shows no fault, and no longer form begins so.
+pub record IsAfter (class : lexemes.Class) (b : ℕ) (bs : List ℕ) (f : lexemes.Form) (after : ℕ) : Type 0 where
   pub good : fault_of class b bs ≡ None
-  pub within : behind ≤ length bs
-  pub is_form : lexemes.form_of class b (take behind bs) ≡ Some f
-  pub longest : (m : ℕ) (other : lexemes.Form) → m ≤ length bs → lexemes.form_of class b (take m bs) ≡ Some other → m ≤ behind
+  pub within : after ≤ length bs
+  pub is_form : lexemes.form_of class b (take after bs) ≡ Some f
+  pub longest : (m : ℕ) (other : lexemes.Form) → m ≤ length bs → lexemes.form_of class b (take m bs) ≡ Some other → m ≤ after
 
 -- The front is the item or the fault of a text with a first byte of this class.
 abbrev pub IsFront : lexemes.Class → ℕ → List ℕ → Front → Type 0
-IsFront class b bs (Item f behind) = IsBehind class b bs (form_seen f) behind
+IsFront class b bs (Item f after) = IsAfter class b bs (form_seen f) after
 IsFront class b bs (Fault k offset) = (fault_of class b bs ≡ fault_at k offset) × (offset ≤ length bs)
 
 -- The front is the item or the fault that a text begins with.
 abbrev pub Begins : List ℕ → Front → Type 0
-Begins text (Item f behind) = IsItem text (form_seen f) (behind + 1)
+Begins text (Item f after) = IsItem text (form_seen f) (after + 1)
 Begins text (Fault k offset) = (fault text ≡ fault_at k offset) × (offset + 1 ≤ length text)

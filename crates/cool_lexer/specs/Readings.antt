@@ -16,9 +16,9 @@ use Rattle.cool_lexer.specs.Views.{form_seen, run_seen}
 abbrev pub is_newline : ℕ → Bool
 is_newline b = b == 10
 
--- the place behind these bytes
-abbrev pub place_behind : Place → List ℕ → Place
-place_behind place passed = record { file = place.file; line = place.line + count_by is_newline passed; byte = place.byte + length passed }
+-- the place after these bytes
+abbrev pub place_after : Place → List ℕ → Place
+place_after place passed = record { file = place.file; line = place.line + count_by is_newline passed; byte = place.byte + length passed }
 
 -- A form was kept as a token, or dropped.
 pub record Keeps (form : Scan) (old new : Reading) : Type 0 where
@@ -39,11 +39,11 @@ pub record Passes (rest : List ℕ) (old new : Reading) (size : ℕ) : Type 0 wh
   pub fits : FitsRuns (run_seen old.run) (token_of form old.place)
   pub tokens : new.tokens.items ≡ old.tokens.items ++ token_of form old.place
   pub run : run_seen new.run ≡ run_of (run_seen old.run) (token_of form old.place)
-  pub place : new.place ≡ place_behind old.place (take size rest)
+  pub place : new.place ≡ place_after old.place (take size rest)
 
 -- The rest begins with a fault, or with a lexeme one too many for its run.
 abbrev pub Stops : List ℕ → Reading → LexError → Type 0
 Stops rest old error.Memory = Unit {0}
 Stops rest old (error.Fault f) =
-    ((offset : ℕ) × (offset ≤ length rest) × (fault rest ≡ fault_at f.kind offset) × (f.at ≡ place_behind old.place (take offset rest)))
+    ((offset : ℕ) × (offset ≤ length rest) × (fault rest ≡ fault_at f.kind offset) × (f.at ≡ place_after old.place (take offset rest)))
     ⊎ ((lexeme : TokenKind) × (size : ℕ) × IsItem rest (Lexeme lexeme) size × (old.run.length ≡ MOST_TOKENS) × (f.kind ≡ L8) × (f.at ≡ old.place))

@@ -17,7 +17,7 @@ pub(crate) fn dash_at(tail: &[u8]) -> Front
     match tail {
         [b'-', line @ ..] => Front::Item {
             form: Scan::Comment,
-            behind: 1 + span_len(Span::Line, line),
+            after: 1 + span_len(Span::Line, line),
         },
         _ => sign(Sign::Minus, 0),
     }
@@ -31,7 +31,7 @@ pub(crate) fn open_at(tail: &[u8]) -> Front
         [b'*', inside @ ..] => match comment_len(inside) {
             Some(len) => Front::Item {
                 form: Scan::Comment,
-                behind: 1 + len,
+                after: 1 + len,
             },
             None => Front::Fault {
                 kind: LexKind::L5,

@@ -13,8 +13,8 @@ pub(crate) enum Scan {
 /// The item that a text begins with, or its fault.
 #[derive(Drop)]
 pub(crate) enum Front {
-    /// A good item with this many bytes behind its first.
-    Item { form: Scan, behind: usize },
-    /// A fault that stands this many bytes behind the item's first.
+    /// A good item with this many bytes after its first.
+    Item { form: Scan, after: usize },
+    /// A fault that stands this many bytes after the item's first.
     Fault { kind: LexKind, offset: usize },
 }

@@ -19,11 +19,11 @@ pub(crate) fn item_at(alloc: Global, text: &[u8]) -> Result<Front, AllocError>
     requires { 0 < length text.now }
     ensures { IfOk result (λ front. Begins text.now front) }
 {
-    item_behind(alloc, text, text[0], &text[1..])
+    item_after(alloc, text, text[0], &text[1..])
 }
 
-/// The item that a text begins with, or its fault, by the first byte and those behind it. `Err` comes only for want of memory.
-fn item_behind(alloc: Global, text: &[u8], first: u8, tail: &[u8]) -> Result<Front, AllocError>
+/// The item that a text begins with, or its fault, by the first byte and those after it. `Err` comes only for want of memory.
+fn item_after(alloc: Global, text: &[u8], first: u8, tail: &[u8]) -> Result<Front, AllocError>
     requires whole { first ∷ tail.now ≡ text.now }
     ensures { IfOk result (λ front. front ≡ front_of (lexemes.class_of first) first tail.now) }
 {
@@ -33,7 +33,7 @@ fn item_behind(alloc: Global, text: &[u8], first: u8, tail: &[u8]) -> Result<Fro
         Class::Quote => string_at(alloc, tail),
         Class::White => Ok(Front::Item {
             form: Scan::Space,
-            behind: 0,
+            after: 0,
         }),
         Class::Dash => Ok(dash_at(tail)),
         Class::Star => Ok(star_at(tail)),

@@ -17,7 +17,7 @@ use std::alloc::Global;
 pub struct Lexed {
     /// The tokens, in the order in which they stand.
     pub tokens: Vec<Token>,
-    /// The place behind the last byte.
+    /// The place after the last byte.
     pub end: Place,
 }
 

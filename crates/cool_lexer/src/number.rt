@@ -15,11 +15,11 @@ const MOST: u64 = 2_147_483_647;
 pub(crate) fn number_at(first: u8, tail: &[u8]) -> Front
     ensures { result ≡ number_front first tail.now }
 {
-    let behind = span_len(Span::Digits, tail);
-    match value(u64::from(digit(first)), &tail[..behind]) {
+    let after = span_len(Span::Digits, tail);
+    match value(u64::from(digit(first)), &tail[..after]) {
         Some(value) => Front::Item {
             form: Scan::Lexeme(TokenKind::Int(value)),
-            behind,
+            after,
         },
         None => Front::Fault {
             kind: LexKind::L7,
@@ -35,7 +35,7 @@ fn digit(byte: u8) -> u8
     byte.saturating_sub(b'0')
 }
 
-/// The number that the digits make behind those of `high`; `None` where it is above `MOST`.
+/// The number that the digits make after those of `high`; `None` where it is above `MOST`.
 fn value(high: u64, digits: &[u8]) -> Option<u32>
     requires { high ≤ 255 }
     ensures { result ≡ within_limit (fold (λ n b. 10 * n + (b - 48)) high digits.now) }

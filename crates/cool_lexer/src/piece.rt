@@ -18,7 +18,7 @@ pub(crate) enum Piece {
     Means(u8),
 }
 
-/// What a byte of a string is, behind a backslash or not.
+/// What a byte of a string is, after a backslash or not.
 pub(crate) fn piece_of(escaped: bool, byte: u8) -> Piece
     ensures { piece_seen result ≡ lexemes.piece escaped byte }
 {

@@ -3,7 +3,7 @@
 ghost use Rattle.std.specs.Prelude.{◌≡◌, ◌+◌, ◌<◌, ◌≤◌, ◌^◌, IfOk, IfErr, OnOk, length};
 ghost use Rattle.std.specs.List.{count_by};
 ghost use Rattle.cool_syntax.specs.declared.TheConstants.{MOST_TOKENS};
-ghost use Rattle.cool_lexer.specs.Readings.{is_newline, place_behind, Keeps, Refuses, Passes, Stops};
+ghost use Rattle.cool_lexer.specs.Readings.{is_newline, place_after, Keeps, Refuses, Passes, Stops};
 
 use crate::error::{LexError, LexFault};
 use crate::front::{Front, Scan};
@@ -12,7 +12,7 @@ use crate::run::Run;
 use cool_syntax::{LexKind, MOST_TOKENS, Place, Token};
 use std::alloc::Global;
 
-/// The tokens of the items so far, the run that goes on, and the place behind them.
+/// The tokens of the items so far, the run that goes on, and the place after them.
 #[derive(Drop)]
 pub(crate) struct Reading {
     pub(crate) tokens: Vec<Token>,
@@ -36,14 +36,14 @@ pub(crate) fn read_item(
     ensures stops { IfErr result (λ error. Stops rest.now reading.old error) }
 {
     match item_at(alloc, rest)? {
-        Front::Item { form, behind } => {
+        Front::Item { form, after } => {
             keep(reading, form)?;
-            reading.place = place_behind(reading.place, &rest[..behind + 1]);
-            Ok(behind + 1)
+            reading.place = place_after(reading.place, &rest[..after + 1]);
+            Ok(after + 1)
         }
         Front::Fault { kind, offset } => Err(LexError::Fault(LexFault {
             kind,
-            at: place_behind(reading.place, &rest[..offset]),
+            at: place_after(reading.place, &rest[..offset]),
         })),
     }
 }
@@ -63,7 +63,7 @@ fn keep(reading: &mut Reading, form: Scan) -> Result<(), LexError>
                 at: reading.place,
             }));
         }
-        reading.run = reading.run.behind(&kind);
+        reading.run = reading.run.after(&kind);
         reading.tokens.push(Token {
             kind,
             at: reading.place,
@@ -72,11 +72,11 @@ fn keep(reading: &mut Reading, form: Scan) -> Result<(), LexError>
     Ok(())
 }
 
-/// The place behind these bytes, which stand at the given one.
-fn place_behind(place: Place, passed: &[u8]) -> Place
+/// The place after these bytes, which stand at the given one.
+fn place_after(place: Place, passed: &[u8]) -> Place
     requires lines { place.line + length passed.now < 2 ^ 32 }
     requires bytes { place.byte + length passed.now < 2 ^ 32 }
-    ensures { result ≡ place_behind place passed.now }
+    ensures { result ≡ place_after place passed.now }
 {
     Place {
         file: place.file,

@@ -1,7 +1,7 @@
 //! Runs of tokens: what stands between the braces and semicolons of a class's own level.
 
 ghost use Rattle.std.specs.Prelude.{◌≡◌, ◌+◌, ◌<◌, ◌^◌};
-ghost use Rattle.cool_syntax.specs.LexicalStructure.{depth_behind, ends_run, run_behind};
+ghost use Rattle.cool_syntax.specs.LexicalStructure.{depth_after, ends_run, run_after};
 ghost use Rattle.cool_lexer.specs.Views.{run_seen};
 
 use cool_syntax::{Key, Sign, TokenKind};
@@ -14,13 +14,13 @@ pub(crate) struct Run {
 }
 
 impl Run {
-    /// The run behind one more token.
-    pub(crate) fn behind(self, token: &TokenKind) -> Run
+    /// The run after one more token.
+    pub(crate) fn after(self, token: &TokenKind) -> Run
         requires deep { self.depth + 1 < 2 ^ 32 }
         requires long { self.length + 1 < 2 ^ 32 }
-        ensures { run_seen result ≡ run_behind (run_seen self) token.now }
+        ensures { run_seen result ≡ run_after (run_seen self) token.now }
     {
-        let depth = depth_behind(token, self.depth);
+        let depth = depth_after(token, self.depth);
         if ends_run(token, self.depth) {
             Run { depth, length: 0 }
         } else {
@@ -32,10 +32,10 @@ impl Run {
     }
 }
 
-/// The depth behind a token.
-fn depth_behind(token: &TokenKind, depth: u32) -> u32
+/// The depth after a token.
+fn depth_after(token: &TokenKind, depth: u32) -> u32
     requires { depth + 1 < 2 ^ 32 }
-    ensures { result ≡ depth_behind token.now depth }
+    ensures { result ≡ depth_after token.now depth }
 {
     match token {
         TokenKind::Sign(Sign::LBrace) | TokenKind::Key(Key::Case) => depth + 1,
@@ -44,7 +44,7 @@ fn depth_behind(token: &TokenKind, depth: u32) -> u32
     }
 }
 
-/// Whether the next token is the first of a run: behind a brace that opens a class, and behind a semicolon of a class's own level.
+/// Whether the next token is the first of a run: after a brace that opens a class, and after a semicolon of a class's own level.
 fn ends_run(token: &TokenKind, depth: u32) -> bool
     ensures { result ≡ ends_run token.now depth }
 {

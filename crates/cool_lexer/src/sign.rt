@@ -1,4 +1,4 @@
-//! Signs: lexemes of one or two bytes (manual, figure 1), each by the bytes behind its first.
+//! Signs: lexemes of one or two bytes (manual, figure 1), each by the bytes after its first.
 
 ghost use Rattle.std.specs.Prelude.{◌≡◌};
 ghost use Rattle.cool_lexer.specs.Fronts.{angle_front, equals_front, star_front, single_front};
@@ -6,13 +6,13 @@ ghost use Rattle.cool_lexer.specs.Fronts.{angle_front, equals_front, star_front,
 use crate::front::{Front, Scan};
 use cool_syntax::{LexKind, Sign, TokenKind};
 
-/// The sign with this many bytes behind its first.
-pub(crate) fn sign(sign: Sign, behind: usize) -> Front
-    ensures { result ≡ single_front sign behind }
+/// The sign with this many bytes after its first.
+pub(crate) fn sign(sign: Sign, after: usize) -> Front
+    ensures { result ≡ single_front sign after }
 {
     Front::Item {
         form: Scan::Lexeme(TokenKind::Sign(sign)),
-        behind,
+        after,
     }
 }
 

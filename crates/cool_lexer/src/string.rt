@@ -11,7 +11,7 @@ use crate::piece::{Piece, piece_of};
 use cool_syntax::{Bytes, LexKind, MOST_BYTES, TokenKind};
 use std::alloc::{AllocError, Global};
 
-/// The string behind an opening quote, or `L2`, `L3` or `L4`. `Err` comes only for want of memory.
+/// The string after an opening quote, or `L2`, `L3` or `L4`. `Err` comes only for want of memory.
 pub(crate) fn string_at(alloc: Global, tail: &[u8]) -> Result<Front, AllocError>
     ensures { IfOk result (λ front. front ≡ string_front false 1 [] tail.now) }
 {
@@ -49,12 +49,12 @@ pub(crate) fn string_at(alloc: Global, tail: &[u8]) -> Result<Front, AllocError>
     })
 }
 
-/// The string with this constant, whose closing quote stands this many bytes behind the opening one.
-fn string(held: Vec<u8>, behind: usize) -> Front
-    ensures { result ≡ Item (Lexeme (Str held.items)) behind }
+/// The string with this constant, whose closing quote stands this many bytes after the opening one.
+fn string(held: Vec<u8>, after: usize) -> Front
+    ensures { result ≡ Item (Lexeme (Str held.items)) after }
 {
     Front::Item {
         form: Scan::Lexeme(TokenKind::Str(Bytes::from_vec(held))),
-        behind,
+        after,
     }
 }

@@ -9,7 +9,7 @@ use crate::span::{Span, span_len};
 use cool_syntax::{Key, Name, TokenKind};
 use std::alloc::{AllocError, Global};
 
-/// The word that a text begins with: this letter, and what goes on with it of the bytes behind. `Err` comes only for want of memory.
+/// The word that a text begins with: this letter, and what goes on with it of the bytes after. `Err` comes only for want of memory.
 pub(crate) fn word_at(
     alloc: Global,
     text: &[u8],
@@ -19,11 +19,11 @@ pub(crate) fn word_at(
     requires whole { first ∷ tail.now ≡ text.now }
     ensures { IfOk result (λ front. front ≡ word_front first tail.now) }
 {
-    let behind = span_len(Span::Word, tail);
-    let kind = word(alloc, first.is_ascii_uppercase(), &text[..behind + 1])?;
+    let after = span_len(Span::Word, tail);
+    let kind = word(alloc, first.is_ascii_uppercase(), &text[..after + 1])?;
     Ok(Front::Item {
         form: Scan::Lexeme(kind),
-        behind,
+        after,
     })
 }
 

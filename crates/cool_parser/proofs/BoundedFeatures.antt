@@ -16,7 +16,7 @@ use Rattle.cool_syntax.specs.declared.node.Node.{Node}
 use Rattle.cool_syntax.specs.declared.node.Node.TheVariants as node
 use Rattle.cool_syntax.specs.declared.file_tree.ClassDef.{ClassDef}
 use Rattle.cool_syntax.specs.declared.file_tree.Feature.TheVariants as feature
-use Rattle.cool_syntax.specs.LexicalStructure.{Run, first_run, depth_behind, ends_run, run_behind, FitsRuns}
+use Rattle.cool_syntax.specs.LexicalStructure.{Run, first_run, depth_after, ends_run, run_after, FitsRuns}
 use Rattle.cool_syntax.specs.Tree.{Last, More}
 use Rattle.cool_parser.specs.declared.operator.Infix.{Infix}
 use Rattle.cool_parser.specs.declared.operator.Prefix.TheVariants as front
@@ -90,7 +90,7 @@ reduced_bounded : (k : ℕ) (st : List Item) (ns : List Node) (t : NodeId) → A
 reduced_bounded k [] ns t w = w
 reduced_bounded k (i ∷ st) ns t w = reduced_at k ns i st t (ended k i t) (λ ms u. reduced_bounded k st ms u w.1) w
 
--- Behind an operand
+-- After an operand
 
 shifted : (b : Bool) (op : Infix) (at : Place) (c : Context) (t : NodeId) → IsBounded c → IfSome (if b then None else wait (item.Left at op t) c) IsStateBounded
 shifted true op at c t w = tt
@@ -296,7 +296,7 @@ step_bounded c _ _ at h w g l = tt
 
 -- Runs
 
--- what holds behind the tokens of this run
+-- what holds after the tokens of this run
 record Follows (r : Run) (s : State) : Type 0 where
   depth : r.depth ≡ depth s.context s.mode
   total : total s.context s.mode ≤ r.length
@@ -319,17 +319,17 @@ room true n l h g = omega (arith, h refl)
 room false n l h g = g
 
 follows_at : (r : Run) (k : TokenKind) (s : State) (o : Option State) → Follows r s → IfSome o (Fits k (depth s.context s.mode) (total s.context s.mode)) → IfSome o IsGoodState → IfSome o IsStateBounded
-    → IfSome o (Follows (run_behind r k))
+    → IfSome o (Follows (run_after r k))
 follows_at r k s None f h g b = tt
 follows_at r k s (Some n) f h g b = record {
-  depth = ap (depth_behind k) f.depth ∙ sym h.depth;
+  depth = ap (depth_after k) f.depth ∙ sym h.depth;
   total = room (ends_run k r.depth) (total n.context n.mode) r.length (λ e. between_total n.context n.mode (h.between (sym (ap (ends_run k) f.depth) ∙ e)) g) (omega (arith, h.total, f.total));
   good = g;
   bounded = b;
 }
 
 -- one more token
-follows : (r : Run) (k : TokenKind) (at : Place) (s : State) → r.length < MOST_TOKENS → Follows r s → IfSome (step s.context s.mode k at) (Follows (run_behind r k))
+follows : (r : Run) (k : TokenKind) (at : Place) (s : State) → r.length < MOST_TOKENS → Follows r s → IfSome (step s.context s.mode k at) (Follows (run_after r k))
 follows r k at s l f =
     follows_at r k s (step s.context s.mode k at) f (step_fits s.context s.mode k at) (step_good s.context s.mode k at f.good)
     (step_bounded s.context s.mode k at f.bounded.1 f.bounded.0 f.good (omega (arith, l, f.total)))
@@ -349,7 +349,7 @@ outcome_bounded [] r at end None l f = tt
 outcome_bounded (t ∷ ts) r at end None l f = tt
 outcome_bounded [] r at end (Some s) l f = finish_bounded s.context s.mode end f.bounded.0
 outcome_bounded (t ∷ ts) r at end (Some s) l f =
-    outcome_bounded ts (run_behind r t.kind) t.at end (step s.context s.mode t.kind t.at) l.1 (follows r t.kind t.at s l.0 f)
+    outcome_bounded ts (run_after r t.kind) t.at end (step s.context s.mode t.kind t.at) l.1 (follows r t.kind t.at s l.0 f)
 
 pub classes_bounded : (ts : List Token) (end : Place) (classes : List ClassDef) → parsed ts end ≡ Whole classes → FitsRuns first_run ts → AllByRecursion IsBoundedClass classes
 classes_bounded ts end classes e l =

@@ -16,7 +16,7 @@ use Rattle.cool_parser.specs.Machine.{is_right_parenthesis, is_right_brace}
 
 -- States
 
--- a class up to its features so far, behind the classes so far
+-- a class up to its features so far, after the classes so far
 pub record Opened : Type 0 where
   pub classes : Classes
   pub heading : Heading
@@ -44,7 +44,7 @@ pub data Around : Type 0 where
   InMethod : (class : Opened) (signature : Signature) → Around
   InAttribute : (class : Opened) (variable : Variable) (arrow : Place) → Around
 
--- a receiver and the dot behind it
+-- a receiver and the dot after it
 pub data Target : Type 0 where
   Dot : (receiver : Concrete) (dot : Place) → Target
   StaticDot : (receiver : Concrete) (mark : Place) (class : TypeRef) (dot : Place) → Target
@@ -135,7 +135,7 @@ reduce k (Left l op at ∷ st) t = if nat_le k (level op) then reduce k st (Bina
 reduce k (Front p ∷ st) t = if nat_le k (prefix_level p) then reduce k st (Before p t) else record { stack = Front p ∷ st; operand = t }
 reduce k (Open f ∷ st) t = record { stack = Open f ∷ st; operand = t }
 
--- Behind an operand
+-- After an operand
 
 -- the operator that a token is
 abbrev pub operator_of : TokenKind → Option Operator

@@ -188,13 +188,13 @@ reduced_within files k (i ∷ st) ns t h w =
     reduced_at files k ns i st t (ended k i t) (ended_within files k i t w.0)
     (λ n g. reduced_within files k st (ns ++ n ∷ []) (record { 0 = length ns }) (All-append (IsNodeWithin files) ns (n ∷ []) h (g, tt)) w.1) (h, w)
 
--- so does the state behind them
+-- so does the state after them
 reduce_within : (files : ℕ) (k : ℕ) (c : Context) (t : NodeId) → IsWithin files c → IsWithin files (after c (reduce k c t))
 reduce_within files k c t w =
     let h = reduced_within files k c.stack c.nodes t w.nodes w.stack in
     record { nodes = h.0; stack = h.1; classes = w.classes }
 
--- Behind an operand
+-- After an operand
 
 -- an operator takes its left operand
 shifted : (files : ℕ) (b : Bool) (op : Infix) (at : Place) (c : Context) (t : NodeId) → IsPlaced files at → IsWithin files c → IfSome (if b then None else wait (item.Left at op t) c) (IsStateWithin files)
@@ -249,7 +249,7 @@ operator_within files (Some op) c t k at p w =
     shifted files (if is_comparison op then compares r.stack else false) op at (after c r) r.operand p (reduce_within files (left_level op) c t w)
 operator_within files None c t k at p w = close_within files k (reduce 0 c t).stack (after c (reduce 0 c t)) (reduce 0 c t).operand (reduce_within files 0 c t w)
 
--- behind an operand
+-- after an operand
 have_within : (files : ℕ) (c : Context) (t : NodeId) (k : TokenKind) (at : Place) → IsPlaced files at → IsWithin files c → IfSome (have c t k at) (IsStateWithin files)
 have_within files c t (kind.Sign sign.Dot) at p w = (w, tt)
 have_within files c t (kind.Sign sign.At) at p w = (w, tt)
@@ -334,7 +334,7 @@ variable_type_within : (files : ℕ) (c : Context) (p : Purpose) (name : List �
 variable_type_within files c p name here (kind.TypeId spelling) at h n l w = declared_within files c p (record { name = name; at = here; declared = record { name = spelling; at = at } }) h (n.0, n.1, (l.1, l.0)) w
 variable_type_within files c p name here _ at h n l w = tt
 
--- behind a variable of a let
+-- after a variable of a let
 let_end_within : (files : ℕ) (c : Context) (v : Variable) (k : TokenKind) (at : Place) → IsVariableWithin files v → IsWithin files c → IfSome (let_end c v k at) (IsStateWithin files)
 let_end_within files c v (kind.Sign sign.Arrow) at h w = waits files (item.Init v) c h w
 let_end_within files c v (kind.Sign sign.Comma) at h w = (pushed files (item.Bound v None) c h w, tt)
@@ -343,7 +343,7 @@ let_end_within files c v _ at h w = tt
 
 -- Classes and features
 
--- behind the name of a class
+-- after the name of a class
 class_head_within : (files : ℕ) (c : Context) (name : List ℕ) (here : Place) (k : TokenKind) (at : Place) → IsPlaced files here × IsTypeName name → IsWithin files c → IfSome (class_head c name here k at) (IsStateWithin files)
 class_head_within files c name here (kind.Key key.Inherits) at h w = (w, h)
 class_head_within files c name here (kind.Sign sign.LBrace) at h w = (w, (h.0, h.1, tt, tt))
@@ -360,7 +360,7 @@ features_within files c class (kind.ObjectId name) at h l w = (w, (h, l))
 features_within files c class (kind.Sign sign.RBrace) at h l w = (w, h)
 features_within files c class _ at h l w = tt
 
--- behind the name of a feature
+-- after the name of a feature
 feature_name_within : (files : ℕ) (c : Context) (class : OpenClass) (name : List ℕ) (here : Place) (k : TokenKind) (at : Place) → IsOpenClassWithin files class → IsNamed files here name → IsWithin files c → IfSome (feature_name c class name here k at) (IsStateWithin files)
 feature_name_within files c class name here (kind.Sign sign.LParen) at h n w = (w, (h, n.0, n.1, tt))
 feature_name_within files c class name here (kind.Sign sign.Colon) at h n w = (w, (h, n))

@@ -39,13 +39,13 @@ unfolding Good
 arguments_stand_before c call args t g =
     below (dispatch call (args ++ t ∷ [])) c (call.receiver ∷ args ++ t ∷ []) (dispatch_parts call (args ++ t ∷ [])) (topped (item.Arguments call args) c t g)
 
-pub if_stands_behind : (c : Context) (at : Place) (test met t : NodeId) → Good (push (item.IfNo at test met) c) (mode.Have t) → HasPartsBelow (length c.nodes) (node.If at test met t)
+pub if_stands_after : (c : Context) (at : Place) (test met t : NodeId) → Good (push (item.IfNo at test met) c) (mode.Have t) → HasPartsBelow (length c.nodes) (node.If at test met t)
 unfolding Good
-if_stands_behind c at test met t g = below (node.If at test met t) c (test ∷ met ∷ t ∷ []) refl (topped (item.IfNo at test met) c t g)
+if_stands_after c at test met t g = below (node.If at test met t) c (test ∷ met ∷ t ∷ []) refl (topped (item.IfNo at test met) c t g)
 
-pub while_stands_behind : (c : Context) (at : Place) (test t : NodeId) → Good (push (item.WhileBody at test) c) (mode.Have t) → HasPartsBelow (length c.nodes) (node.While at test t)
+pub while_stands_after : (c : Context) (at : Place) (test t : NodeId) → Good (push (item.WhileBody at test) c) (mode.Have t) → HasPartsBelow (length c.nodes) (node.While at test t)
 unfolding Good
-while_stands_behind c at test t g = below (node.While at test t) c (test ∷ t ∷ []) refl (topped (item.WhileBody at test) c t g)
+while_stands_after c at test t g = below (node.While at test t) c (test ∷ t ∷ []) refl (topped (item.WhileBody at test) c t g)
 
 pub value_is_whole : (c : Context) (class : OpenClass) (v : Variable) (t : NodeId) → Good (push (item.AttributeInit class v) c) (mode.Have t) → IsPostorder c.nodes
 unfolding Good

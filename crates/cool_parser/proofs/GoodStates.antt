@@ -34,7 +34,7 @@ use Rattle.cool_parser.specs.Machine.{Context, Reduced, push, place, next_id, op
 use Rattle.cool_parser.specs.Waiting.{option_parts, stack_parts, item_parts, mode_parts, case_parts, Holds, IsBottomed, is_body, is_outside, IsGood, IsGoodState}
 use Rattle.cool_parser.proofs.PlacingANode.{node_parts, placed, parts_below, postorder}
 
--- these parts wait, behind those of the stack
+-- these parts wait, after those of the stack
 pub record IsOn (c : Context) (ps : List NodeId) : Type 0 where
   pub trees : Holds c.nodes (stack_parts c.stack ++ ps)
   pub bottomed : IsBottomed c.stack
@@ -154,7 +154,7 @@ reduced_keeps k [] ns t h = h
 reduced_keeps k (i ∷ st) ns t h =
     reduced_at k ns i st t (ended k i t) (ended_parts k i t) (λ n g. reduced_keeps k st (ns ++ n ∷ []) (record { 0 = length ns }) g) h
 
--- Behind an operand
+-- After an operand
 
 shifted : (b : Bool) (op : Infix) (at : Place) (c : Context) (t : NodeId) → IsOn c (t ∷ []) → IfSome (if b then None else wait (item.Left at op t) c) IsGoodState
 shifted true op at c t g = tt

@@ -44,7 +44,7 @@ pub record Laid : Type 0 where
   pub list : List Node
   pub count : ℕ
 
--- a tree's nodes behind them
+-- a tree's nodes after them
 abbrev pub lay_tree : Tree → Laid → Laid
 lay_tree t l = record { list = l.list ++ nodes l.count t; count = l.count + tree_size t }
 
@@ -378,15 +378,15 @@ branches_roots (Also before (On v arrow body semi)) l rest =
 
 -- Forms that end
 
--- a node behind three lists
+-- a node after three lists
 pub regroup : (a b c : List Node) (n : Node) → (a ++ b ++ c) ++ n ∷ [] ≡ a ++ (b ++ c ++ n ∷ [])
 regroup a b c n = simp append_assoc
 
--- a node behind four lists
+-- a node after four lists
 pub regroup_four : (a b c d : List Node) (n : Node) → (a ++ b ++ c ++ d) ++ n ∷ [] ≡ a ++ (b ++ c ++ d ++ n ∷ [])
 regroup_four a b c d n = simp append_assoc
 
--- a dispatch stands behind its receiver and its arguments
+-- a dispatch stands after its receiver and its arguments
 pub dispatch_list : (callee : Callee) (lparen : Place) (args : Args) (rparen : Place) (l : Laid)
     → (args_laid args (callee_laid callee l)).list ++ machine.dispatch (call_of callee l) (args_numbers args (callee_laid callee l)) ∷ [] ≡ (lay (Dispatch callee lparen args rparen) l).list
 dispatch_list (OfSelf name at) lparen args rparen l =
@@ -402,7 +402,7 @@ dispatch_list (OfClass t mark class dot name at) lparen args rparen l =
     (λ i. args_list args r i ++ node.StaticDispatch at (number t l) class name (args_roots args r i) ∷ [])
     ∙ regroup l.list (nodes l.count (plain t)) (nodes_of_all r.count (plain_args args)) (node.StaticDispatch at (number t l) class name (roots r.count (plain_args args)))
 
--- a block stands behind its items
+-- a block stands after its items
 pub block_list : (lbrace : Place) (firsts : Parts) (last : Concrete) (semi rbrace : Place) (l : Laid)
     → (lay last (parts_laid firsts l)).list ++ node.Block lbrace (parts_numbers firsts l ++ number last (parts_laid firsts l) ∷ []) ∷ [] ≡ (lay (Block lbrace firsts last semi rbrace) l).list
 block_list lbrace firsts last semi rbrace l =
@@ -410,7 +410,7 @@ block_list lbrace firsts last semi rbrace l =
     (λ i. last_list firsts last l i ++ node.Block lbrace (parts_roots firsts l (More (plain last) Last) i) ∷ [])
     ∙ append_assoc l.list (nodes_of_all l.count ts) (node.Block lbrace (roots l.count ts) ∷ [])
 
--- a case stands behind its value and its branches
+-- a case stands after its value and its branches
 pub case_list : (c : OpenCase) (b : Branch) (esac : Place) (l : Laid)
     → (case_laid (with_branch c b) l).list ++ node.Case c.at (number c.value l) (branch_nodes (Also c.firsts b) (lay c.value l)) ∷ [] ≡ (lay (Case c.at c.value c.of c.firsts b esac) l).list
 case_list c b esac l =

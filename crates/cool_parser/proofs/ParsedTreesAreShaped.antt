@@ -27,9 +27,9 @@ use Rattle.cool_parser.proofs.ReadingConcreteTrees.{Fits}
 two : (a b c : List Token) (t : Token) → a ++ (b ++ (c ++ t ∷ [])) ≡ ((a ++ b) ++ c) ++ t ∷ []
 two a b c t = simp append_assoc
 
--- behind two tokens
-behind_two : (a : List Token) (s t : Token) (b c : List Token) (u : Token) → a ++ s ∷ t ∷ (b ++ (c ++ u ∷ [])) ≡ (a ++ s ∷ t ∷ (b ++ c)) ++ u ∷ []
-behind_two a s t b c u = simp append_assoc
+-- after two tokens
+after_two : (a : List Token) (s t : Token) (b c : List Token) (u : Token) → a ++ s ∷ t ∷ (b ++ (c ++ u ∷ [])) ≡ (a ++ s ∷ t ∷ (b ++ c)) ++ u ∷ []
+after_two a s t b c u = simp append_assoc
 
 -- the end of a branch
 branch_words : (a s b t c d u e v : List Token) → a ++ (s ++ (b ++ (t ++ (c ++ ((d ++ (u ++ e)) ++ v))))) ≡ ((a ++ ((s ++ (b ++ (t ++ c))) ++ (d ++ u))) ++ e) ++ v
@@ -316,7 +316,7 @@ receiver_fits t (Left m p here ∷ st) r s = receiver_begins (level p) t r s
 receiver_fits t (Front p ∷ st) r s = receiver_begins (prefix_level p) t r s
 receiver_fits t (Open form ∷ st) r s = tt
 
--- what holds where the operators behind a receiver have ended
+-- what holds where the operators after a receiver have ended
 have_top : (k : ℕ) (a : Around) (st : List Item) (t : Concrete) → IsReceiver t → IsShaped t → IsGood a st → IsGoodTop k a (reduce k st t)
 have_top k a st t r s g = reduce_good k a st t g s (receiver_fits t st r s) (receiver_ends k t r)
 
@@ -369,7 +369,7 @@ shift_goes : (op : Operator) (at : Place) (a : Around) (top : Top) → IsGoodTop
 shift_goes (Compare op) at a top g = compare_goes op at a top.stack top.operand g.good g.shaped g.fits g.spine g.stops
 shift_goes (Arith op) at a top g = shifted (Arith op) at a top.stack top.operand g.spine g.shaped g.fits g.stops g.good
 
--- an operator comes behind a receiver
+-- an operator comes after a receiver
 operator_goes : (op : Operator) (at : Place) (a : Around) (st : List Item) (t : Concrete) → IsReceiver t → IsShaped t → IsGood a st
     → Goes (stack_words a st ++ reading t) (symbol (operator_sign op) at) (shift op at a (reduce (left_level op) st t))
 operator_goes op at a st t r s g =
@@ -409,7 +409,7 @@ stack_goes k at a (Open f ∷ st) t g s = close_goes f k at a st t g.0 g.1 s
 stack_goes k at a (Left l op here ∷ st) t g s = tt
 stack_goes k at a (Front p ∷ st) t g s = tt
 
--- a token that is no operator comes behind a receiver
+-- a token that is no operator comes after a receiver
 closer_goes : (k : TokenKind) (at : Place) (a : Around) (st : List Item) (t : Concrete) → IsReceiver t → IsShaped t → IsGood a st
     → Goes (stack_words a st ++ reading t) (record { kind = k; at = at }) (close k at a (reduce 0 st t))
 closer_goes k at a st t r s g =
@@ -417,7 +417,7 @@ closer_goes k at a st t r s g =
     let good = have_top 0 a st t r s g in
     goes_from (top_words a top) (stack_words a st ++ reading t) (record { kind = k; at = at }) (close k at a top) (reduce_words 0 a st t) (stack_goes k at a top.stack top.operand good.good good.shaped)
 
--- a token comes behind a receiver
+-- a token comes after a receiver
 have_goes : (a : Around) (st : List Item) (t : Concrete) (k : TokenKind) (at : Place) → IsReceiver t → IsShaped t → IsGood a st
     → Goes (stack_words a st ++ reading t) (record { kind = k; at = at }) (have a st t k at)
 have_goes a st t (kind.Sign sign.Dot) at r s g = (((r, s), g), sym (append_assoc (stack_words a st) (reading t) (symbol sign.Dot at ∷ [])))
@@ -450,33 +450,33 @@ need_goes a st (kind.Sign sign.LParen) at g = ((tt, (tt, g)), refl)
 need_goes a st (kind.Sign sign.LBrace) at g = ((tt, (tt, g)), refl)
 need_goes a st _ at g = tt
 
--- a token comes behind an identifier
+-- a token comes after an identifier
 identifier_goes : (a : Around) (st : List Item) (name : List ℕ) (here : Place) (k : TokenKind) (at : Place) → IsGood a st
     → Goes (stack_words a st ++ object name here ∷ []) (record { kind = k; at = at }) (identifier a st name here k at)
 identifier_goes a st name here (kind.Sign sign.Arrow) at g = ((tt, (tt, g)), sym (append_assoc (stack_words a st) (object name here ∷ []) (symbol sign.Arrow at ∷ [])))
 identifier_goes a st name here (kind.Sign sign.LParen) at g = ((tt, g), sym (append_assoc (stack_words a st) (object name here ∷ []) (symbol sign.LParen at ∷ [])))
 identifier_goes a st name here k at g = have_goes a st (Name name here) k at tt tt g
 
--- a token comes behind the parenthesis of arguments
+-- a token comes after the parenthesis of arguments
 first_goes : (a : Around) (st : List Item) (callee : Callee) (lparen : Place) (k : TokenKind) (at : Place) → IsShapedCallee callee → IsGood a st
     → Goes (stack_words a st ++ (callee_reading callee ++ symbol sign.LParen lparen ∷ [])) (record { kind = k; at = at }) (first_argument a st callee lparen k at)
 first_goes a st callee lparen (kind.Sign sign.RParen) at h g = (((tt, (h, tt)), g), simp append_assoc)
 first_goes a st callee lparen k at h g = need_goes a (Open (Arguments callee lparen NoPart) ∷ st) k at ((h, tt), g)
 
--- a token comes behind a semicolon of a block
+-- a token comes after a semicolon of a block
 next_goes : (a : Around) (st : List Item) (lbrace : Place) (firsts : Parts) (last : Concrete) (semi : Place) (k : TokenKind) (at : Place) → AreShapedParts firsts → IsShaped last → IsGood a st
     → Goes (said (Inside a st (NextItem lbrace firsts last semi))) (record { kind = k; at = at }) (next_item a st lbrace firsts last semi k at)
 next_goes a st lbrace firsts last semi (kind.Sign sign.RBrace) at h s g = (((tt, (h, s)), g), simp append_assoc)
 next_goes a st lbrace firsts last semi k at h s g = need_goes a (Open (Items lbrace (Then firsts last semi)) ∷ st) k at ((h, s), g)
 
--- a token comes behind a branch
+-- a token comes after a branch
 branch_goes : (a : Around) (st : List Item) (c : OpenCase) (b : Branch) (k : TokenKind) (at : Place) → IsGoodCase c → IsShapedBranch b → IsGood a st
     → Goes (said (Inside a st (NextBranch c b))) (record { kind = k; at = at }) (next_branch a st c b k at)
 branch_goes a st c b (kind.Key key.Esac) at h s g = (((tt, (h.0, h.1, s)), g), simp append_assoc)
 branch_goes a st c b (kind.ObjectId name) at h s g = (((h.0, (h.1, s)), g), simp append_assoc)
 branch_goes a st c b _ at h s g = tt
 
--- a token comes behind a variable of a let
+-- a token comes after a variable of a let
 let_goes : (a : Around) (st : List Item) (here : Place) (firsts : Bindings) (v : Variable) (k : TokenKind) (at : Place) → AreShapedBindings firsts → IsGood a st
     → Goes (said (Inside a st (LetEnd here firsts v))) (record { kind = k; at = at }) (let_end a st here firsts v k at)
 let_goes a st here firsts v (kind.Sign sign.Arrow) at h g = ((tt, (h, g)), simp append_assoc)
@@ -519,7 +519,7 @@ inside_goes a st (NextBranch c b) k at h g = branch_goes a st c b k at h.0 h.1 g
 inside_goes a st (NewType here) (kind.TypeId name) at h g = (((tt, tt), g), simp append_assoc)
 inside_goes a st _ _ at h g = tt
 
--- a token comes behind the name of a class
+-- a token comes after the name of a class
 head_goes : (cs : Classes) (mark : Place) (name : List ℕ) (here : Place) (k : TokenKind) (at : Place) → IsShapedFile cs
     → Goes (said (ClassHead cs mark name here)) (record { kind = k; at = at }) (class_head cs mark name here k at)
 head_goes cs mark name here (kind.Key key.Inherits) at g = (g, sym (append_assoc (file_reading cs) (word key.Class mark ∷ type (record { name = name; at = here }) ∷ []) (word key.Inherits at ∷ [])))
@@ -532,26 +532,26 @@ class_goes o (kind.ObjectId name) at g = (g, refl)
 class_goes o (kind.Sign sign.RBrace) at g = (g, refl)
 class_goes o _ at g = tt
 
--- a token comes behind the name of a feature
+-- a token comes after the name of a feature
 feature_goes : (o : Opened) (name : List ℕ) (here : Place) (k : TokenKind) (at : Place) → IsGoodOpened o → Goes (said (FeatureName o name here)) (record { kind = k; at = at }) (feature_name o name here k at)
 feature_goes o name here (kind.Sign sign.LParen) at g = (g, sym (append_assoc (opened_words o) (object name here ∷ []) (symbol sign.LParen at ∷ [])))
 feature_goes o name here (kind.Sign sign.Colon) at g = (g, sym (append_assoc (opened_words o) (object name here ∷ []) (symbol sign.Colon at ∷ [])))
 feature_goes o name here _ at g = tt
 
--- a token comes behind the parenthesis of formals
+-- a token comes after the parenthesis of formals
 formal_goes : (o : Opened) (name : List ℕ) (here lparen : Place) (k : TokenKind) (at : Place) → IsGoodOpened o
     → Goes (said (FirstFormal o name here lparen)) (record { kind = k; at = at }) (first_formal o name here lparen k at)
 formal_goes o name here lparen (kind.Sign sign.RParen) at g = (g, sym (append_assoc (opened_words o) (object name here ∷ symbol sign.LParen lparen ∷ []) (symbol sign.RParen at ∷ [])))
 formal_goes o name here lparen (kind.ObjectId formal) at g = (g, sym (append_assoc (opened_words o) (object name here ∷ symbol sign.LParen lparen ∷ []) (object formal at ∷ [])))
 formal_goes o name here lparen _ at g = tt
 
--- a token comes behind a formal
+-- a token comes after a formal
 formals_goes : (m : OpenMethod) (v : Variable) (k : TokenKind) (at : Place) → IsGoodOpened m.class → Goes (said (FormalEnd m v)) (record { kind = k; at = at }) (formal_end m v k at)
 formals_goes m v (kind.Sign sign.RParen) at g = (g, sym (append_assoc (opened_words m.class) (object m.name m.at ∷ symbol sign.LParen m.lparen ∷ (first_formals_reading m.firsts ++ variable_reading v)) (symbol sign.RParen at ∷ [])))
 formals_goes m v (kind.Sign sign.Comma) at g = (g, sym (append_assoc (opened_words m.class) (object m.name m.at ∷ symbol sign.LParen m.lparen ∷ (first_formals_reading m.firsts ++ variable_reading v)) (symbol sign.Comma at ∷ [])))
 formals_goes m v _ at g = tt
 
--- a token comes behind the type of an attribute
+-- a token comes after the type of an attribute
 attribute_goes : (o : Opened) (v : Variable) (k : TokenKind) (at : Place) → IsGoodOpened o → Goes (said (AttributeEnd o v)) (record { kind = k; at = at }) (attribute_end o v k at)
 attribute_goes o v (kind.Sign sign.Arrow) at g = ((tt, g), sym (append_assoc (opened_words o) (variable_reading v) (symbol sign.Arrow at ∷ [])))
 attribute_goes o v (kind.Sign sign.Semi) at g = ((g.0, (g.1, tt)), in_class_words (file_reading o.classes) (heading_reading o.heading) (features_reading o.features) (variable_reading v) (symbol sign.Semi at ∷ []))
@@ -574,16 +574,16 @@ step_goes (FirstFormal o name here lparen) k at g = formal_goes o name here lpar
 step_goes (FormalName m) (kind.ObjectId name) at g =
     (g, sym (append_assoc (opened_words m.class) (object m.name m.at ∷ symbol sign.LParen m.lparen ∷ first_formals_reading m.firsts) (object name at ∷ [])))
 step_goes (FormalColon m name here) (kind.Sign sign.Colon) at g =
-    (g, behind_two (opened_words m.class) (object m.name m.at) (symbol sign.LParen m.lparen) (first_formals_reading m.firsts) (object name here ∷ []) (symbol sign.Colon at))
+    (g, after_two (opened_words m.class) (object m.name m.at) (symbol sign.LParen m.lparen) (first_formals_reading m.firsts) (object name here ∷ []) (symbol sign.Colon at))
 step_goes (FormalType m name here colon) (kind.TypeId class) at g =
-    (g, behind_two (opened_words m.class) (object m.name m.at) (symbol sign.LParen m.lparen) (first_formals_reading m.firsts) (object name here ∷ symbol sign.Colon colon ∷ []) (type (record { name = class; at = at })))
+    (g, after_two (opened_words m.class) (object m.name m.at) (symbol sign.LParen m.lparen) (first_formals_reading m.firsts) (object name here ∷ symbol sign.Colon colon ∷ []) (type (record { name = class; at = at })))
 step_goes (FormalEnd m v) k at g = formals_goes m v k at g
 step_goes (ResultColon m) (kind.Sign sign.Colon) at g =
-    (g, behind_two (opened_words m.class) (object m.name m.at) (symbol sign.LParen m.lparen) (formals_reading m.formals) (symbol sign.RParen m.rparen ∷ []) (symbol sign.Colon at))
+    (g, after_two (opened_words m.class) (object m.name m.at) (symbol sign.LParen m.lparen) (formals_reading m.formals) (symbol sign.RParen m.rparen ∷ []) (symbol sign.Colon at))
 step_goes (ResultType m colon) (kind.TypeId name) at g =
-    (g, behind_two (opened_words m.class) (object m.name m.at) (symbol sign.LParen m.lparen) (formals_reading m.formals) (symbol sign.RParen m.rparen ∷ symbol sign.Colon colon ∷ []) (type (record { name = name; at = at })))
+    (g, after_two (opened_words m.class) (object m.name m.at) (symbol sign.LParen m.lparen) (formals_reading m.formals) (symbol sign.RParen m.rparen ∷ symbol sign.Colon colon ∷ []) (type (record { name = name; at = at })))
 step_goes (MethodBrace m colon result) (kind.Sign sign.LBrace) at g =
-    ((tt, g), behind_two (opened_words m.class) (object m.name m.at) (symbol sign.LParen m.lparen) (formals_reading m.formals) (symbol sign.RParen m.rparen ∷ symbol sign.Colon colon ∷ type result ∷ []) (symbol sign.LBrace at))
+    ((tt, g), after_two (opened_words m.class) (object m.name m.at) (symbol sign.LParen m.lparen) (formals_reading m.formals) (symbol sign.RParen m.rparen ∷ symbol sign.Colon colon ∷ type result ∷ []) (symbol sign.LBrace at))
 step_goes (MethodEnd o s body rbrace) (kind.Sign sign.Semi) at g =
     ((g.0.0, (g.0.1, g.1)), method_end_words (file_reading o.classes) (heading_reading o.heading) (features_reading o.features) (signature_reading s) (reading body) (symbol sign.RBrace rbrace) (symbol sign.Semi at))
 step_goes (AttributeType o name here colon) (kind.TypeId class) at g =

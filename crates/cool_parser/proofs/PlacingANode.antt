@@ -186,7 +186,7 @@ made (node.Int at value) base vs e = made_none (node.Int at value) base vs (tree
 made (node.Str at bytes) base vs e = made_none (node.Str at bytes) base vs (trees.Str at bytes) refl refl e
 made (node.Bool at value) base vs e = made_none (node.Bool at value) base vs (trees.Bool at value) refl refl e
 
--- the parts of the node are the last that wait; behind it, its number waits in their place
+-- the parts of the node are the last that wait; after it, its number waits in their place
 pub placed : (ns : List Node) (ids : List NodeId) (n : Node) → Holds ns (ids ++ node_parts n) → Holds (ns ++ n ∷ []) (ids ++ record { 0 = length ns } ∷ [])
 placed ns ids n (ts, list, whole) =
     let c = cut ids (node_parts n) 0 ts whole in
@@ -231,9 +231,9 @@ roots_below : (ts : Trees) (base k : ℕ) → base + trees_size ts ≤ k → Are
 roots_below Last base k h = tt
 roots_below (More t ts) base k h = (omega (arith, h, size_positive t), roots_below ts (base + tree_size t) k (omega (arith, h)))
 
-behind : (ids ps : List NodeId) (k : ℕ) → AreBelow k (ids ++ ps) → AreBelow k ps
-behind [] ps k h = h
-behind (i ∷ ids) ps k h = behind ids ps k h.1
+after : (ids ps : List NodeId) (k : ℕ) → AreBelow k (ids ++ ps) → AreBelow k ps
+after [] ps k h = h
+after (i ∷ ids) ps k h = after ids ps k h.1
 
 bodies_below : (bs : List NodeBranch) (k : ℕ) → AreBelow k (map (λ b. b.body) bs) → AllByRecursion (λ b. b.body.0 < k) bs
 bodies_below [] k h = tt
@@ -264,7 +264,7 @@ node_below (node.Bool at value) k h = tt
 pub parts_below : (ns : List Node) (ids : List NodeId) (n : Node) → Holds ns (ids ++ node_parts n) → HasPartsBelow (length ns) n
 parts_below ns ids n (ts, list, whole) =
     node_below n (length ns)
-    (behind ids (node_parts n) (length ns)
+    (after ids (node_parts n) (length ns)
     (subst (AreBelow (length ns)) (sym whole) (roots_below ts 0 (length ns) (omega (arith, ap length list ∙ length-nodes_of_all ts 0)))))
 
 -- where one root waits alone, the nodes are the list of its tree

@@ -46,7 +46,7 @@ method_end = a_sign sign.LBrace ∷ a_name ∷ a_sign sign.RBrace ∷ a_sign sig
 abbrev result_end : List Token
 result_end = a_sign sign.Colon ∷ a_type ∷ method_end
 
--- what is missing of a form behind its expression
+-- what is missing of a form after its expression
 abbrev form_closers : Form → List Token
 form_closers (Parenthesis lparen) = a_sign sign.RParen ∷ []
 form_closers (Arguments callee lparen firsts) = a_sign sign.RParen ∷ []
@@ -167,7 +167,7 @@ closes_all (Open f ∷ st) a t s c = form_ends f a st t s (closes_all st a) c
 ends : (a : Around) (st : List Item) (t : Concrete) → Ends (Inside a st (Have t)) (closers a st)
 ends a st t = closes_all st a t (Inside a st (Have t)) (have_closes a st t)
 
--- the same behind an identifier
+-- the same after an identifier
 named : (a : Around) (st : List Item) (name : List ℕ) (here : Place) → Ends (Inside a st (Identifier name here)) (closers a st)
 named a st name here = closes_all st a (Name name here) (Inside a st (Identifier name here)) (name_closes a st name here)
 

@@ -18,12 +18,12 @@ use Rattle.cool_parser.proofs.ConcreteMachine.{Opened, OpenMethod, Around, InMet
 use Rattle.cool_parser.proofs.ConcreteMachine.{Need, Identifier, Have, MethodName, StaticClass, FirstArgument, NextItem, LetName, BranchName, BranchColon, NextBranch, State, File, InClass, FirstFormal, FormalColon, Inside}
 use Rattle.cool_parser.proofs.ConcreteMachine.{reduce, shift, have, identifier, need, close, with_feature, step, run, bind, start}
 
--- the state behind a tree: the forms on its right spine are still open
-abbrev pub behind : Around → List Item → Concrete → State
-behind a st (Name name at) = Inside a st (Identifier name at)
-behind a st (Binary l op at r) = behind a (Left l op at ∷ st) r
-behind a st (Before p e) = behind a (Front p ∷ st) e
-behind a st t = Inside a st (Have t)
+-- the state after a tree: the forms on its right spine are still open
+abbrev pub state_after : Around → List Item → Concrete → State
+state_after a st (Name name at) = Inside a st (Identifier name at)
+state_after a st (Binary l op at r) = state_after a (Left l op at ∷ st) r
+state_after a st (Before p e) = state_after a (Front p ∷ st) e
+state_after a st t = Inside a st (Have t)
 
 -- the tree may stand as an operand on this stack
 abbrev pub Fits : List Item → Concrete → Type 0
@@ -40,7 +40,7 @@ reduce_left k st l op at t h = ap (λ b. cond b (reduce k st (Binary l op at t))
 pub reduce_front : (k : ℕ) (st : List Item) (p : Prefix) (t : Concrete) → k ≤ prefix_level p → reduce k (Front p ∷ st) t ≡ reduce k st (Before p t)
 reduce_front k st p t h = ap (λ b. cond b (reduce k st (Before p t)) (record { stack = Front p ∷ st; operand = t })) (le-leb k (prefix_level p) h)
 
--- behind an operand an operator ends those of its own left level and above
+-- after an operand an operator ends those of its own left level and above
 have_operator : (op : Operator) (at : Place) (a : Around) (st : List Item) (t : Concrete) → have a st t (kind.Sign (operator_sign op)) at ≡ shift op at a (reduce (left_level op) st t)
 have_operator (Arith arith_op.Add) at a st t = refl
 have_operator (Arith arith_op.Sub) at a st t = refl
@@ -50,7 +50,7 @@ have_operator (Compare compare_op.Less) at a st t = refl
 have_operator (Compare compare_op.LessEqual) at a st t = refl
 have_operator (Compare compare_op.Equal) at a st t = refl
 
--- and so it does behind an identifier
+-- and so it does after an identifier
 identifier_operator : (op : Operator) (at : Place) (a : Around) (st : List Item) (name : List ℕ) (here : Place)
     → identifier a st name here (kind.Sign (operator_sign op)) at ≡ shift op at a (reduce (left_level op) st (Name name here))
 identifier_operator (Arith arith_op.Add) at a st name here = refl
@@ -61,9 +61,9 @@ identifier_operator (Compare compare_op.Less) at a st name here = refl
 identifier_operator (Compare compare_op.LessEqual) at a st name here = refl
 identifier_operator (Compare compare_op.Equal) at a st name here = refl
 
--- an operator behind a tree ends the forms on its right spine
+-- an operator after a tree ends the forms on its right spine
 operator_step : (op : Operator) (at : Place) (t : Concrete) (a : Around) (st : List Item) → EndsAtLeast (left_level op) t
-    → step (behind a st t) (kind.Sign (operator_sign op)) at ≡ shift op at a (reduce (left_level op) st t)
+    → step (state_after a st t) (kind.Sign (operator_sign op)) at ≡ shift op at a (reduce (left_level op) st t)
 operator_step op at (Name name here) a st h = identifier_operator op at a st name here
 operator_step op at (Binary l p here r) a st h =
     operator_step op at r a (Left l p here ∷ st) h.1 ∙ ap (shift op at a) (reduce_left (left_level op) st l p here r h.0)
@@ -85,7 +85,7 @@ IsCloser (kind.Key key.Of) = Unit {0}
 IsCloser (kind.Key key.In) = Unit {0}
 IsCloser _ = ⊥
 
--- behind an operand such a token ends all operators
+-- after an operand such a token ends all operators
 pub have_closer : (k : TokenKind) (at : Place) (a : Around) (st : List Item) (t : Concrete) → IsCloser k → have a st t k at ≡ close k at a (reduce 0 st t)
 have_closer (kind.Sign sign.RParen) at a st t h = refl
 have_closer (kind.Sign sign.Comma) at a st t h = refl
@@ -100,7 +100,7 @@ have_closer (kind.Key key.Of) at a st t h = refl
 have_closer (kind.Key key.In) at a st t h = refl
 have_closer _ at a st t h = absurd h
 
--- and so it does behind an identifier
+-- and so it does after an identifier
 pub identifier_closer : (k : TokenKind) (at : Place) (a : Around) (st : List Item) (name : List ℕ) (here : Place) → IsCloser k
     → identifier a st name here k at ≡ close k at a (reduce 0 st (Name name here))
 identifier_closer (kind.Sign sign.RParen) at a st name here h = refl
@@ -117,25 +117,25 @@ identifier_closer (kind.Key key.In) at a st name here h = refl
 identifier_closer _ at a st name here h = absurd h
 
 -- a token that ends an operand ends all operators on a tree's right spine
-closer : (k : TokenKind) (at : Place) (t : Concrete) (a : Around) (st : List Item) → IsCloser k → step (behind a st t) k at ≡ close k at a (reduce 0 st t)
+closer : (k : TokenKind) (at : Place) (t : Concrete) (a : Around) (st : List Item) → IsCloser k → step (state_after a st t) k at ≡ close k at a (reduce 0 st t)
 closer k at (Name name here) a st h = identifier_closer k at a st name here h
 closer k at (Binary l op here r) a st h = closer k at r a (Left l op here ∷ st) h ∙ ap (close k at a) (reduce_left 0 st l op here r (omega arith))
 closer k at (Before p e) a st h = closer k at e a (Front p ∷ st) h ∙ ap (close k at a) (reduce_front 0 st p e (omega arith))
 closer k at t a st h = have_closer k at a st t h
 
 -- a dot and an at sign take a receiver as it is
-dot_step : (t : Concrete) (at : Place) (a : Around) (st : List Item) → IsReceiver t → step (behind a st t) (kind.Sign sign.Dot) at ≡ Some (Inside a st (MethodName (Dot t at)))
+dot_step : (t : Concrete) (at : Place) (a : Around) (st : List Item) → IsReceiver t → step (state_after a st t) (kind.Sign sign.Dot) at ≡ Some (Inside a st (MethodName (Dot t at)))
 dot_step (Binary l op here r) at a st h = absurd h
 dot_step (Before p e) at a st h = absurd h
 dot_step t at a st h = refl
 
 -- the same before a type
-at_step : (t : Concrete) (at : Place) (a : Around) (st : List Item) → IsReceiver t → step (behind a st t) (kind.Sign sign.At) at ≡ Some (Inside a st (StaticClass t at))
+at_step : (t : Concrete) (at : Place) (a : Around) (st : List Item) → IsReceiver t → step (state_after a st t) (kind.Sign sign.At) at ≡ Some (Inside a st (StaticClass t at))
 at_step (Binary l op here r) at a st h = absurd h
 at_step (Before p e) at a st h = absurd h
 at_step t at a st h = refl
 
--- a run goes on behind a token that may come
+-- a run goes on after a token that may come
 pub run_step : (s next : State) (t : Token) (ts : List Token) → step s t.kind t.at ≡ Some next → run s (t ∷ ts) ≡ run next ts
 run_step s next t ts e = ap (λ o. bind o (λ n. run n ts)) e
 
@@ -199,7 +199,7 @@ record BeginsOperand (ts : List Token) : Type 0 where
   parenthesis : is_right_parenthesis first.kind ≡ false
   brace : is_right_brace first.kind ≡ false
 
--- so do these tokens with more behind them
+-- so do these tokens with more after them
 begins_more : (ts us : List Token) → BeginsOperand ts → BeginsOperand (ts ++ us)
 begins_more ts us b = record { first = b.first; rest = b.rest ++ us; same = ap (λ vs. vs ++ us) b.same; parenthesis = b.parenthesis; brace = b.brace }
 
@@ -309,14 +309,14 @@ four a b c d e = simp append_assoc
 
 -- where an operand is due, the machine reads a shaped tree that fits
 mutual
-  pub reads : (t : Concrete) (a : Around) (st : List Item) (ws : List Token) → IsShaped t → Fits st t → run (Inside a st Need) (reading t ++ ws) ≡ run (behind a st t) ws
+  pub reads : (t : Concrete) (a : Around) (st : List Item) (ws : List Token) → IsShaped t → Fits st t → run (Inside a st Need) (reading t ++ ws) ≡ run (state_after a st t) ws
   reads (Name name at) a st ws s f = refl
   reads (Literal value at) a st ws s f = reads_literal value at a st ws
   reads (New at class) a st ws s f = refl
   reads (Paren lparen e rparen) a st ws s f =
       ap (run (Inside a (Open (Parenthesis lparen) ∷ st) Need)) (append_assoc (reading e) _ ws)
       ∙ reads e a (Open (Parenthesis lparen) ∷ st) _ s tt
-      ∙ run_step (behind a (Open (Parenthesis lparen) ∷ st) e) (Inside a st (Have (Paren lparen e rparen))) (symbol sign.RParen rparen) ws (closer (kind.Sign sign.RParen) rparen e a (Open (Parenthesis lparen) ∷ st) tt)
+      ∙ run_step (state_after a (Open (Parenthesis lparen) ∷ st) e) (Inside a st (Have (Paren lparen e rparen))) (symbol sign.RParen rparen) ws (closer (kind.Sign sign.RParen) rparen e a (Open (Parenthesis lparen) ∷ st) tt)
   reads (Dispatch callee lparen args rparen) a st ws s f =
       let grouped : (callee_reading callee ++ symbol sign.LParen lparen ∷ args_reading args ++ symbol sign.RParen rparen ∷ []) ++ ws
       ≡ callee_reading callee ++ symbol sign.LParen lparen ∷ (args_reading args ++ symbol sign.RParen rparen ∷ ws) = simp append_assoc in
@@ -333,11 +333,11 @@ mutual
       let three = Open (IfNo at test then_at met else_at) ∷ st in
       ap (run (Inside a one Need)) grouped
       ∙ reads test a one after_test s.0 tt
-      ∙ run_step (behind a one test) (Inside a two Need) (word key.Then then_at) (reading met ++ after_met) (closer (kind.Key key.Then) then_at test a one tt)
+      ∙ run_step (state_after a one test) (Inside a two Need) (word key.Then then_at) (reading met ++ after_met) (closer (kind.Key key.Then) then_at test a one tt)
       ∙ reads met a two after_met s.1 tt
-      ∙ run_step (behind a two met) (Inside a three Need) (word key.Else else_at) (reading unmet ++ after_unmet) (closer (kind.Key key.Else) else_at met a two tt)
+      ∙ run_step (state_after a two met) (Inside a three Need) (word key.Else else_at) (reading unmet ++ after_unmet) (closer (kind.Key key.Else) else_at met a two tt)
       ∙ reads unmet a three after_unmet s.2 tt
-      ∙ run_step (behind a three unmet) (Inside a st (Have (If at test then_at met else_at unmet fi))) (word key.Fi fi) ws (closer (kind.Key key.Fi) fi unmet a three tt)
+      ∙ run_step (state_after a three unmet) (Inside a st (Have (If at test then_at met else_at unmet fi))) (word key.Fi fi) ws (closer (kind.Key key.Fi) fi unmet a three tt)
   reads (While at test loop body pool) a st ws s f =
       let after_body = word key.Pool pool ∷ ws in
       let after_test = word key.Loop loop ∷ (reading body ++ after_body) in
@@ -346,9 +346,9 @@ mutual
       let two = Open (WhileBody at test loop) ∷ st in
       ap (run (Inside a one Need)) grouped
       ∙ reads test a one after_test s.0 tt
-      ∙ run_step (behind a one test) (Inside a two Need) (word key.Loop loop) (reading body ++ after_body) (closer (kind.Key key.Loop) loop test a one tt)
+      ∙ run_step (state_after a one test) (Inside a two Need) (word key.Loop loop) (reading body ++ after_body) (closer (kind.Key key.Loop) loop test a one tt)
       ∙ reads body a two after_body s.1 tt
-      ∙ run_step (behind a two body) (Inside a st (Have (While at test loop body pool))) (word key.Pool pool) ws (closer (kind.Key key.Pool) pool body a two tt)
+      ∙ run_step (state_after a two body) (Inside a st (Have (While at test loop body pool))) (word key.Pool pool) ws (closer (kind.Key key.Pool) pool body a two tt)
   reads (Block lbrace firsts last semi rbrace) a st ws s f =
       let after = symbol sign.Semi semi ∷ symbol sign.RBrace rbrace ∷ ws in
       let grouped : (parts_reading sign.Semi firsts ++ reading last ++ symbol sign.Semi semi ∷ symbol sign.RBrace rbrace ∷ []) ++ ws ≡ parts_reading sign.Semi firsts ++ (reading last ++ after) = simp append_assoc in
@@ -356,7 +356,7 @@ mutual
       ap (run (Inside a (Open (Items lbrace NoPart) ∷ st) Need)) grouped
       ∙ reads_items firsts lbrace a st (reading last ++ after) s.0 (begins_more (reading last) after (begins last))
       ∙ reads last a here after s.1 tt
-      ∙ run_step (behind a here last) (Inside a st (NextItem lbrace firsts last semi)) (symbol sign.Semi semi) (symbol sign.RBrace rbrace ∷ ws) (closer (kind.Sign sign.Semi) semi last a here tt)
+      ∙ run_step (state_after a here last) (Inside a st (NextItem lbrace firsts last semi)) (symbol sign.Semi semi) (symbol sign.RBrace rbrace ∷ ws) (closer (kind.Sign sign.Semi) semi last a here tt)
   reads (Case at value of firsts (On v arrow body semi) esac) a st ws s f =
       let after_body = symbol sign.Semi semi ∷ word key.Esac esac ∷ ws in
       let rest = symbol sign.Colon v.colon ∷ type v.declared ∷ symbol sign.FatArrow arrow ∷ (reading body ++ after_body) in
@@ -368,14 +368,14 @@ mutual
       let two = Open (BranchBody c v arrow) ∷ st in
       ap (run (Inside a one Need)) grouped
       ∙ reads value a one (word key.Of of ∷ branches) s.0 tt
-      ∙ run_step (behind a one value) (Inside a st (BranchName (case_with c NoBranch))) (word key.Of of) branches (closer (kind.Key key.Of) of value a one tt)
+      ∙ run_step (state_after a one value) (Inside a st (BranchName (case_with c NoBranch))) (word key.Of of) branches (closer (kind.Key key.Of) of value a one tt)
       ∙ reads_branches firsts c a st v.name v.at rest s.1
       ∙ reads body a two after_body s.2 tt
-      ∙ run_step (behind a two body) (Inside a st (NextBranch c (On v arrow body semi))) (symbol sign.Semi semi) (word key.Esac esac ∷ ws) (closer (kind.Sign sign.Semi) semi body a two tt)
+      ∙ run_step (state_after a two body) (Inside a st (NextBranch c (On v arrow body semi))) (symbol sign.Semi semi) (word key.Esac esac ∷ ws) (closer (kind.Sign sign.Semi) semi body a two tt)
   reads (Binary l op at r) a st ws s f =
       ap (run (Inside a st Need)) (append_assoc (reading l) _ ws)
       ∙ reads l a st _ s.2 (fits_left l r op at st f)
-      ∙ run_step (behind a st l) (Inside a (Left l op at ∷ st) Need) (symbol (operator_sign op) at) _ (operator_step op at l a st s.0 ∙ shift_fits op at l r a st f)
+      ∙ run_step (state_after a st l) (Inside a (Left l op at ∷ st) Need) (symbol (operator_sign op) at) _ (operator_step op at l a st s.0 ∙ shift_fits op at l r a st f)
       ∙ reads r a (Left l op at ∷ st) ws s.3 s.1
   reads (Before p e) a st ws s f =
       ap (run (Inside a st Need)) (append_assoc (prefix_reading p) (reading e) ws)
@@ -389,12 +389,12 @@ mutual
       let rest = object name at ∷ symbol sign.LParen lparen ∷ ws in
       ap (run (Inside a st Need)) (append_assoc (reading t) (symbol sign.Dot dot ∷ object name at ∷ []) (symbol sign.LParen lparen ∷ ws))
       ∙ reads t a st (symbol sign.Dot dot ∷ rest) s.1 f
-      ∙ run_step (behind a st t) (Inside a st (MethodName (Dot t dot))) (symbol sign.Dot dot) rest (dot_step t dot a st s.0)
+      ∙ run_step (state_after a st t) (Inside a st (MethodName (Dot t dot))) (symbol sign.Dot dot) rest (dot_step t dot a st s.0)
   reads_callee (OfClass t mark class dot name at) lparen a st ws s f =
       let rest = type class ∷ symbol sign.Dot dot ∷ object name at ∷ symbol sign.LParen lparen ∷ ws in
       ap (run (Inside a st Need)) (append_assoc (reading t) (symbol sign.At mark ∷ type class ∷ symbol sign.Dot dot ∷ object name at ∷ []) (symbol sign.LParen lparen ∷ ws))
       ∙ reads t a st (symbol sign.At mark ∷ rest) s.1 f
-      ∙ run_step (behind a st t) (Inside a st (StaticClass t mark)) (symbol sign.At mark) rest (at_step t mark a st s.0)
+      ∙ run_step (state_after a st t) (Inside a st (StaticClass t mark)) (symbol sign.At mark) rest (at_step t mark a st s.0)
 
   reads_args : (args : Args) (callee : Callee) (lparen rparen : Place) (a : Around) (st : List Item) (ws : List Token) → AreShapedArgs args
       → run (Inside a st (FirstArgument callee lparen)) (args_reading args ++ symbol sign.RParen rparen ∷ ws) ≡ run (Inside a st (Have (Dispatch callee lparen args rparen))) ws
@@ -406,7 +406,7 @@ mutual
       ∙ ap (run (Inside a (Open (Arguments callee lparen NoPart) ∷ st) Need)) (append_assoc (parts_reading sign.Comma firsts) (reading last) after)
       ∙ reads_arguments firsts callee lparen a st (reading last ++ after) s.0
       ∙ reads last a here after s.1 tt
-      ∙ run_step (behind a here last) (Inside a st (Have (Dispatch callee lparen (Given firsts last) rparen))) (symbol sign.RParen rparen) ws (closer (kind.Sign sign.RParen) rparen last a here tt)
+      ∙ run_step (state_after a here last) (Inside a st (Have (Dispatch callee lparen (Given firsts last) rparen))) (symbol sign.RParen rparen) ws (closer (kind.Sign sign.RParen) rparen last a here tt)
 
   reads_arguments : (firsts : Parts) (callee : Callee) (lparen : Place) (a : Around) (st : List Item) (ws : List Token) → AreShapedParts firsts
       → run (Inside a (Open (Arguments callee lparen NoPart) ∷ st) Need) (parts_reading sign.Comma firsts ++ ws) ≡ run (Inside a (Open (Arguments callee lparen firsts) ∷ st) Need) ws
@@ -417,7 +417,7 @@ mutual
       ap (run (Inside a (Open (Arguments callee lparen NoPart) ∷ st) Need)) grouped
       ∙ reads_arguments before callee lparen a st (reading e ++ symbol sign.Comma comma ∷ ws) s.0
       ∙ reads e a here (symbol sign.Comma comma ∷ ws) s.1 tt
-      ∙ run_step (behind a here e) (Inside a (Open (Arguments callee lparen (Then before e comma)) ∷ st) Need) (symbol sign.Comma comma) ws (closer (kind.Sign sign.Comma) comma e a here tt)
+      ∙ run_step (state_after a here e) (Inside a (Open (Arguments callee lparen (Then before e comma)) ∷ st) Need) (symbol sign.Comma comma) ws (closer (kind.Sign sign.Comma) comma e a here tt)
 
   reads_items : (firsts : Parts) (lbrace : Place) (a : Around) (st : List Item) (ws : List Token) → AreShapedParts firsts → BeginsOperand ws
       → run (Inside a (Open (Items lbrace NoPart) ∷ st) Need) (parts_reading sign.Semi firsts ++ ws) ≡ run (Inside a (Open (Items lbrace firsts) ∷ st) Need) ws
@@ -429,7 +429,7 @@ mutual
       ap (run (Inside a (Open (Items lbrace NoPart) ∷ st) Need)) grouped
       ∙ reads_items before lbrace a st (reading e ++ after) s.0 (begins_more (reading e) after (begins e))
       ∙ reads e a here after s.1 tt
-      ∙ run_step (behind a here e) (Inside a st (NextItem lbrace before e semi)) (symbol sign.Semi semi) ws (closer (kind.Sign sign.Semi) semi e a here tt)
+      ∙ run_step (state_after a here e) (Inside a st (NextItem lbrace before e semi)) (symbol sign.Semi semi) ws (closer (kind.Sign sign.Semi) semi e a here tt)
       ∙ next_need a st lbrace before e semi ws b
 
   reads_branches : (firsts : Branches) (c : OpenCase) (a : Around) (st : List Item) (name : List ℕ) (at : Place) (ws : List Token) → AreShapedBranches firsts
@@ -444,7 +444,7 @@ mutual
       ap (run (Inside a st (BranchName (case_with c NoBranch)))) grouped
       ∙ reads_branches before c a st v.name v.at rest s.0
       ∙ reads body a here after s.1 tt
-      ∙ run_step (behind a here body) (Inside a st (NextBranch (case_with c before) (On v arrow body semi))) (symbol sign.Semi semi) (object name at ∷ ws) (closer (kind.Sign sign.Semi) semi body a here tt)
+      ∙ run_step (state_after a here body) (Inside a st (NextBranch (case_with c before) (On v arrow body semi))) (symbol sign.Semi semi) (object name at ∷ ws) (closer (kind.Sign sign.Semi) semi body a here tt)
 
   reads_prefix : (p : Prefix) (a : Around) (st : List Item) (ws : List Token) → IsShapedPrefix p → run (Inside a st Need) (prefix_reading p ++ ws) ≡ run (Inside a (Front p ∷ st) Need) ws
   reads_prefix (Let at firsts last within) a st ws s =
@@ -470,7 +470,7 @@ mutual
   reads_first_binding (Init v arrow e) at before comma a st ws s =
       let here = Open (Value at before v arrow) ∷ st in
       reads e a here (symbol sign.Comma comma ∷ ws) s tt
-      ∙ run_step (behind a here e) (Inside a st (LetName at (Next before (Init v arrow e) comma))) (symbol sign.Comma comma) ws (closer (kind.Sign sign.Comma) comma e a here tt)
+      ∙ run_step (state_after a here e) (Inside a st (LetName at (Next before (Init v arrow e) comma))) (symbol sign.Comma comma) ws (closer (kind.Sign sign.Comma) comma e a here tt)
 
   reads_last_binding : (binding : Binding) (at : Place) (before : Bindings) (within : Place) (a : Around) (st : List Item) (ws : List Token) → IsShapedBinding binding
       → run (Inside a st (LetName at before)) (binding_reading binding ++ word key.In within ∷ ws) ≡ run (Inside a (Front (Let at before binding within) ∷ st) Need) ws
@@ -478,7 +478,7 @@ mutual
   reads_last_binding (Init v arrow e) at before within a st ws s =
       let here = Open (Value at before v arrow) ∷ st in
       reads e a here (word key.In within ∷ ws) s tt
-      ∙ run_step (behind a here e) (Inside a (Front (Let at before (Init v arrow e) within) ∷ st) Need) (word key.In within) ws (closer (kind.Key key.In) within e a here tt)
+      ∙ run_step (state_after a here e) (Inside a (Front (Let at before (Init v arrow e) within) ∷ st) Need) (word key.In within) ws (closer (kind.Key key.In) within e a here tt)
 
 -- Classes and features
 
@@ -514,13 +514,13 @@ reads_feature (Method s body rbrace semi) o ws h =
     ap (run (InClass o)) grouped
     ∙ reads_signature s s.formals o (reading body ++ after)
     ∙ reads body a [] after h tt
-    ∙ run_step (behind a [] body) _ (symbol sign.RBrace rbrace) (symbol sign.Semi semi ∷ ws) (closer (kind.Sign sign.RBrace) rbrace body a [] tt)
+    ∙ run_step (state_after a [] body) _ (symbol sign.RBrace rbrace) (symbol sign.Semi semi ∷ ws) (closer (kind.Sign sign.RBrace) rbrace body a [] tt)
 reads_feature (Attribute v semi) o ws h = refl
 reads_feature (Initialized v arrow e semi) o ws h =
     let a = InAttribute o v arrow in
     ap (run (Inside a [] Need)) (append_assoc (reading e) (symbol sign.Semi semi ∷ []) ws)
     ∙ reads e a [] (symbol sign.Semi semi ∷ ws) h tt
-    ∙ run_step (behind a [] e) (InClass (with_feature o (Initialized v arrow e semi))) (symbol sign.Semi semi) ws (closer (kind.Sign sign.Semi) semi e a [] tt)
+    ∙ run_step (state_after a [] e) (InClass (with_feature o (Initialized v arrow e semi))) (symbol sign.Semi semi) ws (closer (kind.Sign sign.Semi) semi e a [] tt)
 
 -- features in order
 reads_features : (fs : Features) (o : Opened) (ws : List Token) → AreShapedFeatures fs → run (InClass (class_with o NoFeature)) (features_reading fs ++ ws) ≡ run (InClass (class_with o fs)) ws

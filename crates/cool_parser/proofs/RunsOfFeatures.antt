@@ -13,7 +13,7 @@ use Rattle.cool_syntax.specs.declared.node.NodeId.{NodeId}
 use Rattle.cool_syntax.specs.declared.node.NodeBranch.{NodeBranch}
 use Rattle.cool_syntax.specs.declared.node.Node.{Node}
 use Rattle.cool_syntax.specs.declared.node.Node.TheVariants as node
-use Rattle.cool_syntax.specs.LexicalStructure.{depth_behind, ends_run}
+use Rattle.cool_syntax.specs.LexicalStructure.{depth_after, ends_run}
 use Rattle.cool_parser.specs.declared.operator.Infix.{Infix}
 use Rattle.cool_parser.specs.declared.operator.Infix.TheVariants as between
 use Rattle.cool_parser.specs.declared.operator.Prefix.{Prefix}
@@ -137,9 +137,9 @@ is_between mode.File = true
 is_between (mode.Features class) = true
 is_between _ = false
 
--- what this token leaves, behind this depth and this total
+-- what this token leaves, after this depth and this total
 pub record Fits (k : TokenKind) (d n : ℕ) (s : State) : Type 0 where
-  pub depth : depth s.context s.mode ≡ depth_behind k d
+  pub depth : depth s.context s.mode ≡ depth_after k d
   pub total : total s.context s.mode ≤ n + 1
   pub between : ends_run k d ≡ true → is_between s.mode ≡ true
 
@@ -152,7 +152,7 @@ is_plain (kind.Key key.Case) = false
 is_plain (kind.Key key.Esac) = false
 is_plain _ = true
 
-plain_depth : (k : TokenKind) (d : ℕ) → is_plain k ≡ true → depth_behind k d ≡ d
+plain_depth : (k : TokenKind) (d : ℕ) → is_plain k ≡ true → depth_after k d ≡ d
 plain_depth (kind.Sign sign.LBrace) d p = absurd (cc)
 plain_depth (kind.Sign sign.RBrace) d p = absurd (cc)
 plain_depth (kind.Key key.Case) d p = absurd (cc)
@@ -177,10 +177,10 @@ not_zero d l h = absurd (omega (arith, l, eqb-true d 0 h))
 not_one : {A : Type 0} (d : ℕ) → 2 ≤ d → (d == 1) ≡ true → A
 not_one d l h = absurd (omega (arith, l, eqb-true d 1 h))
 
--- the same behind another wording of the depth, and a higher total
+-- the same after another wording of the depth, and a higher total
 within : (o : Option State) (k : TokenKind) (d e n m : ℕ) → d ≡ e → n ≤ m → IfSome o (Fits k d n) → IfSome o (Fits k e m)
 within None k d e n m p l h = tt
-within (Some s) k d e n m p l h = record { depth = h.depth ∙ ap (depth_behind k) p; total = omega (arith, h.total, l); between = λ b. h.between (ap (ends_run k) p ∙ b) }
+within (Some s) k d e n m p l h = record { depth = h.depth ∙ ap (depth_after k) p; total = omega (arith, h.total, l); between = λ b. h.between (ap (ends_run k) p ∙ b) }
 
 -- Operators that end
 
@@ -225,7 +225,7 @@ pub reduced_same : (k : ℕ) (st : List Item) (ns : List Node) (t : NodeId) → 
 reduced_same k [] ns t = (refl, refl)
 reduced_same k (i ∷ st) ns t = reduced_at k ns i st t (ended k i t) (ended_one k i t) (λ n. reduced_same k st (ns ++ n ∷ []) (record { 0 = length ns }))
 
--- Behind an operand
+-- After an operand
 
 dispatch_to_weight : (o : Option TypeRef) (call : Call) (args : List NodeId) → node_weight (dispatch_to o call args) ≡ 1
 dispatch_to_weight None call args = refl

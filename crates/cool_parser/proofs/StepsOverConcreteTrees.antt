@@ -35,7 +35,7 @@ left_shown : (op : Operator) → levels.left_level (between_of op) ≡ left_leve
 left_shown (Arith op) = level_shown (Arith op)
 left_shown (Compare op) = refl
 
--- Behind an operand
+-- After an operand
 
 -- a prefix form is no comparison
 front_compares : (p : Prefix) (l : Laid) (st : List Item) → machine.compares (prefix_items p l st) ≡ false
@@ -75,7 +75,7 @@ shift_shown (Compare op) at a c top e =
     ap (λ cs. machine.shift_on (between.Compare op) at (record c { classes = cs }) (top_shown a top)) e
     ∙ unless_shown (machine.compares (items a top.stack)) (concrete.compares top.stack) (Inside a (Left top.operand (Compare op) at ∷ top.stack) Need) (compares_shown a top.stack)
 
--- an operator comes behind an operand
+-- an operator comes after an operand
 operator_shown : (op : Operator) (at : Place) (a : Around) (st : List concrete.Item) (t : Concrete)
     → machine.shift_on (between_of op) at (context a (lay t (laid st)) (items a st)) (machine.reduce (levels.left_level (between_of op)) (context a (lay t (laid st)) (items a st)) (number t (laid st)))
     ≡ option_map shown (concrete.shift op at a (reduce (left_level op) st t))
@@ -155,15 +155,15 @@ top_closes k at a (Left l op here ∷ st) t above = refl
 top_closes k at a (Front p ∷ st) t above = front_closes p k (laid st) (items a st) (over a (lay t (laid (Front p ∷ st))) above) (number t (laid (Front p ∷ st)))
 top_closes k at a (Open f ∷ st) t above = form_closes f k at a st t above
 
--- a token that is no operator comes behind an operand
+-- a token that is no operator comes after an operand
 close_shown : (k : TokenKind) (at : Place) (a : Around) (st : List concrete.Item) (t : Concrete)
-    → machine.close_behind k (context a (lay t (laid st)) (items a st)) (machine.reduce 0 (context a (lay t (laid st)) (items a st)) (number t (laid st))) ≡ option_map shown (concrete.close k at a (reduce 0 st t))
+    → machine.close_after k (context a (lay t (laid st)) (items a st)) (machine.reduce 0 (context a (lay t (laid st)) (items a st)) (number t (laid st))) ≡ option_map shown (concrete.close k at a (reduce 0 st t))
 close_shown k at a st t =
     let c = context a (lay t (laid st)) (items a st) in
     let top = reduce 0 st t in
-    ap (machine.close_behind k c) (reduced_shown 0 a st t) ∙ top_closes k at a top.stack top.operand (items a top.stack)
+    ap (machine.close_after k c) (reduced_shown 0 a st t) ∙ top_closes k at a top.stack top.operand (items a top.stack)
 
--- a token comes behind an operand
+-- a token comes after an operand
 have_shown : (a : Around) (st : List concrete.Item) (t : Concrete) (k : TokenKind) (at : Place)
     → machine.have (context a (lay t (laid st)) (items a st)) (number t (laid st)) k at ≡ option_map shown (concrete.have a st t k at)
 have_shown a st t (kind.Sign sign.Dot) at = refl
@@ -202,7 +202,7 @@ need_shown a st _ at = refl
 next_number : (name : List ℕ) (at : Place) (st : List concrete.Item) → length (laid st).list ≡ (laid st).count + 1 - 1
 next_number name at st = omega (arith, laid_counted st)
 
--- a token comes behind an identifier
+-- a token comes after an identifier
 identifier_shown : (a : Around) (st : List concrete.Item) (name : List ℕ) (here : Place) (k : TokenKind) (at : Place)
     → machine.identifier (context a (laid st) (items a st)) name here k at ≡ option_map shown (concrete.identifier a st name here k at)
 identifier_shown a st name here (kind.Sign sign.Arrow) at = refl
@@ -213,21 +213,21 @@ identifier_shown a st name here k at =
     let c = context a (lay (Name name here) (laid st)) (items a st) in
     ap (λ n. machine.have c (record { 0 = n }) k at) (next_number name here st) ∙ have_shown a st (Name name here) k at
 
--- a token comes behind the parenthesis of arguments
+-- a token comes after the parenthesis of arguments
 first_shown : (a : Around) (st : List concrete.Item) (callee : Callee) (lparen : Place) (k : TokenKind) (at : Place)
     → machine.first_argument (context a (callee_laid callee (laid st)) (items a st)) (call_of callee (laid st)) k at ≡ option_map shown (concrete.first_argument a st callee lparen k at)
 first_shown a st callee lparen (kind.Sign sign.RParen) at =
     operand_shown a st (Dispatch callee lparen NoArgs at) (callee_laid callee (laid st)).list (machine.dispatch (call_of callee (laid st)) []) (dispatch_list callee lparen NoArgs at (laid st))
 first_shown a st callee lparen k at = need_shown a (Open (Arguments callee lparen NoPart) ∷ st) k at
 
--- a token comes behind a semicolon of a block
+-- a token comes after a semicolon of a block
 next_shown : (a : Around) (st : List concrete.Item) (lbrace : Place) (firsts : Parts) (last : Concrete) (semi : Place) (k : TokenKind) (at : Place)
     → machine.next_item (context a (parts_laid (Then firsts last semi) (laid st)) (items a st)) lbrace (parts_numbers (Then firsts last semi) (laid st)) k at ≡ option_map shown (concrete.next_item a st lbrace firsts last semi k at)
 next_shown a st lbrace firsts last semi (kind.Sign sign.RBrace) at =
     operand_shown a st (Block lbrace firsts last semi at) (parts_laid (Then firsts last semi) (laid st)).list (node.Block lbrace (parts_numbers (Then firsts last semi) (laid st))) (block_list lbrace firsts last semi at (laid st))
 next_shown a st lbrace firsts last semi k at = need_shown a (Open (Items lbrace (Then firsts last semi)) ∷ st) k at
 
--- a token comes behind a branch
+-- a token comes after a branch
 branch_shown : (a : Around) (st : List concrete.Item) (c : OpenCase) (b : Branch) (k : TokenKind) (at : Place)
     → machine.next_branch (context a (case_laid (with_branch c b) (laid st)) (items a st)) (open_case (with_branch c b) (laid st)) k at ≡ option_map shown (concrete.next_branch a st c b k at)
 branch_shown a st c b (kind.Key key.Esac) at =
@@ -235,7 +235,7 @@ branch_shown a st c b (kind.Key key.Esac) at =
 branch_shown a st c b (kind.ObjectId name) at = refl
 branch_shown a st c b _ at = refl
 
--- a token comes behind a variable of a let
+-- a token comes after a variable of a let
 let_shown : (a : Around) (st : List concrete.Item) (here : Place) (firsts : Bindings) (v : Variable) (k : TokenKind) (at : Place)
     → machine.let_end (context a (bindings_laid firsts (laid st)) (bindings_items firsts (laid st) (items a st))) (variable v) k at ≡ option_map shown (concrete.let_end a st here firsts v k at)
 let_shown a st here firsts v (kind.Sign sign.Arrow) at = refl

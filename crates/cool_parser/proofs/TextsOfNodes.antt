@@ -29,43 +29,43 @@ texts-placed : (ns : List Node) (n : Node) → texts (ns ++ n ∷ []) ≡ texts 
 texts-placed ns n = omega (arith, texts-append ns (n ∷ []))
 
 -- the list of one part, and then a node with no string
-behind_one : (a : List Node) (n : Node) (x : ℕ) → node_text n ≡ 0 → texts a ≡ x → texts (a ++ n ∷ []) ≡ x
-behind_one a n x w e = omega (arith, w, e, texts-placed a n)
+after_one : (a : List Node) (n : Node) (x : ℕ) → node_text n ≡ 0 → texts a ≡ x → texts (a ++ n ∷ []) ≡ x
+after_one a n x w e = omega (arith, w, e, texts-placed a n)
 
 -- the lists of two parts
-behind_two : (a b : List Node) (n : Node) (x y : ℕ) → node_text n ≡ 0 → texts a ≡ x → texts b ≡ y → texts (a ++ b ++ n ∷ []) ≡ x + y
-behind_two a b n x y w e f = omega (arith, w, e, f, texts-placed (a ++ b) n, texts-append a b)
+after_two : (a b : List Node) (n : Node) (x y : ℕ) → node_text n ≡ 0 → texts a ≡ x → texts b ≡ y → texts (a ++ b ++ n ∷ []) ≡ x + y
+after_two a b n x y w e f = omega (arith, w, e, f, texts-placed (a ++ b) n, texts-append a b)
 
 -- the lists of three parts
-behind_three : (a b c : List Node) (n : Node) (x y z : ℕ) → node_text n ≡ 0 → texts a ≡ x → texts b ≡ y → texts c ≡ z → texts (a ++ b ++ c ++ n ∷ []) ≡ x + y + z
-behind_three a b c n x y z w e f g = omega (arith, w, e, f, g, texts-placed (a ++ b ++ c) n, texts-append (a ++ b) c, texts-append a b)
+after_three : (a b c : List Node) (n : Node) (x y z : ℕ) → node_text n ≡ 0 → texts a ≡ x → texts b ≡ y → texts c ≡ z → texts (a ++ b ++ c ++ n ∷ []) ≡ x + y + z
+after_three a b c n x y z w e f g = omega (arith, w, e, f, g, texts-placed (a ++ b ++ c) n, texts-append (a ++ b) c, texts-append a b)
 
 mutual
   -- the list of a tree has its bytes
   texts-nodes : (t : Tree) (base : ℕ) → texts (nodes base t) ≡ text_in t
-  texts-nodes (trees.Assign at name a) base = behind_one (nodes base a) (node.Assign at name (root base a)) _ refl (texts-nodes a base)
+  texts-nodes (trees.Assign at name a) base = after_one (nodes base a) (node.Assign at name (root base a)) _ refl (texts-nodes a base)
   texts-nodes (trees.Dispatch at a name ts) base =
-      behind_two (nodes base a) (nodes_of_all (base + tree_size a) ts) (node.Dispatch at (root base a) name (roots (base + tree_size a) ts)) _ _ refl (texts-nodes a base) (texts-nodes_of_all ts (base + tree_size a))
+      after_two (nodes base a) (nodes_of_all (base + tree_size a) ts) (node.Dispatch at (root base a) name (roots (base + tree_size a) ts)) _ _ refl (texts-nodes a base) (texts-nodes_of_all ts (base + tree_size a))
   texts-nodes (trees.StaticDispatch at a class name ts) base =
-      behind_two (nodes base a) (nodes_of_all (base + tree_size a) ts) (node.StaticDispatch at (root base a) class name (roots (base + tree_size a) ts)) _ _ refl (texts-nodes a base) (texts-nodes_of_all ts (base + tree_size a))
+      after_two (nodes base a) (nodes_of_all (base + tree_size a) ts) (node.StaticDispatch at (root base a) class name (roots (base + tree_size a) ts)) _ _ refl (texts-nodes a base) (texts-nodes_of_all ts (base + tree_size a))
   texts-nodes (trees.If at a b c) base =
-      behind_three (nodes base a) (nodes (base + tree_size a) b) (nodes (base + tree_size a + tree_size b) c) (node.If at (root base a) (root (base + tree_size a) b) (root (base + tree_size a + tree_size b) c)) _ _ _ refl
+      after_three (nodes base a) (nodes (base + tree_size a) b) (nodes (base + tree_size a + tree_size b) c) (node.If at (root base a) (root (base + tree_size a) b) (root (base + tree_size a + tree_size b) c)) _ _ _ refl
       (texts-nodes a base) (texts-nodes b (base + tree_size a)) (texts-nodes c (base + tree_size a + tree_size b))
   texts-nodes (trees.While at a b) base =
-      behind_two (nodes base a) (nodes (base + tree_size a) b) (node.While at (root base a) (root (base + tree_size a) b)) _ _ refl (texts-nodes a base) (texts-nodes b (base + tree_size a))
-  texts-nodes (trees.Block at ts) base = behind_one (nodes_of_all base ts) (node.Block at (roots base ts)) _ refl (texts-nodes_of_all ts base)
+      after_two (nodes base a) (nodes (base + tree_size a) b) (node.While at (root base a) (root (base + tree_size a) b)) _ _ refl (texts-nodes a base) (texts-nodes b (base + tree_size a))
+  texts-nodes (trees.Block at ts) base = after_one (nodes_of_all base ts) (node.Block at (roots base ts)) _ refl (texts-nodes_of_all ts base)
   texts-nodes (trees.Let at name declared o a) base =
-      behind_two (nodes_of_maybe base o) (nodes (base + maybe_size o) a) (node.Let at name declared (root_of_maybe base o) (root (base + maybe_size o) a)) _ _ refl (texts-nodes_of_maybe o base) (texts-nodes a (base + maybe_size o))
+      after_two (nodes_of_maybe base o) (nodes (base + maybe_size o) a) (node.Let at name declared (root_of_maybe base o) (root (base + maybe_size o) a)) _ _ refl (texts-nodes_of_maybe o base) (texts-nodes a (base + maybe_size o))
   texts-nodes (trees.Case at a cs) base =
-      behind_two (nodes base a) (nodes_of_cases (base + tree_size a) cs) (node.Case at (root base a) (branch_roots (base + tree_size a) cs)) _ _ refl (texts-nodes a base) (texts-nodes_of_cases cs (base + tree_size a))
+      after_two (nodes base a) (nodes_of_cases (base + tree_size a) cs) (node.Case at (root base a) (branch_roots (base + tree_size a) cs)) _ _ refl (texts-nodes a base) (texts-nodes_of_cases cs (base + tree_size a))
   texts-nodes (trees.New at class) base = refl
-  texts-nodes (trees.IsVoid at a) base = behind_one (nodes base a) (node.IsVoid at (root base a)) _ refl (texts-nodes a base)
+  texts-nodes (trees.IsVoid at a) base = after_one (nodes base a) (node.IsVoid at (root base a)) _ refl (texts-nodes a base)
   texts-nodes (trees.Arith at op a b) base =
-      behind_two (nodes base a) (nodes (base + tree_size a) b) (node.Arith at op (root base a) (root (base + tree_size a) b)) _ _ refl (texts-nodes a base) (texts-nodes b (base + tree_size a))
-  texts-nodes (trees.Neg at a) base = behind_one (nodes base a) (node.Neg at (root base a)) _ refl (texts-nodes a base)
+      after_two (nodes base a) (nodes (base + tree_size a) b) (node.Arith at op (root base a) (root (base + tree_size a) b)) _ _ refl (texts-nodes a base) (texts-nodes b (base + tree_size a))
+  texts-nodes (trees.Neg at a) base = after_one (nodes base a) (node.Neg at (root base a)) _ refl (texts-nodes a base)
   texts-nodes (trees.Compare at op a b) base =
-      behind_two (nodes base a) (nodes (base + tree_size a) b) (node.Compare at op (root base a) (root (base + tree_size a) b)) _ _ refl (texts-nodes a base) (texts-nodes b (base + tree_size a))
-  texts-nodes (trees.Not at a) base = behind_one (nodes base a) (node.Not at (root base a)) _ refl (texts-nodes a base)
+      after_two (nodes base a) (nodes (base + tree_size a) b) (node.Compare at op (root base a) (root (base + tree_size a) b)) _ _ refl (texts-nodes a base) (texts-nodes b (base + tree_size a))
+  texts-nodes (trees.Not at a) base = after_one (nodes base a) (node.Not at (root base a)) _ refl (texts-nodes a base)
   texts-nodes (trees.Id at name) base = refl
   texts-nodes (trees.Int at value) base = refl
   texts-nodes (trees.Str at bytes) base = omega arith

@@ -178,7 +178,7 @@ reduced_held : (k : ℕ) (st : List Item) (ns : List Node) (t : NodeId) → burd
 reduced_held k [] ns t = refl
 reduced_held k (i ∷ st) ns t = reduced_at k ns i st t (ended k i t) (ended_burden k i t) (λ n. reduced_held k st (ns ++ n ∷ []) (record { 0 = length ns }))
 
--- Behind an operand
+-- After an operand
 
 -- a call with its class, or without
 dispatch_to_burden : (o : Option TypeRef) (call : Call) (args : List NodeId) → node_burden (dispatch_to o call args) ≡ 1
@@ -245,7 +245,7 @@ operator_held None c t k at p g =
     let r = reduce 0 c t in
     raise (close k r.stack (after c r) r.operand) (classes_weight c.classes + burden r.nodes + stack_holds r.stack + weight k) _ (omega (arith, reduced_held 0 c.stack c.nodes t)) (close_held k r.stack (after c r) r.operand (reduce_good 0 c t g))
 
--- behind an operand
+-- after an operand
 have_held : (c : Context) (t : NodeId) (k : TokenKind) (at : Place) → IsGood c (mode.Have t) → IfSome (have c t k at) (IsHeld (held c (mode.Have t) + weight k))
 have_held c t (kind.Sign sign.Dot) at g = omega arith
 have_held c t (kind.Sign sign.At) at g = omega arith
@@ -334,7 +334,7 @@ variable_type_held : (c : Context) (p : Purpose) (name : List ℕ) (here : Place
 variable_type_held c p name here (kind.TypeId spelling) at = declared_held c p (record { name = name; at = here; declared = record { name = spelling; at = at } }) _ (omega arith)
 variable_type_held c p name here _ at = tt
 
--- behind a variable of a let
+-- after a variable of a let
 let_end_held : (c : Context) (v : Variable) (k : TokenKind) (at : Place) → IfSome (let_end c v k at) (IsHeld (held c (mode.LetEnd v) + weight k))
 let_end_held c v (kind.Sign sign.Arrow) at = omega arith
 let_end_held c v (kind.Sign sign.Comma) at = omega arith
@@ -343,7 +343,7 @@ let_end_held c v _ at = tt
 
 -- Classes and features
 
--- behind the name of a class
+-- after the name of a class
 class_head_held : (c : Context) (name : List ℕ) (here : Place) (k : TokenKind) (at : Place) → IfSome (class_head c name here k at) (IsHeld (held c (mode.ClassHead name here) + weight k))
 class_head_held c name here (kind.Key key.Inherits) at = omega arith
 class_head_held c name here (kind.Sign sign.LBrace) at = omega arith
@@ -360,7 +360,7 @@ features_held c class (kind.ObjectId name) at = omega arith
 features_held c class (kind.Sign sign.RBrace) at = omega arith
 features_held c class _ at = tt
 
--- behind the name of a feature
+-- after the name of a feature
 feature_name_held : (c : Context) (class : OpenClass) (name : List ℕ) (here : Place) (k : TokenKind) (at : Place)
     → IfSome (feature_name c class name here k at) (IsHeld (held c (mode.FeatureName class name here) + weight k))
 feature_name_held c class name here (kind.Sign sign.LParen) at = omega arith

@@ -25,31 +25,31 @@ pub weight-placed : (ns : List Node) (n : Node) → weight (ns ++ n ∷ []) ≡ 
 weight-placed ns n = omega (arith, weight-append ns (n ∷ []))
 
 -- the lists of one, of two and of three parts, and then a node that weighs one
-behind_one : (a : List Node) (n : Node) (x : ℕ) → node_weight n ≡ 1 → weight a ≡ x → weight (a ++ n ∷ []) ≡ x + 1
-behind_one a n x w e = omega (arith, w, e, weight-placed a n)
+after_one : (a : List Node) (n : Node) (x : ℕ) → node_weight n ≡ 1 → weight a ≡ x → weight (a ++ n ∷ []) ≡ x + 1
+after_one a n x w e = omega (arith, w, e, weight-placed a n)
 
-behind_two : (a b : List Node) (n : Node) (x y : ℕ) → node_weight n ≡ 1 → weight a ≡ x → weight b ≡ y → weight (a ++ b ++ n ∷ []) ≡ x + y + 1
-behind_two a b n x y w e f = omega (arith, w, e, f, weight-placed (a ++ b) n, weight-append a b)
+after_two : (a b : List Node) (n : Node) (x y : ℕ) → node_weight n ≡ 1 → weight a ≡ x → weight b ≡ y → weight (a ++ b ++ n ∷ []) ≡ x + y + 1
+after_two a b n x y w e f = omega (arith, w, e, f, weight-placed (a ++ b) n, weight-append a b)
 
-behind_three : (a b c : List Node) (n : Node) (x y z : ℕ) → node_weight n ≡ 1 → weight a ≡ x → weight b ≡ y → weight c ≡ z
+after_three : (a b c : List Node) (n : Node) (x y z : ℕ) → node_weight n ≡ 1 → weight a ≡ x → weight b ≡ y → weight c ≡ z
     → weight (a ++ b ++ c ++ n ∷ []) ≡ x + y + z + 1
-behind_three a b c n x y z w e f g = omega (arith, w, e, f, g, weight-placed (a ++ b ++ c) n, weight-append (a ++ b) c, weight-append a b)
+after_three a b c n x y z w e f g = omega (arith, w, e, f, g, weight-placed (a ++ b ++ c) n, weight-append (a ++ b) c, weight-append a b)
 
 mutual
   weight-nodes : (t : Tree) (base : ℕ) → weight (nodes base t) ≡ tree_size t + branches_in t
-  weight-nodes (trees.Assign at name a) base = behind_one (nodes base a) (node.Assign at name (root base a)) _ refl (weight-nodes a base) ∙ omega arith
+  weight-nodes (trees.Assign at name a) base = after_one (nodes base a) (node.Assign at name (root base a)) _ refl (weight-nodes a base) ∙ omega arith
   weight-nodes (trees.Dispatch at a name ts) base =
-      behind_two (nodes base a) (nodes_of_all (base + tree_size a) ts) (node.Dispatch at (root base a) name (roots (base + tree_size a) ts)) _ _ refl (weight-nodes a base) (weight-nodes_of_all ts (base + tree_size a)) ∙ omega arith
+      after_two (nodes base a) (nodes_of_all (base + tree_size a) ts) (node.Dispatch at (root base a) name (roots (base + tree_size a) ts)) _ _ refl (weight-nodes a base) (weight-nodes_of_all ts (base + tree_size a)) ∙ omega arith
   weight-nodes (trees.StaticDispatch at a class name ts) base =
-      behind_two (nodes base a) (nodes_of_all (base + tree_size a) ts) (node.StaticDispatch at (root base a) class name (roots (base + tree_size a) ts)) _ _ refl (weight-nodes a base) (weight-nodes_of_all ts (base + tree_size a)) ∙ omega arith
+      after_two (nodes base a) (nodes_of_all (base + tree_size a) ts) (node.StaticDispatch at (root base a) class name (roots (base + tree_size a) ts)) _ _ refl (weight-nodes a base) (weight-nodes_of_all ts (base + tree_size a)) ∙ omega arith
   weight-nodes (trees.If at a b c) base =
-      behind_three (nodes base a) (nodes (base + tree_size a) b) (nodes (base + tree_size a + tree_size b) c) (node.If at (root base a) (root (base + tree_size a) b) (root (base + tree_size a + tree_size b) c)) _ _ _ refl
+      after_three (nodes base a) (nodes (base + tree_size a) b) (nodes (base + tree_size a + tree_size b) c) (node.If at (root base a) (root (base + tree_size a) b) (root (base + tree_size a + tree_size b) c)) _ _ _ refl
       (weight-nodes a base) (weight-nodes b (base + tree_size a)) (weight-nodes c (base + tree_size a + tree_size b)) ∙ omega arith
   weight-nodes (trees.While at a b) base =
-      behind_two (nodes base a) (nodes (base + tree_size a) b) (node.While at (root base a) (root (base + tree_size a) b)) _ _ refl (weight-nodes a base) (weight-nodes b (base + tree_size a)) ∙ omega arith
-  weight-nodes (trees.Block at ts) base = behind_one (nodes_of_all base ts) (node.Block at (roots base ts)) _ refl (weight-nodes_of_all ts base) ∙ omega arith
+      after_two (nodes base a) (nodes (base + tree_size a) b) (node.While at (root base a) (root (base + tree_size a) b)) _ _ refl (weight-nodes a base) (weight-nodes b (base + tree_size a)) ∙ omega arith
+  weight-nodes (trees.Block at ts) base = after_one (nodes_of_all base ts) (node.Block at (roots base ts)) _ refl (weight-nodes_of_all ts base) ∙ omega arith
   weight-nodes (trees.Let at name declared o a) base =
-      behind_two (nodes_of_maybe base o) (nodes (base + maybe_size o) a) (node.Let at name declared (root_of_maybe base o) (root (base + maybe_size o) a)) _ _ refl (weight-nodes_of_maybe o base) (weight-nodes a (base + maybe_size o)) ∙ omega arith
+      after_two (nodes_of_maybe base o) (nodes (base + maybe_size o) a) (node.Let at name declared (root_of_maybe base o) (root (base + maybe_size o) a)) _ _ refl (weight-nodes_of_maybe o base) (weight-nodes a (base + maybe_size o)) ∙ omega arith
   weight-nodes (trees.Case at a cs) base =
       let n = node.Case at (root base a) (branch_roots (base + tree_size a) cs) in
       omega (
@@ -60,13 +60,13 @@ mutual
         weight-nodes_of_cases cs (base + tree_size a),
       )
   weight-nodes (trees.New at class) base = refl
-  weight-nodes (trees.IsVoid at a) base = behind_one (nodes base a) (node.IsVoid at (root base a)) _ refl (weight-nodes a base) ∙ omega arith
+  weight-nodes (trees.IsVoid at a) base = after_one (nodes base a) (node.IsVoid at (root base a)) _ refl (weight-nodes a base) ∙ omega arith
   weight-nodes (trees.Arith at op a b) base =
-      behind_two (nodes base a) (nodes (base + tree_size a) b) (node.Arith at op (root base a) (root (base + tree_size a) b)) _ _ refl (weight-nodes a base) (weight-nodes b (base + tree_size a)) ∙ omega arith
-  weight-nodes (trees.Neg at a) base = behind_one (nodes base a) (node.Neg at (root base a)) _ refl (weight-nodes a base) ∙ omega arith
+      after_two (nodes base a) (nodes (base + tree_size a) b) (node.Arith at op (root base a) (root (base + tree_size a) b)) _ _ refl (weight-nodes a base) (weight-nodes b (base + tree_size a)) ∙ omega arith
+  weight-nodes (trees.Neg at a) base = after_one (nodes base a) (node.Neg at (root base a)) _ refl (weight-nodes a base) ∙ omega arith
   weight-nodes (trees.Compare at op a b) base =
-      behind_two (nodes base a) (nodes (base + tree_size a) b) (node.Compare at op (root base a) (root (base + tree_size a) b)) _ _ refl (weight-nodes a base) (weight-nodes b (base + tree_size a)) ∙ omega arith
-  weight-nodes (trees.Not at a) base = behind_one (nodes base a) (node.Not at (root base a)) _ refl (weight-nodes a base) ∙ omega arith
+      after_two (nodes base a) (nodes (base + tree_size a) b) (node.Compare at op (root base a) (root (base + tree_size a) b)) _ _ refl (weight-nodes a base) (weight-nodes b (base + tree_size a)) ∙ omega arith
+  weight-nodes (trees.Not at a) base = after_one (nodes base a) (node.Not at (root base a)) _ refl (weight-nodes a base) ∙ omega arith
   weight-nodes (trees.Id at name) base = refl
   weight-nodes (trees.Int at value) base = refl
   weight-nodes (trees.Str at bytes) base = refl

@@ -1,6 +1,6 @@
 -- The parser as a function on lists: a machine that takes a token at a time. It keeps the nodes of the feature that it is in, a stack of
 -- what waits for an expression, the classes so far, and a mode: what it has just read. An operator on the stack ends where an operator
--- of a lower level, or a token that ends an operand, comes behind its operand (Cool manual, section 11).
+-- of a lower level, or a token that ends an operand, comes after its operand (Cool manual, section 11).
 use Rattle.std.specs.Prelude.{ℕ, Bool, true, false, nat_le, if◌then◌else◌, List, [], ◌∷◌, ◌++◌, length, codes, Option, Some, None}
 use Rattle.std.specs.Option.{is_some}
 use Rattle.cool_syntax.specs.declared.place.Place.{Place}
@@ -114,7 +114,7 @@ reduced k ns (i ∷ st) t =
 abbrev pub after : Context → Reduced → Context
 after c r = record c { nodes = r.nodes; stack = r.stack }
 
--- Behind an operand
+-- After an operand
 
 abbrev pub is_comparison : Infix → Bool
 is_comparison (between.Compare op) = true
@@ -190,12 +190,12 @@ reduce k c t = reduced k c.nodes c.stack t
 abbrev pub shift_on : Infix → Place → Context → Reduced → Option State
 shift_on op at c r = shift op at (after c r) r.operand
 
-abbrev pub close_behind : TokenKind → Context → Reduced → Option State
-close_behind k c r = close k r.stack (after c r) r.operand
+abbrev pub close_after : TokenKind → Context → Reduced → Option State
+close_after k c r = close k r.stack (after c r) r.operand
 
 abbrev pub operator_or_end : Option Infix → Context → NodeId → TokenKind → Place → Option State
 operator_or_end (Some op) c t k at = shift_on op at c (reduce (left_level op) c t)
-operator_or_end None c t k at = close_behind k c (reduce 0 c t)
+operator_or_end None c t k at = close_after k c (reduce 0 c t)
 
 -- an operand has been read: an atom or a dispatch
 abbrev pub have : Context → NodeId → TokenKind → Place → Option State
@@ -386,7 +386,7 @@ abbrev pub finish : Context → Mode → Place → Outcome
 finish c mode.File end = Whole c.classes
 finish c _ end = Unexpected end
 
--- the outcome behind a token at this place, by the state that it led to
+-- the outcome after a token at this place, by the state that it led to
 abbrev pub outcome : Place → Option State → List Token → Place → Outcome
 outcome at None ts end = Unexpected at
 outcome at (Some s) [] end = finish s.context s.mode end

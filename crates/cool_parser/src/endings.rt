@@ -83,7 +83,7 @@ impl Parser {
     fn close(&mut self, kind: &TokenKind, operand: NodeId) -> Next
         requires good { Good self.old (mode.Have operand) }
         requires few { length self.old.nodes + length self.old.stack < 2 ^ 32 - 2 }
-        ensures same { IfOk result (λ m. moved self.new m ≡ machine.close_behind kind.now self.old (machine.reduce 0 self.old operand)) }
+        ensures same { IfOk result (λ m. moved self.new m ≡ machine.close_after kind.now self.old (machine.reduce 0 self.old operand)) }
     {
         let operand = self.reduce(0, operand)?;
         match self.stack.pop() {

@@ -1,4 +1,4 @@
-//! Open forms: each with the token that goes on with it behind an operand, or ends it.
+//! Open forms: each with the token that goes on with it after an operand, or ends it.
 
 ghost use Rattle.std.specs.Prelude.{◌≡◌, ◌-◌, ◌<◌, ◌^◌, length, IfOk};
 ghost use Rattle.cool_parser.specs.declared.item.Item.TheVariants as item;

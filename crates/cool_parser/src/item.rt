@@ -51,7 +51,7 @@ pub(crate) struct OpenCase {
 }
 
 /// A form that waits for an expression. The first four are operators: they end where an operator of a lower level, or a
-/// token that ends an operand, comes behind their own. The others end by a token of their own.
+/// token that ends an operand, comes after their own. The others end by a token of their own.
 #[derive(Debug, Drop)]
 pub(crate) enum Item {
     /// `left op ..`

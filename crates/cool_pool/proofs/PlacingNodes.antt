@@ -1,4 +1,4 @@
--- A node placed after its parts keeps each node behind its parts.
+-- A node placed after its parts keeps each node after its parts.
 use Rattle.std.proofs.Common.{◌≡◌, ◌<◌, List, [], ◌∷◌, ◌++◌, length, sym, ap, subst, length-append, arith}
 use Rattle.cool_syntax.specs.declared.node.Node.{Node}
 use Rattle.cool_syntax.specs.NodeLists.{HasPartsBelow, Ordered}

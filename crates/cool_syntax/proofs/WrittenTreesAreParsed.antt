@@ -293,7 +293,7 @@ record AreFormals (fs : List Formal) (ws : List Token) : Type 0 where
 abbrev formal : Formal → Variable
 formal f = variable f.at f.name f.declared
 
--- the formals behind the first
+-- the formals after the first
 more_formals : (fs : List Formal) (firsts : FirstFormals) (last : Variable)
     → AreFormals ((plain_first_formals firsts ++ plain_formal last ∷ []) ++ fs) ((first_formals_reading firsts ++ variable_reading last) ++ written_more_formals fs)
 more_formals [] firsts last = record {

@@ -68,7 +68,7 @@ mutual
     NoArgs : Args
     Given : (firsts : Parts) (last : Concrete) → Args
 
-  -- expressions, each with the comma or the semicolon behind it
+  -- expressions, each with the comma or the semicolon after it
   pub data Parts : Type 0 where
     NoPart : Parts
     Then : (before : Parts) (part : Concrete) (separator : Place) → Parts

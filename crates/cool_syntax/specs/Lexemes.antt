@@ -146,7 +146,7 @@ pub data Piece : Type 0 where
 abbrev pub escape : ℕ → ℕ
 escape c = if c == 98 then 8 else (if c == 116 then 9 else (if c == 110 then 10 else (if c == 102 then 12 else c)))
 
--- behind a backslash, or not
+-- after a backslash, or not
 abbrev pub piece : Bool → ℕ → Piece
 piece true b = if b == 0 then Null else Means (escape b)
 piece false b = if b == 34 then Ends else (if b == 10 then Newline else (if b == 0 then Null else (if b == 92 then Backslash else Means b)))
@@ -164,7 +164,7 @@ denoted Backslash bs rest = rest
 denoted Newline bs rest = None
 denoted Null bs rest = None
 
--- The constant of a string, by what stands behind its opening quote, the closing one included. It stands behind a backslash or not.
+-- The constant of a string, by what stands after its opening quote, the closing one included. It stands after a backslash or not.
 abbrev pub constant : Bool → List ℕ → Option (List ℕ)
 constant escaped [] = None
 constant escaped (b ∷ bs) = denoted (piece escaped b) bs (constant (is_backslash (piece escaped b)) bs)
@@ -182,12 +182,12 @@ mark (b ∷ c ∷ bs) = if b == 40 && c == 42 then Opens else (if b == 42 && c =
 mark (b ∷ []) = Plain
 mark [] = Plain
 
-abbrev pub depth_behind : Mark → ℕ → ℕ
-depth_behind Opens d = d + 1
-depth_behind Closes d = d - 1
-depth_behind Plain d = d
+abbrev pub depth_after : Mark → ℕ → ℕ
+depth_after Opens d = d + 1
+depth_after Closes d = d - 1
+depth_after Plain d = d
 
--- how many bytes of a mark stand behind its first
+-- how many bytes of a mark stand after its first
 abbrev pub more_bytes : Mark → ℕ
 more_bytes Plain = 0
 more_bytes _ = 1
@@ -201,7 +201,7 @@ abbrev pub comment_size : ℕ → ℕ → List ℕ → Option ℕ
 comment_size d k [] = None
 comment_size d (suc k) (b ∷ bs) = option_map (λ n. n + 1) (comment_size d k bs)
 comment_size d zero (b ∷ bs) =
-    ended (mark (b ∷ bs)) d (comment_size (depth_behind (mark (b ∷ bs)) d) (more_bytes (mark (b ∷ bs))) bs)
+    ended (mark (b ∷ bs)) d (comment_size (depth_after (mark (b ∷ bs)) d) (more_bytes (mark (b ∷ bs))) bs)
 
 -- Forms
 

@@ -21,7 +21,7 @@ place_at file bytes k = record { file = file; line = 1 + count_by (λ b. b == 10
 
 -- Faulty items
 
--- a fault, and how far behind the item's first byte it stands
+-- a fault, and how far after the item's first byte it stands
 pub record Fault : Type 0 where
   pub kind : LexKind
   pub offset : ℕ
@@ -40,16 +40,16 @@ shown lexemes.Null offset held rest = fault_at L3 offset
 shown lexemes.Backslash offset held rest = rest
 shown (lexemes.Means c) offset held rest = if held == MOST_BYTES then fault_at L4 0 else rest
 
-abbrev pub held_behind : Piece → ℕ → ℕ
-held_behind (lexemes.Means c) held = held + 1
-held_behind _ held = held
+abbrev pub held_after : Piece → ℕ → ℕ
+held_after (lexemes.Means c) held = held + 1
+held_after _ held = held
 
 -- The first fault of a string, by the bytes from the offset on: there its constant has `held` bytes.
 abbrev pub string_fault : Bool → ℕ → ℕ → List ℕ → Option Fault
 string_fault escaped offset held [] = fault_at L2 0
 string_fault escaped offset held (b ∷ bs) =
     shown (piece escaped b) offset held
-    (string_fault (is_backslash (piece escaped b)) (offset + 1) (held_behind (piece escaped b) held) bs)
+    (string_fault (is_backslash (piece escaped b)) (offset + 1) (held_after (piece escaped b) held) bs)
 
 abbrev pub begins_with : ℕ → List ℕ → Bool
 begins_with b [] = false
@@ -110,12 +110,12 @@ pub record Run : Type 0 where
 abbrev pub first_run : Run
 first_run = record { depth = 0; length = 0 }
 
-abbrev pub depth_behind : TokenKind → ℕ → ℕ
-depth_behind (kind.Sign sign.LBrace) d = d + 1
-depth_behind (kind.Key key.Case) d = d + 1
-depth_behind (kind.Sign sign.RBrace) d = d - 1
-depth_behind (kind.Key key.Esac) d = d - 1
-depth_behind _ d = d
+abbrev pub depth_after : TokenKind → ℕ → ℕ
+depth_after (kind.Sign sign.LBrace) d = d + 1
+depth_after (kind.Key key.Case) d = d + 1
+depth_after (kind.Sign sign.RBrace) d = d - 1
+depth_after (kind.Key key.Esac) d = d - 1
+depth_after _ d = d
 
 -- a brace that opens a class, and a semicolon of a class's own level: the next token is the first of a run
 abbrev pub ends_run : TokenKind → ℕ → Bool
@@ -123,17 +123,17 @@ ends_run (kind.Sign sign.LBrace) d = d == 0
 ends_run (kind.Sign sign.Semi) d = d == 1
 ends_run _ d = false
 
-abbrev pub run_behind : Run → TokenKind → Run
-run_behind r k = record { depth = depth_behind k r.depth; length = if ends_run k r.depth then 0 else r.length + 1 }
+abbrev pub run_after : Run → TokenKind → Run
+run_after r k = record { depth = depth_after k r.depth; length = if ends_run k r.depth then 0 else r.length + 1 }
 
 abbrev pub run_of : Run → List Token → Run
 run_of r [] = r
-run_of r (t ∷ ts) = run_of (run_behind r t.kind) ts
+run_of r (t ∷ ts) = run_of (run_after r t.kind) ts
 
 -- each token finds fewer than MOST_TOKENS before it in its run
 abbrev pub FitsRuns : Run → List Token → Type 0
 FitsRuns r [] = Unit {0}
-FitsRuns r (t ∷ ts) = (r.length < MOST_TOKENS) × FitsRuns (run_behind r t.kind) ts
+FitsRuns r (t ∷ ts) = (r.length < MOST_TOKENS) × FitsRuns (run_after r t.kind) ts
 
 -- Whole texts
 

@@ -75,7 +75,7 @@ abbrev mutual
   args_reading NoArgs = []
   args_reading (Given firsts last) = parts_reading sign.Comma firsts ++ reading last
 
-  -- with this sign behind each part
+  -- with this sign after each part
   pub parts_reading : Sign → Parts → List Token
   parts_reading s NoPart = []
   parts_reading s (Then before e separator) = parts_reading s before ++ reading e ++ symbol s separator ∷ []

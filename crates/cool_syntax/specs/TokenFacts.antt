@@ -26,7 +26,7 @@ IsPlaced files at = (at.file < files) × (at.line ≤ MOST_SOURCE_BYTES + 1)
 abbrev pub AreWithinLimits : ℕ → List Token → Type 0
 AreWithinLimits files = AllByRecursion (λ t. IsPlaced files t.at × IsWithinLimits t.kind)
 
--- the tokens stand in this file, each behind the one before, the first at this byte or behind it
+-- the tokens stand in this file, each after the one before, the first at this byte or after it
 abbrev pub AreRising : ℕ → ℕ → List Token → Type 0
 AreRising file low [] = Unit {0}
 AreRising file low (t ∷ ts) = (t.at.file ≡ file) × (low ≤ t.at.byte) × AreRising file (t.at.byte + 1) ts

@@ -67,7 +67,7 @@ abbrev mutual
   written_more at Last = []
   written_more at (More t ts) = symbol sign.Comma at ∷ written t ++ written_more at ts
 
-  -- with a semicolon behind each
+  -- with a semicolon after each
   pub written_items : Place → Trees → List Token
   written_items at Last = []
   written_items at (More t ts) = written t ++ symbol sign.Semi at ∷ written_items at ts

@@ -17,6 +17,6 @@ pub enum LexKind {
     L6,
     /// An integer is above 2147483647. Its place is the first digit.
     L7,
-    /// A token of a run comes behind `MOST_TOKENS` others. Its place is the token.
+    /// A token of a run comes after `MOST_TOKENS` others. Its place is the token.
     L8,
 }

@@ -281,7 +281,7 @@ fn write_args(
     }
 }
 
-/// Writes the items of a block, each with a semicolon behind it. They have numbers below this one.
+/// Writes the items of a block, each with a semicolon after it. They have numbers below this one.
 #[cycle(written)]
 fn write_items(
     body: &Body,

@@ -2,8 +2,8 @@ use Rattle.std.proofs.lemmas.Result.{IfOk-weaker}
 use Rattle.cool_lexer.proofs.Items.{first_and_tail, begins_code}
 use Rattle.cool_lexer.proofs.item.item_at.Goals as goal
 
-pub item_behind-requires : goal.item_behind-requires
-item_behind-requires c = record { whole = first_and_tail c.args.text.now c.requires }
+pub item_after-requires : goal.item_after-requires
+item_after-requires c = record { whole = first_and_tail c.args.text.now c.requires }
 
 pub returns : goal.returns
-returns c = IfOk-weaker c.item_behind.result _ _ (λ front is. begins_code c.args.text.now front c.requires is) c.item_behind.ensures
+returns c = IfOk-weaker c.item_after.result _ _ (λ front is. begins_code c.args.text.now front c.requires is) c.item_after.ensures
