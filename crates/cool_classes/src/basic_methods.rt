@@ -16,7 +16,7 @@ use cool_syntax::Formal;
 
 /// The name of a method of a basic class, and which method that is.
 #[derive(Clone, Copy)]
-struct NamedMethod(&'static [u8], BasicMethod);
+pub struct NamedMethod(pub &'static [u8], pub BasicMethod);
 
 /// What a basic method declares.
 #[derive(Clone, Copy)]
@@ -27,8 +27,8 @@ struct BasicSignature {
     result: Ty,
 }
 
-/// The methods that a basic class has of its own, by the number of the class.
-fn own_methods(class: u32) -> &'static [NamedMethod]
+/// The methods that a basic class has of its own, by the number of the class; none for any other number.
+pub fn basic_class_methods(class: u32) -> &'static [NamedMethod]
     ensures { named_methods result.now ≡ basic_methods class }
 {
     match class {
@@ -85,7 +85,7 @@ fn declares(formals: &'static [ClassId], of_result: Ty) -> BasicSignature
 pub(crate) fn basic_method(class: u32, name: &[u8]) -> Option<BasicMethod>
     ensures { result ≡ method_among (basic_methods class) name.now }
 {
-    let own = own_methods(class);
+    let own = basic_class_methods(class);
     for index in 0..own.len() {
         let NamedMethod(own_name, method) = own[index];
         if own_name == name {
@@ -99,7 +99,7 @@ pub(crate) fn basic_method(class: u32, name: &[u8]) -> Option<BasicMethod>
 pub(crate) fn basic_method_count(class: u32) -> usize
     ensures { result ≡ length (method_names (basic_methods class)) }
 {
-    own_methods(class).len()
+    basic_class_methods(class).len()
 }
 
 /// How many formals a basic method has.

@@ -28,6 +28,7 @@ mod self_type;
 mod signature;
 mod signature_faults;
 
+pub use basic_methods::{NamedMethod, basic_class_methods};
 pub use building::table;
 pub use class_id::{BOOL, ClassId, INT, IO, OBJECT, STRING, Ty};
 pub use class_table::ClassTable;
