@@ -206,14 +206,14 @@ abbrev pub IsFirst : {X : Type 0} → Checked X → CheckError → Type 0
 IsFirst r error.Memory = Unit {0}
 IsFirst r (error.Fault f) = r ≡ Err f
 
--- Worked examples: `1 + true` is refused at its operator; a condition is judged only after both branches, so `if 1 then x else 2 fi`
+-- Worked examples: `1 + true` is refused at its operator; a predicate is judged only after both branches, so `if 1 then x else 2 fi`
 -- with no x in scope is refused at x; a `let` brings its variable into scope.
 sum_of_bool : (s : Context) (p q r : Place) → checked s [] (trees.Arith p Add (trees.Int q 1) (trees.Bool r true)) ≡ refuse E14 p
 sum_of_bool s p q r = refl
 
-branch_before_condition : (t : List Class) (c : ClassId) (p q r u : Place)
+branch_before_predicate : (t : List Class) (c : ClassId) (p q r u : Place)
     → checked (record { table = t; class = c; attributes = [] }) [] (trees.If p (trees.Int q 1) (trees.Id r (codes "x")) (trees.Int u 2)) ≡ refuse E1 r
-branch_before_condition t c p q r u = refl
+branch_before_predicate t c p q r u = refl
 
 bound_variable : (s : Context) (p : Place) → checked s (bind (codes "x") string []) (trees.Id p (codes "x")) ≡ Ok string
 bound_variable s p = refl

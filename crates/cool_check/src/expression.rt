@@ -1,4 +1,4 @@
-//! The types of expressions: names, constants, conditions, loops and blocks.
+//! The types of expressions: names, constants, conditionals, loops and blocks.
 
 ghost use Rattle.std.specs.Prelude.{◌≡◌, ◌<◌, ℕ, [], Ok, true, false, length, IfOk, IfErr, OnOk};
 ghost use Rattle.std.specs.List.{AllByRecursion};
@@ -111,7 +111,7 @@ pub(crate) fn is_self(name: &Name) -> bool
     name.as_slice() == b"self".as_slice()
 }
 
-/// The type of a condition, a loop or a block, whose parts have numbers below this one.
+/// The type of a conditional, a loop or a block, whose parts have numbers below this one.
 #[cycle(typing)]
 fn type_of_control<'a>(
     setting: &Setting<'a, '_>,
@@ -127,16 +127,16 @@ fn type_of_control<'a>(
 {
     match node {
         Node::If { test, yes, no, .. } => {
-            let condition = type_of(setting, locals, *test)?;
+            let predicate = type_of(setting, locals, *test)?;
             let first = type_of(setting, locals, *yes)?;
             let second = type_of(setting, locals, *no)?;
-            expect_bool(setting, *test, condition)?;
+            expect_bool(setting, *test, predicate)?;
             Ok(setting.join(first, second))
         }
         Node::While { test, body, .. } => {
-            let condition = type_of(setting, locals, *test)?;
+            let predicate = type_of(setting, locals, *test)?;
             type_of(setting, locals, *body)?;
-            expect_bool(setting, *test, condition)?;
+            expect_bool(setting, *test, predicate)?;
             Ok(Ty::Class(OBJECT))
         }
         Node::Block { items, .. } => type_of_last(setting, locals, id, items.as_slice()),
@@ -144,7 +144,7 @@ fn type_of_control<'a>(
     }
 }
 
-/// Refuses a condition that is not Bool.
+/// Refuses a predicate that is not Bool.
 fn expect_bool(setting: &Setting<'_, '_>, test: NodeId, found: Ty) -> Result<(), CheckError>
     requires below { test.0 < tree_size setting.now.body.now }
     ensures holds { IfOk result (λ u. same_type found bool ≡ true) }

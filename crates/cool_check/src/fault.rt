@@ -26,7 +26,7 @@ pub enum TypeKind {
     E7,
     /// A receiver that does not conform to the class after `@`. At the class.
     E8,
-    /// A condition that is not Bool. At the condition.
+    /// A predicate that is not Bool. At the predicate.
     E9,
     /// A `let` or a branch that binds `self`. At the name.
     E10,

@@ -1,4 +1,4 @@
-//! The code of expressions: names, constants, new objects, conditions, loops and blocks.
+//! The code of expressions: names, constants, new objects, conditionals, loops and blocks.
 
 ghost use Rattle.std.specs.Prelude.{◌≡◌, ◌≤◌, OnOk};
 ghost use Rattle.cool_syntax.specs.NodeGroups.{IsControl, IsLeaf};
@@ -163,7 +163,7 @@ fn type_of_name(setting: &Setting<'_>, variables: &Variables<'_>, name: &Name) -
     }
 }
 
-/// Adds the code of a condition, a loop or a block, whose parts have numbers below this one.
+/// Adds the code of a conditional, a loop or a block, whose parts have numbers below this one.
 #[cycle(coding)]
 #[inline(never)]
 fn control<'a>(
@@ -186,14 +186,14 @@ fn control<'a>(
     let alloc = setting.alloc;
     match node {
         Node::If {
-            test: condition,
+            test: predicate,
             yes,
             no,
             ..
         } => {
             let other = inner_label(setting, "else", id)?;
             let end = inner_label(setting, "end", id)?;
-            expression(setting, variables, depth, *condition, consts, lines)?;
+            expression(setting, variables, depth, *predicate, consts, lines)?;
             test(alloc, lines, other.as_bytes())?;
             let first = expression(setting, variables, depth, *yes, consts, lines)?;
             turn(alloc, lines, end.as_bytes(), other.as_bytes())?;
@@ -202,14 +202,14 @@ fn control<'a>(
             Ok(setting.join(first, second))
         }
         Node::While {
-            test: condition,
+            test: predicate,
             body,
             ..
         } => {
             let begin = inner_label(setting, "loop", id)?;
             let end = inner_label(setting, "end", id)?;
             mark(alloc, lines, begin.as_bytes())?;
-            expression(setting, variables, depth, *condition, consts, lines)?;
+            expression(setting, variables, depth, *predicate, consts, lines)?;
             test(alloc, lines, end.as_bytes())?;
             expression(setting, variables, depth, *body, consts, lines)?;
             repeat(alloc, lines, begin.as_bytes(), end.as_bytes())?;
