@@ -7,6 +7,7 @@ pub mod Walking
 pub mod LastTags
 pub mod TagsNoted
 pub mod AttributePlaces
+pub mod BasicMethods
 pub mod KeptOffsets
 pub mod SlotNames
 pub mod TablesGrow

@@ -1,25 +1,22 @@
--- The methods of the class of each number.
-use Rattle.std.proofs.Common.{◌≡◌, ◌≢◌, ℕ, zero, suc, [], OnOk, sym, refl, subst}
-use Rattle.cool_classes.specs.Features.{basic_methods}
-use Rattle.cool_layout.specs.SlotTables.{Has, basic_own}
+use Rattle.std.proofs.Common.{◌∙◌, ap, subst, List, arith}
+use Rattle.std.proofs.lemmas.List.{take_all}
+use Rattle.cool_classes.specs.BasicMethods.{named_methods}
+use Rattle.cool_layout.specs.SlotTables.{Has, OwnMethod, basic_own}
+use Rattle.cool_layout.proofs.BasicMethods.{own_more}
 use Rattle.cool_layout.proofs.basic.add_basic.Goals as goal
 
-pub returns-then-class-eq0-clause-table : goal.returns-then-class-eq0-clause-table
-returns-then-class-eq0-clause-table c = subst (λ (n : ℕ). OnOk c.add_object.result (Has c.args.t.now (basic_own (basic_methods n)) c.add_object.new.table)) (sym c.if-class-eq0.true) c.add_object.ensures.table
+-- one more was added
+pub loop-own-preserved : goal.loop-own-preserved
+loop-own-preserved c = record {
+  above = c.add_method.ensures.above ∙ c.loop-own.invariant.above;
+  table = subst (λ (own : List OwnMethod). Has c.args.t.now own c.add_method.new.table) (own_more c.basic_class_methods-methods.result.now c.loop-own.own-index _ c.loop-own-test.true)
+      (c.in_ok-add_method.ensures.table _ c.loop-own.invariant.table);
+}
 
-pub returns-then-class-eq1-clause-table : goal.returns-then-class-eq1-clause-table
-returns-then-class-eq1-clause-table c = subst (λ (n : ℕ). OnOk c.add_io.result (Has c.args.t.now (basic_own (basic_methods n)) c.add_io.new.table)) (sym c.if-class-eq1.true) c.add_io.ensures.table
-
-pub returns-then-class-eq4-clause-table : goal.returns-then-class-eq4-clause-table
-returns-then-class-eq4-clause-table c = subst (λ (n : ℕ). OnOk c.add_string.result (Has c.args.t.now (basic_own (basic_methods n)) c.add_string.new.table)) (sym c.if-class-eq4.true) c.add_string.ensures.table
-
-no_methods : (n : ℕ) → n ≢ 0 → n ≢ 1 → n ≢ 4 → basic_methods n ≡ []
-no_methods zero a b d = absurd (a refl)
-no_methods (suc zero) a b d = absurd (b refl)
-no_methods (suc (suc zero)) a b d = refl
-no_methods (suc (suc (suc zero))) a b d = refl
-no_methods (suc (suc (suc (suc zero)))) a b d = absurd (d refl)
-no_methods (suc (suc (suc (suc (suc n))))) a b d = refl
-
-pub returns-else-class-eq4-clause-table : goal.returns-else-class-eq4-clause-table
-returns-else-class-eq4-clause-table c = subst (λ ms. Has c.args.t.now (basic_own ms) c.args.table.now) (sym (no_methods c.args.class c.if-class-eq0.false c.if-class-eq1.false c.if-class-eq4.false)) c.requires.table
+-- all were added
+pub returns-clause-table : goal.returns-clause-table
+returns-clause-table c =
+    let rows = c.basic_class_methods-methods.result.now in
+    subst (λ (own : List OwnMethod). Has c.args.t.now own c.loop-own.table)
+    (ap basic_own (ap named_methods (take_all c.loop-own.own-index rows (omega (arith, c.loop-own-test.false))) ∙ c.basic_class_methods-methods.ensures))
+    c.loop-own.invariant.table
