@@ -11,7 +11,7 @@ use Rattle.cool_meaning.specs.Evaluation.{Call, turns, loop, eval, run_call, cal
 use Rattle.cool_meaning.proofs.RelatedEvaluation.{IsKept, IsSpent, eval_kept, call_kept}
 
 -- no more steps are left than before
-abbrev Fewer : {A : Type 0} → ℕ → Outcome A → Type 0
+abbrev pub Fewer : {A : Type 0} → ℕ → Outcome A → Type 0
 Fewer n (Val v s left) = left ≤ n
 Fewer n (Stop e s) = Unit {0}
 Fewer n (On s) = Unit {0}
@@ -22,7 +22,7 @@ pub record Agree {A : Type 0} (b : ℕ) (d d' : Computation A) : Type 0 where
   pub same : (s : State) (n : ℕ) → n ≤ b → d s n ≡ d' s n
   pub fewer : (s : State) (n : ℕ) → n ≤ b → Fewer n (d s n).outcome
 
-fewer_on : {A : Type 0} (m n : ℕ) (o : Outcome A) → m ≤ n → Fewer m o → Fewer n o
+pub fewer_on : {A : Type 0} (m n : ℕ) (o : Outcome A) → m ≤ n → Fewer m o → Fewer n o
 fewer_on m n (Val v s left) less h = omega arith
 fewer_on m n (Stop e s) less h = tt
 fewer_on m n (On s) less h = tt
@@ -97,6 +97,28 @@ turns_agree (suc j) b h g =
 
 loop_agree : {b : ℕ} {test test' body body' : Computation Value} → Agree b test test' → Agree b body body' → Agree b (loop test body) (loop test' body')
 loop_agree {b = b} h g = record { same = λ s n less. (turns_agree (suc n) b h g).same s n less; fewer = λ s n less. (turns_agree (suc n) b h g).fewer s n less }
+
+-- any two numbers of turns that are more than the steps left do the same
+turns_same : (j j' b : ℕ) {test body : Computation Value} → b < j → b < j' → Agree b test test → Agree b body body → Agree b (turns j test body) (turns j' test body)
+turns_same zero j' b less less' h g = absurd (omega arith)
+turns_same (suc j) zero b less less' h g = absurd (omega arith)
+turns_same (suc j) (suc j') b less less' h g =
+    bind_agree h (λ v. bind_agree (truth_agree b v) (λ c. if_agree c
+    (spent_agree (λ m below. working_agree 1 (then_agree (less_agree m (omega arith) g) (turns_same j j' m (omega arith) (omega arith) (less_agree m (omega arith) h) (less_agree m (omega arith) g)))))
+    (itself (give Void) (λ s n. omega arith))))
+
+-- a loop is its test and then a turn before the same loop
+pub loop_is : (test body : Computation Value) (n : ℕ) → Agree n test test → Agree n body body → (s : State) → loop test body s n ≡ (test >>= λ v. as_truth v >>= λ c. if c then spend (working 1 (body >> loop test body)) else give Void) s n
+loop_is test body n h g s =
+    (bind_agree h (λ v. bind_agree (truth_agree n v) (λ c. if_agree c
+    (spent_agree (λ m below. working_agree 1 (then_agree (less_agree m (omega arith) g) (later m below))))
+    (itself (give Void) (λ s n. omega arith))))).same s n (omega arith)
+  where
+    later : (m : ℕ) → m < n → Agree m (turns n test body) (loop test body)
+    later m below = record {
+      same = λ s k less. (turns_same n (suc k) k (omega arith) (omega arith) (less_agree k (omega arith) h) (less_agree k (omega arith) g)).same s k (omega arith);
+      fewer = λ s k less. (turns_same n n k (omega arith) (omega arith) (less_agree k (omega arith) h) (less_agree k (omega arith) g)).fewer s k (omega arith);
+    }
 
 agree_kept : (b : ℕ) → IsKept (λ A. Agree b)
 agree_kept b = record {

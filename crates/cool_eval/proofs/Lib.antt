@@ -1,0 +1,5 @@
+pub mod LocalsAtEnd
+pub mod RunsMean
+pub mod Stacks
+pub mod StepsMean
+pub mod StoredValues

@@ -1,0 +1,10 @@
+-- Variables seen as an environment, the latest first.
+use Rattle.std.proofs.Common.{◌≡◌, List, [], ◌∷◌, ◌++◌, ap, sym, ◌∙◌, refl}
+use Rattle.cool_meaning.specs.Values.{Located, Environment}
+use Rattle.cool_eval.specs.declared.scene.Local.{Local}
+use Rattle.cool_eval.specs.Configurations.{located_at, locals_of}
+
+-- a variable at the end is the first that is seen
+pub locals_more : (ls : List Local) (l : Local) → locals_of (ls ++ l ∷ []) ≡ located_at l ∷ locals_of ls
+locals_more [] l = refl
+locals_more (x ∷ ls) l = ap (λ (es : Environment). es ++ located_at x ∷ []) (locals_more ls l)

@@ -1,0 +1,12 @@
+-- Frames seen with the latest first.
+use Rattle.std.proofs.Common.{◌≡◌, List, [], ◌∷◌, ◌++◌, ap, sym, ◌∙◌, refl}
+use Rattle.cool_classes.specs.Chains.{Class}
+use Rattle.cool_eval.specs.declared.frame.Frame.{Frame}
+use Rattle.cool_eval.specs.Configurations.{frame_of, stack_of}
+use Rattle.cool_eval.specs.Machine as machine
+
+-- a frame at the end is the first that is seen
+pub stack_more : (p : List Class) (fs : List Frame) (f : Frame) → stack_of p (fs ++ f ∷ []) ≡ frame_of p f ∷ stack_of p fs
+unfolding stack_of
+stack_more p [] f = refl
+stack_more p (x ∷ fs) f = ap (λ (gs : List machine.Frame). gs ++ frame_of p x ∷ []) (stack_more p fs f)

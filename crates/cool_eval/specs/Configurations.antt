@@ -1,0 +1,144 @@
+-- What the interpreter holds, as a configuration of the machine that evaluates with frames.
+use Rattle.std.specs.Prelude.{◌≡◌, ℕ, ℤ, slice_get, ◌+◌, List, [], ◌∷◌, ◌++◌, length, map, Option, Some, None, Result, Ok, Err}
+use denote.Ref.{Bor}
+use Rattle.cool_syntax.specs.Tree.{Tree, of_list, of_twigs}
+use Rattle.cool_classes.specs.Chains.{Class}
+use Rattle.cool_meaning.specs.Values.{State, Environment, Located}
+use Rattle.cool_meaning.specs.Values as values
+use Rattle.cool_meaning.specs.Meters.{Outcome, Val, Stop, On, Stuck, Computation}
+use Rattle.cool_meaning.specs.Meters as meters
+use Rattle.std.proofs.Common.{Vec}
+use Rattle.cool_classes.specs.declared.class_id.ClassId.{ClassId}
+use Rattle.cool_classes.specs.declared.method.AttributeRef.{AttributeRef}
+use Rattle.cool_meaning.specs.BasicMethods.{as_number}
+use Rattle.cool_meaning.specs.Lookups.{environment_of, attributes}
+use Rattle.cool_eval.specs.declared.value.Value.{Value}
+use Rattle.cool_eval.specs.declared.ending.RunError.{RunError}
+use Rattle.cool_eval.specs.declared.ending.RunError.TheVariants.{DispatchVoid, CaseVoid, NoBranch, DivisionByZero, Overflow, Substring, Aborted}
+use Rattle.cool_eval.specs.declared.ending.Ending.{Ending}
+use Rattle.cool_eval.specs.declared.ending.Ending.TheVariants as ending
+use Rattle.cool_eval.specs.declared.scene.Local.{Local}
+use Rattle.cool_eval.specs.declared.scene.Scene.{Scene}
+use Rattle.cool_eval.specs.declared.store.Store.{Store}
+use Rattle.cool_eval.specs.declared.frame.Frame.{Frame}
+use Rattle.cool_eval.specs.declared.frame.Frame.TheVariants as held
+use Rattle.cool_eval.specs.declared.frame.Focus.{Focus}
+use Rattle.cool_eval.specs.declared.frame.Focus.TheVariants as focus
+use Rattle.cool_eval.specs.declared.machine.Machine.{Machine}
+use Rattle.cool_eval.specs.Values.{value_of, locations_from}
+use Rattle.cool_eval.specs.Machine as machine
+use Rattle.cool_eval.specs.Machine.{Next, Continue, Halt}
+
+-- variables, the latest last, as an environment, the latest first
+abbrev pub located_at : Local → Located
+located_at l = record { name = l.name.now; location = l.location }
+
+abbrev pub locals_of : List Local → Environment
+locals_of [] = []
+locals_of (l ∷ ls) = locals_of ls ++ located_at l ∷ []
+
+abbrev pub env_of : List Class → Scene → Environment
+env_of p s = locals_of s.locals.items ++ environment_of p (value_of s.me)
+
+abbrev pub class_name : Option (Bor (List ℕ)) → Option (List ℕ)
+class_name None = None
+class_name (Some name) = Some name.now
+
+-- a frame and what is done next
+abbrev pub frame_of : List Class → Frame → machine.Frame
+frame_of p (held.AssignTo scene name) = machine.AssignTo (env_of p scene.value) name.now
+frame_of p (held.Choose scene a b) = machine.Choose (value_of scene.value.me) (env_of p scene.value) a b
+frame_of p (held.Turn scene a b) = machine.Turn (value_of scene.value.me) (env_of p scene.value) a b
+frame_of p (held.Again scene a b) = machine.Again (value_of scene.value.me) (env_of p scene.value) a b
+frame_of p (held.Items scene rest) = machine.Items (value_of scene.value.me) (env_of p scene.value) (of_list rest)
+frame_of p (held.Bind scene name body) = machine.Bind (value_of scene.value.me) (env_of p scene.value) name.now body
+frame_of p (held.Pick scene at branches) = machine.Pick (value_of scene.value.me) (env_of p scene.value) at (of_twigs branches)
+frame_of p (held.Fill o l rest) = machine.Fill (values.Obj o.class o.identity (locations_from o.first o.count)) l rest.now (locations_from (l + 1) (length rest.now))
+frame_of p (held.Argument scene given rest at receiver class name) =
+    machine.Argument (value_of scene.value.me) (env_of p scene.value) (map value_of given.items) (of_list rest) at receiver (class_name class) name.now
+frame_of p (held.Receiver at class name given) = machine.Receiver at (class_name class) name.now (map value_of given.items)
+frame_of p held.TestVoid = machine.TestVoid
+frame_of p held.Invert = machine.Invert
+frame_of p (held.Negate at) = machine.Negate at
+frame_of p (held.Operand scene at op right) = machine.Operand (value_of scene.value.me) (env_of p scene.value) at op right
+frame_of p (held.Operate at op left) = machine.Operate at op (value_of left)
+frame_of p (held.Compared scene op right) = machine.Compared (value_of scene.value.me) (env_of p scene.value) op right
+frame_of p (held.CompareTo op left) = machine.CompareTo op (value_of left)
+
+abbrev pub focus_of : List Class → Focus → machine.Focus
+focus_of p (focus.Begin scene part) = machine.Begin (value_of scene.value.me) (env_of p scene.value) part
+focus_of p (focus.Return v) = machine.Return (value_of v)
+focus_of p (focus.Start o l rest) = machine.Start (values.Obj o.class o.identity (locations_from o.first o.count)) rest.now (locations_from l (length rest.now))
+
+-- frames, the latest last, with the latest first
+unfoldable pub stack_of : List Class → List Frame → List machine.Frame
+stack_of p [] = []
+stack_of p (f ∷ fs) = stack_of p fs ++ frame_of p f ∷ []
+
+abbrev pub frames_of : List Class → Machine → List machine.Frame
+frames_of p m = stack_of p m.frames.items
+
+abbrev pub state_of : Machine → List ℕ → List ℕ → State
+state_of m input output = record { store = m.store.values; input = input; output = output; drawn = m.store.drawn }
+
+abbrev pub error_of : RunError → meters.Error
+error_of (DispatchVoid at) = meters.DispatchVoid at
+error_of (CaseVoid at) = meters.CaseVoid at
+error_of (NoBranch at c) = meters.NoBranch at c
+error_of (DivisionByZero at) = meters.DivisionByZero at
+error_of (Overflow at) = meters.Overflow at
+error_of (Substring at) = meters.Substring at
+error_of (Aborted c) = meters.Aborted c
+
+-- What a step that touches neither source nor sink answered, and the machine after it: where there was memory, it is this.
+abbrev pub Comes : List Class → Result Focus Ending → Machine → List ℕ → List ℕ → Next → Type 0
+Comes p (Ok f) m input output next = next ≡ Continue (focus_of p f) (frames_of p m) (state_of m input output) m.left
+Comes p (Err (ending.Error e)) m input output next = next ≡ Halt (Stop (error_of e) (state_of m input output))
+Comes p (Err ending.StepLimit) m input output next = next ≡ Halt (On (state_of m input output))
+Comes p (Err ending.Stuck) m input output next = next ≡ Halt Stuck
+Comes p (Err ending.Memory) m input output next = Unit {0}
+Comes p (Err ending.ReadFault) m input output next = ⊥
+Comes p (Err ending.WriteFault) m input output next = ⊥
+
+-- A value that leaves the state as it is, or its error: where there was memory, it is that of a computation.
+abbrev pub Does : Result Value Ending → Computation values.Value → State → ℕ → Type 0
+Does (Ok v) d s n = (d s n).outcome ≡ Val (value_of v) s n
+Does (Err (ending.Error e)) d s n = (d s n).outcome ≡ Stop (error_of e) s
+Does (Err ending.Stuck) d s n = (d s n).outcome ≡ Stuck
+Does (Err ending.Memory) d s n = Unit {0}
+Does (Err ending.StepLimit) d s n = ⊥
+Does (Err ending.ReadFault) d s n = ⊥
+Does (Err ending.WriteFault) d s n = ⊥
+
+-- whatever the state
+abbrev pub Gives : Result Value Ending → Computation values.Value → Type 0
+Gives r d = (s : State) (n : ℕ) → Does r d s n
+
+-- the number of a value
+abbrev pub IsNumberOf : Result ℤ Ending → values.Value → Type 0
+IsNumberOf (Ok n) v = v ≡ values.Int n
+IsNumberOf (Err ending.Stuck) v = (s : State) (n : ℕ) → (as_number v s n).outcome ≡ Stuck
+IsNumberOf (Err (ending.Error e)) v = ⊥
+IsNumberOf (Err ending.Memory) v = ⊥
+IsNumberOf (Err ending.StepLimit) v = ⊥
+IsNumberOf (Err ending.ReadFault) v = ⊥
+IsNumberOf (Err ending.WriteFault) v = ⊥
+
+-- the value at a location
+abbrev pub IsLoaded : List values.Value → ℕ → Result Value Ending → Type 0
+IsLoaded vs l (Ok v) = slice_get vs l ≡ Some (value_of v)
+IsLoaded vs l (Err ending.Stuck) = slice_get vs l ≡ None
+IsLoaded vs l (Err ending.Memory) = Unit {0}
+IsLoaded vs l (Err (ending.Error e)) = ⊥
+IsLoaded vs l (Err ending.StepLimit) = ⊥
+IsLoaded vs l (Err ending.ReadFault) = ⊥
+IsLoaded vs l (Err ending.WriteFault) = ⊥
+
+-- no call waits
+abbrev pub IsQuiet : Frame → Type 0
+IsQuiet (held.Receiver at class name given) = ⊥
+IsQuiet _ = Unit {0}
+
+-- the attributes of each class
+abbrev pub AreLayouts : {A : Type 0} → List Class → List (Vec AttributeRef A) → Type 0
+AreLayouts {A = A} p layouts = (length layouts ≡ length p) × ((c : ClassId) (v : Vec AttributeRef A) → slice_get layouts c.0 ≡ Some v → v.items ≡ attributes p c)

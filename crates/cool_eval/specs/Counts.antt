@@ -1,0 +1,46 @@
+-- What the counts of faults of a source and a sink say of an answer.
+use Rattle.std.specs.Prelude.{◌≡◌, ℕ, Result, Ok, Err}
+use Rattle.cool_ports.specs.Counts.{Rose}
+use Rattle.cool_eval.specs.declared.ending.Ending.{Ending}
+use Rattle.cool_eval.specs.declared.ending.Ending.TheVariants as ending
+use Rattle.cool_eval.specs.declared.evaluation.EvalEnd.{EvalEnd}
+use Rattle.cool_eval.specs.declared.evaluation.EvalEnd.TheVariants.{Done, Error, StepLimit, ReadFault, WriteFault, Memory}
+
+-- neither count changed
+abbrev pub NoneRose : ℕ → ℕ → ℕ → ℕ → Type 0
+NoneRose source source' sink sink' = (source' ≡ source) × (sink' ≡ sink)
+
+-- A fault of reading or writing comes only where its count rose, and all else only where none did.
+abbrev pub Counted : {A : Type 0} → Result A Ending → ℕ → ℕ → ℕ → ℕ → Type 0
+Counted (Ok x) source source' sink sink' = NoneRose source source' sink sink'
+Counted (Err ending.ReadFault) source source' sink sink' = Rose source source' × (sink' ≡ sink)
+Counted (Err ending.WriteFault) source source' sink sink' = Rose sink sink'
+Counted (Err (ending.Error e)) source source' sink sink' = NoneRose source source' sink sink'
+Counted (Err ending.StepLimit) source source' sink sink' = NoneRose source source' sink sink'
+Counted (Err ending.Memory) source source' sink sink' = NoneRose source source' sink sink'
+Counted (Err ending.Stuck) source source' sink sink' = NoneRose source source' sink sink'
+
+-- the same of a whole run
+abbrev pub CountedEnd : EvalEnd → ℕ → ℕ → ℕ → ℕ → Type 0
+CountedEnd ReadFault source source' sink sink' = Rose source source' × (sink' ≡ sink)
+CountedEnd WriteFault source source' sink sink' = Rose sink sink'
+CountedEnd Done source source' sink sink' = NoneRose source source' sink sink'
+CountedEnd Error source source' sink sink' = NoneRose source source' sink sink'
+CountedEnd StepLimit source source' sink sink' = NoneRose source source' sink sink'
+CountedEnd Memory source source' sink sink' = NoneRose source source' sink sink'
+
+-- what is written at the end changes the sink alone
+abbrev pub CountedFinish : Result (Unit {0}) Ending → EvalEnd → ℕ → ℕ → Type 0
+CountedFinish (Ok x) end sink sink' = CountedEnd end 0 0 sink sink'
+CountedFinish (Err (ending.Error e)) end sink sink' = CountedEnd end 0 0 sink sink'
+CountedFinish (Err ending.StepLimit) end sink sink' = (end ≡ StepLimit) × (sink' ≡ sink)
+CountedFinish (Err ending.ReadFault) end sink sink' = (end ≡ ReadFault) × (sink' ≡ sink)
+CountedFinish (Err ending.WriteFault) end sink sink' = (end ≡ WriteFault) × (sink' ≡ sink)
+CountedFinish (Err ending.Memory) end sink sink' = (end ≡ Memory) × (sink' ≡ sink)
+CountedFinish (Err ending.Stuck) end sink sink' = (end ≡ Memory) × (sink' ≡ sink)
+
+-- neither a read nor a write failed
+abbrev pub IsInner : Ending → Type 0
+IsInner ending.ReadFault = ⊥
+IsInner ending.WriteFault = ⊥
+IsInner _ = Unit {0}

@@ -1,0 +1,5 @@
+pub mod Configurations
+pub mod Counts
+pub mod Machine
+pub mod Values
+pub mod Views

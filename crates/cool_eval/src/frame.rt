@@ -1,0 +1,107 @@
+//! What waits for a value, and what is done next.
+
+use crate::part::{Part, Parts, Twigs};
+use crate::scene::Scene;
+use crate::value::{Object, Value};
+use cool_classes::AttributeRef;
+use cool_syntax::{ArithOp, CompareOp, Name, Place};
+use std::rc::Rc;
+
+/// What waits for a value.
+#[derive(Drop)]
+pub(crate) enum Frame<'a> {
+    AssignTo {
+        scene: Rc<Scene<'a>>,
+        name: &'a Name,
+    },
+    Choose {
+        scene: Rc<Scene<'a>>,
+        first: Part<'a>,
+        second: Part<'a>,
+    },
+    Turn {
+        scene: Rc<Scene<'a>>,
+        test: Part<'a>,
+        body: Part<'a>,
+    },
+    Again {
+        scene: Rc<Scene<'a>>,
+        test: Part<'a>,
+        body: Part<'a>,
+    },
+    Items {
+        scene: Rc<Scene<'a>>,
+        rest: Parts<'a>,
+    },
+    Bind {
+        scene: Rc<Scene<'a>>,
+        name: &'a Name,
+        body: Part<'a>,
+    },
+    Pick {
+        scene: Rc<Scene<'a>>,
+        at: Place,
+        branches: Twigs<'a>,
+    },
+    Fill {
+        object: Object,
+        location: usize,
+        rest: &'a [AttributeRef],
+    },
+    Argument {
+        scene: Rc<Scene<'a>>,
+        given: Vec<Value>,
+        rest: Parts<'a>,
+        at: Place,
+        receiver: Part<'a>,
+        class: Option<&'a Name>,
+        name: &'a Name,
+    },
+    Receiver {
+        at: Place,
+        class: Option<&'a Name>,
+        name: &'a Name,
+        given: Vec<Value>,
+    },
+    TestVoid,
+    Invert,
+    Negate {
+        at: Place,
+    },
+    Operand {
+        scene: Rc<Scene<'a>>,
+        at: Place,
+        op: ArithOp,
+        right: Part<'a>,
+    },
+    Operate {
+        at: Place,
+        op: ArithOp,
+        left: Value,
+    },
+    Compared {
+        scene: Rc<Scene<'a>>,
+        op: CompareOp,
+        right: Part<'a>,
+    },
+    CompareTo {
+        op: CompareOp,
+        left: Value,
+    },
+}
+
+/// What is done next: an expression is begun, a value is returned, or the next initial value of a new object is begun, whose
+/// attributes from one on are left.
+#[derive(Drop)]
+pub(crate) enum Focus<'a> {
+    Begin {
+        scene: Rc<Scene<'a>>,
+        part: Part<'a>,
+    },
+    Return(Value),
+    Start {
+        object: Object,
+        location: usize,
+        rest: &'a [AttributeRef],
+    },
+}

@@ -1,0 +1,98 @@
+//! The store: values at locations, and identities.
+
+ghost use Rattle.std.specs.Prelude.{◌≡◌, ◌+◌, ◌∷◌, [], ◌++◌, length, map, slice_set, IfOk, IfErr, OnOk};
+ghost use Rattle.cool_eval.specs.Values.{value_of};
+ghost use Rattle.cool_eval.specs.Counts.{IsInner};
+ghost use Rattle.cool_eval.specs.Configurations.{IsLoaded};
+
+use crate::ending::Ending;
+use crate::value::Value;
+use std::alloc::Global;
+use std::marker::Model;
+
+/// Values at locations from 0 on, and how many identities were drawn.
+#[derive(Drop)]
+pub(crate) struct Store {
+    values: Vec<Value>,
+    drawn: u64,
+}
+
+impl Model for Store {
+    ghost use Rattle.std.specs.Prelude.{map};
+    ghost use Rattle.cool_eval.specs.Values.{Stored, value_of};
+
+    ghost Value = { Stored };
+
+    ghost view = { λ s. record { values = map value_of s.values.items; drawn = s.drawn } };
+}
+
+impl Store {
+    /// Nothing is stored.
+    pub(crate) fn new(alloc: Global) -> Store
+        ensures values { result.values ≡ [] }
+        ensures drawn { result.drawn ≡ 0 }
+    {
+        Store {
+            values: Vec::new(alloc),
+            drawn: 0,
+        }
+    }
+
+    #[tactic(auto, using(crate::proofs::StoredValues::stored_length))]
+    /// How many locations there are: the next one.
+    pub(crate) fn len(&self) -> usize
+        ensures { result ≡ length self.now.values }
+    {
+        self.values.len()
+    }
+
+    #[tactic(auto, using(crate::proofs::StoredValues::stored_more))]
+    /// A new location with a value.
+    pub(crate) fn locate(&mut self, value: Value) -> Result<(), Ending>
+        ensures values { OnOk result (self.new.values ≡ self.old.values ++ value_of value ∷ []) }
+        ensures memory { IfErr result (λ e. e ≡ Ending.Memory) }
+        ensures drawn { self.new.drawn ≡ self.old.drawn }
+    {
+        match self.values.push(value) {
+            Ok(()) => Ok(()),
+            Err(_) => Err(Ending::Memory),
+        }
+    }
+
+    /// The value at a location.
+    pub(crate) fn load(&self, location: usize) -> Result<Value, Ending>
+        ensures loaded { IsLoaded self.now.values location result }
+        ensures inner { IfErr result IsInner }
+    
+    {
+        match self.values.get(location) {
+            Some(value) => Ok(value.copy()?),
+            None => Err(Ending::Stuck),
+        }
+    }
+
+    /// A new value at a location; nothing where there is no such location.
+    pub(crate) fn store(&mut self, location: usize, value: Value)
+        ensures drawn { self.new.drawn ≡ self.old.drawn }
+    {
+        if location < self.values.len() {
+            self.values[location] = value;
+        }
+    }
+
+    /// A new identity.
+    pub(crate) fn draw(&mut self) -> Result<u64, Ending>
+        ensures drawn { IfOk result (λ i. (i ≡ self.old.drawn) × (self.new.drawn ≡ self.old.drawn + 1)) }
+        ensures memory { IfErr result (λ e. e ≡ Ending.Memory) }
+        ensures values { self.new.values ≡ self.old.values }
+    {
+        let identity = self.drawn;
+        match identity.checked_add(1) {
+            Some(next) => {
+                self.drawn = next;
+                Ok(identity)
+            }
+            None => Err(Ending::Memory),
+        }
+    }
+}
