@@ -3,3 +3,5 @@ pub mod Counts
 pub mod Machine
 pub mod Values
 pub mod Views
+pub mod Devices
+pub mod Ends
