@@ -3,3 +3,5 @@ pub mod RunsMean
 pub mod Stacks
 pub mod StepsMean
 pub mod StoredValues
+pub mod TakingLines
+pub mod WrappedDigits

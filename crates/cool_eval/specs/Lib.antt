@@ -5,3 +5,4 @@ pub mod Values
 pub mod Views
 pub mod Devices
 pub mod Ends
+pub mod Methods

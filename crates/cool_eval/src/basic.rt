@@ -6,19 +6,18 @@ ghost use Rattle.cool_eval.specs.Counts.{Counted, IsInner};
 ghost use Rattle.cool_meaning.specs.Values.{Str};
 ghost use Rattle.cool_eval.specs.Values.{value_of};
 
+use crate::console::{print, take_line};
 use crate::ending::{Ending, RunError};
 use crate::numbers::number;
+use crate::numeral::number_of;
 use crate::scene::Setting;
 use crate::store::Store;
 use crate::value::{Object, Value};
 use cool_classes::BasicMethod;
-use cool_ports::{Sink, Source, put_pieces};
+use cool_ports::{Sink, Source};
 use cool_syntax::Place;
 use std::alloc::Global;
 use std::rc::Rc;
-
-/// How many bytes a piece of output has at most.
-pub(crate) const PIECE: usize = 64;
 
 /// A new string.
 pub(crate) fn string(alloc: Global, bytes: Vec<u8>) -> Result<Value, Ending>
@@ -39,77 +38,6 @@ fn bytes_of(value: &Value) -> Result<&[u8], Ending>
         Value::Str(bytes) => Ok(bytes.as_slice()),
         _ => Err(Ending::Stuck),
     }
-}
-
-/// Puts bytes in pieces.
-pub(crate) fn print<K: Sink>(sink: &mut K, bytes: &[u8]) -> Result<(), Ending>
-    ensures no_fault { OnOk result (K.faults sink.new ≡ K.faults sink.old) }
-    ensures failed { OnErr result (Rose (K.faults sink.old) (K.faults sink.new)) }
-    ensures fault { IfErr result (λ e. e ≡ Ending.WriteFault) }
-{
-    match put_pieces(sink, bytes, PIECE) {
-        Ok(()) => Ok(()),
-        Err(_) => Err(Ending::WriteFault),
-    }
-}
-
-/// Takes a line without its newline and without bytes 0.
-fn take_line<S: Source>(
-    alloc: Global,
-    ended: &mut bool,
-    source: &mut S,
-) -> Result<Vec<u8>, Ending>
-    ensures counts { Counted result (S.faults source.old) (S.faults source.new) 0 0 }
-{
-    let mut line = Vec::new(alloc);
-    for _ in 0..u64::MAX {
-        if *ended {
-            return Ok(line);
-        }
-        match source.take() {
-            Err(_) => return Err(Ending::ReadFault),
-            Ok(None) => *ended = true,
-            Ok(Some(b'\n')) => return Ok(line),
-            Ok(Some(0)) => {}
-            Ok(Some(byte)) => {
-                if line.push(byte).is_err() {
-                    return Err(Ending::Memory);
-                }
-            }
-        }
-    }
-    Err(Ending::Memory)
-}
-
-/// The number at the front of a line, of which the low 32 bits count.
-fn number_of(line: &[u8]) -> i32 {
-    let mut begun = false;
-    let mut over = false;
-    let mut negative = false;
-    let mut number: u32 = 0;
-    for byte in line {
-        match *byte {
-            b' ' | b'\t' if !begun => {}
-            b'-' if !begun => {
-                begun = true;
-                negative = true;
-            }
-            b'0'..=b'9' if !over => {
-                begun = true;
-                number = number
-                    .wrapping_mul(10)
-                    .wrapping_add(u32::from(*byte - b'0'));
-            }
-            _ => {
-                begun = true;
-                over = true;
-            }
-        }
-    }
-    if negative {
-        number = number.wrapping_neg();
-    }
-    number.cast_signed()
 }
 
 /// A copy of an object, with locations of its own.

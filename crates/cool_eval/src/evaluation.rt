@@ -2,7 +2,7 @@
 
 ghost use Rattle.cool_eval.specs.Counts.{Counted, CountedEnd, CountedFinish};
 
-use crate::basic::print;
+use crate::console::print;
 use crate::ending::{Ending, RunError};
 use crate::frame::{Focus, Frame};
 use crate::machine::{Machine, step};

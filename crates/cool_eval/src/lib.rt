@@ -5,11 +5,13 @@
 #![tactic(auto)]
 
 mod basic;
+mod console;
 mod ending;
 mod evaluation;
 mod frame;
 mod machine;
 mod numbers;
+mod numeral;
 mod part;
 mod scene;
 mod store;
