@@ -1,4 +1,6 @@
+pub mod Growth
 pub mod LocalsAtEnd
+pub mod RunSoFar
 pub mod RunsMean
 pub mod Stacks
 pub mod StepsMean

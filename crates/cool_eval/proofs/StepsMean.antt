@@ -22,27 +22,27 @@ use Rattle.cool_meaning.proofs.LevelsAgree.{Agree, Fewer, call_is, eval_agrees, 
 use Rattle.cool_eval.specs.Machine.{Frame, AssignTo, Choose, Turn, Again, Items, Bind, Pick, Fill, Argument, Receiver, TestVoid, Invert, Negate, Operand, Operate, Compared, CompareTo, Focus, Begin, Return, Start, Next, Continue, Halt, after, begin_args, begin_body, begin_method, begin_call, class_called, call_class, begin_object, begin_new, start_value, start_values, choose, turn, next_item, bind, begin_let, Taken, branch_named, first_branch, nearest_branch, take_named, pick, inverted, negated, operated, returned, begun, step}
 
 module _ (p : List Class) (a : ℕ) where
-  abbrev calls : Calls
+  abbrev pub calls : Calls
   calls = calls_within p a
 
-  abbrev does : Value → Environment → Tree → Computation Value
+  abbrev pub does : Value → Environment → Tree → Computation Value
   does self env t = eval p calls self env t
 
   -- a call of a method on a receiver
-  abbrev call_on : Place → Option (List ℕ) → List ℕ → Value → List Value → Computation Value
+  abbrev pub call_on : Place → Option (List ℕ) → List ℕ → Value → List Value → Computation Value
   call_on at None name v vs = class_or (DispatchVoid at) v >>= λ c. dispatch p calls at c name v vs
   call_on at (Some class) name v vs = class_or (DispatchVoid at) v >>= λ d. given (class_named p class) >>= λ c. dispatch p calls at c name v vs
 
   -- the rest of a call, with so many arguments given
-  abbrev rest_of_call : Value → Environment → List Value → Trees → Place → Tree → Option (List ℕ) → List ℕ → Computation Value
+  abbrev pub rest_of_call : Value → Environment → List Value → Trees → Place → Tree → Option (List ℕ) → List ℕ → Computation Value
   rest_of_call self env given es at t class name =
       eval_all p calls self env es >>= λ vs. holding (length vs) (does self env t >>= λ v. call_on at class name v (given ++ vs))
 
   -- a turn of a loop, by the value of its test
-  abbrev turn_of : Value → Environment → Tree → Tree → Value → Computation Value
+  abbrev pub turn_of : Value → Environment → Tree → Tree → Value → Computation Value
   turn_of self env test body v = as_truth v >>= λ b. if b then spend (working 1 (does self env body >> loop (does self env test) (does self env body))) else give Void
 
-  abbrev after_frame : Frame → Value → Computation Value
+  abbrev pub after_frame : Frame → Value → Computation Value
   after_frame (AssignTo env name) v = assign env name v
   after_frame (Choose self env first second) v = as_truth v >>= λ b. if b then does self env first else does self env second
   after_frame (Turn self env test body) v = turn_of self env test body v
@@ -61,11 +61,11 @@ module _ (p : List Class) (a : ℕ) where
   after_frame (Compared self env op e) v = does self env e >>= λ w. compare op v w
   after_frame (CompareTo op v) w = compare op v w
 
-  abbrev resume : List Frame → Value → Computation Value
+  abbrev pub resume : List Frame → Value → Computation Value
   resume [] v = give v
   resume (f ∷ fs) v = after_frame f v >>= resume fs
 
-  abbrev focus_means : Focus → Computation Value
+  abbrev pub focus_means : Focus → Computation Value
   focus_means (Begin self env t) = does self env t
   focus_means (Return v) = give v
   focus_means (Start self rs ls) = run_initials p calls self rs ls
@@ -364,7 +364,7 @@ module _ (p : List Class) (a : ℕ) where
 
   -- Cases
 
-  abbrev branch_does : Value → Environment → Option Taken → Option Branch
+  abbrev pub branch_does : Value → Environment → Option Taken → Option Branch
   branch_does self env None = None
   branch_does self env (Some b) = Some (λ v. locate v >>= λ l. does self (record { name = b.name; location = l } ∷ env) b.body)
 
@@ -382,7 +382,7 @@ module _ (p : List Class) (a : ℕ) where
   first_does self env None y = refl
   first_does self env (Some b) y = refl
 
-  nearest_same : (self : Value) (env : Environment) (cs : Cases) (ds : List ClassId) → nearest p (branch_of p calls self env cs) ds ≡ branch_does self env (nearest_branch p cs ds)
+  pub nearest_same : (self : Value) (env : Environment) (cs : Cases) (ds : List ClassId) → nearest p (branch_of p calls self env cs) ds ≡ branch_does self env (nearest_branch p cs ds)
   nearest_same self env cs [] = refl
   nearest_same self env cs (c ∷ ds) =
       ap (λ (x : Option Branch). or_else x (nearest p (branch_of p calls self env cs) ds)) (branch_same self env cs (name_of p c))

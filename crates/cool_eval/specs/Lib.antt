@@ -1,8 +1,9 @@
 pub mod Configurations
 pub mod Counts
-pub mod Machine
-pub mod Values
-pub mod Views
 pub mod Devices
 pub mod Ends
+pub mod Machine
 pub mod Methods
+pub mod Running
+pub mod Values
+pub mod Views
