@@ -38,12 +38,7 @@ pub(crate) fn negate(at: Place, value: &Value) -> Result<Value, Ending>
 }
 
 /// An operation on two numbers.
-pub(crate) fn operate(
-    op: ArithOp,
-    at: Place,
-    left: &Value,
-    right: &Value,
-) -> Result<Value, Ending>
+pub(crate) fn operate(op: ArithOp, at: Place, left: &Value, right: &Value) -> Result<Value, Ending>
     ensures inner { IfErr result IsInner }
 {
     let left = number(left)?;

@@ -42,9 +42,7 @@ fn digits_of(text: &[u8]) -> u32
         if byte < b'0' || b'9' < byte {
             return number;
         }
-        number = number
-            .wrapping_mul(10)
-            .wrapping_add(u32::from(byte - b'0'));
+        number = number.wrapping_mul(10).wrapping_add(u32::from(byte - b'0'));
     }
     number
 }

@@ -63,7 +63,6 @@ impl Store {
     pub(crate) fn load(&self, location: usize) -> Result<Value, Ending>
         ensures loaded { IsLoaded self.now.values location result }
         ensures inner { IfErr result IsInner }
-    
     {
         match self.values.get(location) {
             Some(value) => Ok(value.copy()?),
