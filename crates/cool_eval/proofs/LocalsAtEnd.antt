@@ -1,6 +1,6 @@
 -- Variables seen as an environment, the latest first.
-use Rattle.std.proofs.Common.{◌≡◌, List, [], ◌∷◌, ◌++◌, ap, sym, ◌∙◌, refl}
-use Rattle.cool_meaning.specs.Values.{Located, Environment}
+use Rattle.std.proofs.Common.{◌≡◌, List, [], ◌∷◌, ◌++◌, ap, refl}
+use Rattle.cool_meaning.specs.Values.{Environment}
 use Rattle.cool_eval.specs.declared.scene.Local.{Local}
 use Rattle.cool_eval.specs.Configurations.{located_at, locals_of}
 

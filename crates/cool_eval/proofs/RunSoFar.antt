@@ -27,7 +27,7 @@ use Rattle.cool_eval.proofs.RunsMean.{start_means}
 
 -- What sinks hold
 
-nothing_appended : (first : Option (List ℕ)) → first ≡ appended first []
+pub nothing_appended : (first : Option (List ℕ)) → first ≡ appended first []
 unfolding appended
 nothing_appended None = refl
 nothing_appended (Some bytes) = ap Some (sym (append-nil bytes))
@@ -91,7 +91,7 @@ pub record SoFar (p : List Class) (steps : ℕ) (first : Option (List ℕ)) (inp
 
 -- The last machine, the one at which a step was begun, and the step's answer.
 module _ (p : List Class) (steps : ℕ) (first : Option (List ℕ)) (input : List ℕ) (next : Next) (whole : means p steps next ≡ outcome_of p input steps) where
-  reached_on : (f : Focus) (m : Machine) (output rest : List ℕ) (held : Option (List ℕ)) → Reaches p (Ok f) m first output rest held next → SoFar p steps first input f m rest held
+  pub reached_on : (f : Focus) (m : Machine) (output rest : List ℕ) (held : Option (List ℕ)) → Reaches p (Ok f) m first output rest held next → SoFar p steps first input f m rest held
   reached_on f m output rest held (now, put, is) = record { now = now; put = put; same = ap (means p steps) (sym is) ∙ whole }
 
   ended_with : (o : Outcome values.Value) → next ≡ Halt o → outcome_of p input steps ≡ o
@@ -103,7 +103,7 @@ module _ (p : List Class) (steps : ℕ) (first : Option (List ℕ)) (input : Lis
       cut_within first held output rest c.state (outcome_of p input steps) c.cut
       (subst (λ (o : Outcome values.Value). After c.state o) (ap (means p steps) (sym c.is) ∙ whole) (means_later p steps c.focus c.frames c.state c.left))
 
-  reached_end : (e : Ending) (m : Machine) (s : State) (rest : List ℕ) (held : Option (List ℕ)) → After s (outcome_of p input steps) → Reaches p (Err e) m first s.output rest held next
+  pub reached_end : (e : Ending) (m : Machine) (s : State) (rest : List ℕ) (held : Option (List ℕ)) → After s (outcome_of p input steps) → Reaches p (Err e) m first s.output rest held next
       → Ended (outcome_of p input steps) first (Err e) rest held
   reached_end (ending.Error e) m s rest held later (now, put, is) = (state_of m rest now, ended_with (Stop (error_of e) (state_of m rest now)) is, (put, refl))
   reached_end ending.StepLimit m s rest held later (now, put, is) = (state_of m rest now, ended_with (On (state_of m rest now)) is, (put, refl))

@@ -1,5 +1,5 @@
 -- Frames seen with the latest first.
-use Rattle.std.proofs.Common.{◌≡◌, List, [], ◌∷◌, ◌++◌, ap, sym, ◌∙◌, refl}
+use Rattle.std.proofs.Common.{◌≡◌, List, [], ◌∷◌, ◌++◌, ap, refl}
 use Rattle.cool_classes.specs.Chains.{Class}
 use Rattle.cool_eval.specs.declared.frame.Frame.{Frame}
 use Rattle.cool_eval.specs.Configurations.{frame_of, stack_of}

@@ -1,5 +1,5 @@
 -- Each step of the machine keeps what it means: the rest of the evaluation.
-use Rattle.std.proofs.Common.{◌≡◌, ℕ, zero, suc, ◌+◌, ◌*◌, ◌<◌, ◌≤◌, max, pos, neg_ℤ, List, [], ◌∷◌, ◌++◌, length, Option, Some, None, Bool, true, false, not, ap, sym, ◌∙◌, refl, subst, arith, append_assoc, append-nil}
+use Rattle.std.proofs.Common.{◌≡◌, ℕ, zero, suc, ◌+◌, ◌*◌, ◌<◌, ◌≤◌, max, pos, List, [], ◌∷◌, ◌++◌, length, Option, Some, None, Bool, true, false, ap, sym, ◌∙◌, refl, arith, append_assoc, append-nil}
 use Rattle.std.specs.Prelude.{if◌then◌else◌, ◌==◌, bytes_eq, slice_set}
 use Rattle.cool_syntax.specs.declared.place.Place.{Place}
 use Rattle.cool_syntax.specs.declared.file_tree.MethodDef.{MethodDef}
@@ -14,11 +14,11 @@ use Rattle.cool_classes.specs.Features.{implementation}
 use Rattle.cool_classes.specs.ClimbedChains.{chain}
 use Rattle.cool_rules.specs.Rules.{class_named}
 use Rattle.cool_meaning.specs.Values.{Value, Void, Int, Bool as Truth, Str, Obj, State, Environment, default_of}
-use Rattle.cool_meaning.specs.Meters.{Outcome, Val, Stop, On, Stuck, Error, DispatchVoid, CaseVoid, Metered, Computation, free, join, seq_of, seq, ◌>>=◌, ◌>>◌, give, given, stuck, spend, rule, working, giving, holding, locate, store}
-use Rattle.cool_meaning.specs.Lookups.{class_made, method_at, attributes, default_values, init_of, located, formal_names, locations_of, environment_of}
-use Rattle.cool_meaning.specs.BasicMethods.{as_truth, as_number, basic, locate_all, draw, new_number, new_truth, new_string}
-use Rattle.cool_meaning.specs.Evaluation.{Call, Body, Initials, Calls, Branch, class_or, value_named, assign, exact, arithmetic, compare, is_void, loop, or_else, nearest, take_branch, branch_of, branch_count, make, new_object, invoke, dispatch, run_method, run_initial, run_initials, eval, eval_all, eval_items, eval_init, run_call, calls_within}
-use Rattle.cool_meaning.proofs.LevelsAgree.{Agree, Fewer, call_is, eval_agrees, loop_is}
+use Rattle.cool_meaning.specs.Meters.{Outcome, Val, Stop, On, Stuck, Error, DispatchVoid, CaseVoid, Metered, Computation, join, seq_of, seq, ◌>>=◌, ◌>>◌, give, given, spend, rule, working, holding, locate, store}
+use Rattle.cool_meaning.specs.Lookups.{class_made, method_at, attributes, default_values, init_of, located, formal_names, environment_of}
+use Rattle.cool_meaning.specs.BasicMethods.{as_truth, basic, locate_all, draw, new_number, new_truth, new_string}
+use Rattle.cool_meaning.specs.Evaluation.{Body, Initials, Calls, Branch, class_or, value_named, assign, compare, is_void, loop, or_else, nearest, take_branch, branch_of, branch_count, make, new_object, invoke, dispatch, run_method, run_initial, run_initials, eval, eval_all, eval_items, eval_init, calls_within}
+use Rattle.cool_meaning.proofs.LevelsAgree.{Fewer, call_is, eval_agrees, loop_is}
 use Rattle.cool_eval.specs.Machine.{Frame, AssignTo, Choose, Turn, Again, Items, Bind, Pick, Fill, Argument, Receiver, TestVoid, Invert, Negate, Operand, Operate, Compared, CompareTo, Focus, Begin, Return, Start, Next, Continue, Halt, after, begin_args, begin_body, begin_method, begin_call, class_called, call_class, begin_object, begin_new, start_value, start_values, choose, turn, next_item, bind, begin_let, Taken, branch_named, first_branch, nearest_branch, take_named, pick, inverted, negated, operated, returned, begun, step}
 
 module _ (p : List Class) (a : ℕ) where

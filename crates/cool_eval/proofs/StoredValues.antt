@@ -1,7 +1,7 @@
 -- Values of a store as a contract sees them.
-use Rattle.std.proofs.Common.{◌≡◌, ℕ, List, [], ◌∷◌, ◌++◌, length, map, Option, Some, None, ap, sym, ◌∙◌, refl}
-use Rattle.std.proofs.lemmas.List.{length-map, map-append}
-use Rattle.std.specs.Prelude.{slice_get, option_map}
+use Rattle.std.proofs.Common.{◌≡◌, ℕ, List, [], ◌∷◌, ◌++◌, length, map}
+use Rattle.std.proofs.lemmas.List.{length-map, map-append, map-set}
+use Rattle.std.specs.Prelude.{slice_set}
 use Rattle.cool_eval.specs.declared.value.Value.{Value}
 use Rattle.cool_eval.specs.Values.{value_of}
 
@@ -10,3 +10,7 @@ stored_length vs = length-map vs value_of
 
 pub stored_more : (vs : List Value) (v : Value) → map value_of (vs ++ v ∷ []) ≡ map value_of vs ++ value_of v ∷ []
 stored_more vs v = map-append value_of vs (v ∷ [])
+
+-- what is set is seen in its place
+pub stored_set : (vs : List Value) (l : ℕ) (v : Value) → map value_of (slice_set vs l v) ≡ slice_set (map value_of vs) l (value_of v)
+stored_set vs l v = map-set value_of vs l v

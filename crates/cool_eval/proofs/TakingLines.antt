@@ -2,7 +2,6 @@
 use Rattle.std.proofs.Common.{◌≡◌, ℕ, zero, suc, ◌<◌, Bool, true, false, List, [], ◌∷◌, ◌++◌, replicate, refl, sym, ◌∙◌, ap, append_assoc, append-nil, arith}
 use Rattle.std.specs.Prelude.{Option, Some, None, Ok, Err, ◌==◌}
 use Rattle.cool_ports.specs.declared.Failed.{Failed}
-use Rattle.cool_ports.specs.SourceBytes.{IsAtEnd}
 use Rattle.cool_ports.specs.Taking.{with_front, GaveByte}
 use Rattle.cool_meaning.specs.BasicMethods.{Line, line_of}
 

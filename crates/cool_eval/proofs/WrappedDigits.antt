@@ -1,11 +1,10 @@
 -- Digits that are read with the low 32 bits alone.
-use Rattle.std.proofs.Common.{◌≡◌, ℕ, ◌+◌, ◌-◌, ◌*◌, ◌%◌, ◌<◌, ◌≤◌, Bool, true, false, List, [], ◌∷◌, length, get_or, drop, refl, sym, ◌∙◌, ap, w32, ℤ, pos, negsuc, arith}
-use Rattle.std.specs.Int.{cast_signed}
+use Rattle.std.proofs.Common.{◌≡◌, ℕ, ◌+◌, ◌-◌, ◌*◌, ◌%◌, ◌<◌, ◌≤◌, Bool, true, false, List, [], ◌∷◌, length, get_or, drop, refl, sym, ◌∙◌, ap, arith}
 use Rattle.std.proofs.Math.Nat.{mod-add-mod}
 use Rattle.std.proofs.lemmas.Nat.{mul-mod_second}
 use Rattle.std.proofs.lemmas.List.{at_drop_more}
 use Rattle.std.proofs.lemmas.Bool.Decides.{nat_tests}
-use Rattle.cool_meaning.specs.Numbers.{signed, negated, digits_from, is_digit}
+use Rattle.cool_meaning.specs.Numbers.{digits_from, is_digit}
 
 -- one more digit keeps the low bits the same
 digit_same : (n m d : ℕ) → n % 4294967296 ≡ m % 4294967296 → (10 * n + d) % 4294967296 ≡ (10 * m + d) % 4294967296
@@ -39,7 +38,3 @@ digit_read text k n d whole within above below is so_far =
     digits_same (drop (k + 1) text) _ (10 * n + (b - 48)) (low_bits n d b is)
     ∙ ap (λ m. m % 4294967296) (sym (at_drop_more (digits_from n) text k 0 within ∙ step))
     ∙ so_far
-
--- the signed number of the low bits
-pub signed_low : (a n : ℕ) → a ≡ n % 4294967296 → cast_signed w32 a ≡ signed n
-signed_low a n is = grind arith

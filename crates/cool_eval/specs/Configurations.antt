@@ -1,17 +1,15 @@
 -- What the interpreter holds, as a configuration of the machine that evaluates with frames.
-use Rattle.std.specs.Prelude.{◌≡◌, ℕ, ℤ, slice_get, ◌+◌, List, [], ◌∷◌, ◌++◌, length, map, Option, Some, None, Result, Ok, Err}
+use Rattle.std.specs.Prelude.{◌≡◌, ℕ, ℤ, slice_get, ◌+◌, List, [], ◌∷◌, ◌++◌, length, map, Contains, Option, Some, None, Result, Ok, Err}
 use denote.Ref.{Bor}
-use Rattle.cool_syntax.specs.Tree.{Tree, of_list, of_twigs}
+use Rattle.cool_syntax.specs.Tree.{of_list, of_twigs}
 use Rattle.cool_classes.specs.Chains.{Class}
-use Rattle.cool_meaning.specs.Values.{State, Environment, Located}
+use Rattle.cool_meaning.specs.Values.{State, Environment, Located, location_of}
 use Rattle.cool_meaning.specs.Values as values
 use Rattle.cool_meaning.specs.Meters.{Outcome, Val, Stop, On, Stuck, Computation}
 use Rattle.cool_meaning.specs.Meters as meters
 use Rattle.std.proofs.Common.{Vec}
-use Rattle.cool_classes.specs.declared.class_id.ClassId.{ClassId}
-use Rattle.cool_classes.specs.declared.method.AttributeRef.{AttributeRef}
 use Rattle.cool_meaning.specs.BasicMethods.{as_number}
-use Rattle.cool_meaning.specs.Lookups.{environment_of, attributes}
+use Rattle.cool_meaning.specs.Lookups.{environment_of}
 use Rattle.cool_eval.specs.declared.value.Value.{Value}
 use Rattle.cool_eval.specs.declared.ending.RunError.{RunError}
 use Rattle.cool_eval.specs.declared.ending.RunError.TheVariants.{DispatchVoid, CaseVoid, NoBranch, DivisionByZero, Overflow, Substring, Aborted}
@@ -19,7 +17,6 @@ use Rattle.cool_eval.specs.declared.ending.Ending.{Ending}
 use Rattle.cool_eval.specs.declared.ending.Ending.TheVariants as ending
 use Rattle.cool_eval.specs.declared.scene.Local.{Local}
 use Rattle.cool_eval.specs.declared.scene.Scene.{Scene}
-use Rattle.cool_eval.specs.declared.store.Store.{Store}
 use Rattle.cool_eval.specs.declared.frame.Frame.{Frame}
 use Rattle.cool_eval.specs.declared.frame.Frame.TheVariants as held
 use Rattle.cool_eval.specs.declared.frame.Focus.{Focus}
@@ -110,6 +107,16 @@ Does (Err ending.StepLimit) d s n = ⊥
 Does (Err ending.ReadFault) d s n = ⊥
 Does (Err ending.WriteFault) d s n = ⊥
 
+-- A value with the machine after it, that leaves input and output, or its error: where there was memory, it is this outcome.
+abbrev pub Keeps : Result Value Ending → Machine → List ℕ → List ℕ → Outcome values.Value → Type 0
+Keeps (Ok v) m input output o = o ≡ Val (value_of v) (state_of m input output) m.left
+Keeps (Err (ending.Error e)) m input output o = o ≡ Stop (error_of e) (state_of m input output)
+Keeps (Err ending.Stuck) m input output o = o ≡ Stuck
+Keeps (Err ending.Memory) m input output o = Unit {0}
+Keeps (Err ending.StepLimit) m input output o = ⊥
+Keeps (Err ending.ReadFault) m input output o = ⊥
+Keeps (Err ending.WriteFault) m input output o = ⊥
+
 -- whatever the state
 abbrev pub Gives : Result Value Ending → Computation values.Value → Type 0
 Gives r d = (s : State) (n : ℕ) → Does r d s n
@@ -134,11 +141,27 @@ IsLoaded vs l (Err ending.StepLimit) = ⊥
 IsLoaded vs l (Err ending.ReadFault) = ⊥
 IsLoaded vs l (Err ending.WriteFault) = ⊥
 
+-- the location of a name
+abbrev pub IsLocation : Environment → List ℕ → Result ℕ Ending → Type 0
+IsLocation env name (Ok l) = location_of env name ≡ Some l
+IsLocation env name (Err ending.Stuck) = location_of env name ≡ None
+IsLocation env name (Err ending.Memory) = Unit {0}
+IsLocation env name (Err (ending.Error e)) = ⊥
+IsLocation env name (Err ending.StepLimit) = ⊥
+IsLocation env name (Err ending.ReadFault) = ⊥
+IsLocation env name (Err ending.WriteFault) = ⊥
+
+-- the values at locations, in order
+abbrev pub AreLoaded : {A : Type 0} → List values.Value → List ℕ → Result (Vec Value A) Ending → Type 0
+AreLoaded {A = A} vs ls (Ok found) = map (slice_get vs) ls ≡ map (λ v. Some (value_of v)) found.items
+AreLoaded {A = A} vs ls (Err ending.Stuck) = Contains (map (slice_get vs) ls) None
+AreLoaded {A = A} vs ls (Err ending.Memory) = Unit {0}
+AreLoaded {A = A} vs ls (Err (ending.Error e)) = ⊥
+AreLoaded {A = A} vs ls (Err ending.StepLimit) = ⊥
+AreLoaded {A = A} vs ls (Err ending.ReadFault) = ⊥
+AreLoaded {A = A} vs ls (Err ending.WriteFault) = ⊥
+
 -- no call waits
 abbrev pub IsQuiet : Frame → Type 0
 IsQuiet (held.Receiver at class name given) = ⊥
 IsQuiet _ = Unit {0}
-
--- the attributes of each class
-abbrev pub AreLayouts : {A : Type 0} → List Class → List (Vec AttributeRef A) → Type 0
-AreLayouts {A = A} p layouts = (length layouts ≡ length p) × ((c : ClassId) (v : Vec AttributeRef A) → slice_get layouts c.0 ≡ Some v → v.items ≡ attributes p c)

@@ -14,7 +14,7 @@ NoneRose source source' sink sink' = (source' ≡ source) × (sink' ≡ sink)
 abbrev pub Counted : {A : Type 0} → Result A Ending → ℕ → ℕ → ℕ → ℕ → Type 0
 Counted (Ok x) source source' sink sink' = NoneRose source source' sink sink'
 Counted (Err ending.ReadFault) source source' sink sink' = Rose source source' × (sink' ≡ sink)
-Counted (Err ending.WriteFault) source source' sink sink' = Rose sink sink'
+Counted (Err ending.WriteFault) source source' sink sink' = (source' ≡ source) × Rose sink sink'
 Counted (Err (ending.Error e)) source source' sink sink' = NoneRose source source' sink sink'
 Counted (Err ending.StepLimit) source source' sink sink' = NoneRose source source' sink sink'
 Counted (Err ending.Memory) source source' sink sink' = NoneRose source source' sink sink'
@@ -23,7 +23,7 @@ Counted (Err ending.Stuck) source source' sink sink' = NoneRose source source' s
 -- the same of a whole run
 abbrev pub CountedEnd : EvalEnd → ℕ → ℕ → ℕ → ℕ → Type 0
 CountedEnd ReadFault source source' sink sink' = Rose source source' × (sink' ≡ sink)
-CountedEnd WriteFault source source' sink sink' = Rose sink sink'
+CountedEnd WriteFault source source' sink sink' = (source' ≡ source) × Rose sink sink'
 CountedEnd Done source source' sink sink' = NoneRose source source' sink sink'
 CountedEnd Error source source' sink sink' = NoneRose source source' sink sink'
 CountedEnd StepLimit source source' sink sink' = NoneRose source source' sink sink'

@@ -1,5 +1,6 @@
 -- What steps over a source and a sink answer, for an input that the source may have had and a rest of it that is left.
-use Rattle.std.specs.Prelude.{◌≡◌, ℕ, List, ◌++◌, Option, Result, Ok, Err}
+use Rattle.std.specs.Prelude.{◌≡◌, ℕ, Bool, true, List, [], ◌++◌, Option, Result, Ok, Err}
+use Rattle.cool_ports.specs.Answers.{Past, Leaves}
 use Rattle.cool_ports.specs.SinkBytes.{appended, GotPrefix}
 use Rattle.cool_classes.specs.Chains.{Class}
 use Rattle.cool_meaning.specs.Values as values
@@ -19,6 +20,13 @@ use Rattle.cool_eval.specs.Machine.{Next, Continue, Halt}
 -- the state of a store, an input and an output
 abbrev pub state_at : Store → List ℕ → List ℕ → State
 state_at store input output = record { store = store.values; input = input; output = output; drawn = store.drawn }
+
+-- So it is for each input that the source may have had, of which a rest is left, and for each output that was put before to a sink that held
+-- `first`. `ended` says whether the source answered its end before.
+abbrev pub OnDevices : Bool → Past → Past → Option (List ℕ) → ((first : Option (List ℕ)) (output input rest : List ℕ) → Type 0) → Type 0
+OnDevices ended past past' held holds =
+    (first : Option (List ℕ)) (output input rest : List ℕ) → held ≡ appended first output → Leaves past past' input rest → (ended ≡ true → input ≡ [])
+    → holds first output input rest
 
 -- A read or a write failed on the way to a state: of what is printed there a prefix was put, and of the input that is left there at least
 -- that is left. `output` was put before, to a sink that held `first`.

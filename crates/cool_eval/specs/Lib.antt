@@ -2,8 +2,10 @@ pub mod Configurations
 pub mod Counts
 pub mod Devices
 pub mod Ends
+pub mod Groups
 pub mod Machine
 pub mod Methods
+pub mod Ready
 pub mod Running
 pub mod Values
 pub mod Views

@@ -1,17 +1,19 @@
 -- What the parts of the methods of the basic classes answer.
-use Rattle.std.specs.Prelude.{◌≡◌, ℕ, List, [], ◌∷◌, ◌++◌, Option, Result, Ok, Err}
+use Rattle.std.specs.Prelude.{◌≡◌, ℕ, Bool, List, [], ◌∷◌, ◌++◌, Option, Result, Ok, Err}
 use denote.Ref.{Bor}
 use Rattle.std.proofs.Common.{Vec}
-use Rattle.cool_ports.specs.SinkBytes.{appended, GotPrefix}
+use Rattle.cool_ports.specs.Answers.{Past}
+use Rattle.cool_ports.specs.SinkBytes.{appended}
 use Rattle.cool_meaning.specs.Values as values
-use Rattle.cool_meaning.specs.Meters.{Outcome, Val, Stuck}
+use Rattle.cool_meaning.specs.Meters.{Outcome, Computation, Val, Stop, Stuck}
 use Rattle.cool_meaning.specs.BasicMethods.{as_string, one, two, line_of}
 use Rattle.cool_eval.specs.declared.value.Value.{Value}
 use Rattle.cool_eval.specs.declared.ending.Ending.{Ending}
 use Rattle.cool_eval.specs.declared.ending.Ending.TheVariants as ending
 use Rattle.cool_eval.specs.declared.store.Store.{Store}
 use Rattle.cool_eval.specs.Values.{value_of}
-use Rattle.cool_eval.specs.Devices.{state_at}
+use Rattle.cool_eval.specs.Configurations.{error_of}
+use Rattle.cool_eval.specs.Devices.{Acts, OnDevices, state_at}
 
 -- the bytes of a value that is a string
 abbrev pub IsStringOf : Result (Bor (List ℕ)) Ending → values.Value → Type 0
@@ -53,12 +55,22 @@ TookLine (Err ending.Stuck) input rest = ⊥
 TookLine (Err ending.StepLimit) input rest = ⊥
 TookLine (Err ending.WriteFault) input rest = ⊥
 
--- A value with a changed store, that takes no step and leaves input and output: where there was memory, it is this outcome.
+-- A value with a changed store, that takes no step and leaves input and output, or its error: where there was memory, it is this outcome.
 abbrev pub Makes : Result Value Ending → Store → List ℕ → List ℕ → ℕ → Outcome values.Value → Type 0
 Makes (Ok v) store input output n o = o ≡ Val (value_of v) (state_at store input output) n
+Makes (Err (ending.Error e)) store input output n o = o ≡ Stop (error_of e) (state_at store input output)
 Makes (Err ending.Stuck) store input output n o = o ≡ Stuck
 Makes (Err ending.Memory) store input output n o = Unit {0}
-Makes (Err (ending.Error e)) store input output n o = ⊥
 Makes (Err ending.StepLimit) store input output n o = ⊥
 Makes (Err ending.ReadFault) store input output n o = ⊥
 Makes (Err ending.WriteFault) store input output n o = ⊥
+
+-- What a method that leaves source and store does to a sink: whatever the state, this computation.
+abbrev pub ActsOnSink : Result Value Ending → Option (List ℕ) → Option (List ℕ) → Computation values.Value → Type 0
+ActsOnSink r held held' d =
+    (store : Store) (first : Option (List ℕ)) (output input : List ℕ) (n : ℕ) → held ≡ appended first output → Acts r store first output input held' n (d (state_at store input output) n).outcome
+
+-- What a method that leaves sink and store does to a source.
+abbrev pub ActsOnSource : Result Value Ending → Bool → Past → Past → Computation values.Value → Type 0
+ActsOnSource r ended past past' d =
+    (store : Store) (held : Option (List ℕ)) → OnDevices ended past past' held (λ first output input rest. (n : ℕ) → Acts r store first output rest held n (d (state_at store input output) n).outcome)

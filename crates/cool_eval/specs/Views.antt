@@ -4,6 +4,9 @@ use Rattle.cool_syntax.specs.Tree.{Tree, of_list, of_option, of_twigs}
 use Rattle.cool_syntax.specs.Tree as trees
 use Rattle.cool_eval.specs.declared.part.Form.{Form}
 use Rattle.cool_eval.specs.declared.part.Form.TheVariants as form
+use Rattle.cool_syntax.specs.declared.file_tree.AttributeDef.{AttributeDef}
+use Rattle.cool_syntax.specs.declared.file_tree.Feature.{Feature}
+use Rattle.cool_syntax.specs.declared.file_tree.Feature.TheVariants.{Method, Attribute}
 use denote.Ref.{Bor}
 use Rattle.cool_eval.specs.Machine.{Taken}
 
@@ -37,3 +40,9 @@ IsFirst xs (Some (x, rest)) = xs ≡ x ∷ rest
 abbrev pub taken_of : Option (Bor (List ℕ) × Tree) → Option Taken
 taken_of None = None
 taken_of (Some (name, t)) = Some (record { name = name.now; body = t })
+
+-- the attribute that a feature is, if it is one
+abbrev pub attribute_in : Option Feature → Option AttributeDef
+attribute_in None = None
+attribute_in (Some (Method m)) = None
+attribute_in (Some (Attribute a)) = Some a

@@ -1,17 +1,25 @@
 //! The run of a program.
 
-ghost use Rattle.cool_eval.specs.Counts.{Counted, CountedEnd, CountedFinish};
+ghost use Rattle.std.specs.Prelude.{◌≡◌, ℕ, Bool, false, List, IfOk, codes, map, string_bytes};
+ghost use Rattle.cool_ports.specs.Answers.{Leaves};
+ghost use Rattle.cool_ports.specs.Taking.{Took};
+ghost use Rattle.cool_classes.specs.Tables.{IsWholeTable};
+ghost use Rattle.cool_meaning.specs.SourceRun as runs;
+ghost use Rattle.cool_eval.specs.Counts.{Counted, CountedEnd};
+ghost use Rattle.cool_eval.specs.Ends.{Evaluates};
+ghost use Rattle.cool_eval.specs.Ready.{AreLayouts, IsReady};
+ghost use Rattle.cool_eval.specs.Running.{outcome_of, Ended};
 
-use crate::console::print;
-use crate::ending::{Ending, RunError};
-use crate::frame::{Focus, Frame};
-use crate::machine::{Machine, step};
+use crate::ending::Ending;
+use crate::machine::Machine;
+use crate::report::finish;
 use crate::scene::Setting;
+use crate::step::{first, step};
 use crate::store::Store;
 use cool_classes::{AttributeRef, ClassId, ClassTable};
 use cool_ports::{Sink, Source};
 use cool_rules::TypedProgram;
-use cool_syntax::{Name, Place};
+use cool_syntax::Name;
 use std::alloc::{AllocError, Global};
 
 /// How a run ends.
@@ -31,7 +39,11 @@ pub enum EvalEnd {
     Memory,
 }
 
-/// Runs a program, whose files have these names, with so many steps at most.
+/// Runs a program, whose files have these names, with so many steps at most (the Cool manual, section 13), and writes its output and how it
+/// ended: the line for a good end, or that of a run-time error.
+///
+/// `ReadFault` and `WriteFault` come at the first take or put that fails, and `Memory` where memory runs out; then a front of the output
+/// was put.
 pub fn evaluate<S: Source, K: Sink>(
     alloc: Global,
     program: &TypedProgram,
@@ -40,6 +52,9 @@ pub fn evaluate<S: Source, K: Sink>(
     source: &mut S,
     sink: &mut K,
 ) -> EvalEnd
+    ensures took { (ended : Bool) × Took false ended (S.past source.old) (S.past source.new) (S.left source.old) (S.left source.new) }
+    ensures ends { (input rest : List ℕ) → Leaves (S.past source.old) (S.past source.new) input rest
+        → Evaluates (runs.run program.now (map string_bytes names.now) input steps) (K.held sink.old) result rest (K.held sink.new) }
     ensures counts { CountedEnd result (S.faults source.old) (S.faults source.new) (K.faults sink.old) (K.faults sink.new) }
 {
     let table = program.table();
@@ -62,7 +77,9 @@ pub fn evaluate<S: Source, K: Sink>(
 }
 
 /// The attributes of all classes.
-fn layouts(alloc: Global, table: &ClassTable) -> Result<Vec<Vec<AttributeRef>>, AllocError> {
+fn layouts(alloc: Global, table: &ClassTable) -> Result<Vec<Vec<AttributeRef>>, AllocError>
+    ensures { IfOk result (λ found. AreLayouts table.now found.items) }
+{
     let mut layouts = Vec::new(alloc);
     for class in 0..table.count() {
         layouts.push(table.attributes(alloc, ClassId(class))?)?;
@@ -79,6 +96,12 @@ fn run<'a, S: Source, K: Sink>(
     source: &mut S,
     sink: &mut K,
 ) -> Result<(), Ending>
+    requires ready { IsReady setting.now.table.now setting.now.layouts.now }
+    requires main { main.now ≡ codes "Main" }
+    requires method { method.now ≡ codes "main" }
+    ensures took { (ended : Bool) × Took false ended (S.past source.old) (S.past source.new) (S.left source.old) (S.left source.new) }
+    ensures ends { (input rest : List ℕ) → Leaves (S.past source.old) (S.past source.new) input rest
+        → Ended (outcome_of setting.now.table.now input steps) (K.held sink.old) result rest (K.held sink.new) }
     ensures counts { Counted result (S.faults source.old) (S.faults source.new) (K.faults sink.old) (K.faults sink.new) }
 {
     let alloc = setting.alloc;
@@ -88,7 +111,7 @@ fn run<'a, S: Source, K: Sink>(
         left: steps,
         ended: false,
     };
-    let mut focus = crate::machine::first(setting, &mut machine, main, method)?;
+    let mut focus = first(setting, &mut machine, main, method)?;
     for _ in 0..u64::MAX {
         match step(setting, &mut machine, focus, source, sink)? {
             Some(next) => focus = next,
@@ -96,76 +119,4 @@ fn run<'a, S: Source, K: Sink>(
         }
     }
     Err(Ending::Memory)
-}
-
-/// Writes how a run ended.
-fn finish<K: Sink>(
-    setting: &Setting<'_>,
-    names: &[String],
-    end: Result<(), Ending>,
-    sink: &mut K,
-) -> EvalEnd
-    ensures counts { CountedFinish end result (K.faults sink.old) (K.faults sink.new) }
-{
-    match end {
-        Ok(()) => match print(sink, b"COOL program successfully executed\n") {
-            Ok(()) => EvalEnd::Done,
-            Err(_) => EvalEnd::WriteFault,
-        },
-        Err(Ending::Error(error)) => {
-            let Ok(text) = error_text(setting, names, error) else {
-                return EvalEnd::Memory;
-            };
-            match print(sink, text.as_slice()) {
-                Ok(()) => EvalEnd::Error,
-                Err(_) => EvalEnd::WriteFault,
-            }
-        }
-        Err(Ending::StepLimit) => EvalEnd::StepLimit,
-        Err(Ending::ReadFault) => EvalEnd::ReadFault,
-        Err(Ending::WriteFault) => EvalEnd::WriteFault,
-        Err(Ending::Memory) => EvalEnd::Memory,
-        Err(Ending::Stuck) => EvalEnd::Memory,
-    }
-}
-
-/// `F:L: text` and a newline.
-fn placed(alloc: Global, names: &[String], at: Place, text: &[u8]) -> Result<Vec<u8>, AllocError> {
-    let mut line = Vec::new(alloc);
-    if let Some(name) = names.get(at.file as usize) {
-        line.extend_from_slice(name.as_bytes())?;
-    }
-    let place = format!(in alloc; ":{}: ", at.line)?;
-    line.extend_from_slice(place.as_bytes())?;
-    line.extend_from_slice(text)?;
-    Ok(line)
-}
-
-/// The text of an error.
-fn error_text(
-    setting: &Setting<'_>,
-    names: &[String],
-    error: RunError,
-) -> Result<Vec<u8>, AllocError> {
-    let alloc = setting.alloc;
-    let mut line = match error {
-        RunError::DispatchVoid { at } => placed(alloc, names, at, b"Dispatch to void.")?,
-        RunError::CaseVoid { at } => placed(alloc, names, at, b"Case on void.")?,
-        RunError::NoBranch { at, class } => {
-            let mut line = placed(alloc, names, at, b"No matching branch for class ")?;
-            line.extend_from_slice(setting.class_name(class))?;
-            line.extend_from_slice(b".")?;
-            line
-        }
-        RunError::DivisionByZero { at } => placed(alloc, names, at, b"Division by zero.")?,
-        RunError::Overflow { at } => placed(alloc, names, at, b"Arithmetic overflow.")?,
-        RunError::Substring { at } => placed(alloc, names, at, b"Substring out of range.")?,
-        RunError::Aborted { class } => {
-            let mut line = Vec::from_slice(alloc, b"Abort called from class ")?;
-            line.extend_from_slice(setting.class_name(class))?;
-            line
-        }
-    };
-    line.push(b'\n')?;
-    Ok(line)
 }

@@ -5,15 +5,21 @@
 #![tactic(auto)]
 
 mod basic;
+mod call;
 mod console;
+mod control;
 mod ending;
 mod evaluation;
+mod expression;
 mod frame;
 mod machine;
 mod numbers;
 mod numeral;
+mod object;
 mod part;
+mod report;
 mod scene;
+mod step;
 mod store;
 mod value;
 

@@ -1,8 +1,10 @@
 //! Arithmetic and comparison.
 
-ghost use Rattle.std.specs.Prelude.{◌≡◌, IfErr};
+ghost use Rattle.std.specs.Prelude.{◌≡◌, ℤ, SomeIff, FitsSigned, IfErr};
+ghost use Rattle.std.specs.Int.{w64};
 ghost use Rattle.cool_eval.specs.Counts.{IsInner};
 ghost use Rattle.cool_meaning.specs.Evaluation as meaning;
+ghost use Rattle.cool_eval.specs.Machine.{negated, operated};
 ghost use Rattle.cool_eval.specs.Values.{value_of};
 ghost use Rattle.cool_eval.specs.Configurations.{Gives, IsNumberOf};
 
@@ -11,7 +13,7 @@ use crate::value::Value;
 use cool_syntax::{ArithOp, CompareOp, Place};
 
 /// The number that a value is.
-pub(crate) fn number(value: &Value) -> Result<i32, Ending>
+pub(crate) fn number(value: &Value) -> Result<i64, Ending>
     ensures { IsNumberOf result (value_of value.now) }
 {
     match value {
@@ -20,18 +22,20 @@ pub(crate) fn number(value: &Value) -> Result<i32, Ending>
     }
 }
 
-/// A result where it has 32 bits.
-fn exact(at: Place, found: Option<i32>) -> Result<Value, Ending>
+/// A result where it has 32 bits; one that is none has not even 64.
+fn exact(at: Place, found: Option<i64>) -> Result<Value, Ending>
+    ensures value { (z : ℤ) → SomeIff found (FitsSigned w64 z) z → Gives result (meaning.exact at z) }
     ensures inner { IfErr result IsInner }
 {
     match found {
-        Some(number) => Ok(Value::Int(number)),
-        None => Err(Ending::Error(RunError::Overflow { at })),
+        Some(number) if i32::try_from(number).is_ok() => Ok(Value::Int(number)),
+        _ => Err(Ending::Error(RunError::Overflow { at })),
     }
 }
 
 /// The negative of a number.
 pub(crate) fn negate(at: Place, value: &Value) -> Result<Value, Ending>
+    ensures value { Gives result (negated at (value_of value.now)) }
     ensures inner { IfErr result IsInner }
 {
     exact(at, number(value)?.checked_neg())
@@ -39,6 +43,7 @@ pub(crate) fn negate(at: Place, value: &Value) -> Result<Value, Ending>
 
 /// An operation on two numbers.
 pub(crate) fn operate(op: ArithOp, at: Place, left: &Value, right: &Value) -> Result<Value, Ending>
+    ensures value { Gives result (operated op at (value_of left.now) (value_of right.now)) }
     ensures inner { IfErr result IsInner }
 {
     let left = number(left)?;

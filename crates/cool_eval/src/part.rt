@@ -354,12 +354,12 @@ impl<'a> Parts<'a> {
 
 impl<'a> Twigs<'a> {
     /// The variable and the expression of the branch of a class's name, the first where several have it.
-    pub(crate) fn named(&self, class: &Name) -> Option<(&'a Name, Part<'a>)>
+    pub(crate) fn named(&self, class: &[u8]) -> Option<(&'a Name, Part<'a>)>
         ensures { taken_of result ≡ branch_named (of_twigs self.now) class.now }
     {
         let body = self.body;
         for branch in self.branches {
-            if branch.declared.name.as_slice() == class.as_slice() {
+            if branch.declared.name.as_slice() == class {
                 return Some((
                     &branch.name,
                     Part {

@@ -1,19 +1,24 @@
 //! Where an expression is evaluated: in a method of an object, with variables.
 
-ghost use Rattle.std.specs.Prelude.{◌≡◌, ◌∷◌, [], ◌++◌, ◌<◌, ℕ, List, IfOk, IfErr, IfSome, IfNone, length};
-ghost use Rattle.cool_classes.specs.Chains.{Class};
+ghost use Rattle.std.specs.Prelude.{◌≡◌, ◌∷◌, [], ◌++◌, IfOk, IfErr, map, option_map, slice_get};
+ghost use Rattle.std.specs.List.{AllByRecursion};
+ghost use Rattle.cool_classes.specs.Chains.{features_of, name_of};
 ghost use Rattle.cool_classes.specs.ClimbedChains.{chain};
+ghost use Rattle.cool_classes.specs.Features.{HasAttribute};
 ghost use Rattle.cool_syntax.specs.Tree.{of_twigs};
 ghost use Rattle.cool_meaning.specs.Values as values;
-ghost use Rattle.cool_meaning.specs.Lookups.{init_of};
-ghost use Rattle.cool_eval.specs.Values.{value_of};
+ghost use Rattle.cool_meaning.specs.Lookups.{attributes, default_values, environment_of, init_of};
+ghost use Rattle.cool_eval.specs.Values.{value_of, locations_from};
 ghost use Rattle.cool_eval.specs.Counts.{IsInner};
 ghost use Rattle.cool_eval.specs.Machine.{nearest_branch};
-ghost use Rattle.cool_eval.specs.Views.{taken_of};
-ghost use Rattle.cool_eval.specs.Configurations.{AreLayouts, env_of, located_at};
+ghost use Rattle.cool_eval.specs.Views.{attribute_in, taken_of};
+ghost use Rattle.cool_eval.specs.Configurations.{env_of, IsLocation};
+ghost use Rattle.cool_eval.specs.Ready.{IsReady};
 
 use crate::ending::Ending;
+use crate::machine::add;
 use crate::part::{Part, Twigs};
+use crate::store::next_location;
 use crate::value::{Object, Value};
 use cool_classes::{AttributeRef, BOOL, ClassId, ClassTable, INT, STRING};
 use cool_syntax::{AttributeDef, Body, Feature, Name};
@@ -43,10 +48,16 @@ pub(crate) struct Scene<'a> {
 }
 
 impl<'a> Setting<'a> {
-    /// The attributes of a class with those that it inherits.
-    pub(crate) fn attributes(&self, class: ClassId) -> Option<&'a [AttributeRef]> {
-        let layout = self.layouts.get(class.0 as usize)?;
-        Some(layout.as_slice())
+    /// The attributes of a class with those that it inherits; none where there is no such class.
+    pub(crate) fn attributes(&self, class: ClassId) -> &'a [AttributeRef]
+        requires ready { IsReady self.now.table.now self.now.layouts.now }
+        ensures attributes { result.now ≡ attributes self.now.table.now class }
+        ensures has { AllByRecursion (HasAttribute self.now.table.now) result.now }
+    {
+        match self.layouts.get(class.0 as usize) {
+            Some(layout) => layout.as_slice(),
+            None => &[],
+        }
     }
 
     /// The class of a value; void has none.
@@ -63,7 +74,9 @@ impl<'a> Setting<'a> {
     }
 
     /// The attribute of this place, if there is one.
-    fn attribute_at(&self, attribute: AttributeRef) -> Option<&'a AttributeDef> {
+    fn attribute_at(&self, attribute: AttributeRef) -> Option<&'a AttributeDef>
+        ensures { option_map (λ found. found.now) result ≡ attribute_in (slice_get (features_of self.now.table.now attribute.owner) attribute.index) }
+    {
         if attribute.owner.0 >= self.table.count() {
             return None;
         }
@@ -77,23 +90,30 @@ impl<'a> Setting<'a> {
         }
     }
 
-    /// The location of an attribute of an object.
-    fn attribute(&self, object: &Object, name: &Name) -> Option<usize> {
-        let attributes = self.attributes(object.class)?;
+    /// The location of an attribute of an object. `Stuck` comes where it has none of this name.
+    fn attribute(&self, object: &Object, name: &Name) -> Result<usize, Ending>
+        requires ready { IsReady self.now.table.now self.now.layouts.now }
+        ensures location { IsLocation (environment_of self.now.table.now (values.Obj object.now.class object.now.identity (locations_from object.now.first object.now.count))) name.now result }
+        ensures inner { IfErr result IsInner }
+    {
+        let attributes = self.attributes(object.class);
         let mut location = object.first;
-        for attribute in attributes {
-            if let Some(found) = self.attribute_at(*attribute) {
-                if found.name.as_slice() == name.as_slice() {
-                    return Some(location);
-                }
+        for index in 0..object.count {
+            let Some(attribute) = attributes.get(index) else {
+                return Err(Ending::Stuck);
+            };
+            if self.table.attribute_name(*attribute).as_slice() == name.as_slice() {
+                return Ok(location);
             }
-            location = location.saturating_add(1);
+            location = next_location(location)?;
         }
-        None
+        Err(Ending::Stuck)
     }
 
     /// The name of a class; no bytes where there is no such class.
-    pub(crate) fn class_name(&self, class: ClassId) -> &'a [u8] {
+    pub(crate) fn class_name(&self, class: ClassId) -> &'a [u8]
+        ensures { result.now ≡ name_of self.now.table.now class }
+    {
         if class.0 >= self.table.count() {
             return b"";
         }
@@ -123,52 +143,70 @@ impl<'a> Setting<'a> {
 }
 
 impl<'a> Setting<'a> {
-    /// What an attribute begins with, before its initial value.
-    pub(crate) fn attribute_default(&self, attribute: AttributeRef) -> Result<Value, Ending>
-        ensures inner { IfErr result IsInner }
+    /// What attributes begin with, before their initial values.
+    pub(crate) fn defaults(&self, attributes: &[AttributeRef]) -> Result<Vec<Value>, Ending>
+        requires has { AllByRecursion (HasAttribute self.now.table.now) attributes.now }
+        ensures defaults { IfOk result (λ found. map value_of found.items ≡ default_values self.now.table.now attributes.now) }
+        ensures memory { IfErr result (λ e. e ≡ Ending.Memory) }
     {
-        match self.attribute_at(attribute) {
-            Some(found) => self.default_of(&found.declared.name),
-            None => Err(Ending::Stuck),
+        let mut defaults = Vec::new(self.alloc);
+        for attribute in attributes {
+            match self.attribute_at(*attribute) {
+                Some(found) => add(&mut defaults, self.default_of(&found.declared.name)?)?,
+                None => unreachable!(),
+            }
         }
+        Ok(defaults)
     }
 
     /// The initial value of an attribute, where it has one.
-    pub(crate) fn initial(&self, attribute: AttributeRef) -> Option<&'a Body> {
+    pub(crate) fn initial(&self, attribute: AttributeRef) -> Option<&'a Body>
+        ensures { option_map (λ body. body.now) result ≡ init_of self.now.table.now attribute }
+    {
         self.attribute_at(attribute)?.init.as_ref()
     }
 
     /// The branch of a class, or of the nearest above it that has one.
+    ///
+    /// At most as many classes stand above one as there are, so the last that is climbed to is looked at behind the loop.
     pub(crate) fn nearest(
         &self,
         branches: &Twigs<'a>,
         class: ClassId,
-    ) -> Option<(&'a Name, Part<'a>)> {
+    ) -> Option<(&'a Name, Part<'a>)>
+        requires ready { IsReady self.now.table.now self.now.layouts.now }
+        ensures { taken_of result ≡ nearest_branch self.now.table.now (of_twigs branches.now) (chain self.now.table.now class) }
+    {
         let mut above = class;
         for _ in 0..self.table.count() {
+            if let Some(found) = branches.named(self.class_name(above)) {
+                return Some(found);
+            }
             if above.0 >= self.table.count() {
                 return None;
             }
-            if let Some(found) = branches.named(self.table.name(above)) {
-                return Some(found);
-            }
             above = self.table.parent(above)?;
         }
-        None
+        branches.named(self.class_name(above))
     }
 }
 
 impl<'a> Scene<'a> {
-    /// The location of a name: that of the latest variable of this name, or else of the attribute.
-    pub(crate) fn location(&self, setting: &Setting<'a>, name: &Name) -> Option<usize> {
-        for local in self.locals.iter().rev() {
+    /// The location of a name: that of the latest variable of this name, or else of the attribute. `Stuck` comes where there is none.
+    pub(crate) fn location(&self, setting: &Setting<'a>, name: &Name) -> Result<usize, Ending>
+        requires ready { IsReady setting.now.table.now setting.now.layouts.now }
+        ensures location { IsLocation (env_of setting.now.table.now self.now) name.now result }
+        ensures inner { IfErr result IsInner }
+    {
+        for index in (0..self.locals.len()).rev() {
+            let local = &self.locals[index];
             if local.name.as_slice() == name.as_slice() {
-                return Some(local.location);
+                return Ok(local.location);
             }
         }
         match &self.me {
             Value::Object(object) => setting.attribute(object, name),
-            _ => None,
+            _ => Err(Ending::Stuck),
         }
     }
 

@@ -1,11 +1,12 @@
 //! The store: values at locations, and identities.
 
 ghost use Rattle.std.specs.Prelude.{◌≡◌, ◌+◌, ◌∷◌, [], ◌++◌, length, map, slice_set, IfOk, IfErr, OnOk};
-ghost use Rattle.cool_eval.specs.Values.{value_of};
+ghost use Rattle.cool_eval.specs.Values.{value_of, locations_from};
 ghost use Rattle.cool_eval.specs.Counts.{IsInner};
-ghost use Rattle.cool_eval.specs.Configurations.{IsLoaded};
+ghost use Rattle.cool_eval.specs.Configurations.{IsLoaded, AreLoaded};
 
 use crate::ending::Ending;
+use crate::machine::add;
 use crate::value::Value;
 use std::alloc::Global;
 use std::marker::Model;
@@ -38,16 +39,16 @@ impl Store {
         }
     }
 
-    #[tactic(auto, using(crate::proofs::StoredValues::stored_length))]
     /// How many locations there are: the next one.
+    #[tactic(auto, using(crate::proofs::StoredValues::stored_length))]
     pub(crate) fn len(&self) -> usize
         ensures { result ≡ length self.now.values }
     {
         self.values.len()
     }
 
-    #[tactic(auto, using(crate::proofs::StoredValues::stored_more))]
     /// A new location with a value.
+    #[tactic(auto, using(crate::proofs::StoredValues::stored_more))]
     pub(crate) fn locate(&mut self, value: Value) -> Result<(), Ending>
         ensures values { OnOk result (self.new.values ≡ self.old.values ++ value_of value ∷ []) }
         ensures memory { IfErr result (λ e. e ≡ Ending.Memory) }
@@ -57,6 +58,19 @@ impl Store {
             Ok(()) => Ok(()),
             Err(_) => Err(Ending::Memory),
         }
+    }
+
+    /// New locations with values, in order.
+    #[tactic(auto, using(crate::proofs::StoredValues::stored_more))]
+    pub(crate) fn locate_all(&mut self, values: Vec<Value>) -> Result<(), Ending>
+        ensures values { OnOk result (self.new.values ≡ self.old.values ++ map value_of values.items) }
+        ensures memory { IfErr result (λ e. e ≡ Ending.Memory) }
+        ensures drawn { self.new.drawn ≡ self.old.drawn }
+    {
+        for value in values {
+            self.locate(value)?;
+        }
+        Ok(())
     }
 
     /// The value at a location.
@@ -70,8 +84,30 @@ impl Store {
         }
     }
 
+    /// The values at so many locations from one on.
+    #[tactic(auto, using(crate::proofs::LoadedValues::loaded_more))]
+    pub(crate) fn load_all(
+        &self,
+        alloc: Global,
+        first: usize,
+        count: usize,
+    ) -> Result<Vec<Value>, Ending>
+        ensures loaded { AreLoaded self.now.values (locations_from first count) result }
+        ensures inner { IfErr result IsInner }
+    {
+        let mut values = Vec::new(alloc);
+        let mut location = first;
+        for _ in 0..count {
+            add(&mut values, self.load(location)?)?;
+            location = next_location(location)?;
+        }
+        Ok(values)
+    }
+
     /// A new value at a location; nothing where there is no such location.
+    #[tactic(auto, using(crate::proofs::StoredValues::stored_set))]
     pub(crate) fn store(&mut self, location: usize, value: Value)
+        ensures values { self.new.values ≡ slice_set self.old.values location (value_of value) }
         ensures drawn { self.new.drawn ≡ self.old.drawn }
     {
         if location < self.values.len() {
@@ -93,5 +129,16 @@ impl Store {
             }
             None => Err(Ending::Memory),
         }
+    }
+}
+
+/// The location after one. `Memory` comes where locations run out.
+pub(crate) fn next_location(location: usize) -> Result<usize, Ending>
+    ensures next { IfOk result (λ next. next ≡ location + 1) }
+    ensures memory { IfErr result (λ e. e ≡ Ending.Memory) }
+{
+    match location.checked_add(1) {
+        Some(next) => Ok(next),
+        None => Err(Ending::Memory),
     }
 }

@@ -16,11 +16,11 @@ pub(crate) struct Object {
     pub(crate) count: usize,
 }
 
-/// A value. A string is shared by all that hold it.
+/// A value. A string is shared by all that hold it. A constant of a tree has 32 bits without a sign, all other numbers 32 with one.
 #[derive(Drop)]
 pub(crate) enum Value {
     Void,
-    Int(i32),
+    Int(i64),
     Bool(bool),
     Str(Rc<Vec<u8>>),
     Object(Object),

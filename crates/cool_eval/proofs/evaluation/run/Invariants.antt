@@ -1,9 +1,18 @@
-use Rattle.std.proofs.Common.{◌≡◌}
+use Rattle.std.proofs.Common.{◌≡◌, ◌≤◌, ℕ, List, false}
+use Rattle.cool_ports.specs.Answers.{Leaves}
+use Rattle.cool_ports.specs.Taking.{Took}
+use Rattle.cool_eval.proofs.RunSoFar.{SoFar}
 use Rattle.cool_eval.proofs.evaluation.run.Given as goal
 
--- no take and no put failed so far
+-- the configuration means what the program comes to, and no take and no put failed
 abbrev pub invariant-loop : goal.invariant-loop
-invariant-loop g l = record {
-  source : g.S.Source.faults l.source ≡ g.S.Source.faults l.fn.source;
-  sink : g.K.Sink.faults l.sink ≡ g.K.Sink.faults l.fn.sink;
-}
+invariant-loop g l =
+    let s = g.S.Source in
+    let k = g.K.Sink in
+    record {
+      took : Took false l.machine.ended (s.past l.fn.source) (s.past l.source) (s.left l.fn.source) (s.left l.source);
+      left : l.machine.left ≤ l.fn.steps;
+      so_far : (input middle : List ℕ) → Leaves (s.past l.fn.source) (s.past l.source) input middle → SoFar l.fn.setting.table.now l.fn.steps (k.held l.fn.sink) input l.focus l.machine middle (k.held l.sink);
+      source : s.faults l.source ≡ s.faults l.fn.source;
+      sink : k.faults l.sink ≡ k.faults l.fn.sink;
+    }

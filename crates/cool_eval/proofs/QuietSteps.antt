@@ -1,0 +1,105 @@
+-- Steps that touch neither source nor sink, and methods of basic classes, as steps over a source and a sink.
+use Rattle.std.proofs.Common.{◌≡◌, ℕ, Bool, List, Option, Some, Result, Ok, Err, refl, sym, ap, subst}
+use Rattle.std.specs.Prelude.{IfErr}
+use Rattle.cool_ports.specs.Answers.{Past}
+use Rattle.cool_ports.specs.Taking.{Took}
+use Rattle.cool_ports.specs.SinkBytes.{appended}
+use Rattle.cool_syntax.specs.declared.place.Place.{Place}
+use Rattle.cool_classes.specs.declared.method.BasicMethod.{BasicMethod}
+use Rattle.cool_classes.specs.declared.method.MethodRef.{MethodRef}
+use Rattle.cool_classes.specs.declared.method.MethodRef.TheVariants.{Basic}
+use Rattle.cool_classes.specs.Chains.{Class}
+use Rattle.cool_meaning.specs.Values as values
+use Rattle.cool_meaning.specs.Meters.{Outcome}
+use Rattle.cool_meaning.specs.BasicMethods.{basic}
+use Rattle.cool_eval.specs.declared.value.Value.{Value}
+use Rattle.cool_eval.specs.declared.ending.Ending.{Ending}
+use Rattle.cool_eval.specs.declared.ending.Ending.TheVariants as ending
+use Rattle.cool_eval.specs.declared.frame.Focus.{Focus}
+use Rattle.cool_eval.specs.declared.frame.Focus.TheVariants as focus
+use Rattle.cool_eval.specs.declared.store.Store.{Store}
+use Rattle.cool_eval.specs.declared.machine.Machine.{Machine}
+use Rattle.cool_eval.specs.Configurations.{Comes, frames_of}
+use Rattle.cool_eval.specs.Counts.{Counted, IsInner}
+use Rattle.cool_eval.specs.Devices.{OnDevices, Reaches, Acts, CutsValue, CutsStep, state_at}
+use Rattle.cool_eval.specs.Machine.{Frame, Return, Next, after, begin_call}
+use Rattle.cool_ports.proofs.InputsInParts.{leaves_same, took_nothing}
+
+-- nothing was taken of a source that was not asked
+pub untouched : (ended : Bool) (past : Past) (left : Option (List ℕ)) → Took ended ended past past left left
+untouched ended past left = took_nothing ended past left
+
+-- what came, with the sink as it was
+pub comes_reach : (p : List Class) (r : Result Focus Ending) (m : Machine) (first : Option (List ℕ)) (output input : List ℕ) (next : Next)
+    → IfErr r IsInner → Comes p r m input output next → Reaches p r m first output input (appended first output) next
+comes_reach p (Ok f) m first output input next inner is = (output, refl, is)
+comes_reach p (Err (ending.Error e)) m first output input next inner is = (output, refl, is)
+comes_reach p (Err ending.StepLimit) m first output input next inner is = (output, refl, is)
+comes_reach p (Err ending.Stuck) m first output input next inner is = is
+comes_reach p (Err ending.Memory) m first output input next inner is = refl
+comes_reach p (Err ending.ReadFault) m first output input next inner is = absurd is
+comes_reach p (Err ending.WriteFault) m first output input next inner is = absurd is
+
+-- so it is whatever the source and the sink had
+pub quiet_reaches : (p : List Class) (r : Result Focus Ending) (m : Machine) (ended : Bool) (past : Past) (held : Option (List ℕ)) (next : List ℕ → List ℕ → Next)
+    → IfErr r IsInner → ((input output : List ℕ) → Comes p r m input output (next input output))
+    → OnDevices ended past past held (λ first output input rest. Reaches p r m first output rest held (next input output))
+quiet_reaches p r m ended past held next inner comes first output input rest put leaves at_end =
+    rw (put, leaves_same past input rest leaves) (comes_reach p r m first output input (next input output) inner (comes input output))
+
+-- no count rose
+pub quiet_counts : {A : Type 0} (r : Result A Ending) (source sink : ℕ) → IfErr r IsInner → Counted r source source sink sink
+quiet_counts (Ok x) source sink inner = (refl, refl)
+quiet_counts (Err (ending.Error e)) source sink inner = (refl, refl)
+quiet_counts (Err ending.StepLimit) source sink inner = (refl, refl)
+quiet_counts (Err ending.Stuck) source sink inner = (refl, refl)
+quiet_counts (Err ending.Memory) source sink inner = (refl, refl)
+quiet_counts (Err ending.ReadFault) source sink inner = absurd inner
+quiet_counts (Err ending.WriteFault) source sink inner = absurd inner
+
+-- what is done next, seen otherwise
+pub reaches_same : (p : List Class) (r : Result Focus Ending) (m : Machine) (ended : Bool) (past past' : Past) (held held' : Option (List ℕ)) (next next' : List ℕ → List ℕ → Next)
+    → ((input output : List ℕ) → next' input output ≡ next input output) → OnDevices ended past past' held (λ first output input rest. Reaches p r m first output rest held' (next input output))
+    → OnDevices ended past past' held (λ first output input rest. Reaches p r m first output rest held' (next' input output))
+reaches_same p r m ended past past' held held' next next' same reaches first output input rest put leaves at_end =
+    subst (λ (k : Next). Reaches p r m first output rest held' k) (sym (same input output)) (reaches first output input rest put leaves at_end)
+
+-- Methods of basic classes
+
+-- an answer of theirs as that of a step
+abbrev pub returned_as : Result Value Ending → Result Focus Ending
+returned_as (Ok v) = Ok (focus.Return v)
+returned_as (Err e) = Err e
+
+cut_reaches : (first : Option (List ℕ)) (output rest : List ℕ) (held : Option (List ℕ)) (o : Outcome values.Value) (fs : List Frame) → CutsValue first output rest held o → CutsStep first output rest held (after o fs)
+unfolding after
+cut_reaches first output rest held o fs c = record {
+  focus = Return c.value;
+  frames = fs;
+  state = c.state;
+  left = c.left;
+  is = ap (λ (r : Outcome values.Value). after r fs) c.is;
+  cut = c.cut;
+}
+
+acts_reach : (p : List Class) (r : Result Value Ending) (m : Machine) (first : Option (List ℕ)) (output rest : List ℕ) (held : Option (List ℕ)) (o : Outcome values.Value) → Acts r m.store first output rest held m.left o
+    → Reaches p (returned_as r) m first output rest held (after o (frames_of p m))
+unfolding after
+acts_reach p (Ok v) m first output rest held o (now, put, is) = (now, put, ap (λ (r : Outcome values.Value). after r (frames_of p m)) is)
+acts_reach p (Err (ending.Error e)) m first output rest held o (now, put, is) = (now, put, ap (λ (r : Outcome values.Value). after r (frames_of p m)) is)
+acts_reach p (Err ending.Stuck) m first output rest held o is = ap (λ (r : Outcome values.Value). after r (frames_of p m)) is
+acts_reach p (Err ending.Memory) m first output rest held o put = put
+acts_reach p (Err ending.StepLimit) m first output rest held o is = absurd is
+acts_reach p (Err ending.ReadFault) m first output rest held o c = cut_reaches first output rest held o (frames_of p m) c
+acts_reach p (Err ending.WriteFault) m first output rest held o c = cut_reaches first output rest held o (frames_of p m) c
+
+-- a method of a basic class is begun and ends
+pub basic_reaches : (p : List Class) (r : Result Value Ending) (r' : Result Focus Ending) (m : Machine) (ended : Bool) (past past' : Past) (held held' : Option (List ℕ)) (at : Place) (v : values.Value) (vs : List values.Value) (b : BasicMethod) (o : Option MethodRef) (store : Store)
+    → Some (Basic b) ≡ o → r' ≡ returned_as r
+    → OnDevices ended past past' held (λ first output input rest. (n : ℕ) → Acts r m.store first output rest held' n (basic p b at v vs (state_at store input output) n).outcome)
+    → OnDevices ended past past' held (λ first output input rest. Reaches p r' m first output rest held' (begin_call p at v vs o (frames_of p m) (state_at store input output) m.left))
+unfolding begin_call
+basic_reaches p r r' m ended past past' held held' at v vs b o store is same acts first output input rest put leaves at_end =
+    subst (λ (q : Result Focus Ending). Reaches p q m first output rest held' (begin_call p at v vs o (frames_of p m) (state_at store input output) m.left)) (sym same)
+    (subst (λ (q : Option MethodRef). Reaches p (returned_as r) m first output rest held' (begin_call p at v vs q (frames_of p m) (state_at store input output) m.left)) is
+    (acts_reach p r m first output rest held' (basic p b at v vs (state_at store input output) m.left).outcome (acts first output input rest put leaves at_end m.left)))

@@ -1,0 +1,8 @@
+-- The formals from one on are variables.
+use Rattle.std.proofs.Common.{◌≡◌}
+use Rattle.cool_eval.specs.Configurations.{locals_of}
+use Rattle.cool_eval.proofs.ArgumentsLocated.{located_from}
+use Rattle.cool_eval.proofs.call.arguments.Given as goal
+
+abbrev pub invariant-loop-index : goal.invariant-loop-index
+invariant-loop-index l = locals_of l.locals.items ≡ located_from l.formals l.first l.count l.index

@@ -1,0 +1,248 @@
+//! Calls of methods.
+
+ghost use Rattle.std.specs.Prelude.{◌≡◌, ◌≤◌, ◌+◌, ◌∷◌, [], ◌++◌, ℕ, List, Some, IfErr, IfOk, map, option_map};
+ghost use Rattle.cool_ports.specs.Answers.{Leaves};
+ghost use Rattle.cool_ports.specs.Taking.{Took};
+ghost use Rattle.cool_classes.specs.Chains.{Class};
+ghost use Rattle.cool_classes.specs.ClimbedChains.{chain};
+ghost use Rattle.cool_classes.specs.Features.{implementation};
+ghost use Rattle.cool_syntax.specs.declared.place.Place as places;
+ghost use Rattle.cool_syntax.specs.Tree.{of_list};
+ghost use Rattle.cool_meaning.specs.Lookups.{formal_names, located, method_at};
+ghost use Rattle.cool_meaning.specs.Meters.{given as given_of};
+ghost use Rattle.cool_meaning.specs.Values as values;
+ghost use Rattle.cool_eval.specs.Configurations.{class_name, env_of, frames_of, locals_of, state_of, Comes};
+ghost use Rattle.cool_eval.specs.Counts.{Counted, IsInner};
+ghost use Rattle.cool_eval.specs.Devices.{OnDevices, Reaches};
+ghost use Rattle.cool_eval.specs.Machine.{begin_args as args_begun, begin_call as call_begun, begin_method as method_begun, call_class, class_called};
+ghost use Rattle.cool_eval.specs.Ready.{IsReady};
+ghost use Rattle.cool_eval.specs.Values.{locations_from, value_of};
+
+use crate::basic::basic;
+use crate::ending::{Ending, RunError};
+use crate::frame::{Focus, Frame};
+use crate::machine::{Machine, add, share, shared};
+use crate::part::{Part, Parts};
+use crate::scene::{Local, Scene, Setting};
+use crate::value::Value;
+use cool_classes::{ClassId, MethodRef};
+use cool_ports::{Sink, Source};
+use cool_syntax::{Feature, Formal, MethodDef, Name, Place};
+use std::alloc::Global;
+use std::rc::Rc;
+
+/// The next argument, or else the receiver.
+#[tactic(auto, unfolding(crate::specs::Machine::begin_args))]
+pub(crate) fn begin_args<'a>(
+    machine: &mut Machine<'a>,
+    scene: Rc<Scene<'a>>,
+    given: Vec<Value>,
+    args: Parts<'a>,
+    at: Place,
+    receiver: Part<'a>,
+    class: Option<&'a Name>,
+    name: &'a Name,
+) -> Result<Focus<'a>, Ending>
+    ensures comes { (p : List Class) (input output : List ℕ) → Comes p result machine.new input output
+        (args_begun (value_of scene.entry.value.me) (env_of p scene.entry.value) (map value_of given.items) (of_list args.entry) at receiver.entry (class_name class.entry) name.now (frames_of p machine.old) (state_of machine.old input output) machine.old.left) }
+    ensures left { machine.new.left ≡ machine.old.left }
+    ensures ended { machine.new.ended ≡ machine.old.ended }
+    ensures inner { IfErr result IsInner }
+{
+    match args.split() {
+        None => {
+            machine.wait(Frame::Receiver {
+                at,
+                class,
+                name,
+                given,
+            })?;
+            Ok(Focus::Begin {
+                scene,
+                part: receiver,
+            })
+        }
+        Some((part, rest)) => {
+            let copy = share(&scene)?;
+            machine.wait(Frame::Argument {
+                scene,
+                given,
+                rest,
+                at,
+                receiver,
+                class,
+                name,
+            })?;
+            Ok(Focus::Begin { scene: copy, part })
+        }
+    }
+}
+
+/// A call of a method on a receiver.
+#[tactic(auto, using(crate::proofs::QuietSteps::quiet_counts, crate::proofs::QuietSteps::untouched))]
+pub(crate) fn call<'a, S: Source, K: Sink>(
+    setting: &Setting<'a>,
+    machine: &mut Machine<'a>,
+    at: Place,
+    class: Option<&Name>,
+    name: &Name,
+    me: Value,
+    given: Vec<Value>,
+    source: &mut S,
+    sink: &mut K,
+) -> Result<Focus<'a>, Ending>
+    requires ready { IsReady setting.now.table.now setting.now.layouts.now }
+    ensures reaches { OnDevices machine.old.ended (S.past source.old) (S.past source.new) (K.held sink.old) (λ first output input rest. Reaches setting.now.table.now result machine.new first output rest (K.held sink.new)
+        (call_class setting.now.table.now at name.now (value_of me) (map value_of given.items) (class_called setting.now.table.now at (class_name class.entry) (value_of me) (state_of machine.old input output) machine.old.left).outcome (frames_of setting.now.table.now machine.old))) }
+    ensures took { Took machine.old.ended machine.new.ended (S.past source.old) (S.past source.new) (S.left source.old) (S.left source.new) }
+    ensures left { machine.new.left ≤ machine.old.left }
+    ensures counts { Counted result (S.faults source.old) (S.faults source.new) (K.faults sink.old) (K.faults sink.new) }
+{
+    let Some(own) = setting.class_of(&me) else {
+        return Err(Ending::Error(RunError::DispatchVoid { at }));
+    };
+    let Some(called) = called_class(setting, class, own) else {
+        return Err(Ending::Stuck);
+    };
+    machine.spend()?;
+    let method = method_of(setting, called, name);
+    begin_call(setting, machine, at, method, me, given, source, sink)
+}
+
+/// The class in which a method is looked up, for a receiver of a class: this one, or the one that the source names. None comes where there
+/// is none of that name.
+#[tactic(auto, using(crate::proofs::MethodsCalled::own_called, crate::proofs::MethodsCalled::named_called))]
+fn called_class(setting: &Setting<'_>, class: Option<&Name>, own: ClassId) -> Option<ClassId>
+    requires ready { IsReady setting.now.table.now setting.now.layouts.now }
+    ensures called { (at : places.Place) (v : values.Value) (s : values.State) (n : ℕ) → values.class_of v ≡ Some own
+        → (class_called setting.now.table.now at (class_name class.entry) v s n).outcome ≡ (given_of result s n).outcome }
+{
+    match class {
+        None => Some(own),
+        Some(name) => setting.table.id(name),
+    }
+}
+
+/// The method of a name that a class has; none where there is no such class.
+fn method_of(setting: &Setting<'_>, class: ClassId, name: &Name) -> Option<MethodRef>
+    ensures method { result ≡ implementation setting.now.table.now (chain setting.now.table.now class) name.now }
+{
+    if class.0 >= setting.table.count() {
+        return None;
+    }
+    setting.table.find_method(class, name)
+}
+
+/// A method on a receiver, where the class has it.
+#[tactic(auto, using(crate::proofs::QuietSteps::quiet_counts, crate::proofs::QuietSteps::untouched))]
+fn begin_call<'a, S: Source, K: Sink>(
+    setting: &Setting<'a>,
+    machine: &mut Machine<'a>,
+    at: Place,
+    method: Option<MethodRef>,
+    me: Value,
+    given: Vec<Value>,
+    source: &mut S,
+    sink: &mut K,
+) -> Result<Focus<'a>, Ending>
+    requires ready { IsReady setting.now.table.now setting.now.layouts.now }
+    ensures reaches { OnDevices machine.old.ended (S.past source.old) (S.past source.new) (K.held sink.old) (λ first output input rest. Reaches setting.now.table.now result machine.new first output rest (K.held sink.new)
+        (call_begun setting.now.table.now at (value_of me) (map value_of given.items) method (frames_of setting.now.table.now machine.old) (state_of machine.old input output) machine.old.left)) }
+    ensures took { Took machine.old.ended machine.new.ended (S.past source.old) (S.past source.new) (S.left source.old) (S.left source.new) }
+    ensures left { machine.new.left ≡ machine.old.left }
+    ensures counts { Counted result (S.faults source.old) (S.faults source.new) (K.faults sink.old) (K.faults sink.new) }
+{
+    let Some(found) = method else {
+        return Err(Ending::Stuck);
+    };
+    match found {
+        MethodRef::Basic(method) => {
+            let value = basic(
+                setting,
+                &mut machine.store,
+                &mut machine.ended,
+                method,
+                at,
+                me,
+                given,
+                source,
+                sink,
+            )?;
+            Ok(Focus::Return(value))
+        }
+        MethodRef::User { owner, index } => begin_method(setting, machine, owner, index, me, given),
+    }
+}
+
+/// The body of a method, with its arguments at new locations.
+fn begin_method<'a>(
+    setting: &Setting<'a>,
+    machine: &mut Machine<'a>,
+    owner: ClassId,
+    index: u32,
+    me: Value,
+    given: Vec<Value>,
+) -> Result<Focus<'a>, Ending>
+    requires ready { IsReady setting.now.table.now setting.now.layouts.now }
+    ensures comes { (input output : List ℕ) → Comes setting.now.table.now result machine.new input output
+        (method_begun setting.now.table.now (value_of me) (map value_of given.items) (method_at setting.now.table.now owner index) (frames_of setting.now.table.now machine.old) (state_of machine.old input output) machine.old.left) }
+    ensures left { machine.new.left ≡ machine.old.left }
+    ensures ended { machine.new.ended ≡ machine.old.ended }
+    ensures inner { IfErr result IsInner }
+{
+    let Some(method) = user_method(setting, owner, index) else {
+        return Err(Ending::Stuck);
+    };
+    let first = machine.store.len();
+    let count = given.len();
+    machine.store.locate_all(given)?;
+    let formals = method.formals.as_slice();
+    let locals = arguments(setting.alloc, formals, first, count)?;
+    let scene = shared(setting.alloc, Scene { me, locals })?;
+    let part = Part::whole(&method.body);
+    Ok(Focus::Begin { scene, part })
+}
+
+/// The method at an index among the features of a class, if there is one.
+fn user_method<'a>(setting: &Setting<'a>, owner: ClassId, index: u32) -> Option<&'a MethodDef>
+    ensures { option_map (λ found. found.now) result ≡ method_at setting.now.table.now owner index }
+{
+    if owner.0 >= setting.table.count() {
+        return None;
+    }
+    match setting.table.features(owner).get(index as usize) {
+        Some(Feature::Method(found)) => Some(found),
+        _ => None,
+    }
+}
+
+/// Arguments at locations that follow one another, as variables with the names of formals, the latest last. `Memory` comes where memory
+/// or locations run out.
+fn arguments<'a>(
+    alloc: Global,
+    formals: &'a [Formal],
+    first: usize,
+    count: usize,
+) -> Result<Vec<Local<'a>>, Ending>
+    ensures locals { IfOk result (λ locals. locals_of locals.items ≡ located (formal_names formals.now) (locations_from first count)) }
+    ensures memory { IfErr result (λ e. e ≡ Ending.Memory) }
+{
+    let mut locals = Vec::new(alloc);
+    for index in (0..formals.len().min(count)).rev() {
+        let location = location_after(first, index)?;
+        let name = &formals[index].name;
+        add(&mut locals, Local { name, location })?;
+    }
+    Ok(locals)
+}
+
+/// The location so many after one. `Memory` comes where locations run out.
+fn location_after(first: usize, count: usize) -> Result<usize, Ending>
+    ensures after { IfOk result (λ location. location ≡ first + count) }
+    ensures memory { IfErr result (λ e. e ≡ Ending.Memory) }
+{
+    match first.checked_add(count) {
+        Some(location) => Ok(location),
+        None => Err(Ending::Memory),
+    }
+}

@@ -1,0 +1,119 @@
+//! What is written at the end of a run.
+
+ghost use Rattle.std.specs.Prelude.{◌≡◌, ◌≢◌, ◌++◌, ℕ, List, IfOk, Option, codes, map, string_bytes};
+ghost use Rattle.cool_classes.specs.Chains.{name_of};
+ghost use Rattle.cool_meaning.specs.Meters.{Outcome, Stuck};
+ghost use Rattle.cool_meaning.specs.SourceRun as runs;
+ghost use Rattle.cool_meaning.specs.Values as values;
+ghost use Rattle.cool_eval.specs.Configurations.{error_of};
+ghost use Rattle.cool_eval.specs.Counts.{CountedFinish};
+ghost use Rattle.cool_eval.specs.Ends.{Evaluates};
+ghost use Rattle.cool_eval.specs.Running.{Ended};
+
+use crate::console::print;
+use crate::ending::{Ending, RunError};
+use crate::evaluation::EvalEnd;
+use crate::scene::Setting;
+use cool_classes::ClassId;
+use cool_ports::Sink;
+use cool_syntax::Place;
+use std::alloc::{AllocError, Global};
+
+/// Writes how a run ended.
+pub(crate) fn finish<K: Sink>(
+    setting: &Setting<'_>,
+    names: &[String],
+    end: Result<(), Ending>,
+    sink: &mut K,
+) -> EvalEnd
+    ensures ends { (o : Outcome values.Value) (first : Option (List ℕ)) (rest : List ℕ) → o ≢ Stuck → Ended o first end rest (K.held sink.old)
+        → Evaluates (runs.run_of setting.now.table.now (map string_bytes names.now) o 0 0 0) first result rest (K.held sink.new) }
+    ensures counts { CountedFinish end result (K.faults sink.old) (K.faults sink.new) }
+{
+    match end {
+        Ok(()) => match print(sink, b"COOL program successfully executed\n") {
+            Ok(()) => EvalEnd::Done,
+            Err(_) => EvalEnd::WriteFault,
+        },
+        Err(Ending::Error(error)) => {
+            let Ok(text) = error_text(setting, names, error) else {
+                return EvalEnd::Memory;
+            };
+            match print(sink, text.as_slice()) {
+                Ok(()) => EvalEnd::Error,
+                Err(_) => EvalEnd::WriteFault,
+            }
+        }
+        Err(Ending::StepLimit) => EvalEnd::StepLimit,
+        Err(Ending::ReadFault) => EvalEnd::ReadFault,
+        Err(Ending::WriteFault) => EvalEnd::WriteFault,
+        Err(Ending::Memory) => EvalEnd::Memory,
+        Err(Ending::Stuck) => EvalEnd::Memory,
+    }
+}
+
+/// `F:L: text` and a newline.
+fn placed(alloc: Global, names: &[String], at: Place, text: &[u8]) -> Result<Vec<u8>, AllocError>
+    ensures { IfOk result (λ line. line.items ≡ runs.place_text (map string_bytes names.now) at ++ text.now) }
+{
+    let mut line = Vec::new(alloc);
+    if let Some(name) = names.get(at.file as usize) {
+        line.extend_from_slice(name.as_bytes())?;
+    }
+    let place = format!(in alloc; ":{}: ", at.line)?;
+    line.extend_from_slice(place.as_bytes())?;
+    line.extend_from_slice(text)?;
+    Ok(line)
+}
+
+/// The text of an error, with its newline.
+fn error_text(
+    setting: &Setting<'_>,
+    names: &[String],
+    error: RunError,
+) -> Result<Vec<u8>, AllocError>
+    ensures { IfOk result (λ line. line.items ≡ runs.error_text setting.now.table.now (map string_bytes names.now) (error_of error)) }
+{
+    let mut line = error_words(setting, names, error)?;
+    line.push(b'\n')?;
+    Ok(line)
+}
+
+/// The text of an error without its newline.
+fn error_words(
+    setting: &Setting<'_>,
+    names: &[String],
+    error: RunError,
+) -> Result<Vec<u8>, AllocError>
+    ensures { IfOk result (λ words. runs.line words.items ≡ runs.error_text setting.now.table.now (map string_bytes names.now) (error_of error)) }
+{
+    let alloc = setting.alloc;
+    match error {
+        RunError::DispatchVoid { at } => placed(alloc, names, at, b"Dispatch to void."),
+        RunError::CaseVoid { at } => placed(alloc, names, at, b"Case on void."),
+        RunError::NoBranch { at, class } => no_branch(setting, names, at, class),
+        RunError::DivisionByZero { at } => placed(alloc, names, at, b"Division by zero."),
+        RunError::Overflow { at } => placed(alloc, names, at, b"Arithmetic overflow."),
+        RunError::Substring { at } => placed(alloc, names, at, b"Substring out of range."),
+        RunError::Aborted { class } => {
+            let mut words = Vec::from_slice(alloc, b"Abort called from class ")?;
+            words.extend_from_slice(setting.class_name(class))?;
+            Ok(words)
+        }
+    }
+}
+
+/// The text for a case without a branch for a class.
+fn no_branch(
+    setting: &Setting<'_>,
+    names: &[String],
+    at: Place,
+    class: ClassId,
+) -> Result<Vec<u8>, AllocError>
+    ensures { IfOk result (λ words. words.items ≡ runs.place_text (map string_bytes names.now) at ++ (codes "No matching branch for class " ++ (name_of setting.now.table.now class ++ codes "."))) }
+{
+    let mut words = placed(setting.alloc, names, at, b"No matching branch for class ")?;
+    words.extend_from_slice(setting.class_name(class))?;
+    words.extend_from_slice(b".")?;
+    Ok(words)
+}
