@@ -10,7 +10,7 @@ use Rattle.clap.specs.declared.parser.matches.ArgMatches.{ArgMatches}
 use Rattle.cool_words.specs.Commands.{app_for}
 use Rattle.cool_words.specs.Plans.{asked_of, is_accepted, plan_by}
 use Rattle.cool_words.specs.declared.command_word.CommandWord.{CommandWord}
-use Rattle.cool_words.specs.declared.command_word.CommandWord.TheVariants.{Check, Asm, Build, Run, Exec, Big}
+use Rattle.cool_words.specs.declared.command_word.CommandWord.TheVariants.{Check, Asm, Build, Run, Eval, Exec, Big}
 
 -- clap's clauses speak of each command
 simple_and_free : (command : CommandWord) → is_simple_and_free (app_for command) ≡ true
@@ -18,6 +18,7 @@ simple_and_free Check = refl
 simple_and_free Asm = refl
 simple_and_free Build = refl
 simple_and_free Run = refl
+simple_and_free Eval = refl
 simple_and_free Exec = refl
 simple_and_free Big = refl
 
@@ -26,6 +27,7 @@ simple Check = refl
 simple Asm = refl
 simple Build = refl
 simple Run = refl
+simple Eval = refl
 simple Exec = refl
 simple Big = refl
 

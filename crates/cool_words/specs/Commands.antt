@@ -5,13 +5,14 @@ use Rattle.clap.specs.Simple.{new_shape}
 use Rattle.clap.specs.declared.builder.action.ArgAction.{ArgAction}
 use Rattle.clap.specs.declared.builder.action.ArgAction.TheVariants.{Set, Append}
 use Rattle.cool_words.specs.declared.command_word.CommandWord.{CommandWord}
-use Rattle.cool_words.specs.declared.command_word.CommandWord.TheVariants.{Check, Asm, Build, Run, Exec, Big}
+use Rattle.cool_words.specs.declared.command_word.CommandWord.TheVariants.{Check, Asm, Build, Run, Eval, Exec, Big}
 
 abbrev pub name_of : CommandWord → Text
 name_of Check = codes "check"
 name_of Asm = codes "asm"
 name_of Build = codes "build"
 name_of Run = codes "run"
+name_of Eval = codes "eval"
 name_of Exec = codes "exec"
 name_of Big = codes "big"
 
@@ -21,8 +22,9 @@ command_of word =
     else (if bytes_eq word (codes "asm") then Some Asm
     else (if bytes_eq word (codes "build") then Some Build
     else (if bytes_eq word (codes "run") then Some Run
+    else (if bytes_eq word (codes "eval") then Some Eval
     else (if bytes_eq word (codes "exec") then Some Exec
-    else (if bytes_eq word (codes "big") then Some Big else None)))))
+    else (if bytes_eq word (codes "big") then Some Big else None))))))
 
 -- an option `--name`, which takes one value, at most once
 abbrev pub option_rule : Text → Rule
@@ -35,9 +37,13 @@ positional_rule name action = record (new_rule name) { action = Some action; req
 abbrev pub FILES : Rule
 FILES = positional_rule (codes "FILES") Append
 
+-- a command with the option of steps
+abbrev pub with_steps : App → App
+with_steps app = with_rule app (option_rule (codes "steps"))
+
 -- a command with the options of a run
 abbrev pub with_limits : App → App
-with_limits app = with_rule (with_rule (with_rule app (option_rule (codes "heap"))) (option_rule (codes "stack"))) (option_rule (codes "steps"))
+with_limits app = with_steps (with_rule (with_rule app (option_rule (codes "heap"))) (option_rule (codes "stack")))
 
 -- a command with no arguments so far, and no `--help`
 abbrev pub bare : Text → App
@@ -46,6 +52,7 @@ bare name = record { top = record (new_shape name) { disable_help_flag = true };
 -- the command as clap has it
 abbrev pub app_for : CommandWord → App
 app_for Run = with_rule (with_limits (bare (codes "run"))) FILES
+app_for Eval = with_rule (with_steps (bare (codes "eval"))) FILES
 app_for Exec = with_rule (with_limits (bare (codes "exec"))) (positional_rule (codes "FILE") Set)
 app_for Big = with_rule (bare (codes "big")) (positional_rule (codes "N") Set)
 app_for command = with_rule (bare (name_of command)) FILES

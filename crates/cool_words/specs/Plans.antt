@@ -11,7 +11,7 @@ use Rattle.clap.specs.Words.{Row, Text, all_of, first_of, matches_of, fault_of}
 use Rattle.cool_words.specs.Commands.{app_for, command_of}
 use Rattle.cool_words.specs.Numbers.{IsWithin, number_in}
 use Rattle.cool_words.specs.declared.command_word.CommandWord.{CommandWord}
-use Rattle.cool_words.specs.declared.command_word.CommandWord.TheVariants.{Check, Asm, Build, Run, Exec, Big}
+use Rattle.cool_words.specs.declared.command_word.CommandWord.TheVariants.{Check, Asm, Build, Run, Eval, Exec, Big}
 use Rattle.cool_words.specs.declared.plan.RunLimits.{RunLimits}
 use Rattle.cool_words.specs.declared.plan.Plan.{Plan}
 use Rattle.cool_words.specs.declared.plan.Plan.TheVariants as plan
@@ -28,6 +28,7 @@ pub data Asked : Type 0 where
   asm : List Text → Asked
   build : List Text → Asked
   run : List Text → RunLimits → Asked
+  eval : List Text → ℕ → Asked
   exec : Text → RunLimits → Asked
   big : ℕ → Asked
 
@@ -36,6 +37,7 @@ asked_by (plan.Check files) = check (words_of files.items)
 asked_by (plan.Asm files) = asm (words_of files.items)
 asked_by (plan.Build files) = build (words_of files.items)
 asked_by (plan.Run files limits) = run (words_of files.items) limits
+asked_by (plan.Eval files steps) = eval (words_of files.items) steps
 asked_by (plan.Exec file limits) = exec (string_bytes file) limits
 asked_by (plan.Big n) = big n
 
@@ -79,10 +81,17 @@ value_in name low high default rows = option_map_or (number_in low high) (first_
 abbrev pub usual_limits : RunLimits
 usual_limits = record { heap_kib = 32768; stack_kib = 8192; steps = 1000000000 }
 
+-- the most steps of a run, 2 ^ 62
+abbrev pub most_steps : ℕ
+most_steps = 4611686018427387904
+
+abbrev pub steps_in : List Row → Option ℕ
+steps_in rows = value_in (codes "steps") 1 most_steps (Some usual_limits.steps) rows
+
 abbrev pub limits_in : List Row → Option RunLimits
 limits_in rows =
     option_and_then (λ heap. option_and_then (λ stack. option_map (λ steps. record { heap_kib = heap; stack_kib = stack; steps = steps })
-    (value_in (codes "steps") 1 4611686018427387904 (Some usual_limits.steps) rows))
+    (steps_in rows))
     (value_in (codes "stack") 4 65536 (Some usual_limits.stack_kib) rows))
     (value_in (codes "heap") 4 262144 (Some usual_limits.heap_kib) rows)
 
@@ -94,6 +103,7 @@ asked_of Check rows = option_map check (files_in rows)
 asked_of Asm rows = option_map asm (files_in rows)
 asked_of Build rows = option_map build (files_in rows)
 asked_of Run rows = option_and_then (λ files. option_map (run files) (limits_in rows)) (files_in rows)
+asked_of Eval rows = option_and_then (λ files. option_map (eval files) (steps_in rows)) (files_in rows)
 asked_of Exec rows = option_and_then (λ file. option_map (exec file) (limits_in rows)) (file_in rows)
 asked_of Big rows = option_map big (value_in (codes "N") 1 300 None rows)
 
@@ -126,6 +136,14 @@ run_of_two : plan_of (codes "run" ∷ codes "a.cl" ∷ codes "--heap" ∷ codes 
     ≡ Some (run (codes "a.cl" ∷ codes "b.cl" ∷ []) (limits 64))
 unfolding on_literals
 run_of_two = refl
+
+eval_of_one : plan_of (codes "eval" ∷ codes "hello.cl" ∷ []) ≡ Some (eval (codes "hello.cl" ∷ []) 1000000000)
+unfolding on_literals
+eval_of_one = refl
+
+eval_with_steps : plan_of (codes "eval" ∷ codes "a.cl" ∷ codes "--steps" ∷ codes "1000" ∷ codes "b.cl" ∷ []) ≡ Some (eval (codes "a.cl" ∷ codes "b.cl" ∷ []) 1000)
+unfolding on_literals
+eval_with_steps = refl
 
 name_with_hyphen : plan_of (codes "check" ∷ codes "--" ∷ codes "-x.cl" ∷ []) ≡ Some (check (codes "-x.cl" ∷ []))
 unfolding on_literals
@@ -166,6 +184,14 @@ steps_of_1x : plan_of (codes "run" ∷ codes "--steps" ∷ codes "1x" ∷ codes 
 unfolding on_literals
 steps_of_1x = refl
 
+eval_with_heap : plan_of (codes "eval" ∷ codes "--heap" ∷ codes "64" ∷ codes "hello.cl" ∷ []) ≡ None
+unfolding on_literals
+eval_with_heap = refl
+
+eval_of_no_file : plan_of (codes "eval" ∷ []) ≡ None
+unfolding on_literals
+eval_of_no_file = refl
+
 hyphen_first : plan_of (codes "check" ∷ codes "-x.cl" ∷ []) ≡ None
 unfolding on_literals
 hyphen_first = refl
@@ -186,7 +212,7 @@ Answers view wanted result = MatchResult result (λ t. wanted ≡ Some (view t))
 pub record IsBounded (limits : RunLimits) : Type 0 where
   pub heap : IsWithin 4 262144 limits.heap_kib
   pub stack : IsWithin 4 65536 limits.stack_kib
-  pub steps : IsWithin 1 4611686018427387904 limits.steps
+  pub steps : IsWithin 1 most_steps limits.steps
 
 abbrev pub HasFileNames : List Text → Type 0
 HasFileNames names = are_file_names names ≡ true
@@ -197,5 +223,6 @@ IsWithinBounds (plan.Check files) = HasFileNames (words_of files.items)
 IsWithinBounds (plan.Asm files) = HasFileNames (words_of files.items)
 IsWithinBounds (plan.Build files) = HasFileNames (words_of files.items)
 IsWithinBounds (plan.Run files limits) = HasFileNames (words_of files.items) × IsBounded limits
+IsWithinBounds (plan.Eval files steps) = HasFileNames (words_of files.items) × IsWithin 1 most_steps steps
 IsWithinBounds (plan.Exec file limits) = (is_file_name (string_bytes file) ≡ true) × IsBounded limits
 IsWithinBounds (plan.Big n) = IsWithin 1 300 n

@@ -2,7 +2,7 @@
 
 ghost use Rattle.std.specs.Prelude.{◌≡◌, IfOk, false};
 ghost use Rattle.clap.specs.Words.{app_of, rule_of};
-ghost use Rattle.cool_words.specs.Commands.{FILES, app_for, command_of, name_of, option_rule, positional_rule, with_limits};
+ghost use Rattle.cool_words.specs.Commands.{FILES, app_for, command_of, name_of, option_rule, positional_rule, with_limits, with_steps};
 
 use clap::{Arg, ArgAction, Command};
 use std::alloc::{AllocError, Global};
@@ -14,6 +14,7 @@ pub enum CommandWord {
     Asm,
     Build,
     Run,
+    Eval,
     Exec,
     Big,
 }
@@ -27,6 +28,7 @@ pub(crate) fn command_of(word: &str) -> Option<CommandWord>
         "asm" => Some(CommandWord::Asm),
         "build" => Some(CommandWord::Build),
         "run" => Some(CommandWord::Run),
+        "eval" => Some(CommandWord::Eval),
         "exec" => Some(CommandWord::Exec),
         "big" => Some(CommandWord::Big),
         _ => None,
@@ -43,6 +45,7 @@ impl CommandWord {
             CommandWord::Asm => "asm",
             CommandWord::Build => "build",
             CommandWord::Run => "run",
+            CommandWord::Eval => "eval",
             CommandWord::Exec => "exec",
             CommandWord::Big => "big",
         }
@@ -56,6 +59,7 @@ impl CommandWord {
         match self {
             CommandWord::Check | CommandWord::Asm | CommandWord::Build => parser.arg(files(alloc)),
             CommandWord::Run => with_limits(alloc, parser)?.arg(files(alloc)),
+            CommandWord::Eval => with_steps(alloc, parser)?.arg(files(alloc)),
             CommandWord::Exec => with_limits(alloc, parser)?.arg(positional(
                 alloc,
                 "FILE",
@@ -70,10 +74,17 @@ impl CommandWord {
 fn with_limits<'a>(alloc: Global, parser: Command<'a>) -> Result<Command<'a>, AllocError>
     ensures { IfOk result (λ r. app_of r ≡ with_limits (app_of parser.entry)) }
 {
-    parser
+    let parser = parser
         .arg(option(alloc, "heap"))?
-        .arg(option(alloc, "stack"))?
-        .arg(option(alloc, "steps"))
+        .arg(option(alloc, "stack"))?;
+    with_steps(alloc, parser)
+}
+
+/// The command with the option of steps.
+fn with_steps<'a>(alloc: Global, parser: Command<'a>) -> Result<Command<'a>, AllocError>
+    ensures { IfOk result (λ r. app_of r ≡ with_steps (app_of parser.entry)) }
+{
+    parser.arg(option(alloc, "steps"))
 }
 
 /// An option of one value.

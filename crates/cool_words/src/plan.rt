@@ -30,6 +30,11 @@ pub enum Plan {
         files: Vec<String>,
         limits: RunLimits,
     },
+    /// To evaluate the program that the files are, with so many steps.
+    Eval {
+        files: Vec<String>,
+        steps: u64,
+    },
     /// To write the program's assembly.
     Asm {
         files: Vec<String>,

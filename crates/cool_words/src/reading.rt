@@ -3,7 +3,7 @@
 ghost use Rattle.std.specs.Prelude.{◌≡◌, IfOk, IfSome, Err, Some, None, codes, string_bytes, true};
 ghost use Rattle.clap.specs.Words.{found_of, matches_of, rows_of, fault_of};
 ghost use Rattle.cool_words.specs.Numbers.{IsWithin, number_in};
-ghost use Rattle.cool_words.specs.Plans.{Answers, HasFileNames, IsBounded, IsWithinBounds, asked_by, asked_of, file_in, files_in, is_file_name, limits_in, plan_by, plan_of, value_in, words_of};
+ghost use Rattle.cool_words.specs.Plans.{Answers, HasFileNames, IsBounded, IsWithinBounds, asked_by, asked_of, file_in, files_in, is_file_name, limits_in, most_steps, plan_by, plan_of, steps_in, value_in, words_of};
 
 use crate::command_word::{CommandWord, command_of};
 use crate::names::{are_file_names, copy_names, is_file_name};
@@ -89,6 +89,10 @@ fn read_matches(
             files: files_of(alloc, matches)?,
             limits: limits_of(matches)?,
         }),
+        CommandWord::Eval => Ok(Plan::Eval {
+            files: files_of(alloc, matches)?,
+            steps: steps_of(matches)?,
+        }),
         CommandWord::Exec => Ok(Plan::Exec {
             file: file_of(alloc, matches)?,
             limits: limits_of(matches)?,
@@ -140,12 +144,19 @@ fn limits_of(matches: &ArgMatches<'_>) -> Result<RunLimits, WordsError>
         MOST_STACK_KIB,
         Some(USUAL_LIMITS.stack_kib as u64),
     )?;
-    let steps = value_of(matches, "steps", 1, MOST_STEPS, Some(USUAL_LIMITS.steps))?;
     Ok(RunLimits {
         heap_kib: heap as u32,
         stack_kib: stack as u32,
-        steps,
+        steps: steps_of(matches)?,
     })
+}
+
+/// The steps that the option sets.
+fn steps_of(matches: &ArgMatches<'_>) -> Result<u64, WordsError>
+    ensures value { Answers (λ n. n) (steps_in (rows_of (found_of matches.now))) result }
+    ensures bounds { IfOk result (IsWithin 1 most_steps) }
+{
+    value_of(matches, "steps", 1, MOST_STEPS, Some(USUAL_LIMITS.steps))
 }
 
 /// The size of the program to write.
