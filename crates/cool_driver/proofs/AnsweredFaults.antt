@@ -9,11 +9,11 @@ use Rattle.mips_isa.specs.ImageBounds.{ImageParts}
 use Rattle.cool_words.specs.declared.plan.RunLimits.{RunLimits}
 use Rattle.cool_driver.specs.CommandLine.{plan_of}
 use Rattle.cool_driver.specs.Notes.{refused_note}
-use Rattle.cool_driver.specs.Ends.{Request, Due, IsRead, IsRunOf, MayRefuse, built_bytes, Told}
+use Rattle.cool_driver.specs.Ends.{Request, Due, IsRead, IsRunOf, IsEvaluationOf, MayRefuse, built_bytes, Told}
 use Rattle.cool_driver.specs.Ends.IsRunOf.{of_file, of_program}
-use Rattle.cool_driver.specs.Ends.Due.{checked, built, refused, ran, executed, unread_input, unfit, misread, summed, usage, too_many, missing, unread, too_large}
+use Rattle.cool_driver.specs.Ends.Due.{checked, built, refused, ran, executed, unread_input, evaluated, unread_source, unfit, misread, summed, usage, too_many, missing, unread, too_large}
 use Rattle.cool_driver.specs.declared.command_line.Command.{Command}
-use Rattle.cool_driver.specs.declared.command_line.Command.TheVariants.{Check, Build, Run, Exec}
+use Rattle.cool_driver.specs.declared.command_line.Command.TheVariants.{Check, Build, Run, Eval, Exec}
 use Rattle.cool_driver.specs.declared.command_line.Form.{Form}
 use Rattle.cool_driver.proofs.Plans.{no_files_for_big, no_files_for_nothing}
 use Rattle.cool_driver.proofs.ReadTwice.{same_plan, no_plan_and_plan, same_read, may_refuse}
@@ -29,12 +29,18 @@ pub record Answers (command : Command) (names contents : List (List ℕ)) (fault
 run_or_check : (limits : RunLimits) (command : Command) → Run limits ≡ command → command ≡ Check → ⊥
 run_or_check limits command a b = let same = a ∙ b in cc
 
--- neither of the two is `build`
+-- none of the three is `build`, nor `eval` one of them
 run_or_build : (limits : RunLimits) (form : Form) (command : Command) → Run limits ≡ command → command ≡ Build form → ⊥
 run_or_build limits form command a b = let same = a ∙ b in cc
 
 check_or_build : (form : Form) (command : Command) → Check ≡ command → command ≡ Build form → ⊥
 check_or_build form command a b = let same = a ∙ b in cc
+
+eval_or_check : (steps : ℕ) (command : Command) → Eval steps ≡ command → command ≡ Check → ⊥
+eval_or_check steps command a b = let same = a ∙ b in cc
+
+eval_or_build : (steps : ℕ) (form : Form) (command : Command) → Eval steps ≡ command → command ≡ Build form → ⊥
+eval_or_build steps form command a b = let same = a ∙ b in cc
 
 -- a command has one form
 same_form : (a b : Form) → Build a ≡ Build b → a ≡ b
@@ -53,6 +59,19 @@ answered_by_run r files limits found command names contents faults status output
       refused = λ some. absurd (some none);
       checked = λ check _. absurd (run_or_check limits command asked check);
       built = λ form q build _. absurd (run_or_build limits form command asked build);
+    }
+
+-- an evaluation answers the empty list of `eval`
+answered_by_evaluation : (r : Request) (files : FileMap) (steps : ℕ) (p : List Class) (command : Command) (others names contents : List (List ℕ)) (faults : List Fault) (status : ℕ) (output note : List ℕ)
+    → IsEvaluationOf r steps others p → Told r files → IsRead r command names contents → IsFaultList contents faults → Answers command names contents faults status output note
+answered_by_evaluation r files steps p command others names contents faults status output note is told read list =
+    let same = same_read r files (Eval steps) command others names is.contents contents told is.read read in
+    let none : faults ≡ [] = one_list contents faults [] list (subst (λ (cs : List (List ℕ)). IsFaultList cs []) same is.accepted.list) in
+    let asked = (same_plan (plan_of r.words) (Eval steps) command others names is.read.plan read.plan).0 in
+    record {
+      refused = λ some. absurd (some none);
+      checked = λ check _. absurd (eval_or_check steps command asked check);
+      built = λ form q build _. absurd (eval_or_build steps form command asked build);
     }
 
 -- what is due answers the fault list
@@ -96,6 +115,9 @@ answered r _ _ _ _ files command names contents faults (ran limits names' conten
     absurd (may_refuse r files command (Run limits) names names' contents contents' told read read' may strings' is)
 answered r _ _ _ _ files command names contents faults (executed limits found run) told read may list = answered_by_run r files _ _ command names contents faults _ _ _ run told read may list
 answered r _ _ _ _ files command names contents faults (unread_input limits found at output left run comes fails) told read may list = answered_by_run r files _ _ command names contents faults _ _ _ run told read may list
+answered r _ _ _ _ files command names contents faults (evaluated steps names' p status is e) told read may list = answered_by_evaluation r files steps p command names' names contents faults _ _ _ is told read list
+answered r _ _ _ _ files command names contents faults (unread_source steps names' p output left is part) told read may list =
+    answered_by_evaluation r files steps p command names' names contents faults _ _ _ is told read list
 answered r _ _ _ _ files command names contents faults (unfit limits name bytes fault read' binary is) told read may list =
     absurd (may_refuse r files command (Exec limits) names (name ∷ []) contents (bytes ∷ []) told read read' may)
 answered r _ _ _ _ files command names contents faults (misread limits name bytes fault read' text) told read may list =

@@ -15,13 +15,13 @@ use Rattle.cool_driver.specs.Ends.Due.{checked, built, refused, unfit, misread, 
 use Rattle.cool_driver.specs.Ends.IsRunOf.{of_file, of_program}
 use Rattle.cool_driver.specs.Ends.Writing.{by_build}
 use Rattle.cool_driver.specs.Reading.{IsStopAt}
-use Rattle.cool_driver.specs.Tasks.{fault_note, IsTaskOf, IsTaskOfFile, IsTaskOfChecked, IsTaskOfBuilt, IsTaskOfRun, IsLine, HasLimits, IsDue, IsFileTask}
+use Rattle.cool_driver.specs.Tasks.{fault_note, IsTaskOf, IsTaskOfFile, IsTaskOfChecked, IsTaskOfBuilt, IsTaskOfRun, IsTaskOfEval, IsLine, HasLimits, IsDue, IsFileTask}
 use Rattle.cool_driver.specs.declared.command_line.Command.{Command}
 use Rattle.cool_driver.specs.declared.command_line.Command.TheVariants as command
 use Rattle.cool_driver.specs.declared.command_line.Form.{Form}
 use Rattle.cool_driver.specs.declared.status.Status.TheVariants as statuses
 use Rattle.cool_driver.specs.declared.task.Task.{Task}
-use Rattle.cool_driver.specs.declared.task.Task.TheVariants.{Tell, Write, Run, Execute}
+use Rattle.cool_driver.specs.declared.task.Task.TheVariants.{Tell, Write, Run, Execute, Evaluate}
 use Rattle.cool_driver.proofs.NoteLines.{line_due}
 
 -- for files that `check` names
@@ -31,6 +31,7 @@ checked_due r names contents (Tell status lines) read (are, inr h) = rw (h.0, h.
 checked_due r names contents (Write made) read h = absurd h
 checked_due r names contents (Run within image) read h = absurd h
 checked_due r names contents (Execute within image) read h = absurd h
+checked_due r names contents (Evaluate steps p files) read h = absurd h
 
 -- for files that `asm` or `build` names
 built_due : (r : Request) (form : Form) (names contents : List (List ℕ)) (task : Task) → IsRead r (command.Build form) names contents
@@ -40,6 +41,7 @@ built_due r form names contents (Tell status lines) read (are, one, h) =
 built_due r form names contents (Write made) read h = rw h.2 (built form names contents h.0 read h.1, by_build form names contents h.0 read h.1)
 built_due r form names contents (Run within image) read h = absurd h
 built_due r form names contents (Execute within image) read h = absurd h
+built_due r form names contents (Evaluate steps p files) read h = absurd h
 
 -- for files that `run` names
 run_due : (r : Request) (limits : RunLimits) (names contents : List (List ℕ)) (task : Task) → IsBounded limits → IsRead r (command.Run limits) names contents
@@ -51,6 +53,17 @@ run_due r limits names contents (Run within image) bounded read (same, h) =
     rw same (bounded, (names, contents, h.0, read, h.1, h.2))
 run_due r limits names contents (Execute within image) bounded read (same, h) =
     rw same (bounded, of_program names contents h.0 read h.1 h.2 h.3)
+run_due r limits names contents (Evaluate steps p files) bounded read h = absurd h
+
+-- for files that `eval` names
+eval_due : (r : Request) (steps : ℕ) (names contents : List (List ℕ)) (task : Task) → IsRead r (command.Eval steps) names contents
+    → IsTaskOfEval steps names contents task → IsDue r task
+eval_due r steps names contents (Tell status lines) read (are, one, h) =
+    rw (one, h.2) (refused (command.Eval steps) names contents h.0 read tt h.1, are, λ e. omega (arith, e))
+eval_due r steps names contents (Write made) read h = absurd h
+eval_due r steps names contents (Run within image) read h = absurd h
+eval_due r steps names contents (Execute within image) read h = absurd h
+eval_due r steps names contents (Evaluate most p files) read (same, named, is) = rw (same, named) (record { contents = contents; read = read; accepted = is })
 
 -- for the file that `exec` names
 file_due : (r : Request) (limits : RunLimits) (name bytes : List ℕ) (task : Task) → IsBounded limits → IsRead r (command.Exec limits) (name ∷ []) (bytes ∷ [])
@@ -62,6 +75,7 @@ file_due r limits name bytes (Tell status lines) bounded read (twelve, are, inr 
 file_due r limits name bytes (Write made) bounded read h = absurd h
 file_due r limits name bytes (Run within image) bounded read h = absurd h
 file_due r limits name bytes (Execute within image) bounded read (same, h) = rw same (bounded, of_file name bytes read h)
+file_due r limits name bytes (Evaluate steps p files) bounded read h = absurd h
 
 -- `exec` names one file
 exec_due : (r : Request) (limits : RunLimits) (names contents : List (List ℕ)) (task : Task) → IsBounded limits → IsRead r (command.Exec limits) names contents → length names ≡ 1
@@ -78,6 +92,7 @@ task_due : (r : Request) (asked : Command) (names contents : List (List ℕ)) (t
 task_due r command.Check names contents task bounded read number h = checked_due r names contents task read h
 task_due r (command.Build form) names contents task bounded read number h = built_due r form names contents task read h
 task_due r (command.Run limits) names contents task bounded read number h = run_due r limits names contents task bounded read h
+task_due r (command.Eval steps) names contents task bounded read number h = eval_due r steps names contents task read h
 task_due r (command.Exec limits) names contents task bounded read number h = exec_due r limits names contents task bounded read (eqb-true (length names) 1 number) read.held h
 
 -- what follows for each value follows for one that was made

@@ -7,11 +7,12 @@ use Rattle.cool_faults.specs.Verdicts.{IsFaultList}
 use Rattle.cool_ports.specs.ShelfFiles.{FileMap}
 use Rattle.cool_driver.specs.declared.command_line.Command.{Command}
 use Rattle.cool_driver.specs.declared.command_line.Command.TheVariants.{Check, Build}
-use Rattle.cool_driver.specs.Ends.{Request, Due, Writing, Call, NoLess, Ends, FailedOutput, FailedNote, Got, Told, IsRead, MayRefuse}
-use Rattle.cool_driver.specs.Ends.Writing.{by_build, by_run, by_big, by_image}
+use Rattle.cool_driver.specs.Ends.{Request, Due, Writing, Call, NoLess, Ends, FailedOutput, FailedNote, DidNothing, RanShort, Got, Told, IsRead, MayRefuse}
+use Rattle.cool_driver.specs.Ends.Writing.{by_build, by_run, by_big, by_image, by_eval}
 use Rattle.cool_driver.proofs.AnsweredFaults.{answered}
 use Rattle.cool_driver.proofs.Findings as findings
 use Rattle.cool_driver.proofs.Findings.{Finding, finding_of_due, finding_below}
+use Rattle.cool_driver.proofs.EvaluationsOfCalls.{evaluated_ends, prefix_of_due, prefix_of_failed, prefix_of_short}
 use Rattle.cool_driver.proofs.ImagesOfCalls.{read_for_run}
 
 -- The counts of faults after a run of an image, or where none was made: only status 7 comes with a fault, of the input.
@@ -77,6 +78,9 @@ ends_found c status found calm written =
           ((a.refused some).0, subst (Got c.notes) (a.refused some).1 written.4);
       ran_exactly = λ files limits names contents strings told read simple _ _. findings.ran_exactly r status files limits names contents strings found told read simple;
       compiled_exactly = λ files limits names contents p told read other is _ _. findings.compiled_exactly r status files limits names contents p found told read other is;
+      evaluated_exactly = λ files steps names contents p told read is _ _.
+          evaluated_ends c status written.0 written.1 files steps names contents p written.2 written.3 written.4 told read is;
+      evaluated_prefix = λ files steps names contents p told read is. prefix_of_due c status written.0 written.1 files steps names contents p written.2 written.3 told read is;
       unfit_exactly = λ files limits name bytes told read binary none _ _. findings.unfit_exactly r status files limits name bytes found told read binary none;
       executed_exactly = λ files limits name bytes image told read is _ _. findings.executed_exactly r status files limits name bytes image found told read is;
       summed_exactly = λ n asked _ _.
@@ -107,6 +111,7 @@ read_of r _ _ _ (by_build form names contents p read is) = read.calm
 read_of r _ _ _ (by_run limits names contents strings read is) = read.calm
 read_of r _ _ _ (by_big n line asked calm is) = calm
 read_of r _ _ _ (by_image limits image at printed is comes prints) = (read_for_run r limits image is).3.calm
+read_of r _ _ _ (by_eval steps names p kept is) = is.read.calm
 
 -- no count fell where a write failed
 no_less_of : (c : Call) → FailedOutput c ⊎ FailedNote c → c.input_before ≤ c.input_after → NoLess c
@@ -144,6 +149,8 @@ ends_write_fault c rose part input = record {
   refused_exactly = λ files command names contents faults told read may list some other _. absurd (other refl);
   ran_exactly = λ files limits names contents strings told read form other _. absurd (other refl);
   compiled_exactly = λ files limits names contents p told read form is other _. absurd (other refl);
+  evaluated_exactly = λ files steps names contents p told read is other _. absurd (other refl);
+  evaluated_prefix = λ files steps names contents p told read is. prefix_of_failed c files steps names contents p part told read is;
   unfit_exactly = λ files limits name bytes told read binary none other _. absurd (other refl);
   executed_exactly = λ files limits name bytes image told read is other _. absurd (other refl);
   summed_exactly = λ n asked other _. absurd (other refl);
@@ -153,15 +160,16 @@ ends_write_fault c rose part input = record {
   shelf_fault = λ _. inl refl;
 }
 
--- memory ran out before anything was written or taken
-pub ends_without_memory : (c : Call) → c.request.faults_before ≤ c.request.faults_after → Got c.out [] → Got c.notes [] → c.left ≡ c.request.input → c.input_after ≡ c.input_before → Ends c 9
-ends_without_memory c files out notes left calm = record {
-  no_less = record { files = files; input = omega (arith, calm); out = omega (arith, out.1); notes = omega (arith, notes.1) };
+-- memory ran out, and no device failed
+pub ends_short : (c : Call) → c.request.faults_before ≤ c.request.faults_after → c.out.faults_after ≡ c.out.faults_before → c.notes.faults_after ≡ c.notes.faults_before
+    → c.input_after ≡ c.input_before → DidNothing c ⊎ RanShort c → Ends c 9
+ends_short c files out notes calm short = record {
+  no_less = record { files = files; input = omega (arith, calm); out = omega (arith, out); notes = omega (arith, notes) };
   statuses = omega arith;
   written = λ _ other. absurd (other refl);
   write_fault = λ e. absurd (omega arith);
   prefixes = λ e. absurd (omega arith);
-  want_of_memory = λ _. (out, notes, left, calm);
+  want_of_memory = λ _. short;
   read_fault = λ e. absurd (omega arith);
   usage_only = λ e. absurd (omega arith);
   usage_exactly = λ e _ other. absurd (other refl);
@@ -173,11 +181,17 @@ ends_without_memory c files out notes left calm = record {
   refused_exactly = λ files command names contents faults told read may list some _ other. absurd (other refl);
   ran_exactly = λ files limits names contents strings told read form _ other. absurd (other refl);
   compiled_exactly = λ files limits names contents p told read form is _ other. absurd (other refl);
+  evaluated_exactly = λ files steps names contents p told read is _ other. absurd (other refl);
+  evaluated_prefix = λ files steps names contents p told read is. prefix_of_short c files steps names contents p short told read is;
   unfit_exactly = λ files limits name bytes told read binary none _ other. absurd (other refl);
   executed_exactly = λ files limits name bytes image told read is _ other. absurd (other refl);
   summed_exactly = λ n asked _ other. absurd (other refl);
-  out_fault = λ more. absurd (omega (arith, out.1, more));
-  notes_fault = λ more. absurd (omega (arith, notes.1, more));
+  out_fault = λ more. absurd (omega (arith, out, more));
+  notes_fault = λ more. absurd (omega (arith, notes, more));
   input_fault = λ more. absurd (omega (arith, calm, more));
   shelf_fault = λ _. inr (inl refl);
 }
+
+-- memory ran out before anything was written or taken
+pub ends_without_memory : (c : Call) → c.request.faults_before ≤ c.request.faults_after → Got c.out [] → Got c.notes [] → c.left ≡ c.request.input → c.input_after ≡ c.input_before → Ends c 9
+ends_without_memory c files out notes left calm = ends_short c files out.1 notes.1 calm (inl (out, notes, left, calm))

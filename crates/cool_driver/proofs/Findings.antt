@@ -15,17 +15,19 @@ use Rattle.mips_isa.specs.Calls.{Outcome, Running, Exited, Trapped}
 use Rattle.mips_image.specs.ImageReading.{first_fault}
 use Rattle.mips_image.specs.declared.image_error.ImageError.{ImageError}
 use Rattle.cool_emit.specs.Programs.{program_lines}
+use Rattle.cool_meaning.specs.SourceRun as source
 use Rattle.cool_words.specs.Plans.{Asked}
 use Rattle.cool_words.specs.Plans.Asked.{big}
 use Rattle.cool_driver.specs.Big.{IsBigLine}
 use Rattle.cool_driver.specs.CommandLine.{asked_for, plan_of, most_bytes}
 use Rattle.cool_driver.specs.Execution.{IsImageOf, is_text_file, run_of, status_of}
+use Rattle.cool_driver.specs.Evaluation.{status_of_end}
 use Rattle.cool_words.specs.declared.plan.RunLimits.{RunLimits}
 use Rattle.cool_driver.specs.SimpleFiles.{RunSimply, RunOtherwise}
 use Rattle.cool_driver.specs.Ends.{Request, Due, IsRead, IsRunOf, AreHeld, MayRefuse, Told}
-use Rattle.cool_driver.specs.Ends.Due.{checked, built, refused, ran, executed, unread_input, unfit, misread, summed, usage, too_many, missing, unread, too_large}
+use Rattle.cool_driver.specs.Ends.Due.{checked, built, refused, ran, executed, unread_input, evaluated, unread_source, unfit, misread, summed, usage, too_many, missing, unread, too_large}
 use Rattle.cool_driver.specs.declared.command_line.Command.{Command}
-use Rattle.cool_driver.specs.declared.command_line.Command.TheVariants.{Check, Build, Run, Exec}
+use Rattle.cool_driver.specs.declared.command_line.Command.TheVariants.{Check, Build, Run, Eval, Exec}
 use Rattle.cool_driver.proofs.HeldFiles.{held_same, held_later, none_missing}
 use Rattle.cool_driver.proofs.Plans.{same_number, no_files_for_big, no_files_for_nothing}
 use Rattle.cool_driver.proofs.ReadTwice.{same_plan, no_run_exec, RunsNothing, runs_nothing, no_plan_and_plan, held_told, files_read, same_read, same_file, may_refuse}
@@ -56,9 +58,13 @@ IsRunStatus status = ((end : Outcome) × (status ≡ status_of end)) ⊎ (status
 abbrev pub IsWithoutFiles : Option Asked → ℕ → Type 0
 IsWithoutFiles asked status = ((asked ≡ None) × (status ≡ 2)) ⊎ ((n : ℕ) × (asked ≡ Some (big n)) × (status ≡ 0))
 
+-- the statuses of runs
+abbrev IsOneOf : ℕ → Type 0
+IsOneOf status = (status ≡ 0) ⊎ (status ≡ 3) ⊎ (status ≡ 4) ⊎ (status ≡ 5) ⊎ (status ≡ 6) ⊎ (status ≡ 7) ⊎ (status ≡ 11)
+
 -- what was found, with the status that it leaves
 pub data Finding (r : Request) (status : ℕ) : Type 0 where
-  accepted : (command : Command) (names contents : List (List ℕ)) → RunsNothing command → IsRead r command names contents → status ≡ 0 → Finding r status
+  accepted : (command : Command) (names contents : List (List ℕ)) → RunsNothing command → IsRead r command names contents → IsOneOf status → Finding r status
   faulty : (command : Command) (names contents : List (List ℕ)) (faults : List Fault) → IsRead r command names contents → MayRefuse command contents → IsRefused contents faults → status ≡ 1 → Finding r status
   simple : (limits : RunLimits) (names contents strings : List (List ℕ)) → IsRead r (Run limits) names contents → RunSimply limits contents strings → status ≡ 0 → Finding r status
   image : (limits : RunLimits) (found : ImageParts) → IsRunOf r limits found → IsRunStatus status → (status ≡ 7) ⊎ (status ≡ status_of (run_of limits found r.input)) → Finding r status
@@ -68,14 +74,27 @@ pub data Finding (r : Request) (status : ℕ) : Type 0 where
   no_plan : plan_of r.words ≡ None → r.faults_after ≡ r.faults_before → IsWithoutFiles (asked_for r.words) status → Finding r status
   no_file : (command : Command) (names : List (List ℕ)) → plan_of r.words ≡ Some (command, names) → IsFileFault r command names → status ≡ 10 → Finding r status
 
+-- of two statuses that are one
+one_status : (a b : ℕ) → Some a ≡ Some b → b ≡ a
+one_status a b e = cc
+
+-- each end of a run of the source has one of them
+status_of_source : (end : source.End) (status : ℕ) → status_of_end end ≡ Some status → IsOneOf status
+status_of_source source.Done status e = inl (one_status 0 status e)
+status_of_source (source.Failed error) status e = inr (inl (one_status 3 status e))
+status_of_source source.GoesOn status e = inr (inr (inr (inr (inl (one_status 6 status e)))))
+status_of_source source.IsStuck status e = absurd cc
+
 -- what is due is a finding
 pub finding_of_due : (r : Request) (status : ℕ) (output note left : List ℕ) → Due r status output note left → Finding r status
-finding_of_due r _ _ _ _ (checked names contents p read is) = accepted Check names contents tt read refl
-finding_of_due r _ _ _ _ (built form names contents p read is) = accepted (Build form) names contents tt read refl
+finding_of_due r _ _ _ _ (checked names contents p read is) = accepted Check names contents tt read (inl refl)
+finding_of_due r _ _ _ _ (built form names contents p read is) = accepted (Build form) names contents tt read (inl refl)
 finding_of_due r _ _ _ _ (refused command names contents faults read may is) = faulty command names contents faults read may is refl
 finding_of_due r _ _ _ _ (ran limits names contents strings read is) = simple limits names contents strings read is refl
 finding_of_due r _ _ _ _ (executed limits found run) = image limits found run (inl (run_of limits found r.input, refl)) (inr refl)
 finding_of_due r _ _ _ _ (unread_input limits found at output left run comes fails) = image limits found run (inr refl) (inl refl)
+finding_of_due r status _ _ _ (evaluated steps names p _ is e) = accepted (Eval steps) names is.contents tt is.read (status_of_source _ status e)
+finding_of_due r _ _ _ _ (unread_source steps names p output left is part) = accepted (Eval steps) names is.contents tt is.read (inr (inr (inr (inr (inr (inl refl))))))
 finding_of_due r _ _ _ _ (unfit limits name bytes fault read binary is) = no_image limits name bytes fault read is refl
 finding_of_due r _ _ _ _ (misread limits name bytes fault read text) = bad_text limits name bytes read text refl
 finding_of_due r _ _ _ _ (summed n line asked calm is) = no_plan (no_files_for_big r.words n asked) calm (inr (n, asked, refl))
@@ -86,10 +105,6 @@ finding_of_due r _ _ _ _ (missing command name contents u gone) =
 finding_of_due r _ _ _ _ (unread command name contents u rose) = no_file command (u.front ++ name ∷ u.rest) u.plan (inr (inl rose)) refl
 finding_of_due r _ _ _ _ (too_large command name contents u long) =
     no_file command (u.front ++ name ∷ u.rest) u.plan (inr (inr (record { front = u.front; rest = u.rest; name = name; contents = contents; stands = refl; held = u.held; cause = inr long }))) refl
-
--- the statuses of runs
-abbrev IsOneOf : ℕ → Type 0
-IsOneOf status = (status ≡ 0) ⊎ (status ≡ 3) ⊎ (status ≡ 4) ⊎ (status ≡ 5) ⊎ (status ≡ 6) ⊎ (status ≡ 7) ⊎ (status ≡ 11)
 
 -- an exit has one of them
 exit_status : (zero_is four_is five_is : Bool) → IsOneOf (cond zero_is 0 (cond four_is 4 (cond five_is 5 3)))
@@ -119,7 +134,7 @@ below status is = omega (arith, is)
 
 -- no finding leaves a status above 12, nor those of a failed write and of want of memory
 pub finding_below : (r : Request) (status : ℕ) → Finding r status → (status ≤ 12) × (status ≢ 8) × (status ≢ 9)
-finding_below r status (accepted command names contents quiet read e) = (omega (arith, e), λ q. omega (arith, e, q), λ q. omega (arith, e, q))
+finding_below r status (accepted command names contents quiet read e) = (below status e, λ q. not_of_run status 8 e q (inr (inr (inl refl))), λ q. not_of_run status 9 e q (inr (inr (inr (inl refl)))))
 finding_below r status (faulty command names contents faults read may is e) = (omega (arith, e), λ q. omega (arith, e, q), λ q. omega (arith, e, q))
 finding_below r status (simple limits names contents strings read is e) = (omega (arith, e), λ q. omega (arith, e, q), λ q. omega (arith, e, q))
 finding_below r status (image limits' found run ends e) =
@@ -177,7 +192,7 @@ asks_twice asked n p q = cc
 
 -- status 2 is left only where nothing is asked for
 pub usage_only : (r : Request) (status : ℕ) → Finding r status → status ≡ 2 → asked_for r.words ≡ None
-usage_only r status (accepted command' names' contents' quiet read' e) q = absurd (omega (arith, e, q))
+usage_only r status (accepted command' names' contents' quiet read' e) q = absurd (not_of_run status 2 e q (inr (inl refl)))
 usage_only r status (faulty command' names' contents' faults' read' may is e) q = absurd (omega (arith, e, q))
 usage_only r status (simple limits' names' contents' strings' read' is e) q = absurd (omega (arith, e, q))
 usage_only r status (image limits' found run ends e) q = absurd (not_of_run status 2 (run_status status ends) q (inr (inl refl)))
@@ -347,6 +362,8 @@ big_due r _ _ _ _ n (refused command names contents faults read may is) asked = 
 big_due r _ _ _ _ n (ran limits names contents strings read is) asked = absurd (no_plan_and_plan _ _ _ (no_files_for_big r.words n asked) read.plan)
 big_due r _ _ _ _ n (executed limits found run) asked = absurd (no_plan_and_plan _ _ _ (no_files_for_big r.words n asked) (read_for_run r limits found run).3.plan)
 big_due r _ _ _ _ n (unread_input limits found at output left run comes fails) asked = absurd (no_plan_and_plan _ _ _ (no_files_for_big r.words n asked) (read_for_run r limits found run).3.plan)
+big_due r _ _ _ _ n (evaluated steps names p status is e) asked = absurd (no_plan_and_plan _ _ _ (no_files_for_big r.words n asked) is.read.plan)
+big_due r _ _ _ _ n (unread_source steps names p output left is part) asked = absurd (no_plan_and_plan _ _ _ (no_files_for_big r.words n asked) is.read.plan)
 big_due r _ _ _ _ n (unfit limits name bytes fault read binary is) asked = absurd (no_plan_and_plan _ _ _ (no_files_for_big r.words n asked) read.plan)
 big_due r _ _ _ _ n (misread limits name bytes fault read text) asked = absurd (no_plan_and_plan _ _ _ (no_files_for_big r.words n asked) read.plan)
 big_due r _ _ _ _ n (summed m line asks calm is) asked = (refl, subst (λ (k : ℕ). IsBigLine k line) (same_number _ m n asks asked) is)

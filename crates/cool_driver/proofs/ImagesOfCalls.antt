@@ -56,8 +56,8 @@ read_for_run r limits found (of_program names contents p read other is made) = (
 
 -- the words ask to take of the input
 pub run_takes_input : (r : Request) (limits : RunLimits) (found : ImageParts) → IsRunOf r limits found → TakesNoInput r.words → ⊥
-run_takes_input r limits found (of_file name bytes read is) none = (none (name ∷ []) limits).0 read.plan
-run_takes_input r limits found (of_program names contents p read other is made) none = (none names limits).1 read.plan
+run_takes_input r limits found (of_file name bytes read is) none = (none (name ∷ []) limits 0).0 read.plan
+run_takes_input r limits found (of_program names contents p read other is made) none = (none names limits 0).1 read.plan
 
 -- what runs for a file of `exec` is what the file stands for, within its limits
 pub run_of_file : (r : Request) (files : FileMap) (within limits : RunLimits) (found : ImageParts) (name bytes : List ℕ) → IsRunOf r within found → Told r files

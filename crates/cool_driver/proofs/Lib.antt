@@ -14,12 +14,14 @@ pub mod PlainStrings
 pub mod DueTasks
 pub mod Findings
 pub mod AnsweredFaults
+pub mod EvaluationsOfCalls
 pub mod EndsOfDue
 pub mod EndsOfTasks
 pub mod RunsWithinLimits
 pub mod BigRuns
 pub mod SimpleRuns
 pub mod EndsOfRuns
+pub mod EndsOfEvaluations
 pub mod HexDigits
 pub mod EmittedImages
 pub mod LoadingImages

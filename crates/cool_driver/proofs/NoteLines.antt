@@ -14,12 +14,12 @@ use Rattle.cool_words.specs.declared.plan.RunLimits.{RunLimits}
 use Rattle.cool_driver.specs.SimpleFiles.{RunOtherwise}
 use Rattle.cool_driver.specs.SimpleReading.{texts}
 use Rattle.cool_driver.specs.Ends.{Request, Due}
-use Rattle.cool_driver.specs.Tasks.{code_of, AreLines, note_of, IsUnfit, IsMisread, IsTaskOfFile, IsTaskOfChecked, IsTaskOfBuilt, IsTaskOfRun, IsLine, AreLinesOf, IsDue}
+use Rattle.cool_driver.specs.Tasks.{code_of, AreLines, note_of, IsUnfit, IsMisread, IsTaskOfFile, IsTaskOfChecked, IsTaskOfBuilt, IsTaskOfRun, IsTaskOfEval, IsLine, AreLinesOf, IsDue}
 use Rattle.cool_driver.specs.declared.command_line.Form.{Form}
 use Rattle.cool_driver.specs.declared.status.Status.{Status}
 use Rattle.cool_driver.specs.declared.status.Status.TheVariants as statuses
 use Rattle.cool_driver.specs.declared.task.Task.{Task}
-use Rattle.cool_driver.specs.declared.task.Task.TheVariants.{Tell, Write, Run, Execute}
+use Rattle.cool_driver.specs.declared.task.Task.TheVariants.{Tell, Write, Run, Execute, Evaluate}
 use Rattle.mips_isa.specs.declared.asm_fault.AsmFault.{AsmFault}
 use Rattle.mips_image.specs.declared.image_error.ImageError.{ImageError}
 
@@ -60,6 +60,7 @@ line_due r status line (Tell told lines) h some other due = rw (h.0, one_line li
 line_due r status line (Write made) h some other due = absurd h
 line_due r status line (Run within image) h some other due = absurd h
 line_due r status line (Execute within image) h some other due = absurd h
+line_due r status line (Evaluate steps p files) h some other due = absurd h
 
 -- the faults of files that `check` names
 pub checked_lines : (names contents : List (List ℕ)) (faults : List Fault) (task : Task) → IsRefused contents faults → AreLinesOf names faults task → IsTaskOfChecked names contents task
@@ -67,6 +68,7 @@ checked_lines names contents faults (Tell status lines) is h = (are_lines lines.
 checked_lines names contents faults (Write made) is h = absurd h
 checked_lines names contents faults (Run within image) is h = absurd h
 checked_lines names contents faults (Execute within image) is h = absurd h
+checked_lines names contents faults (Evaluate steps p files) is h = absurd h
 
 -- the faults of files that `asm` or `build` names
 pub built_lines : (form : Form) (names contents : List (List ℕ)) (faults : List Fault) (task : Task)
@@ -76,6 +78,7 @@ built_lines form names contents faults (Tell status lines) is h =
 built_lines form names contents faults (Write made) is h = absurd h
 built_lines form names contents faults (Run within image) is h = absurd h
 built_lines form names contents faults (Execute within image) is h = absurd h
+built_lines form names contents faults (Evaluate steps p files) is h = absurd h
 
 -- the faults of files that `run` names
 pub run_lines : (limits : RunLimits) (names contents : List (List ℕ)) (faults : List Fault) (task : Task) → RunOtherwise limits contents → IsRefused contents faults → AreLinesOf names faults task
@@ -84,6 +87,16 @@ run_lines limits names contents faults (Tell status lines) other is h = (are_lin
 run_lines limits names contents faults (Write made) other is h = absurd h
 run_lines limits names contents faults (Run within image) other is h = absurd h
 run_lines limits names contents faults (Execute within image) other is h = absurd h
+run_lines limits names contents faults (Evaluate steps p files) other is h = absurd h
+
+-- the faults of files that `eval` names
+pub eval_lines : (steps : ℕ) (names contents : List (List ℕ)) (faults : List Fault) (task : Task)
+    → IsRefused contents faults → AreLinesOf names faults task → IsTaskOfEval steps names contents task
+eval_lines steps names contents faults (Tell status lines) is h = (are_lines lines.items _ h.1 (some_lines names faults), h.0, (faults, is, ap concat h.1))
+eval_lines steps names contents faults (Write made) is h = absurd h
+eval_lines steps names contents faults (Run within image) is h = absurd h
+eval_lines steps names contents faults (Execute within image) is h = absurd h
+eval_lines steps names contents faults (Evaluate most p files) is h = absurd h
 
 -- a file that is no image
 pub unfit_line : (limits : RunLimits) (name bytes line : List ℕ) (task : Task) → IsUnfit name bytes line → IsLine statuses.Unfit line task → IsTaskOfFile limits name bytes task
@@ -94,6 +107,7 @@ unfit_line limits name bytes line (Tell status lines) is h =
 unfit_line limits name bytes line (Write made) is h = absurd h
 unfit_line limits name bytes line (Run within image) is h = absurd h
 unfit_line limits name bytes line (Execute within image) is h = absurd h
+unfit_line limits name bytes line (Evaluate steps p files) is h = absurd h
 
 -- a text with a fault
 pub misread_line : (limits : RunLimits) (name bytes line : List ℕ) (task : Task) → IsMisread name bytes line → IsLine statuses.Unfit line task → IsTaskOfFile limits name bytes task
@@ -104,6 +118,7 @@ misread_line limits name bytes line (Tell status lines) is h =
 misread_line limits name bytes line (Write made) is h = absurd h
 misread_line limits name bytes line (Run within image) is h = absurd h
 misread_line limits name bytes line (Execute within image) is h = absurd h
+misread_line limits name bytes line (Evaluate steps p files) is h = absurd h
 
 -- the line at a number, in front of those after it
 pub note_at : (lines : List (Vec ℕ)) (i : ℕ) (line : Vec ℕ) → i < length lines → line ≡ get_or lines i line → line.items ++ note_of (drop (i + 1) lines) ≡ note_of (drop i lines)

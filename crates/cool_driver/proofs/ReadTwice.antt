@@ -6,7 +6,7 @@ use Rattle.cool_words.specs.declared.plan.RunLimits.{RunLimits}
 use Rattle.cool_driver.specs.CommandLine.{plan_of}
 use Rattle.cool_driver.specs.Ends.{Request, IsRead, AreHeld, MayRefuse, Told}
 use Rattle.cool_driver.specs.declared.command_line.Command.{Command}
-use Rattle.cool_driver.specs.declared.command_line.Command.TheVariants.{Check, Build, Run, Exec}
+use Rattle.cool_driver.specs.declared.command_line.Command.TheVariants.{Check, Build, Run, Eval, Exec}
 use Rattle.cool_driver.proofs.HeldFiles.{held_same}
 
 -- a plan, or another one where there is none
@@ -37,6 +37,7 @@ abbrev pub RunsNothing : Command → Type 0
 RunsNothing Check = Unit {0}
 RunsNothing (Build form) = Unit {0}
 RunsNothing (Run limits) = ⊥
+RunsNothing (Eval steps) = Unit {0}
 RunsNothing (Exec limits) = ⊥
 
 -- where a plan is one of such a command, every plan is

@@ -1,5 +1,5 @@
 -- Runs of programs of the simple form, whose output is known.
-use Rattle.std.proofs.Common.{◌≡◌, ◌∙◌, ◌⊎◌, inl, inr, refl, sym, ap, subst, ℕ, List, [], ◌++◌, arith}
+use Rattle.std.proofs.Common.{◌≡◌, ◌∙◌, ◌⊎◌, inl, inr, refl, sym, ap, subst, ℕ, List, [], ◌++◌}
 use Rattle.std.specs.Prelude.{Option, Some}
 use Rattle.cool_ports.specs.SinkBytes.{appended, GotPrefix}
 use Rattle.cool_ports.proofs.GettingBytes.{appended-nil}

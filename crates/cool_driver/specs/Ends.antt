@@ -20,6 +20,7 @@ use Rattle.mips_image.specs.declared.image_error.ImageError.{ImageError}
 use Rattle.mips_image.specs.declared.stored_image.TheConstants.{CHECKED_VERSION}
 use Rattle.spim_machine.specs.Ends.{FailsReading, call_with}
 use Rattle.cool_emit.specs.Programs.{program_lines}
+use Rattle.cool_meaning.specs.SourceRun as source
 use Rattle.cool_words.specs.declared.plan.RunLimits.{RunLimits}
 use Rattle.cool_words.specs.Plans.Asked.{big}
 use Rattle.cool_driver.specs.Big.{IsBigLine}
@@ -27,8 +28,9 @@ use Rattle.cool_driver.specs.CommandLine.{asked_for, plan_of, most_bytes}
 use Rattle.cool_driver.specs.Notes.{end_text, refused_note, usage_note, missing_note, unread_note, too_many_note, too_large_note, read_fault_note, image_note, asm_note}
 use Rattle.cool_driver.specs.SimpleFiles.{RunSimply, RunOtherwise}
 use Rattle.cool_driver.specs.Execution.{IsImageOf, IsRunnable, is_text_file, segments_within, run_of, ComesTo, left_by, status_of, note_of}
+use Rattle.cool_driver.specs.Evaluation.{status_of_end, note_of_end, IsPartOf}
 use Rattle.cool_driver.specs.declared.command_line.Command.{Command}
-use Rattle.cool_driver.specs.declared.command_line.Command.TheVariants.{Check, Build, Run, Exec}
+use Rattle.cool_driver.specs.declared.command_line.Command.TheVariants.{Check, Build, Run, Eval, Exec}
 use Rattle.cool_driver.specs.declared.command_line.Form.{Form}
 use Rattle.cool_driver.specs.declared.command_line.Form.TheVariants.{Text, Image}
 
@@ -71,6 +73,7 @@ abbrev pub MayRefuse : Command → List (List ℕ) → Type 0
 MayRefuse Check contents = Unit {0}
 MayRefuse (Build form) contents = Unit {0}
 MayRefuse (Run limits) contents = RunOtherwise limits contents
+MayRefuse (Eval steps) contents = Unit {0}
 MayRefuse (Exec limits) contents = ⊥
 
 -- The image that a call runs over its input: that of the file of `exec`, or the one of the lines of the program that the files of `run` are,
@@ -80,6 +83,12 @@ pub data IsRunOf (r : Request) (limits : RunLimits) (image : ImageParts) : Type 
   of_program : (names contents : List (List ℕ)) (p : List Class) → IsRead r (Run limits) names contents → RunOtherwise limits contents
       → IsAccepted contents p
       → image ≡ image_of (program_lines p names) → IsRunOf r limits image
+
+-- The program that a call evaluates with so many steps: that of the files of `eval`, which have these names.
+pub record IsEvaluationOf (r : Request) (steps : ℕ) (names : List (List ℕ)) (p : List Class) : Type 0 where
+  pub contents : List (List ℕ)
+  pub read : IsRead r (Eval steps) names contents
+  pub accepted : IsAccepted contents p
 
 -- what `asm` and `build` write for a program whose files have these names: its lines, and the image of its lines in the version of checked
 -- arithmetic
@@ -94,7 +103,7 @@ pub data Due (r : Request) : ℕ → List ℕ → List ℕ → List ℕ → Type
   -- `asm` and `build`: the lines or the image, where the files are accepted
   built : (form : Form) (names contents : List (List ℕ)) (p : List Class) → IsRead r (Build form) names contents → IsAccepted contents p
       → Due r 0 (built_bytes form p names) [] r.input
-  -- `check`, `asm`, `build` and `run`: a line for each fault
+  -- `check`, `asm`, `build`, `run` and `eval`: a line for each fault
   refused : (command : Command) (names contents : List (List ℕ)) (faults : List Fault) → IsRead r command names contents
       → MayRefuse command contents → IsRefused contents faults
       → Due r 1 [] (refused_note names faults) r.input
@@ -109,6 +118,13 @@ pub data Due (r : Request) : ℕ → List ℕ → List ℕ → List ℕ → Type
   unread_input : (limits : RunLimits) (image : ImageParts) (at : State) (output left : List ℕ) → IsRunOf r limits image
       → ComesTo limits image r.input at → FailsReading (call_with (segments_within limits image) at) at (Some []) (Some left) (Some output)
       → Due r 7 output read_fault_note left
+  -- `eval`: as the run of the source ends
+  evaluated : (steps : ℕ) (names : List (List ℕ)) (p : List Class) (status : ℕ) → IsEvaluationOf r steps names p
+      → status_of_end (source.run p names r.input steps).end ≡ Some status
+      → Due r status (source.run p names r.input steps).output (note_of_end (source.run p names r.input steps).end) (source.run p names r.input steps).left
+  -- `eval`: a read failed on the way
+  unread_source : (steps : ℕ) (names : List (List ℕ)) (p : List Class) (output left : List ℕ) → IsEvaluationOf r steps names p
+      → IsPartOf (source.run p names r.input steps) output left → Due r 7 output read_fault_note left
   -- `exec`: the file has a fault
   unfit : (limits : RunLimits) (name bytes : List ℕ) (fault : ImageError) → IsRead r (Exec limits) (name ∷ []) (bytes ∷ [])
       → is_text_file bytes ≡ false → first_fault bytes ≡ Some fault → Due r 12 [] (image_note name fault) r.input
@@ -142,6 +158,9 @@ pub data Writing (r : Request) : List ℕ → List ℕ → List ℕ → Type 0 w
   -- the run of the image comes to a call that prints these bytes
   by_image : (limits : RunLimits) (image : ImageParts) (at : State) (printed : List ℕ) → IsRunOf r limits image
       → ComesTo limits image r.input at → call (segments_within limits image) at ≡ print at printed → Writing r at.output printed at.input
+  -- what the run of the source writes; at least what it leaves of the input is left
+  by_eval : (steps : ℕ) (names : List (List ℕ)) (p : List Class) (kept : List ℕ) → IsEvaluationOf r steps names p
+      → Writing r [] (source.run p names r.input steps).output (kept ++ (source.run p names r.input steps).left)
 
 -- What a sink held, and its count of faults, before a call and after it.
 pub record SinkUse : Type 0 where
@@ -183,6 +202,20 @@ FailedOutput c = (bytes : List ℕ) × (more : List ℕ) × Writing c.request by
 abbrev pub FailedNote : Call → Type 0
 FailedNote c = (due : ℕ) × (output : List ℕ) × (note : List ℕ) × Due c.request due output note c.left × Got c.out output × GotPart c.notes [] note
 
+-- nothing was written or taken
+abbrev pub DidNothing : Call → Type 0
+DidNothing c = Got c.out [] × Got c.notes [] × (c.left ≡ c.request.input) × (c.input_after ≡ c.input_before)
+
+-- memory ran out while a program was evaluated: a prefix of what its run writes came, and no fault
+abbrev pub RanShort : Call → Type 0
+RanShort c = (steps : ℕ) × (names : List (List ℕ)) × (p : List Class) × IsEvaluationOf c.request steps names p
+    × GotPrefix c.out.held_before (source.run p names c.request.input steps).output c.out.held_after
+    × (c.out.faults_after ≡ c.out.faults_before) × Got c.notes [] × (c.input_after ≡ c.input_before)
+
+-- a call ended as this run did, with this status
+abbrev pub EndsAs : Call → ℕ → source.Run → Type 0
+EndsAs c status run = (status_of_end run.end ≡ Some status) × Got c.out run.output × Got c.notes (note_of_end run.end) × (c.left ≡ run.left)
+
 -- the shelf tells these files, and no fault of it can have come
 abbrev pub Told : Request → FileMap → Type 0
 Told r files = (r.files ≡ Some files) × (r.faults_before < last_count) × (r.faults_after ≡ r.faults_before)
@@ -200,8 +233,8 @@ pub record Ends (c : Call) (status : ℕ) : Type 0 where
   -- status 8: a write failed
   pub write_fault : status ≡ 8 → Rose c.out.faults_before c.out.faults_after ⊎ Rose c.notes.faults_before c.notes.faults_after
   pub prefixes : status ≡ 8 → FailedOutput c ⊎ FailedNote c
-  -- status 9: nothing was written or taken
-  pub want_of_memory : status ≡ 9 → Got c.out [] × Got c.notes [] × (c.left ≡ c.request.input) × (c.input_after ≡ c.input_before)
+  -- status 9: nothing was written or taken, but where `eval` ran
+  pub want_of_memory : status ≡ 9 → DidNothing c ⊎ RanShort c
   -- status 7 comes only where the input failed
   pub read_fault : status ≡ 7 → Rose c.input_before c.input_after
   -- status 2 comes where the words ask for nothing, and only there
@@ -223,7 +256,7 @@ pub record Ends (c : Call) (status : ℕ) : Type 0 where
   -- `asm` and `build`: status 0, and the lines or the image, come where the files were read and are accepted
   pub built_exactly : (files : FileMap) (form : Form) (names contents : List (List ℕ)) (p : List Class) → Told c.request files
       → IsRead c.request (Build form) names contents → IsAccepted contents p → Unless status ((status ≡ 0) × Got c.out (built_bytes form p names))
-  -- `check`, `asm`, `build` and `run`: status 1 comes where the files were read and their fault list is not empty, with a line for each fault
+  -- `check`, `asm`, `build`, `run` and `eval`: status 1 comes where the files were read and their fault list is not empty, with a line for each fault
   -- of it
   pub refused_exactly : (files : FileMap) (command : Command) (names contents : List (List ℕ)) (faults : List Fault) → Told c.request files
       → IsRead c.request command names contents → MayRefuse command contents
@@ -235,6 +268,14 @@ pub record Ends (c : Call) (status : ℕ) : Type 0 where
   pub compiled_exactly : (files : FileMap) (limits : RunLimits) (names contents : List (List ℕ)) (p : List Class) → Told c.request files
       → IsRead c.request (Run limits) names contents → RunOtherwise limits contents → IsAccepted contents p
       → Unless status ((status ≡ 7) ⊎ (status ≡ status_of (run_of limits (image_of (program_lines p names)) c.request.input)))
+  -- `eval`: the status, the output and the note of the run's end come where the files were read and are accepted, and what it leaves of the
+  -- input is left, unless a read failed; whatever the status, a prefix of the run's output came
+  pub evaluated_exactly : (files : FileMap) (steps : ℕ) (names contents : List (List ℕ)) (p : List Class) → Told c.request files
+      → IsRead c.request (Eval steps) names contents → IsAccepted contents p
+      → Unless status ((status ≡ 7) ⊎ EndsAs c status (source.run p names c.request.input steps))
+  pub evaluated_prefix : (files : FileMap) (steps : ℕ) (names contents : List (List ℕ)) (p : List Class) → Told c.request files
+      → IsRead c.request (Eval steps) names contents → IsAccepted contents p
+      → GotPrefix c.out.held_before (source.run p names c.request.input steps).output c.out.held_after
   -- `exec`: status 12 comes where the file was read, is no text and no image, and the status of the run's end where it is an image
   pub unfit_exactly : (files : FileMap) (limits : RunLimits) (name bytes : List ℕ) → Told c.request files
       → IsRead c.request (Exec limits) (name ∷ []) (bytes ∷ []) → is_text_file bytes ≡ false → ((image : ImageParts) → IsImageOf image bytes → ⊥)

@@ -7,6 +7,7 @@ pub mod Limits
 pub mod CommandLine
 pub mod Notes
 pub mod Execution
+pub mod Evaluation
 pub mod Big
 pub mod Ends
 pub mod Tasks

@@ -1,4 +1,4 @@
--- What is left to do once the words and the files were read: a note, lines or an image to write, or an image to run.
+-- What is left to do once the words and the files were read: a note, lines or an image to write, an image to run, or a program to evaluate.
 use Rattle.std.specs.Prelude.{◌≡◌, ◌≢◌, ℕ, ◌<◌, ◌≤◌, ◌⊎◌, true, false, List, [], ◌∷◌, ◌++◌, Option, Some, None, get_or, map, length, String}
 use Rattle.std.specs.List.{concat, list_all, AllByRecursion}
 use Rattle.std.specs.Global.{Global, Vec}
@@ -23,7 +23,7 @@ use Rattle.cool_words.specs.Plans.{IsBounded, is_file_name}
 use Rattle.cool_driver.specs.CommandLine.{words_of, plan_of}
 use Rattle.cool_driver.specs.Notes.{end_text, refused_note, missing_note, unread_note, too_large_note, image_note, asm_note}
 use Rattle.cool_driver.specs.Execution.{IsRunnable, is_text_file, run_of}
-use Rattle.cool_driver.specs.Ends.{Request, Due, Writing, IsRead, IsRunOf, built_bytes, SinkUse, Got, GotPart}
+use Rattle.cool_driver.specs.Ends.{Request, Due, Writing, IsRead, IsRunOf, IsEvaluationOf, built_bytes, SinkUse, Got, GotPart}
 use Rattle.cool_driver.specs.SimpleFiles.{RunSimply, RunOtherwise}
 use Rattle.cool_driver.specs.SimpleReading.{texts}
 use Rattle.cool_driver.specs.declared.command_line.Command.{Command}
@@ -32,7 +32,7 @@ use Rattle.cool_driver.specs.declared.command_line.Form.{Form}
 use Rattle.cool_driver.specs.declared.status.Status.{Status}
 use Rattle.cool_driver.specs.declared.status.Status.TheVariants as statuses
 use Rattle.cool_driver.specs.declared.task.Task.{Task}
-use Rattle.cool_driver.specs.declared.task.Task.TheVariants.{Tell, Write, Run, Execute}
+use Rattle.cool_driver.specs.declared.task.Task.TheVariants.{Tell, Write, Run, Execute, Evaluate}
 
 abbrev pub code_of : Status → ℕ
 code_of statuses.Done = 0
@@ -90,6 +90,7 @@ IsTaskOfFile limits name bytes (Tell status lines) = (code_of status ≡ 12) × 
 IsTaskOfFile limits name bytes (Write made) = ⊥
 IsTaskOfFile limits name bytes (Run within image) = ⊥
 IsTaskOfFile limits name bytes (Execute within image) = (within ≡ limits) × IsRunnable image bytes
+IsTaskOfFile limits name bytes (Evaluate steps p files) = ⊥
 
 -- what is left to do for files of these names that `check` names and that have these bytes
 abbrev pub IsTaskOfChecked : List (List ℕ) → List (List ℕ) → Task → Type 0
@@ -100,6 +101,7 @@ IsTaskOfChecked names contents (Tell status lines) =
 IsTaskOfChecked names contents (Write made) = ⊥
 IsTaskOfChecked names contents (Run within image) = ⊥
 IsTaskOfChecked names contents (Execute within image) = ⊥
+IsTaskOfChecked names contents (Evaluate steps p files) = ⊥
 
 -- what is left to do to write the program of files of these names that have these bytes, in a form
 abbrev pub IsTaskOfBuilt : Form → List (List ℕ) → List (List ℕ) → Task → Type 0
@@ -109,6 +111,7 @@ IsTaskOfBuilt form names contents (Tell status lines) =
 IsTaskOfBuilt form names contents (Write made) = (p : List Class) × IsAccepted contents p × (made.items ≡ built_bytes form p names)
 IsTaskOfBuilt form names contents (Run within image) = ⊥
 IsTaskOfBuilt form names contents (Execute within image) = ⊥
+IsTaskOfBuilt form names contents (Evaluate steps p files) = ⊥
 
 -- what is left to do for files of these names that `run` names, within these limits, and that have these bytes
 abbrev pub IsTaskOfRun : RunLimits → List (List ℕ) → List (List ℕ) → Task → Type 0
@@ -120,11 +123,23 @@ IsTaskOfRun limits names contents (Run within image) =
     (within ≡ limits) × ((strings : List (List ℕ)) × RunSimply limits contents strings × Prints limits image (concat strings ++ end_text))
 IsTaskOfRun limits names contents (Execute within image) =
     (within ≡ limits) × ((p : List Class) × RunOtherwise limits contents × IsAccepted contents p × (image ≡ image_of (program_lines p names)))
+IsTaskOfRun limits names contents (Evaluate steps p files) = ⊥
+
+-- what is left to do for files of these names that `eval` names, with so many steps, and that have these bytes
+abbrev pub IsTaskOfEval : ℕ → List (List ℕ) → List (List ℕ) → Task → Type 0
+IsTaskOfEval steps names contents (Tell status lines) =
+    AreLines lines.items × (code_of status ≡ 1)
+    × ((faults : List Fault) × IsRefused contents faults × (note_of lines.items ≡ refused_note names faults))
+IsTaskOfEval steps names contents (Write made) = ⊥
+IsTaskOfEval steps names contents (Run within image) = ⊥
+IsTaskOfEval steps names contents (Execute within image) = ⊥
+IsTaskOfEval steps names contents (Evaluate most p files) = (most ≡ steps) × (words_of files.items ≡ names) × IsAccepted contents p
 
 abbrev pub IsTaskOf : Command → List (List ℕ) → List (List ℕ) → Task → Type 0
 IsTaskOf command.Check names contents task = IsTaskOfChecked names contents task
 IsTaskOf (command.Build form) names contents task = IsTaskOfBuilt form names contents task
 IsTaskOf (command.Run limits) names contents task = IsTaskOfRun limits names contents task
+IsTaskOf (command.Eval steps) names contents task = IsTaskOfEval steps names contents task
 IsTaskOf (command.Exec limits) names contents task = IsTaskOfFile limits (get_or names 0 []) (get_or contents 0 []) task
 
 -- one line
@@ -133,6 +148,7 @@ IsLine status line (Tell told lines) = (told ≡ status) × (texts lines.items �
 IsLine status line (Write made) = ⊥
 IsLine status line (Run within image) = ⊥
 IsLine status line (Execute within image) = ⊥
+IsLine status line (Evaluate steps p files) = ⊥
 
 -- a line for each fault of files of these names
 abbrev pub AreLinesOf : List (List ℕ) → List Fault → Task → Type 0
@@ -140,12 +156,14 @@ AreLinesOf names faults (Tell status lines) = (code_of status ≡ 1) × (texts l
 AreLinesOf names faults (Write made) = ⊥
 AreLinesOf names faults (Run within image) = ⊥
 AreLinesOf names faults (Execute within image) = ⊥
+AreLinesOf names faults (Evaluate steps p files) = ⊥
 
 -- the limits of a command are those that words may set
 abbrev pub HasLimits : Command → Type 0
 HasLimits command.Check = Unit {0}
 HasLimits (command.Build form) = Unit {0}
 HasLimits (command.Run limits) = IsBounded limits
+HasLimits (command.Eval steps) = Unit {0}
 HasLimits (command.Exec limits) = IsBounded limits
 
 -- what is left to do is what is due
@@ -157,6 +175,7 @@ IsDue r (Run limits image) =
     × ((names : List (List ℕ)) × (contents : List (List ℕ)) × (strings : List (List ℕ)) × IsRead r (command.Run limits) names contents
     × RunSimply limits contents strings × Prints limits image (concat strings ++ end_text))
 IsDue r (Execute limits image) = IsBounded limits × IsRunOf r limits image
+IsDue r (Evaluate steps p files) = IsEvaluationOf r steps (words_of files.items) p
 
 -- what is left to do for any words that name these files for this command, over a shelf of these files, and for any input
 abbrev pub IsFileTask : Option FileMap → ℕ → ℕ → Command → List (List ℕ) → Task → Type 0

@@ -25,6 +25,8 @@ pub enum Command {
     Build(Form),
     /// To compile them, and run that within the limits.
     Run(RunLimits),
+    /// To evaluate the program that they are, with so many steps.
+    Eval(u64),
     /// To run the image that the one file is within the limits.
     Exec(RunLimits),
 }
@@ -35,7 +37,9 @@ impl Command {
         ensures { result ≡ most_bytes self }
     {
         match self {
-            Command::Check | Command::Build(_) | Command::Run(_) => MOST_SOURCE_BYTES,
+            Command::Check | Command::Build(_) | Command::Run(_) | Command::Eval(_) => {
+                MOST_SOURCE_BYTES
+            }
             Command::Exec(_) => MOST_IMAGE_BYTES,
         }
     }

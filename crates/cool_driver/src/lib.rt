@@ -15,6 +15,7 @@ ghost use Rattle.cool_driver.specs.Limits.{AreLimits};
 
 mod big;
 mod command_line;
+mod evaluation;
 mod execution;
 mod growing_sink;
 mod notes;
@@ -26,6 +27,7 @@ mod task;
 mod writing;
 
 use cool_ports::{Failed, Shelf, Sink, Source};
+use evaluation::evaluate_program;
 use execution::{execute, run_simple};
 use notes::{BAD_COMMAND_LINE, tell_lines};
 pub use status::Status;
@@ -57,7 +59,7 @@ pub fn cool<F: Shelf, I: Source, O: Sink, E: Sink>(
     // The shelf keeps its files.
     ensures files { F.files files.new ≡ F.files files.old }
 
-    // Only `run` and `exec` take of the input.
+    // Only `run`, `exec` and `eval` take of the input.
     ensures input { TakesNoInput (words_of words.now) → input.new ≡ input.old }
 
     // What it takes of the input: bytes, and then perhaps the answer that nothing is left, once.
@@ -96,6 +98,9 @@ pub fn cool<F: Shelf, I: Source, O: Sink, E: Sink>(
         Ok(Task::Write(bytes)) => write_pieces(out, &bytes),
         Ok(Task::Run(limits, image)) => run_simple(alloc, limits, &image, out),
         Ok(Task::Execute(limits, image)) => execute(alloc, limits, &image, input, out, notes),
+        Ok(Task::Evaluate(steps, program, names)) => {
+            evaluate_program(alloc, steps, &program, &names, input, out, notes)
+        }
     };
     status.code()
 }

@@ -24,7 +24,7 @@ pub const HEAP_LIMIT: &[u8] = b"cool: heap limit\n";
 /// Of a run that used up its stack.
 pub const STACK_LIMIT: &[u8] = b"cool: stack limit\n";
 
-/// Of a run that has not ended after its instructions.
+/// Of a run that has not ended after its steps.
 pub const STEP_LIMIT: &[u8] = b"cool: step limit\n";
 
 /// Of a run whose input failed.

@@ -15,13 +15,13 @@ pub enum Status {
     Refused = 1,
     /// The words are no command line.
     Usage = 2,
-    /// The program exited with a code that is none of 0, 4 and 5.
+    /// The program exited with a code that is none of 0, 4 and 5, or ended with a run-time error.
     Failed = 3,
     /// The program ended at its heap's limit.
     HeapLimit = 4,
     /// The program ended at its stack's limit.
     StackLimit = 5,
-    /// The machine did not end within its steps.
+    /// The run did not end within its steps.
     StepLimit = 6,
     /// The input failed.
     ReadFault = 7,

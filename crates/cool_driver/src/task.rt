@@ -19,7 +19,7 @@ ghost use Rattle.cool_faults.specs.Files.{total};
 ghost use Rattle.cool_driver.specs.Ends.{built_bytes};
 ghost use Rattle.cool_faults.specs.Verdicts.{place_of};
 ghost use Rattle.cool_driver.specs.CommandLine.{is_number_of_files, most_bytes};
-ghost use Rattle.cool_driver.specs.Tasks.{AreSources, Prints, IsLine, AreLinesOf, IsTaskOf, IsTaskOfFile, IsTaskOfChecked, IsTaskOfBuilt, IsTaskOfRun, IsDue, IsFileTask, HasLimits};
+ghost use Rattle.cool_driver.specs.Tasks.{AreSources, Prints, IsLine, AreLinesOf, IsTaskOf, IsTaskOfFile, IsTaskOfChecked, IsTaskOfBuilt, IsTaskOfRun, IsTaskOfEval, IsDue, IsFileTask, HasLimits};
 
 use crate::SIMPLE_STEPS;
 use crate::big::big_line;
@@ -55,6 +55,8 @@ pub enum Task {
     Run(RunLimits, Image),
     /// To run this image over the input within these limits.
     Execute(RunLimits, Image),
+    /// To evaluate this program over the input with so many steps. Its files have these names.
+    Evaluate(u64, TypedProgram, Vec<String>),
 }
 
 /// What is left to do for a command line. `Err` comes only for want of memory.
@@ -87,6 +89,12 @@ pub fn find_task<F: Shelf>(
                 limits,
             },
         ) => { find_file_task(alloc, Command::Run(limits), &names, files) }
+        Ok(
+            Plan::Eval {
+                files: names,
+                steps,
+            },
+        ) => { find_file_task(alloc, Command::Eval(steps), &names, files) }
         Ok(Plan::Exec { file, limits }) => {
             let names = vec![in alloc; file]?;
             find_file_task(alloc, Command::Exec(limits), &names, files)
@@ -158,6 +166,7 @@ fn find_content_task(
         Command::Check => check_files(alloc, names, contents),
         Command::Build(form) => build_files(alloc, form, names, contents),
         Command::Run(limits) => compile_files(alloc, limits, names, contents),
+        Command::Eval(steps) => evaluate_files(alloc, steps, names, contents),
         Command::Exec(limits) => load(alloc, limits, names[0].as_str(), &contents[0]),
     }
 }
@@ -255,6 +264,33 @@ fn compile_program(
         Verdict::Accepted(program) => Ok(Task::Execute(limits, build(alloc, &program, names)?)),
         Verdict::Refused(faults) => refuse(alloc, names, faults.as_slice()),
     }
+}
+
+/// What is left to do to evaluate files of these names that have these bytes, with so many steps.
+fn evaluate_files(
+    alloc: Global,
+    steps: u64,
+    names: &[String],
+    contents: &[Vec<u8>],
+) -> Result<Task, AllocError>
+    requires sources { AreSources names.now contents.now }
+    ensures { IfOk result (IsTaskOfEval steps (words_of names.now) (texts contents.now)) }
+{
+    match accept(alloc, contents)? {
+        Verdict::Accepted(program) => Ok(Task::Evaluate(steps, program, copy_names(alloc, names)?)),
+        Verdict::Refused(faults) => refuse(alloc, names, faults.as_slice()),
+    }
+}
+
+/// The names, each in memory of its own. `Err` comes only for want of memory.
+fn copy_names(alloc: Global, names: &[String]) -> Result<Vec<String>, AllocError>
+    ensures { IfOk result (λ copies. words_of copies.items ≡ words_of names.now) }
+{
+    let mut copies = Vec::new(alloc);
+    for name in names {
+        copies.push(String::from_str(alloc, name.as_str())?)?;
+    }
+    Ok(copies)
 }
 
 /// What is left to do to execute a file of this name that has these bytes.

@@ -5,9 +5,10 @@ use Rattle.cool_ports.proofs.InputsInParts.{took_nothing, leaves_same}
 use Rattle.cool_driver.specs.Notes.{end_text}
 use Rattle.cool_driver.proofs.EndsOfDue.{ends_without_memory}
 use Rattle.cool_driver.proofs.EndsOfTasks.{note_ends, written_ends, simple_ends}
+use Rattle.cool_driver.proofs.EvaluationsOfCalls.{evaluation_takes_input}
 use Rattle.cool_driver.proofs.ImagesOfCalls.{run_takes_input}
 use Rattle.cool_driver.proofs.cool.Goals as goal
-use Rattle.cool_driver.proofs.cool.Goals.{in-Err, in-Ok-Tell, in-Ok-Write, in-Ok-Run, in-Ok-Execute}
+use Rattle.cool_driver.proofs.cool.Goals.{in-Err, in-Ok-Tell, in-Ok-Write, in-Ok-Run, in-Ok-Execute, in-Ok-Evaluate}
 
 -- no line is empty
 pub tell_lines-status-requires : goal.tell_lines-status-requires
@@ -37,6 +38,9 @@ returns-clause-input g c none =
       | in-Ok-Execute w ↦
           let due = rw w.in-Ok-Execute.field-0-is at (w.in-Ok-Execute.ensures.due []) in
           absurd (run_takes_input _ _ _ due.1 none)
+      | in-Ok-Evaluate w ↦
+          let due = rw w.in-Ok-Evaluate.field-0-is at (w.in-Ok-Evaluate.ensures.due []) in
+          absurd (evaluation_takes_input _ _ _ _ due none)
     ]
 
 pub returns-clause-ends : goal.returns-clause-ends
@@ -64,6 +68,10 @@ returns-clause-ends g c given rest leaves =
           let here = rw w.input-is at leaves in
           let due = rw w.in-Ok-Execute.field-0-is at (w.in-Ok-Execute.ensures.due given) in
           rw (c.code.ensures, w.status-is, w.out-is, w.notes-is, w.input-is) (w.execute-status.ensures.ends _ rest due.1 here)
+      | in-Ok-Evaluate w ↦
+          let here = rw w.input-is at leaves in
+          let due = rw (w.in-Ok-Evaluate.field-0-is, ← w.deref-in-Ok-Evaluate.ensures.value) at (w.in-Ok-Evaluate.ensures.due given) in
+          rw (c.code.ensures, w.status-is, w.out-is, w.notes-is, w.input-is) (w.evaluate_program-status.ensures.ends _ rest due here)
     ]
 
 pub returns-clause-taken : goal.returns-clause-taken
@@ -74,6 +82,7 @@ returns-clause-taken g c =
       | in-Ok-Write w ↦ rw w.input-is (false, took_nothing _ _ _)
       | in-Ok-Run w ↦ rw w.input-is (false, took_nothing _ _ _)
       | in-Ok-Execute w ↦ rw w.input-is w.execute-status.ensures.taken
+      | in-Ok-Evaluate w ↦ rw w.input-is w.evaluate_program-status.ensures.taken
     ]
 
 pub returns-clause-limits : goal.returns-clause-limits

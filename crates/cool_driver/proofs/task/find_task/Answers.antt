@@ -4,7 +4,7 @@ use Rattle.cool_driver.specs.CommandLine.{words_of}
 use Rattle.cool_driver.specs.Notes.{usage_note}
 use Rattle.cool_driver.specs.Ends.Due.{summed, usage}
 use Rattle.cool_driver.specs.Ends.Writing.{by_big}
-use Rattle.cool_driver.specs.declared.command_line.Command.TheVariants.{Check, Build, Run, Exec}
+use Rattle.cool_driver.specs.declared.command_line.Command.TheVariants.{Check, Build, Run, Eval, Exec}
 use Rattle.cool_driver.specs.declared.command_line.Form.TheVariants.{Text, Image}
 use Rattle.cool_driver.specs.declared.status.Status.TheVariants as statuses
 use Rattle.cool_driver.proofs.NoteLines.{line_due}
@@ -36,6 +36,12 @@ returns-in-Ok-Run-clause-due g c input =
     let asked = rw c.in-Ok-Run.field-0-is at c.in-Ok-Run.ensures.plan in
     let plan = plan_is (words_of c.args.words.now) _ asked ∙ ap (λ names. Some (Run c.in-Ok-Run.limits, words_of names)) (sym c.deref-in-Ok-Run.ensures.value) in
     for_ok _ _ c.find_file_task-in-Ok-Run.result (λ task h. h (words_of c.args.words.now) input plan) c.find_file_task-in-Ok-Run.ensures.due
+
+pub returns-in-Ok-Eval-clause-due : goal.returns-in-Ok-Eval-clause-due
+returns-in-Ok-Eval-clause-due g c input =
+    let asked = rw c.in-Ok-Eval.field-0-is at c.in-Ok-Eval.ensures.plan in
+    let plan = plan_is (words_of c.args.words.now) _ asked ∙ ap (λ names. Some (Eval c.in-Ok-Eval.steps, words_of names)) (sym c.deref-in-Ok-Eval.ensures.value) in
+    for_ok _ _ c.find_file_task-in-Ok-Eval.result (λ task h. h (words_of c.args.words.now) input plan) c.find_file_task-in-Ok-Eval.ensures.due
 
 pub returns-in_ok-names-in-Ok-Exec-clause-due : goal.returns-in_ok-names-in-Ok-Exec-clause-due
 returns-in_ok-names-in-Ok-Exec-clause-due g c input =

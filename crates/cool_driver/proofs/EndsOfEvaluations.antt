@@ -1,0 +1,94 @@
+-- How a call ends that evaluated a program.
+use Rattle.std.proofs.Common.{◌≡◌, ◌∙◌, ℕ, List, [], inl, inr, sym, ap, refl, subst, arith}
+use Rattle.std.specs.Prelude.{Option, Some}
+use Rattle.cool_classes.specs.Chains.{Class}
+use Rattle.cool_ports.specs.SinkBytes.{appended, GotPrefix}
+use Rattle.cool_ports.proofs.GettingBytes.{appended-nil}
+use Rattle.cool_meaning.specs.SourceRun as source
+use Rattle.cool_eval.specs.Counts.{CountedEnd}
+use Rattle.cool_eval.specs.Ends.{Evaluates}
+use Rattle.cool_eval.specs.declared.evaluation.EvalEnd.{EvalEnd}
+use Rattle.cool_eval.specs.declared.evaluation.EvalEnd.TheVariants as ends
+use Rattle.cool_driver.specs.Notes.{read_fault_note, step_limit_note}
+use Rattle.cool_driver.specs.Evaluation.{status_of_end, note_of_end}
+use Rattle.cool_driver.specs.Ends.{Due, IsEvaluationOf, Writing, Got, Call, Ends}
+use Rattle.cool_driver.specs.Ends.Due.{evaluated, unread_source}
+use Rattle.cool_driver.specs.Ends.Writing.{by_eval}
+use Rattle.cool_driver.proofs.EndsOfDue.{ends_write_fault, ends_short}
+use Rattle.cool_driver.proofs.EndsOfRuns.{IsFinished}
+
+-- The evaluation of a program in a call: how it ended, and the counts of faults.
+pub record IsEvaluated (c : Call) (end : EvalEnd) : Type 0 where
+  pub steps : ℕ
+  pub names : List (List ℕ)
+  pub program : List Class
+  pub is : IsEvaluationOf c.request steps names program
+  pub comes : Evaluates (source.run program names c.request.input steps) c.out.held_before end c.left c.out.held_after
+  pub counted : CountedEnd end c.input_before c.input_after c.out.faults_before c.out.faults_after
+
+-- of what the interpreter answered
+pub is_evaluated : (c : Call) (steps : ℕ) (names : List (List ℕ)) (p : List Class) (end end' : EvalEnd) → IsEvaluationOf c.request steps names p
+    → Evaluates (source.run p names c.request.input steps) c.out.held_before end c.left c.out.held_after
+    → CountedEnd end c.input_before c.input_after c.out.faults_before c.out.faults_after → end ≡ end' → IsEvaluated c end'
+is_evaluated c steps names p end end' is comes counted same =
+    subst (λ (x : EvalEnd). IsEvaluated c x) same (record { steps = steps; names = names; program = p; is = is; comes = comes; counted = counted })
+
+-- the run that is evaluated
+abbrev run_in : (c : Call) (end : EvalEnd) → IsEvaluated c end → source.Run
+run_in c end e = source.run e.program e.names c.request.input e.steps
+
+-- the run came to its end, with this status
+finished : (c : Call) (end : EvalEnd) (e : IsEvaluated c end) (how : source.End) (status : ℕ) → (run_in c end e).end ≡ how → status_of_end how ≡ Some status
+    → c.out.held_after ≡ appended c.out.held_before (run_in c end e).output → c.left ≡ (run_in c end e).left
+    → c.input_after ≡ c.input_before → c.out.faults_after ≡ c.out.faults_before → (status ≡ 7 → ⊥) → IsFinished c status (note_of_end how)
+finished c end e how status ended known got left input out other =
+    let run = run_in c end e in
+    let due : Due c.request status run.output (note_of_end run.end) run.left = evaluated e.steps e.names e.program status e.is (ap status_of_end ended ∙ known) in
+    record {
+      output = run.output;
+      due = subst (λ (x : List ℕ). Due c.request status run.output (note_of_end how) x) (sym left)
+          (subst (λ (x : source.End). Due c.request status run.output (note_of_end x) run.left) ended due);
+      out = (got, out);
+      calm = λ _. input;
+      rose = λ seven. absurd (other seven);
+    }
+
+pub ended_well : (c : Call) → IsEvaluated c ends.Done → IsFinished c 0 []
+ended_well c e = finished c ends.Done e source.Done 0 e.comes.0 refl e.comes.1.0 e.comes.1.1 e.counted.0 e.counted.1 (λ q. omega (arith, q))
+
+pub ended_with_error : (c : Call) → IsEvaluated c ends.Error → IsFinished c 3 []
+ended_with_error c e =
+    let (error, is) = e.comes.0 in
+    finished c ends.Error e (source.Failed error) 3 is refl e.comes.1.0 e.comes.1.1 e.counted.0 e.counted.1 (λ q. omega (arith, q))
+
+pub ended_at_step_limit : (c : Call) → IsEvaluated c ends.StepLimit → IsFinished c 6 step_limit_note
+ended_at_step_limit c e = finished c ends.StepLimit e source.GoesOn 6 e.comes.0 refl e.comes.1.0 e.comes.1.1 e.counted.0 e.counted.1 (λ q. omega (arith, q))
+
+-- a read failed
+pub read_failed : (c : Call) → IsEvaluated c ends.ReadFault → IsFinished c 7 read_fault_note
+read_failed c e =
+    let (more, upto) = e.comes.0 in
+    let (kept, left) = e.comes.1 in
+    record {
+      output = upto.front;
+      due = unread_source e.steps e.names e.program upto.front c.left e.is (record { more = more; output_is = upto.cut; kept = kept; left_is = left });
+      out = (upto.got, e.counted.1);
+      calm = λ other. absurd (other refl);
+      rose = λ _. e.counted.0;
+    }
+
+-- a write failed
+pub write_failed : (c : Call) → Got c.notes [] → IsEvaluated c ends.WriteFault → Ends c 8
+write_failed c notes e =
+    let run = run_in c ends.WriteFault e in
+    let (kept, left) = e.comes.1 in
+    let writing : Writing c.request [] run.output c.left = subst (λ (x : List ℕ). Writing c.request [] run.output x) (sym left) (by_eval e.steps e.names e.program kept e.is) in
+    let part : GotPrefix (appended c.out.held_before []) run.output c.out.held_after =
+    subst (λ (x : Option (List ℕ)). GotPrefix x run.output c.out.held_after) (sym (appended-nil c.out.held_before)) e.comes.0 in
+    ends_write_fault c (inl e.counted.1) (inl ([], run.output, writing, (part, e.counted.1), notes)) (omega (arith, e.counted.0))
+
+-- memory ran out
+pub ran_short : (c : Call) → Got c.notes [] → IsEvaluated c ends.Memory → Ends c 9
+ran_short c notes e =
+    ends_short c (omega (arith, e.is.read.calm)) e.counted.1 notes.1 e.counted.0
+    (inr (e.steps, e.names, e.program, e.is, e.comes, e.counted.1, notes, e.counted.0))

@@ -1,0 +1,32 @@
+use Rattle.std.proofs.Common.{List, length, refl, sym, ◌∙◌, subst}
+use Rattle.std.proofs.lemmas.List.{length-map}
+use Rattle.cool_faults.specs.declared.fault.Fault.{Fault}
+use Rattle.cool_faults.specs.Verdicts.{IsAccepted, IsRefused}
+use Rattle.cool_driver.specs.CommandLine.{words_of}
+use Rattle.cool_driver.specs.SimpleReading.{texts}
+use Rattle.cool_driver.specs.Tasks.{AreLinesOf}
+use Rattle.cool_driver.proofs.NoteLines.{have_names, eval_lines}
+use Rattle.cool_driver.proofs.DueTasks.{for_ok}
+use Rattle.cool_driver.proofs.task.evaluate_files.Goals as goal
+
+-- the program is that of the files
+pub returns-in_ok-copy_names-in-Accepted : goal.returns-in_ok-copy_names-in-Accepted
+returns-in_ok-copy_names-in-Accepted c =
+    let accepted : IsAccepted (texts c.args.contents.now) c.in-Accepted.program = rw c.in-Accepted.is at c.in_ok-program.ensures.verdict in
+    (refl, c.in_ok-copy_names-in-Accepted.ensures, accepted)
+
+-- each fault stands in a file that has a name
+pub refuse-requires : goal.refuse-requires
+refuse-requires c =
+    let refused : IsRefused (texts c.args.contents.now) c.in-Refused.faults = rw c.in-Refused.is at c.in_ok-program.ensures.verdict in
+    rw c.as_slice.ensures (have_names (length c.args.names.now) (texts c.args.contents.now) c.in-Refused.faults refused c.requires.sources.some
+    (length-map c.args.contents.now (λ file. file.items) ∙ sym c.requires.sources.each))
+
+-- files with faults
+pub returns-in-Refused : goal.returns-in-Refused
+returns-in-Refused c =
+    let refused : IsRefused (texts c.args.contents.now) c.in-Refused.faults = rw c.in-Refused.is at c.in_ok-program.ensures.verdict in
+    for_ok _ _ c.refuse.result
+    (λ task h. eval_lines c.args.steps (words_of c.args.names.now) (texts c.args.contents.now) c.in-Refused.faults task refused
+    (subst (λ (fs : List Fault). AreLinesOf (words_of c.args.names.now) fs task) c.as_slice.ensures h))
+    c.refuse.ensures
