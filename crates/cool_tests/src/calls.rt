@@ -72,7 +72,7 @@ const CYCLE: &[u8] = b"class A inherits B { }; class B inherits A { };";
 const ASSEMBLY: &[u8] =
     b"__start: li $a0, 65\nli $v0, 11\nsyscall\nli $v0, 12\nsyscall\nli $a0, 4\nli $v0, 17\nsyscall\n";
 
-static ROWS: [Row; 18] = [
+static ROWS: [Row; 24] = [
     (
         "run",
         STRINGS,
@@ -135,6 +135,41 @@ static ROWS: [Row; 18] = [
         "cool: read fault\n",
     ),
     ("run", QUESTION, (0, 2, 0, 0), 8, "n? ", ""),
+    // An evaluation puts, takes and ends alike.
+    (
+        "eval",
+        QUESTION,
+        (0, 0, 0, 0),
+        0,
+        "n? 1COOL program successfully executed\n",
+        "",
+    ),
+    (
+        "eval",
+        QUESTION,
+        (0, 0, 1, 0),
+        7,
+        "n? ",
+        "cool: read fault\n",
+    ),
+    ("eval", QUESTION, (0, 0, 1, 1), 8, "n? ", ""),
+    ("eval", QUESTION, (0, 2, 0, 0), 8, "n? ", ""),
+    (
+        "eval",
+        LONG_STRING,
+        (0, 2, 0, 0),
+        8,
+        "aaaaaaaaaaaaaaaaaaaaaaaaaaaaaaaaaaaaaaaaaaaaaaaaaaaaaaaaaaaaaaaa",
+        "",
+    ),
+    (
+        "eval",
+        LONG_STRING,
+        (0, 3, 0, 0),
+        8,
+        "aaaaaaaaaaaaaaaaaaaaaaaaaaaaaaaaaaaaaaaaaaaaaaaaaaaaaaaaaaaaaaaaaaaaaa",
+        "",
+    ),
     // Each line of the notes is put by itself.
     ("run", b"no program", (0, 0, 0, 1), 8, "", ""),
     ("check", CYCLE, (0, 0, 0, 1), 8, "", ""),
