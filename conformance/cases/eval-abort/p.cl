@@ -1,0 +1,1 @@
+class A { }; class Main inherits A { main() : Object { abort() }; };

@@ -1,0 +1,2 @@
+class A { next : A <- new A; };
+class Main { main() : Object { new A }; };

@@ -1,0 +1,1 @@
+class Main { f(n : Int) : Int { f(n) }; main() : Object { f(1) }; };

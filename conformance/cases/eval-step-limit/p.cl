@@ -1,0 +1,1 @@
+class Main inherits IO { main() : Object { { out_string("on and on\n"); while true loop 0 pool; } }; };

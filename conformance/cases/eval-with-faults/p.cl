@@ -1,0 +1,1 @@
+class Main { x : Int <- true; main() : Object { y }; };
