@@ -26,7 +26,7 @@ nowhere_located : (fs : List Formal) → located (formal_names fs) [] ≡ []
 nowhere_located [] = refl
 nowhere_located (f ∷ fs) = refl
 
--- behind the last formal or the last argument there is none
+-- after the last formal or the last argument there is none
 past_formals : (fs : List Formal) (k : ℕ) (ls : List ℕ) → length fs ≤ k → located (formal_names (drop k fs)) ls ≡ []
 past_formals [] zero ls past = refl
 past_formals [] (suc k) ls past = refl

@@ -188,7 +188,7 @@ fn length(me: &Value) -> Result<Value, Ending>
     Ok(Value::Int(i64::from(low.cast_signed())))
 }
 
-/// `concat`: the string with another behind it.
+/// `concat`: the string with another after it.
 fn concat(alloc: Global, me: &Value, given: &[Value]) -> Result<Value, Ending>
     ensures value { (p : List Class) (at : Place) → Gives result (basic_of p BasicMethod.Concat at (value_of me.now) (map value_of given.now)) }
     ensures inner { IfErr result IsInner }

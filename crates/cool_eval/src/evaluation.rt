@@ -42,8 +42,8 @@ pub enum EvalEnd {
 /// Runs a program, whose files have these names, with so many steps at most (the Cool manual, section 13), and writes its output and how it
 /// ended: the line for a good end, or that of a run-time error.
 ///
-/// `ReadFault` and `WriteFault` come at the first take or put that fails, and `Memory` where memory runs out; then a front of the output
-/// was put.
+/// `ReadFault` and `WriteFault` come at the first take or put that fails, and `Memory` where memory runs out; then a prefix of the
+/// output was put.
 pub fn evaluate<S: Source, K: Sink>(
     alloc: Global,
     program: &TypedProgram,

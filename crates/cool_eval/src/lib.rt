@@ -1,7 +1,8 @@
 //! Running programs without a machine: an interpreter over the meaning of the source.
 //!
-//! Comes in: a typed program, a source and a sink. Goes out: how its run ends. `specs/Machine.antt` defines the steps of a machine with a
-//! stack of frames, and `proofs/StepsMean.antt` shows that they are evaluation.
+//! Comes in: a typed program, a source and a sink. Goes out: how its run ends. It meets `specs/Ends.antt`, by the run of the program that
+//! `cool_meaning` defines. `specs/Machine.antt` is a machine with a stack of frames whose steps the code takes; `proofs/StepsMean.antt` shows
+//! that they are evaluation.
 #![tactic(auto)]
 
 mod basic;

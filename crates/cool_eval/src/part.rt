@@ -1,7 +1,9 @@
 //! Expressions of a body, opened one at a time.
 
-ghost use Rattle.std.specs.Prelude.{◌≡◌, None, Some, ◌∷◌, [], IfSome};
-ghost use Rattle.cool_syntax.specs.Tree.{of_twigs};
+ghost use Rattle.std.specs.Prelude.{◌≡◌, ◌<◌, None, Some, ◌∷◌, [], IfSome};
+ghost use Rattle.cool_syntax.specs.NodeGroups.{IsBinary, IsBinding, IsCall, IsControl, IsLeaf, IsUnary};
+ghost use Rattle.cool_syntax.specs.NodeLists.{all_trees, made, tree_at, HasPartsBelow};
+ghost use Rattle.cool_syntax.specs.Tree.{of_twigs, tree_size};
 ghost use Rattle.cool_eval.specs.Machine.{branch_named};
 ghost use Rattle.cool_eval.specs.Views.{form_tree, IsFirst, taken_of};
 
@@ -199,145 +201,230 @@ impl<'a> Part<'a> {
     pub(crate) fn form(self) -> Form<'a>
         ensures { form_tree result ≡ self.entry }
     {
-        let body = self.body;
-        match body.node(self.id) {
-            Node::Assign { at, name, value } => Form::Assign {
-                at: *at,
-                name,
-                value: Part { body, id: *value },
-            },
-            Node::Dispatch {
-                at,
-                receiver,
-                name,
-                args,
-            } => Form::Dispatch {
-                at: *at,
-                receiver: Part {
-                    body,
-                    id: *receiver,
-                },
-                name,
-                args: Parts {
-                    body,
-                    ids: args.as_slice(),
-                },
-            },
-            Node::StaticDispatch {
-                at,
-                receiver,
-                class,
-                name,
-                args,
-            } => Form::StaticDispatch {
-                at: *at,
-                receiver: Part {
-                    body,
-                    id: *receiver,
-                },
-                class,
-                name,
-                args: Parts {
-                    body,
-                    ids: args.as_slice(),
-                },
-            },
-            Node::If { at, test, yes, no } => Form::If {
-                at: *at,
-                test: Part { body, id: *test },
-                yes: Part { body, id: *yes },
-                no: Part { body, id: *no },
-            },
-            Node::While {
-                at,
-                test,
-                body: turn,
-            } => Form::While {
-                at: *at,
-                test: Part { body, id: *test },
-                body: Part { body, id: *turn },
-            },
-            Node::Block { at, items } => Form::Block {
-                at: *at,
-                items: Parts {
-                    body,
-                    ids: items.as_slice(),
-                },
-            },
-            Node::Let {
-                at,
-                name,
-                declared,
-                init,
-                body: inner,
-            } => Form::Let {
-                at: *at,
-                name,
-                declared,
-                init: match init {
-                    Some(id) => Some(Part { body, id: *id }),
-                    None => None,
-                },
-                body: Part { body, id: *inner },
-            },
-            Node::Case {
-                at,
-                value,
-                branches,
-            } => Form::Case {
-                at: *at,
-                value: Part { body, id: *value },
-                branches: Twigs {
-                    body,
-                    branches: branches.as_slice(),
-                },
-            },
-            Node::New { at, class } => Form::New { at: *at, class },
-            Node::IsVoid { at, value } => Form::IsVoid {
-                at: *at,
-                value: Part { body, id: *value },
-            },
-            Node::Arith {
-                at,
-                op,
-                left,
-                right,
-            } => Form::Arith {
-                at: *at,
-                op: *op,
-                left: Part { body, id: *left },
-                right: Part { body, id: *right },
-            },
-            Node::Neg { at, value } => Form::Neg {
-                at: *at,
-                value: Part { body, id: *value },
-            },
-            Node::Compare {
-                at,
-                op,
-                left,
-                right,
-            } => Form::Compare {
-                at: *at,
-                op: *op,
-                left: Part { body, id: *left },
-                right: Part { body, id: *right },
-            },
-            Node::Not { at, value } => Form::Not {
-                at: *at,
-                value: Part { body, id: *value },
-            },
-            Node::Id { at, name } => Form::Id { at: *at, name },
-            Node::Int { at, value } => Form::Int {
-                at: *at,
-                value: *value,
-            },
-            Node::Str { at, bytes } => Form::Str { at: *at, bytes },
-            Node::Bool { at, value } => Form::Bool {
-                at: *at,
-                value: *value,
-            },
+        let (body, id) = (self.body, self.id);
+        let node = body.node(id);
+        match node {
+            Node::Dispatch { .. } | Node::StaticDispatch { .. } => call_of(body, id, node),
+            Node::Let { .. } | Node::Case { .. } => binding_of(body, id, node),
+            Node::If { .. } | Node::While { .. } | Node::Block { .. } => control_of(body, id, node),
+            Node::Assign { .. } | Node::IsVoid { .. } | Node::Neg { .. } | Node::Not { .. } => {
+                unary_of(body, id, node)
+            }
+            Node::Arith { .. } | Node::Compare { .. } => binary_of(body, id, node),
+            Node::New { .. }
+            | Node::Id { .. }
+            | Node::Int { .. }
+            | Node::Str { .. }
+            | Node::Bool { .. } => leaf_of(body, node),
         }
+    }
+}
+
+/// The expression of this number.
+fn part_at<'a>(body: &'a Body, id: NodeId) -> Part<'a>
+    requires below { id.0 < tree_size body.now }
+    ensures { result ≡ tree_at body.now id }
+{
+    Part { body, id }
+}
+
+/// A dispatch, whose parts have numbers below this one.
+fn call_of<'a>(body: &'a Body, id: NodeId, node: &'a Node) -> Form<'a>
+    requires group { IsCall node.now }
+    requires below { id.0 < tree_size body.now }
+    requires parts { HasPartsBelow id.0 node.now }
+    ensures { form_tree result ≡ made (all_trees body.now) node.now }
+{
+    match node {
+        Node::Dispatch {
+            at,
+            receiver,
+            name,
+            args,
+        } => Form::Dispatch {
+            at: *at,
+            receiver: part_at(body, *receiver),
+            name,
+            args: Parts {
+                body,
+                ids: args.as_slice(),
+            },
+        },
+        Node::StaticDispatch {
+            at,
+            receiver,
+            class,
+            name,
+            args,
+        } => Form::StaticDispatch {
+            at: *at,
+            receiver: part_at(body, *receiver),
+            class,
+            name,
+            args: Parts {
+                body,
+                ids: args.as_slice(),
+            },
+        },
+        _ => unreachable!(),
+    }
+}
+
+/// A condition, a loop or a block, whose parts have numbers below this one.
+fn control_of<'a>(body: &'a Body, id: NodeId, node: &'a Node) -> Form<'a>
+    requires group { IsControl node.now }
+    requires below { id.0 < tree_size body.now }
+    requires parts { HasPartsBelow id.0 node.now }
+    ensures { form_tree result ≡ made (all_trees body.now) node.now }
+{
+    match node {
+        Node::If { at, test, yes, no } => Form::If {
+            at: *at,
+            test: part_at(body, *test),
+            yes: part_at(body, *yes),
+            no: part_at(body, *no),
+        },
+        Node::While {
+            at,
+            test,
+            body: turn,
+        } => Form::While {
+            at: *at,
+            test: part_at(body, *test),
+            body: part_at(body, *turn),
+        },
+        Node::Block { at, items } => Form::Block {
+            at: *at,
+            items: Parts {
+                body,
+                ids: items.as_slice(),
+            },
+        },
+        _ => unreachable!(),
+    }
+}
+
+/// A binding or a case, whose parts have numbers below this one.
+fn binding_of<'a>(body: &'a Body, id: NodeId, node: &'a Node) -> Form<'a>
+    requires group { IsBinding node.now }
+    requires below { id.0 < tree_size body.now }
+    requires parts { HasPartsBelow id.0 node.now }
+    ensures { form_tree result ≡ made (all_trees body.now) node.now }
+{
+    match node {
+        Node::Let {
+            at,
+            name,
+            declared,
+            init,
+            body: inner,
+        } => Form::Let {
+            at: *at,
+            name,
+            declared,
+            init: match init {
+                Some(id) => Some(part_at(body, *id)),
+                None => None,
+            },
+            body: part_at(body, *inner),
+        },
+        Node::Case {
+            at,
+            value,
+            branches,
+        } => Form::Case {
+            at: *at,
+            value: part_at(body, *value),
+            branches: Twigs {
+                body,
+                branches: branches.as_slice(),
+            },
+        },
+        _ => unreachable!(),
+    }
+}
+
+/// An assignment or a prefix operator, whose part has a number below this one.
+fn unary_of<'a>(body: &'a Body, id: NodeId, node: &'a Node) -> Form<'a>
+    requires group { IsUnary node.now }
+    requires below { id.0 < tree_size body.now }
+    requires parts { HasPartsBelow id.0 node.now }
+    ensures { form_tree result ≡ made (all_trees body.now) node.now }
+{
+    match node {
+        Node::Assign { at, name, value } => Form::Assign {
+            at: *at,
+            name,
+            value: part_at(body, *value),
+        },
+        Node::IsVoid { at, value } => Form::IsVoid {
+            at: *at,
+            value: part_at(body, *value),
+        },
+        Node::Neg { at, value } => Form::Neg {
+            at: *at,
+            value: part_at(body, *value),
+        },
+        Node::Not { at, value } => Form::Not {
+            at: *at,
+            value: part_at(body, *value),
+        },
+        _ => unreachable!(),
+    }
+}
+
+/// An operator between two operands, whose parts have numbers below this one.
+fn binary_of<'a>(body: &'a Body, id: NodeId, node: &'a Node) -> Form<'a>
+    requires group { IsBinary node.now }
+    requires below { id.0 < tree_size body.now }
+    requires parts { HasPartsBelow id.0 node.now }
+    ensures { form_tree result ≡ made (all_trees body.now) node.now }
+{
+    match node {
+        Node::Arith {
+            at,
+            op,
+            left,
+            right,
+        } => Form::Arith {
+            at: *at,
+            op: *op,
+            left: part_at(body, *left),
+            right: part_at(body, *right),
+        },
+        Node::Compare {
+            at,
+            op,
+            left,
+            right,
+        } => Form::Compare {
+            at: *at,
+            op: *op,
+            left: part_at(body, *left),
+            right: part_at(body, *right),
+        },
+        _ => unreachable!(),
+    }
+}
+
+/// An expression with no other in it.
+fn leaf_of<'a>(body: &'a Body, node: &'a Node) -> Form<'a>
+    requires group { IsLeaf node.now }
+    ensures { form_tree result ≡ made (all_trees body.now) node.now }
+{
+    match node {
+        Node::New { at, class } => Form::New { at: *at, class },
+        Node::Id { at, name } => Form::Id { at: *at, name },
+        Node::Int { at, value } => Form::Int {
+            at: *at,
+            value: *value,
+        },
+        Node::Str { at, bytes } => Form::Str { at: *at, bytes },
+        Node::Bool { at, value } => Form::Bool {
+            at: *at,
+            value: *value,
+        },
+        _ => unreachable!(),
     }
 }
 

@@ -15,6 +15,7 @@ ghost use Rattle.cool_eval.specs.Views.{attribute_in, taken_of};
 ghost use Rattle.cool_eval.specs.Configurations.{env_of, IsLocation};
 ghost use Rattle.cool_eval.specs.Ready.{IsReady};
 
+use crate::basic::string;
 use crate::ending::Ending;
 use crate::machine::add;
 use crate::part::{Part, Twigs};
@@ -23,7 +24,6 @@ use crate::value::{Object, Value};
 use cool_classes::{AttributeRef, BOOL, ClassId, ClassTable, INT, STRING};
 use cool_syntax::{AttributeDef, Body, Feature, Name};
 use std::alloc::{AllocError, Global};
-use std::rc::Rc;
 
 /// What stays the same during a run: the class table, and the attributes of each class.
 #[derive(Clone, Copy)]
@@ -133,16 +133,11 @@ impl<'a> Setting<'a> {
             return Ok(Value::Bool(false));
         }
         if name == b"String".as_slice() {
-            return match Rc::new(self.alloc, Vec::new(self.alloc)) {
-                Ok(empty) => Ok(Value::Str(empty)),
-                Err(_) => Err(Ending::Memory),
-            };
+            return string(self.alloc, Vec::new(self.alloc));
         }
         Ok(Value::Void)
     }
-}
 
-impl<'a> Setting<'a> {
     /// What attributes begin with, before their initial values.
     pub(crate) fn defaults(&self, attributes: &[AttributeRef]) -> Result<Vec<Value>, Ending>
         requires has { AllByRecursion (HasAttribute self.now.table.now) attributes.now }
@@ -168,7 +163,7 @@ impl<'a> Setting<'a> {
 
     /// The branch of a class, or of the nearest above it that has one.
     ///
-    /// At most as many classes stand above one as there are, so the last that is climbed to is looked at behind the loop.
+    /// At most as many classes stand above one as there are, so the last that is climbed to is looked at after the loop.
     pub(crate) fn nearest(
         &self,
         branches: &Twigs<'a>,

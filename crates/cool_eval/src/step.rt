@@ -216,7 +216,7 @@ fn resume_operator<'a>(
     }
 }
 
-/// A value of a variable or an attribute.
+/// Gives a variable or an attribute a value, which is the result.
 fn assign<'a>(
     setting: &Setting<'a>,
     machine: &mut Machine<'a>,
