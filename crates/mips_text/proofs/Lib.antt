@@ -1,3 +1,16 @@
+pub mod CappedNumbers
+pub mod FrontsAreLongest
+pub mod LabelsOfLines
+pub mod LinesOfTexts
+pub mod Longest
+pub mod LongestNumbers
+pub mod LongestStrings
+pub mod LongestWords
+pub mod MissingOperands
+pub mod Prefixes
 pub mod PrintedParts
+pub mod ReadLines
 pub mod ReadingTables
 pub mod SpellingRows
+pub mod StatementsInRange
+pub mod WordsBehind

@@ -1,5 +1,12 @@
+pub mod Answers
+pub mod Fronts
 pub mod Letters
 pub mod Names
+pub mod Operands
 pub mod Printing
 pub mod Reading
 pub mod Spelling
+pub mod Statements
+pub mod Strings
+pub mod Views
+pub mod Words

@@ -1,5 +1,6 @@
 -- The names of mnemonics, of directives and of registers.
-use Rattle.std.specs.Prelude.{ℕ, List, [], ◌∷◌, codes, get_or}
+use Rattle.std.specs.Prelude.{ℕ, List, [], ◌∷◌, codes, get_or, bytes_eq, Option}
+use Rattle.std.specs.List.{find}
 use Rattle.mips_isa.specs.declared.instr.ThreeOp.{ThreeOp}
 use Rattle.mips_isa.specs.declared.instr.ThreeOp.TheVariants.{Add, Addu, Sub, Subu, And, Or, Xor, Nor, Slt, Sltu}
 use Rattle.mips_isa.specs.declared.instr.ShiftOp.{ShiftOp}
@@ -136,6 +137,29 @@ mnemonic_text (mnemonics.BranchZero op) = zero_text op
 mnemonic_text (mnemonics.BranchOrder op) = order_text op
 mnemonic_text mnemonics.Mul = codes "mul"
 
+-- all mnemonics, and the one of a name
+abbrev pub all_mnemonics : List Mnemonic
+all_mnemonics =
+    mnemonics.Three Add ∷ mnemonics.Three Addu ∷ mnemonics.Three Sub ∷ mnemonics.Three Subu
+    ∷ mnemonics.Three And ∷ mnemonics.Three Or ∷ mnemonics.Three Xor ∷ mnemonics.Three Nor
+    ∷ mnemonics.Three Slt ∷ mnemonics.Three Sltu ∷ mnemonics.Shift Sll ∷ mnemonics.Shift Srl
+    ∷ mnemonics.Shift Sra ∷ mnemonics.ShiftReg Sllv ∷ mnemonics.ShiftReg Srlv ∷ mnemonics.ShiftReg Srav
+    ∷ mnemonics.Jr ∷ mnemonics.Jalr ∷ mnemonics.Syscall ∷ mnemonics.MoveFrom Mfhi
+    ∷ mnemonics.MoveFrom Mflo ∷ mnemonics.MoveTo Mthi ∷ mnemonics.MoveTo Mtlo ∷ mnemonics.MulDiv Mult
+    ∷ mnemonics.MulDiv Multu ∷ mnemonics.MulDiv Div ∷ mnemonics.MulDiv Divu ∷ mnemonics.Imm Addi
+    ∷ mnemonics.Imm Addiu ∷ mnemonics.Imm Slti ∷ mnemonics.Imm Sltiu ∷ mnemonics.Imm Andi
+    ∷ mnemonics.Imm Ori ∷ mnemonics.Imm Xori ∷ mnemonics.Lui ∷ mnemonics.BranchTwo Beq
+    ∷ mnemonics.BranchTwo Bne ∷ mnemonics.BranchOne Blez ∷ mnemonics.BranchOne Bgtz ∷ mnemonics.BranchOne Bltz
+    ∷ mnemonics.BranchOne Bgez ∷ mnemonics.Jump J ∷ mnemonics.Jump Jal ∷ mnemonics.Mem Lb
+    ∷ mnemonics.Mem Lh ∷ mnemonics.Mem Lw ∷ mnemonics.Mem Lbu ∷ mnemonics.Mem Lhu
+    ∷ mnemonics.Mem Sb ∷ mnemonics.Mem Sh ∷ mnemonics.Mem Sw ∷ mnemonics.La
+    ∷ mnemonics.Li ∷ mnemonics.Move ∷ mnemonics.Neg ∷ mnemonics.Nop
+    ∷ mnemonics.B ∷ mnemonics.BranchZero Beqz ∷ mnemonics.BranchZero Bnez ∷ mnemonics.BranchOrder Bgt
+    ∷ mnemonics.BranchOrder Bge ∷ mnemonics.BranchOrder Blt ∷ mnemonics.BranchOrder Ble ∷ mnemonics.Mul ∷ []
+
+unfoldable pub mnemonic_named : List ℕ → Option Mnemonic
+mnemonic_named name = find (λ mnemonic. bytes_eq (mnemonic_text mnemonic) name) all_mnemonics
+
 abbrev pub directive_text : Directive → List ℕ
 directive_text directives.Text = codes ".text"
 directive_text directives.Data = codes ".data"
@@ -146,6 +170,15 @@ directive_text directives.Ascii = codes ".ascii"
 directive_text directives.Asciiz = codes ".asciiz"
 directive_text directives.Space = codes ".space"
 directive_text directives.Align = codes ".align"
+
+-- all directives, and the one of a name
+abbrev pub all_directives : List Directive
+all_directives =
+    directives.Text ∷ directives.Data ∷ directives.Globl ∷ directives.Word ∷ directives.Byte ∷ directives.Ascii ∷ directives.Asciiz
+    ∷ directives.Space ∷ directives.Align ∷ []
+
+unfoldable pub directive_named : List ℕ → Option Directive
+directive_named name = find (λ directive. bytes_eq (directive_text directive) name) all_directives
 
 -- the names of registers, without the `$`, in the order of their numbers
 abbrev pub register_texts : List (List ℕ)

@@ -1,92 +1,115 @@
-//! Statements that begin with a directive, taken from the words of a line.
+//! Statements that begin with a directive, of the words behind it.
 
-ghost use Rattle.std.specs.Prelude.{◌≤◌, IfOk, map};
-ghost use Rattle.std.specs.List.{AllByRecursion};
-ghost use Rattle.mips_isa.specs.Lines.{IsInRange, statement_of, IsItem, IsByte, item_of};
+ghost use Rattle.std.specs.Prelude.{◌≡◌, IfOk, map};
+ghost use Rattle.mips_isa.specs.Lines.{statement_of, item_of};
+ghost use Rattle.mips_text.specs.Statements.{byte_made, directive_fault, directive_made, item_made};
+ghost use Rattle.mips_text.specs.Views.{word_seen};
 
 use crate::directives::Directive;
-use crate::flaw::Flaw;
-use crate::operands::{misplaced, take_label, take_number, take_text};
+use crate::operands::{label_at, number_at, raw_at};
 use crate::ranges::{align_power, byte_number, space_size, word_number};
-use crate::words::{Word, Words};
-use mips_isa::{AsmDirective, DataItem, Label, Statement, WordItem};
-use std::alloc::Global;
+use crate::strings::unescaped;
+use crate::wanted::{Range, Wanted, many_fault, row_fault};
+use crate::words::Word;
+use mips_isa::{AsmDirective, AsmKind, DataItem, Label, Statement, WordItem};
+use std::alloc::{AllocError, Global};
 
-/// The statement of a directive, with its operands.
-pub(crate) fn take_directive(
+static NOTHING: [Wanted; 0] = [];
+static NAME: [Wanted; 1] = [Wanted::Name];
+static TEXT: [Wanted; 1] = [Wanted::Text];
+static SPACE: [Wanted; 1] = [Wanted::Number(Range::Space)];
+static POWER: [Wanted; 1] = [Wanted::Number(Range::Power)];
+
+/// The first fault of the words behind a directive.
+pub(crate) fn directive_fault(directive: Directive, words: &[Word]) -> Option<AsmKind>
+    ensures { result ≡ directive_fault directive (map word_seen words.now) }
+{
+    match directive {
+        Directive::Text | Directive::Data => row_fault(&NOTHING, words),
+        Directive::Globl => row_fault(&NAME, words),
+        Directive::Word => many_fault(Wanted::Target(Range::Word), words),
+        Directive::Byte => many_fault(Wanted::Number(Range::Byte), words),
+        Directive::Ascii | Directive::Asciiz => row_fault(&TEXT, words),
+        Directive::Space => row_fault(&SPACE, words),
+        Directive::Align => row_fault(&POWER, words),
+    }
+}
+
+/// The statement of a directive and of the words behind it, which are what it wants. `Err` comes only for want of memory.
+pub(crate) fn directive_statement(
     alloc: Global,
     directive: Directive,
-    words: &mut Words,
-) -> Result<Statement, Flaw>
-    ensures { IfOk result (λ s. IsInRange (statement_of s)) }
+    words: &[Word],
+) -> Result<Statement, AllocError>
+    ensures { IfOk result (λ s. statement_of s ≡ directive_made directive (map word_seen words.now)) }
 {
     match directive {
         Directive::Text => Ok(Statement::Directive(AsmDirective::ToText)),
         Directive::Data => Ok(Statement::Directive(AsmDirective::ToData)),
         Directive::Globl => {
-            let name = take_label(alloc, words)?;
+            let name = Label::new(alloc, label_at(words, 0))?;
             Ok(Statement::Directive(AsmDirective::Globl(name)))
         }
-        Directive::Word => Ok(Statement::Data(DataItem::Word(take_items(alloc, words)?))),
-        Directive::Byte => Ok(Statement::Data(DataItem::Byte(take_bytes(alloc, words)?))),
-        Directive::Ascii => Ok(Statement::Data(DataItem::Ascii(take_text(alloc, words)?))),
-        Directive::Asciiz => Ok(Statement::Data(DataItem::Asciiz(take_text(alloc, words)?))),
+        Directive::Word => Ok(Statement::Data(DataItem::Word(items(alloc, words)?))),
+        Directive::Byte => Ok(Statement::Data(DataItem::Byte(bytes(alloc, words)?))),
+        Directive::Ascii => {
+            let text = unescaped(alloc, raw_at(words, 0))?;
+            Ok(Statement::Data(DataItem::Ascii(text)))
+        }
+        Directive::Asciiz => {
+            let text = unescaped(alloc, raw_at(words, 0))?;
+            Ok(Statement::Data(DataItem::Asciiz(text)))
+        }
         Directive::Space => {
-            let size = space_size(take_number(words)?)?;
+            let size = space_size(number_at(words, 0));
             Ok(Statement::Data(DataItem::Space(size)))
         }
         Directive::Align => {
-            let power = align_power(take_number(words)?)?;
+            let power = align_power(number_at(words, 0));
             Ok(Statement::Directive(AsmDirective::Align(power)))
         }
     }
 }
 
-/// Takes the operands of `.word`, one or more.
-fn take_items(alloc: Global, words: &mut Words) -> Result<Vec<WordItem>, Flaw>
-    ensures { IfOk result (λ items. AllByRecursion IsItem (map item_of items.items)) }
+/// The operands of `.word`. `Err` comes only for want of memory.
+fn items(alloc: Global, words: &[Word]) -> Result<Vec<WordItem>, AllocError>
+    ensures { IfOk result (λ items. map item_of items.items ≡ map item_made (map word_seen words.now)) }
 {
     let mut items = Vec::new(alloc);
-    while let Some(word) = words.take() {
-        items.push(item(alloc, word)?)?;
-    }
-    if items.is_empty() {
-        return Err(Flaw::Operand);
+    for word in words {
+        items.push(item(alloc, *word)?)?;
     }
     Ok(items)
 }
 
-/// The operand of `.word` that is this word.
-fn item(alloc: Global, word: Word) -> Result<WordItem, Flaw>
-    ensures { IfOk result (λ item. IsItem (item_of item)) }
+/// The operand of `.word` that is this word. `Err` comes only for want of memory.
+fn item(alloc: Global, word: Word) -> Result<WordItem, AllocError>
+    ensures { IfOk result (λ item. item_of item ≡ item_made (word_seen word.entry)) }
 {
     match word {
-        Word::Number(value) => Ok(WordItem::Number(word_number(value)?)),
         Word::Name(name) => Ok(WordItem::Address(Label::new(alloc, name)?)),
-        other => Err(misplaced(Some(other))),
+        Word::Number(value) => Ok(WordItem::Number(word_number(value))),
+        _ => Ok(WordItem::Number(0)),
     }
 }
 
-/// Takes the operands of `.byte`, one or more.
-fn take_bytes(alloc: Global, words: &mut Words) -> Result<Vec<i32>, Flaw>
-    ensures { IfOk result (λ bytes. AllByRecursion IsByte bytes.items) }
+/// The operands of `.byte`. `Err` comes only for want of memory.
+fn bytes(alloc: Global, words: &[Word]) -> Result<Vec<i32>, AllocError>
+    ensures { IfOk result (λ bytes. bytes.items ≡ map byte_made (map word_seen words.now)) }
 {
     let mut bytes = Vec::new(alloc);
-    while let Some(word) = words.take() {
-        bytes.push(byte(word)?)?;
-    }
-    if bytes.is_empty() {
-        return Err(Flaw::Operand);
+    for word in words {
+        bytes.push(byte(*word))?;
     }
     Ok(bytes)
 }
 
 /// The operand of `.byte` that is this word.
-fn byte(word: Word) -> Result<i32, Flaw>
-    ensures { IfOk result IsByte }
+fn byte(word: Word) -> i32
+    ensures { result ≡ byte_made (word_seen word.entry) }
 {
     match word {
         Word::Number(value) => byte_number(value),
-        other => Err(misplaced(Some(other))),
+        _ => 0,
     }
 }

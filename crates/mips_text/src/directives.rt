@@ -1,7 +1,8 @@
 //! The names of directives.
 
-ghost use Rattle.std.specs.Prelude.{◌≡◌};
-ghost use Rattle.mips_text.specs.Names.{directive_text};
+ghost use Rattle.std.specs.Prelude.{◌≡◌, bytes_eq};
+ghost use Rattle.std.specs.List.{find};
+ghost use Rattle.mips_text.specs.Names.{directive_named, directive_text};
 
 /// A directive.
 #[derive(Clone, Copy, Debug, PartialEq, Eq)]
@@ -32,10 +33,11 @@ static ALL: [Directive; 9] = [
 
 impl Directive {
     /// The directive of this name.
-    pub(crate) fn named(name: &[u8]) -> Option<Directive> {
-        ALL.iter()
-            .find(|directive| directive.name().as_bytes() == name)
-            .copied()
+    #[tactic(auto, unfolding(crate::specs::Names::directive_named))]
+    pub(crate) fn named(name: &[u8]) -> Option<Directive>
+        ensures { result ≡ directive_named name.now }
+    {
+        named_in(&ALL, name)
     }
 
     /// The name, with its dot.
@@ -54,4 +56,16 @@ impl Directive {
             Directive::Align => ".align",
         }
     }
+}
+
+/// The first of these directives that has this name.
+fn named_in(all: &[Directive], name: &[u8]) -> Option<Directive>
+    ensures { result ≡ find (λ directive. bytes_eq (directive_text directive) name.now) all.now }
+{
+    for directive in all {
+        if directive.name().as_bytes() == name {
+            return Some(*directive);
+        }
+    }
+    None
 }

@@ -1,146 +1,254 @@
-//! Instructions, taken from the words of a line.
+//! Instructions, of the words behind their mnemonics.
 
-ghost use Rattle.std.specs.Prelude.{IfOk};
-ghost use Rattle.mips_isa.specs.Words.{IsImmediate};
-ghost use Rattle.mips_isa.specs.Lines.{IsInstructionInRange, instruction_of};
+ghost use Rattle.std.specs.Prelude.{◌≡◌, ◌∷◌, [], IfOk, map};
+ghost use Rattle.mips_isa.specs.Lines.{Plain, instruction_of};
+ghost use Rattle.mips_text.specs.declared.mnemonics.Mnemonic.TheVariants.{Jalr, Mem, BranchTwo, BranchOne, Jump};
+ghost use Rattle.mips_text.specs.declared.wanted.Wanted.TheVariants.{Number};
+ghost use Rattle.mips_text.specs.Statements.{has_open, imm_range, instruction_made, instruction_operands, kept, memory_operands, register_at, two_registers};
+ghost use Rattle.mips_text.specs.Views.{word_seen};
 
-use crate::flaw::Flaw;
 use crate::mnemonics::Mnemonic;
-use crate::operands::{
-    Memory, Target, misplaced, register_of, take_label, take_memory, take_number, take_register,
-    take_target,
-};
+use crate::operands::{has_open, label_at, name_at, number_at, register_at};
 use crate::ranges::{jump_index, shift_count, signed, unsigned, word_number};
-use crate::words::{Word, Words};
+use crate::wanted::{Range, Wanted};
+use crate::words::Word;
 use mips_isa::register::RA;
-use mips_isa::{
-    AsmInstr, FromOp, ImmOp, Instr, JumpOp, MemOp, MulDivOp, OneOp, OrderOp, Reg, ShiftOp,
-    ShiftRegOp, ThreeOp, ToOp, TwoOp, ZeroOp,
-};
-use std::alloc::Global;
+use mips_isa::{AsmInstr, ImmOp, Instr, JumpOp, Label, MemOp, OneOp, Reg, TwoOp};
+use std::alloc::{AllocError, Global};
 
-/// The instruction of a mnemonic, with its operands.
-pub(crate) fn take_instruction(
-    alloc: Global,
-    mnemonic: Mnemonic,
-    words: &mut Words,
-) -> Result<AsmInstr, Flaw>
-    ensures { IfOk result (λ i. IsInstructionInRange (instruction_of i)) }
+static NOTHING: [Wanted; 0] = [];
+static ONE: [Wanted; 1] = [Wanted::Register];
+static TWO: [Wanted; 2] = [Wanted::Register, Wanted::Register];
+static THREE: [Wanted; 3] = [Wanted::Register, Wanted::Register, Wanted::Register];
+static SHIFT: [Wanted; 3] = [
+    Wanted::Register,
+    Wanted::Register,
+    Wanted::Number(Range::Shift),
+];
+static SIGNED: [Wanted; 3] = [
+    Wanted::Register,
+    Wanted::Register,
+    Wanted::Number(Range::Signed),
+];
+static UNSIGNED: [Wanted; 3] = [
+    Wanted::Register,
+    Wanted::Register,
+    Wanted::Number(Range::Unsigned),
+];
+static UPPER: [Wanted; 2] = [Wanted::Register, Wanted::Number(Range::Unsigned)];
+static BRANCH_TWO: [Wanted; 3] = [
+    Wanted::Register,
+    Wanted::Register,
+    Wanted::Target(Range::Signed),
+];
+static BRANCH_ONE: [Wanted; 2] = [Wanted::Register, Wanted::Target(Range::Signed)];
+static JUMP: [Wanted; 1] = [Wanted::Target(Range::Index)];
+static BARE_MEMORY: [Wanted; 4] = [
+    Wanted::Register,
+    Wanted::Open,
+    Wanted::Register,
+    Wanted::Close,
+];
+static MEMORY: [Wanted; 5] = [
+    Wanted::Register,
+    Wanted::Number(Range::Signed),
+    Wanted::Open,
+    Wanted::Register,
+    Wanted::Close,
+];
+static LOAD: [Wanted; 2] = [Wanted::Register, Wanted::Number(Range::Word)];
+static NAME: [Wanted; 1] = [Wanted::Name];
+static ONE_NAME: [Wanted; 2] = [Wanted::Register, Wanted::Name];
+static TWO_NAME: [Wanted; 3] = [Wanted::Register, Wanted::Register, Wanted::Name];
+
+/// The operands that a mnemonic wants, where these words stand behind it.
+pub(crate) fn instruction_operands(mnemonic: Mnemonic, words: &[Word]) -> &'static [Wanted]
+    ensures { result.now ≡ instruction_operands mnemonic (map word_seen words.now) }
 {
     match mnemonic {
-        Mnemonic::Three(op) => take_three(op, words),
-        Mnemonic::Shift(op) => take_shift(op, words),
-        Mnemonic::ShiftReg(op) => take_shift_reg(op, words),
-        Mnemonic::Jr => take_jr(words),
-        Mnemonic::Jalr => take_jalr(words),
-        Mnemonic::Syscall => Ok(AsmInstr::Plain(Instr::Syscall)),
-        Mnemonic::MoveFrom(op) => take_move_from(op, words),
-        Mnemonic::MoveTo(op) => take_move_to(op, words),
-        Mnemonic::MulDiv(op) => take_mul_div(op, words),
-        Mnemonic::Imm(op) => take_imm(op, words),
-        Mnemonic::Lui => take_lui(words),
-        Mnemonic::BranchTwo(op) => take_branch_two(alloc, op, words),
-        Mnemonic::BranchOne(op) => take_branch_one(alloc, op, words),
-        Mnemonic::Jump(op) => take_jump(alloc, op, words),
-        Mnemonic::Mem(op) => take_mem(op, words),
-        Mnemonic::La => take_la(alloc, words),
-        Mnemonic::Li => take_li(words),
-        Mnemonic::Move => take_move(words),
-        Mnemonic::Neg => take_neg(words),
-        Mnemonic::Nop => Ok(AsmInstr::Nop),
-        Mnemonic::B => take_b(alloc, words),
-        Mnemonic::BranchZero(op) => take_branch_zero(alloc, op, words),
-        Mnemonic::BranchOrder(op) => take_branch_order(alloc, op, words),
-        Mnemonic::Mul => take_mul(words),
+        Mnemonic::Three(_) | Mnemonic::ShiftReg(_) | Mnemonic::Mul => &THREE,
+        Mnemonic::Shift(_) => &SHIFT,
+        Mnemonic::Jr | Mnemonic::MoveFrom(_) | Mnemonic::MoveTo(_) => &ONE,
+        Mnemonic::Jalr => jalr_operands(words),
+        Mnemonic::Syscall | Mnemonic::Nop => &NOTHING,
+        Mnemonic::MulDiv(_) | Mnemonic::Move | Mnemonic::Neg => &TWO,
+        Mnemonic::Imm(op) => imm_operands(op),
+        Mnemonic::Lui => &UPPER,
+        Mnemonic::BranchTwo(_) => &BRANCH_TWO,
+        Mnemonic::BranchOne(_) => &BRANCH_ONE,
+        Mnemonic::Jump(_) => &JUMP,
+        Mnemonic::Mem(_) => memory_operands(words),
+        Mnemonic::La | Mnemonic::BranchZero(_) => &ONE_NAME,
+        Mnemonic::Li => &LOAD,
+        Mnemonic::B => &NAME,
+        Mnemonic::BranchOrder(_) => &TWO_NAME,
     }
 }
 
-fn take_three(op: ThreeOp, words: &mut Words) -> Result<AsmInstr, Flaw>
-    ensures { IfOk result (λ i. IsInstructionInRange (instruction_of i)) }
+/// One register alone is where the jump goes.
+fn jalr_operands(words: &[Word]) -> &'static [Wanted]
+    ensures { result.now ≡ instruction_operands Jalr (map word_seen words.now) }
 {
-    let rd = take_register(words)?;
-    let rs = take_register(words)?;
-    let rt = take_register(words)?;
-    Ok(AsmInstr::Plain(Instr::Three { op, rd, rs, rt }))
+    if words.len() < 2 { &ONE } else { &TWO }
 }
 
-fn take_shift(op: ShiftOp, words: &mut Words) -> Result<AsmInstr, Flaw>
-    ensures { IfOk result (λ i. IsInstructionInRange (instruction_of i)) }
+/// An operand in memory may be without its number.
+fn memory_operands(words: &[Word]) -> &'static [Wanted]
+    ensures { result.now ≡ memory_operands (has_open (map word_seen words.now) 1) }
 {
-    let rd = take_register(words)?;
-    let rt = take_register(words)?;
-    let sh = shift_count(take_number(words)?)?;
-    Ok(AsmInstr::Plain(Instr::Shift { op, rd, rt, sh }))
+    if has_open(words, 1) {
+        &BARE_MEMORY
+    } else {
+        &MEMORY
+    }
 }
 
-fn take_shift_reg(op: ShiftRegOp, words: &mut Words) -> Result<AsmInstr, Flaw>
-    ensures { IfOk result (λ i. IsInstructionInRange (instruction_of i)) }
+fn imm_operands(op: ImmOp) -> &'static [Wanted]
+    ensures { result.now ≡ two_registers (Number (imm_range op) ∷ []) }
 {
-    let rd = take_register(words)?;
-    let rt = take_register(words)?;
-    let rs = take_register(words)?;
-    Ok(AsmInstr::Plain(Instr::ShiftReg { op, rd, rt, rs }))
+    match op {
+        ImmOp::Addi | ImmOp::Addiu | ImmOp::Slti | ImmOp::Sltiu => &SIGNED,
+        ImmOp::Andi | ImmOp::Ori | ImmOp::Xori => &UNSIGNED,
+    }
 }
 
-fn take_jr(words: &mut Words) -> Result<AsmInstr, Flaw>
-    ensures { IfOk result (λ i. IsInstructionInRange (instruction_of i)) }
+/// The instruction of a mnemonic and of the words behind it, which are what it wants. `Err` comes only for want of memory.
+pub(crate) fn instruction(
+    alloc: Global,
+    mnemonic: Mnemonic,
+    words: &[Word],
+) -> Result<AsmInstr, AllocError>
+    ensures { IfOk result (λ i. instruction_of i ≡ instruction_made mnemonic (map word_seen words.now)) }
 {
-    let rs = take_register(words)?;
-    Ok(AsmInstr::Plain(Instr::Jr { rs }))
+    let first = register_at(words, 0);
+    let second = register_at(words, 1);
+    let third = register_at(words, 2);
+    match mnemonic {
+        Mnemonic::Three(op) => Ok(AsmInstr::Plain(Instr::Three {
+            op,
+            rd: first,
+            rs: second,
+            rt: third,
+        })),
+        Mnemonic::Shift(op) => Ok(AsmInstr::Plain(Instr::Shift {
+            op,
+            rd: first,
+            rt: second,
+            sh: shift_count(number_at(words, 2)),
+        })),
+        Mnemonic::ShiftReg(op) => Ok(AsmInstr::Plain(Instr::ShiftReg {
+            op,
+            rd: first,
+            rt: second,
+            rs: third,
+        })),
+        Mnemonic::Jr => Ok(AsmInstr::Plain(Instr::Jr { rs: first })),
+        Mnemonic::Jalr => Ok(AsmInstr::Plain(jalr(words, first, second))),
+        Mnemonic::Syscall => Ok(AsmInstr::Plain(Instr::Syscall)),
+        Mnemonic::MoveFrom(op) => Ok(AsmInstr::Plain(Instr::MoveFrom { op, rd: first })),
+        Mnemonic::MoveTo(op) => Ok(AsmInstr::Plain(Instr::MoveTo { op, rs: first })),
+        Mnemonic::MulDiv(op) => Ok(AsmInstr::Plain(Instr::MulDiv {
+            op,
+            rs: first,
+            rt: second,
+        })),
+        Mnemonic::Imm(op) => Ok(AsmInstr::Plain(Instr::Imm {
+            op,
+            rt: first,
+            rs: second,
+            imm: immediate(op, number_at(words, 2)),
+        })),
+        Mnemonic::Lui => Ok(AsmInstr::Plain(Instr::Lui {
+            rt: first,
+            imm: unsigned(number_at(words, 1)),
+        })),
+        Mnemonic::BranchTwo(op) => branch_two(alloc, op, words),
+        Mnemonic::BranchOne(op) => branch_one(alloc, op, words),
+        Mnemonic::Jump(op) => jump(alloc, op, words),
+        Mnemonic::Mem(op) => Ok(AsmInstr::Plain(memory(op, words))),
+        Mnemonic::La => Ok(AsmInstr::La {
+            rd: first,
+            label: Label::new(alloc, label_at(words, 1))?,
+        }),
+        Mnemonic::Li => Ok(AsmInstr::Li {
+            rd: first,
+            value: word_number(number_at(words, 1)),
+        }),
+        Mnemonic::Move => Ok(AsmInstr::Move {
+            rd: first,
+            rs: second,
+        }),
+        Mnemonic::Neg => Ok(AsmInstr::Neg {
+            rd: first,
+            rs: second,
+        }),
+        Mnemonic::Nop => Ok(AsmInstr::Nop),
+        Mnemonic::B => Ok(AsmInstr::B {
+            target: Label::new(alloc, label_at(words, 0))?,
+        }),
+        Mnemonic::BranchZero(op) => Ok(AsmInstr::BranchZero {
+            op,
+            rs: first,
+            target: Label::new(alloc, label_at(words, 1))?,
+        }),
+        Mnemonic::BranchOrder(op) => Ok(AsmInstr::BranchOrder {
+            op,
+            rs: first,
+            rt: second,
+            target: Label::new(alloc, label_at(words, 2))?,
+        }),
+        Mnemonic::Mul => Ok(AsmInstr::Mul {
+            rd: first,
+            rs: second,
+            rt: third,
+        }),
+    }
 }
 
 /// One register alone is where the jump goes; the address after it is then saved in `$ra`.
-fn take_jalr(words: &mut Words) -> Result<AsmInstr, Flaw>
-    ensures { IfOk result (λ i. IsInstructionInRange (instruction_of i)) }
+fn jalr(words: &[Word], first: Reg, second: Reg) -> Instr
+    requires first { first ≡ register_at (map word_seen words.now) 0 }
+    requires second { second ≡ register_at (map word_seen words.now) 1 }
+    ensures { Plain result ≡ instruction_made Jalr (map word_seen words.now) }
 {
-    let first = take_register(words)?;
-    match words.take() {
-        None => Ok(AsmInstr::Plain(Instr::Jalr {
+    if words.len() < 2 {
+        Instr::Jalr {
             rd: Reg::new(RA),
             rs: first,
-        })),
-        Some(Word::Register(name)) => {
-            let rs = register_of(name)?;
-            Ok(AsmInstr::Plain(Instr::Jalr { rd: first, rs }))
         }
-        other => Err(misplaced(other)),
+    } else {
+        Instr::Jalr {
+            rd: first,
+            rs: second,
+        }
     }
 }
 
-fn take_move_from(op: FromOp, words: &mut Words) -> Result<AsmInstr, Flaw>
-    ensures { IfOk result (λ i. IsInstructionInRange (instruction_of i)) }
+/// A load or a store. Without its number the offset is 0.
+fn memory(op: MemOp, words: &[Word]) -> Instr
+    ensures { Plain result ≡ instruction_made (Mem op) (map word_seen words.now) }
 {
-    let rd = take_register(words)?;
-    Ok(AsmInstr::Plain(Instr::MoveFrom { op, rd }))
+    let rt = register_at(words, 0);
+    if has_open(words, 1) {
+        Instr::Mem {
+            op,
+            rt,
+            rs: register_at(words, 2),
+            imm: 0,
+        }
+    } else {
+        Instr::Mem {
+            op,
+            rt,
+            rs: register_at(words, 3),
+            imm: signed(number_at(words, 1)),
+        }
+    }
 }
 
-fn take_move_to(op: ToOp, words: &mut Words) -> Result<AsmInstr, Flaw>
-    ensures { IfOk result (λ i. IsInstructionInRange (instruction_of i)) }
-{
-    let rs = take_register(words)?;
-    Ok(AsmInstr::Plain(Instr::MoveTo { op, rs }))
-}
-
-fn take_mul_div(op: MulDivOp, words: &mut Words) -> Result<AsmInstr, Flaw>
-    ensures { IfOk result (λ i. IsInstructionInRange (instruction_of i)) }
-{
-    let rs = take_register(words)?;
-    let rt = take_register(words)?;
-    Ok(AsmInstr::Plain(Instr::MulDiv { op, rs, rt }))
-}
-
-fn take_imm(op: ImmOp, words: &mut Words) -> Result<AsmInstr, Flaw>
-    ensures { IfOk result (λ i. IsInstructionInRange (instruction_of i)) }
-{
-    let rt = take_register(words)?;
-    let rs = take_register(words)?;
-    let imm = immediate(op, take_number(words)?)?;
-    Ok(AsmInstr::Plain(Instr::Imm { op, rt, rs, imm }))
-}
-
-/// The immediate of an operation, in its range.
-fn immediate(op: ImmOp, value: i64) -> Result<i32, Flaw>
-    ensures { IfOk result (λ imm. IsImmediate op imm) }
+/// The immediate of an operation.
+fn immediate(op: ImmOp, value: i64) -> i32
+    ensures { result ≡ kept (imm_range op) value }
 {
     match op {
         ImmOp::Addi | ImmOp::Addiu | ImmOp::Slti | ImmOp::Sltiu => signed(value),
@@ -148,127 +256,56 @@ fn immediate(op: ImmOp, value: i64) -> Result<i32, Flaw>
     }
 }
 
-fn take_lui(words: &mut Words) -> Result<AsmInstr, Flaw>
-    ensures { IfOk result (λ i. IsInstructionInRange (instruction_of i)) }
+fn branch_two(alloc: Global, op: TwoOp, words: &[Word]) -> Result<AsmInstr, AllocError>
+    ensures { IfOk result (λ i. instruction_of i ≡ instruction_made (BranchTwo op) (map word_seen words.now)) }
 {
-    let rt = take_register(words)?;
-    let imm = unsigned(take_number(words)?)?;
-    Ok(AsmInstr::Plain(Instr::Lui { rt, imm }))
-}
-
-fn take_branch_two(alloc: Global, op: TwoOp, words: &mut Words) -> Result<AsmInstr, Flaw>
-    ensures { IfOk result (λ i. IsInstructionInRange (instruction_of i)) }
-{
-    let rs = take_register(words)?;
-    let rt = take_register(words)?;
-    match take_target(alloc, words)? {
-        Target::Field(value) => {
-            let imm = signed(value)?;
-            Ok(AsmInstr::Plain(Instr::BranchTwo { op, rs, rt, imm }))
-        }
-        Target::Place(target) => Ok(AsmInstr::ToTwo { op, rs, rt, target }),
+    let rs = register_at(words, 0);
+    let rt = register_at(words, 1);
+    match name_at(words, 2) {
+        Some(name) => Ok(AsmInstr::ToTwo {
+            op,
+            rs,
+            rt,
+            target: Label::new(alloc, name)?,
+        }),
+        None => Ok(AsmInstr::Plain(Instr::BranchTwo {
+            op,
+            rs,
+            rt,
+            imm: signed(number_at(words, 2)),
+        })),
     }
 }
 
-fn take_branch_one(alloc: Global, op: OneOp, words: &mut Words) -> Result<AsmInstr, Flaw>
-    ensures { IfOk result (λ i. IsInstructionInRange (instruction_of i)) }
+fn branch_one(alloc: Global, op: OneOp, words: &[Word]) -> Result<AsmInstr, AllocError>
+    ensures { IfOk result (λ i. instruction_of i ≡ instruction_made (BranchOne op) (map word_seen words.now)) }
 {
-    let rs = take_register(words)?;
-    match take_target(alloc, words)? {
-        Target::Field(value) => {
-            let imm = signed(value)?;
-            Ok(AsmInstr::Plain(Instr::BranchOne { op, rs, imm }))
-        }
-        Target::Place(target) => Ok(AsmInstr::ToOne { op, rs, target }),
+    let rs = register_at(words, 0);
+    match name_at(words, 1) {
+        Some(name) => Ok(AsmInstr::ToOne {
+            op,
+            rs,
+            target: Label::new(alloc, name)?,
+        }),
+        None => Ok(AsmInstr::Plain(Instr::BranchOne {
+            op,
+            rs,
+            imm: signed(number_at(words, 1)),
+        })),
     }
 }
 
-fn take_jump(alloc: Global, op: JumpOp, words: &mut Words) -> Result<AsmInstr, Flaw>
-    ensures { IfOk result (λ i. IsInstructionInRange (instruction_of i)) }
+fn jump(alloc: Global, op: JumpOp, words: &[Word]) -> Result<AsmInstr, AllocError>
+    ensures { IfOk result (λ i. instruction_of i ≡ instruction_made (Jump op) (map word_seen words.now)) }
 {
-    match take_target(alloc, words)? {
-        Target::Field(value) => {
-            let index = jump_index(value)?;
-            Ok(AsmInstr::Plain(Instr::Jump { op, index }))
-        }
-        Target::Place(target) => Ok(AsmInstr::ToJump { op, target }),
+    match name_at(words, 0) {
+        Some(name) => Ok(AsmInstr::ToJump {
+            op,
+            target: Label::new(alloc, name)?,
+        }),
+        None => Ok(AsmInstr::Plain(Instr::Jump {
+            op,
+            index: jump_index(number_at(words, 0)),
+        })),
     }
-}
-
-fn take_mem(op: MemOp, words: &mut Words) -> Result<AsmInstr, Flaw>
-    ensures { IfOk result (λ i. IsInstructionInRange (instruction_of i)) }
-{
-    let rt = take_register(words)?;
-    let Memory { offset, base } = take_memory(words)?;
-    Ok(AsmInstr::Plain(Instr::Mem {
-        op,
-        rt,
-        rs: base,
-        imm: offset,
-    }))
-}
-
-fn take_la(alloc: Global, words: &mut Words) -> Result<AsmInstr, Flaw>
-    ensures { IfOk result (λ i. IsInstructionInRange (instruction_of i)) }
-{
-    let rd = take_register(words)?;
-    let label = take_label(alloc, words)?;
-    Ok(AsmInstr::La { rd, label })
-}
-
-fn take_li(words: &mut Words) -> Result<AsmInstr, Flaw>
-    ensures { IfOk result (λ i. IsInstructionInRange (instruction_of i)) }
-{
-    let rd = take_register(words)?;
-    let value = word_number(take_number(words)?)?;
-    Ok(AsmInstr::Li { rd, value })
-}
-
-fn take_move(words: &mut Words) -> Result<AsmInstr, Flaw>
-    ensures { IfOk result (λ i. IsInstructionInRange (instruction_of i)) }
-{
-    let rd = take_register(words)?;
-    let rs = take_register(words)?;
-    Ok(AsmInstr::Move { rd, rs })
-}
-
-fn take_neg(words: &mut Words) -> Result<AsmInstr, Flaw>
-    ensures { IfOk result (λ i. IsInstructionInRange (instruction_of i)) }
-{
-    let rd = take_register(words)?;
-    let rs = take_register(words)?;
-    Ok(AsmInstr::Neg { rd, rs })
-}
-
-fn take_b(alloc: Global, words: &mut Words) -> Result<AsmInstr, Flaw>
-    ensures { IfOk result (λ i. IsInstructionInRange (instruction_of i)) }
-{
-    let target = take_label(alloc, words)?;
-    Ok(AsmInstr::B { target })
-}
-
-fn take_branch_zero(alloc: Global, op: ZeroOp, words: &mut Words) -> Result<AsmInstr, Flaw>
-    ensures { IfOk result (λ i. IsInstructionInRange (instruction_of i)) }
-{
-    let rs = take_register(words)?;
-    let target = take_label(alloc, words)?;
-    Ok(AsmInstr::BranchZero { op, rs, target })
-}
-
-fn take_branch_order(alloc: Global, op: OrderOp, words: &mut Words) -> Result<AsmInstr, Flaw>
-    ensures { IfOk result (λ i. IsInstructionInRange (instruction_of i)) }
-{
-    let rs = take_register(words)?;
-    let rt = take_register(words)?;
-    let target = take_label(alloc, words)?;
-    Ok(AsmInstr::BranchOrder { op, rs, rt, target })
-}
-
-fn take_mul(words: &mut Words) -> Result<AsmInstr, Flaw>
-    ensures { IfOk result (λ i. IsInstructionInRange (instruction_of i)) }
-{
-    let rd = take_register(words)?;
-    let rs = take_register(words)?;
-    let rt = take_register(words)?;
-    Ok(AsmInstr::Mul { rd, rs, rt })
 }

@@ -4,11 +4,15 @@
 //! text that is at fault; `print_asm` has one spelling for each line.
 #![tactic(auto)]
 
+mod class;
 mod data;
 mod directives;
 mod flaw;
+mod fronts;
 mod instructions;
 mod letters;
+mod lines;
+mod magnitudes;
 mod mnemonics;
 mod numbers;
 mod operands;
@@ -17,6 +21,9 @@ mod ranges;
 mod reading;
 mod registers;
 mod rows;
+mod span;
+mod strings;
+mod wanted;
 mod words;
 
 pub use printing::print_asm;

@@ -1,7 +1,8 @@
 //! The mnemonics: the names of instructions, and of those that stand for others.
 
-ghost use Rattle.std.specs.Prelude.{◌≡◌};
-ghost use Rattle.mips_text.specs.Names.{three_text, shift_text, shift_reg_text, from_text, to_text, mul_div_text, imm_text, two_text, one_text, jump_text, mem_text, zero_text, order_text, mnemonic_text};
+ghost use Rattle.std.specs.Prelude.{◌≡◌, bytes_eq};
+ghost use Rattle.std.specs.List.{find};
+ghost use Rattle.mips_text.specs.Names.{mnemonic_named, three_text, shift_text, shift_reg_text, from_text, to_text, mul_div_text, imm_text, two_text, one_text, jump_text, mem_text, zero_text, order_text, mnemonic_text};
 
 use mips_isa::{
     FromOp, ImmOp, JumpOp, MemOp, MulDivOp, OneOp, OrderOp, ShiftOp, ShiftRegOp, ThreeOp, ToOp,
@@ -107,10 +108,11 @@ static ALL: [Mnemonic; 64] = [
 
 impl Mnemonic {
     /// The mnemonic of this name.
-    pub(crate) fn named(name: &[u8]) -> Option<Mnemonic> {
-        ALL.iter()
-            .find(|mnemonic| mnemonic.name().as_bytes() == name)
-            .copied()
+    #[tactic(auto, unfolding(crate::specs::Names::mnemonic_named))]
+    pub(crate) fn named(name: &[u8]) -> Option<Mnemonic>
+        ensures { result ≡ mnemonic_named name.now }
+    {
+        named_in(&ALL, name)
     }
 
     /// The name.
@@ -144,6 +146,18 @@ impl Mnemonic {
             Mnemonic::Mul => "mul",
         }
     }
+}
+
+/// The first of these mnemonics that has this name.
+fn named_in(all: &[Mnemonic], name: &[u8]) -> Option<Mnemonic>
+    ensures { result ≡ find (λ mnemonic. bytes_eq (mnemonic_text mnemonic) name.now) all.now }
+{
+    for mnemonic in all {
+        if mnemonic.name().as_bytes() == name {
+            return Some(*mnemonic);
+        }
+    }
+    None
 }
 
 fn three_name(op: ThreeOp) -> &'static str

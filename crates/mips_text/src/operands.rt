@@ -1,160 +1,93 @@
-//! The operands of statements, taken from the words of a line.
+//! The operands of statements, by their places in the words of a line.
 
-ghost use Rattle.std.specs.Prelude.{◌<◌, IfOk};
-ghost use Rattle.mips_isa.specs.Words.{IsSigned};
+ghost use Rattle.std.specs.Prelude.{◌≡◌, map, option_map};
+ghost use Rattle.mips_text.specs.Statements.{has_colon, has_name, has_open, label_at, name_at, number_at, raw_at, register_at};
+ghost use Rattle.mips_text.specs.Views.{word_seen};
 
-use crate::flaw::Flaw;
-use crate::ranges::signed;
 use crate::registers::register_named;
-use crate::words::{Word, Words};
-use mips_isa::{Label, Reg};
-use std::alloc::Global;
+use crate::words::Word;
+use mips_isa::Reg;
+use mips_isa::register::ZERO;
 
-/// The target of a branch or a jump.
-#[derive(Debug, Drop)]
-pub(crate) enum Target {
-    /// A number for the field itself.
-    Field(i64),
-    Place(Label),
-}
-
-/// An operand in memory: `offset(base)`.
-#[derive(Clone, Copy, Debug)]
-pub(crate) struct Memory {
-    pub(crate) offset: i32,
-    pub(crate) base: Reg,
-}
-
-/// What is wrong where this word stands, or none, and another kind of word is wanted.
-pub(crate) fn misplaced(word: Option<Word>) -> Flaw {
-    match word {
-        Some(Word::Stray) => Flaw::Word,
-        _ => Flaw::Operand,
-    }
-}
-
-/// Sees that no word is left.
-pub(crate) fn take_end(words: &mut Words) -> Result<(), Flaw> {
-    match words.take() {
-        None => Ok(()),
-        other => Err(misplaced(other)),
-    }
-}
-
-/// Takes a register.
-pub(crate) fn take_register(words: &mut Words) -> Result<Reg, Flaw>
-    ensures { IfOk result (λ register. register < 32) }
+/// The register at a place, or `$zero` for another word.
+pub(crate) fn register_at(words: &[Word], index: usize) -> Reg
+    ensures { result ≡ register_at (map word_seen words.now) index }
 {
-    match words.take() {
-        Some(Word::Register(name)) => register_of(name),
-        other => Err(misplaced(other)),
+    match words.get(index) {
+        Some(Word::Register(name)) => match register_named(name) {
+            Some(register) => register,
+            None => Reg::new(ZERO),
+        },
+        _ => Reg::new(ZERO),
     }
 }
 
-/// The register of a name or a number, without its `$`.
-pub(crate) fn register_of(name: &[u8]) -> Result<Reg, Flaw>
-    ensures { IfOk result (λ register. register < 32) }
+/// The number at a place, or 0 for another word.
+pub(crate) fn number_at(words: &[Word], index: usize) -> i64
+    ensures { result ≡ number_at (map word_seen words.now) index }
 {
-    match register_named(name) {
-        Some(register) => Ok(register),
-        None => Err(Flaw::Operand),
+    match words.get(index) {
+        Some(Word::Number(value)) => *value,
+        _ => 0,
     }
 }
 
-/// Takes a number.
-pub(crate) fn take_number(words: &mut Words) -> Result<i64, Flaw> {
-    match words.take() {
-        Some(Word::Number(value)) => Ok(value),
-        other => Err(misplaced(other)),
-    }
-}
-
-/// Takes a name.
-pub(crate) fn take_label(alloc: Global, words: &mut Words) -> Result<Label, Flaw> {
-    match words.take() {
-        Some(Word::Name(name)) => Ok(Label::new(alloc, name)?),
-        other => Err(misplaced(other)),
-    }
-}
-
-/// Takes the target of a branch or a jump.
-pub(crate) fn take_target(alloc: Global, words: &mut Words) -> Result<Target, Flaw> {
-    match words.take() {
-        Some(Word::Number(value)) => Ok(Target::Field(value)),
-        Some(Word::Name(name)) => Ok(Target::Place(Label::new(alloc, name)?)),
-        other => Err(misplaced(other)),
-    }
-}
-
-/// Takes an operand in memory. Without its number the offset is 0.
-pub(crate) fn take_memory(words: &mut Words) -> Result<Memory, Flaw>
-    ensures offset { IfOk result (λ memory. IsSigned memory.offset) }
-    ensures base { IfOk result (λ memory. memory.base < 32) }
+/// The name at a place, if that word is one.
+pub(crate) fn name_at<'a>(words: &[Word<'a>], index: usize) -> Option<&'a [u8]>
+    ensures { option_map (λ name. name.now) result ≡ name_at (map word_seen words.now) index }
 {
-    let offset = take_offset(words)?;
-    let base = take_register(words)?;
-    match words.take() {
-        Some(Word::Close) => Ok(Memory { offset, base }),
-        other => Err(misplaced(other)),
+    match words.get(index) {
+        Some(Word::Name(name)) => Some(*name),
+        _ => None,
     }
 }
 
-/// Takes the offset of an operand in memory, and the parenthesis after it.
-fn take_offset(words: &mut Words) -> Result<i32, Flaw>
-    ensures { IfOk result IsSigned }
+/// The name at a place, or an empty one for another word.
+pub(crate) fn label_at<'a>(words: &[Word<'a>], index: usize) -> &'a [u8]
+    ensures { result.now ≡ label_at (map word_seen words.now) index }
 {
-    match words.take() {
-        Some(Word::Open) => Ok(0),
-        Some(Word::Number(value)) => {
-            let offset = signed(value)?;
-            take_open(words)?;
-            Ok(offset)
-        }
-        other => Err(misplaced(other)),
+    match words.get(index) {
+        Some(Word::Name(name)) => *name,
+        _ => &[],
     }
 }
 
-/// Takes an opening parenthesis.
-fn take_open(words: &mut Words) -> Result<(), Flaw> {
-    match words.take() {
-        Some(Word::Open) => Ok(()),
-        other => Err(misplaced(other)),
+/// What stands between the quotes of the string at a place, or nothing for another word.
+pub(crate) fn raw_at<'a>(words: &[Word<'a>], index: usize) -> &'a [u8]
+    ensures { result.now ≡ raw_at (map word_seen words.now) index }
+{
+    match words.get(index) {
+        Some(Word::Text(raw)) => *raw,
+        _ => &[],
     }
 }
 
-/// Takes a string, and gives the bytes that it stands for.
-pub(crate) fn take_text(alloc: Global, words: &mut Words) -> Result<Vec<u8>, Flaw> {
-    match words.take() {
-        Some(Word::Text(raw)) => unescaped(alloc, raw),
-        other => Err(misplaced(other)),
+/// Whether a parenthesis opens at a place.
+pub(crate) fn has_open(words: &[Word], index: usize) -> bool
+    ensures { result ≡ has_open (map word_seen words.now) index }
+{
+    match words.get(index) {
+        Some(Word::Open) => true,
+        _ => false,
     }
 }
 
-/// The bytes that a string stands for, without its escapes.
-fn unescaped(alloc: Global, raw: &[u8]) -> Result<Vec<u8>, Flaw> {
-    let mut bytes = Vec::new(alloc);
-    let mut rest = raw;
-    while let [first, tail @ ..] = rest {
-        match (*first, tail) {
-            (b'\\', [letter, behind @ ..]) => {
-                bytes.push(escape(*letter)?)?;
-                rest = behind;
-            }
-            _ => {
-                bytes.push(*first)?;
-                rest = tail;
-            }
-        }
+/// Whether a name stands at a place.
+pub(crate) fn has_name(words: &[Word], index: usize) -> bool
+    ensures { result ≡ has_name (map word_seen words.now) index }
+{
+    match words.get(index) {
+        Some(Word::Name(_)) => true,
+        _ => false,
     }
-    Ok(bytes)
 }
 
-/// The byte that an escape stands for.
-fn escape(letter: u8) -> Result<u8, Flaw> {
-    match letter {
-        b'n' => Ok(b'\n'),
-        b't' => Ok(b'\t'),
-        b'"' | b'\\' => Ok(letter),
-        _ => Err(Flaw::Operand),
+/// Whether a colon stands at a place.
+pub(crate) fn has_colon(words: &[Word], index: usize) -> bool
+    ensures { result ≡ has_colon (map word_seen words.now) index }
+{
+    match words.get(index) {
+        Some(Word::Colon) => true,
+        _ => false,
     }
 }

@@ -1,7 +1,8 @@
 //! The names of registers.
 
-ghost use Rattle.std.specs.Prelude.{◌≡◌};
+ghost use Rattle.std.specs.Prelude.{◌≡◌, ◌<◌, IfSome, map};
 ghost use Rattle.mips_text.specs.Names.{register_text};
+ghost use Rattle.mips_text.specs.Operands.{place_from, register_named};
 
 use mips_isa::Reg;
 
@@ -12,26 +13,35 @@ static NAMES: [&str; 32] = [
     "ra",
 ];
 
+/// The numbers in decimal, without leading zeros.
+static NUMBERS: [&str; 32] = [
+    "0", "1", "2", "3", "4", "5", "6", "7", "8", "9", "10", "11", "12", "13", "14", "15", "16",
+    "17", "18", "19", "20", "21", "22", "23", "24", "25", "26", "27", "28", "29", "30", "31",
+];
+
 /// The register of a name or a number, without its `$`.
-pub(crate) fn register_named(name: &[u8]) -> Option<Reg> {
-    match numbered(name) {
-        Some(register) => Some(register),
-        None => {
-            let number = NAMES.iter().position(|known| known.as_bytes() == name)?;
-            Some(Reg::new(number as u32))
-        }
-    }
+#[tactic(auto, unfolding(crate::specs::Operands::register_named))]
+pub(crate) fn register_named(name: &[u8]) -> Option<Reg>
+    ensures { result ≡ register_named name.now }
+{
+    let number = match place_of(&NUMBERS, name) {
+        Some(number) => number,
+        None => place_of(&NAMES, name)?,
+    };
+    Some(Reg::new(number as u32))
 }
 
-/// The register of a number in decimal, without leading zeros.
-fn numbered(digits: &[u8]) -> Option<Reg> {
-    let number = match digits {
-        [unit @ b'0'..=b'9'] => *unit - b'0',
-        [ten @ b'1'..=b'2', unit @ b'0'..=b'9'] => 10 * (*ten - b'0') + (*unit - b'0'),
-        [b'3', unit @ b'0'..=b'1'] => 30 + (*unit - b'0'),
-        _ => return None,
-    };
-    Some(Reg::new(u32::from(number)))
+/// The place of a name in a table.
+fn place_of(table: &[&str; 32], name: &[u8]) -> Option<usize>
+    ensures exact { result ≡ place_from 0 (map (λ known. known.now) table.now) name.now }
+    ensures below { IfSome result (λ place. place < 32) }
+{
+    for (index, known) in table.iter().enumerate() {
+        if known.as_bytes() == name {
+            return Some(index);
+        }
+    }
+    None
 }
 
 /// The name of a register, without its `$`.

@@ -1,9 +1,12 @@
 //! The words of a line.
 
-ghost use Rattle.std.specs.Prelude.{◌≡◌, ◌+◌, ◌<◌, ◌≤◌, OnSome, length};
+ghost use Rattle.std.specs.Prelude.{◌≡◌, ◌∷◌, [], ◌<◌, ◌≤◌, IfOk, IfSome, MatchOption, length, map, option_map};
+ghost use Rattle.mips_text.specs.Words.{words_behind, words_of, with_front};
+ghost use Rattle.mips_text.specs.Views.{found_seen, word_seen};
 
-use crate::letters::{begins_name, continues_name, continues_register, is_blank};
-use crate::numbers::{Number, read_number};
+use crate::class::{Class, class_of};
+use crate::fronts::{Found, front_at};
+use std::alloc::{AllocError, Global};
 
 /// A word of a line.
 #[derive(Clone, Copy, Debug)]
@@ -11,10 +14,10 @@ pub(crate) enum Word<'a> {
     Name(&'a [u8]),
     /// A number, or one past every range in place of a larger one.
     Number(i64),
-    /// What stands between the quotes of a string, with its escapes.
-    Text(&'a [u8]),
     /// What stands after a `$`.
     Register(&'a [u8]),
+    /// What stands between the quotes of a string, with its escapes.
+    Text(&'a [u8]),
     Colon,
     Open,
     Close,
@@ -22,164 +25,66 @@ pub(crate) enum Word<'a> {
     Stray,
 }
 
-/// The words of a line that are left.
-#[derive(Clone, Copy, Debug)]
-pub(crate) struct Words<'a> {
-    rest: &'a [u8],
+/// The words of a line, up to the first one that is none. `Err` comes only for want of memory.
+pub(crate) fn words_of(alloc: Global, line: &[u8]) -> Result<Vec<Word<'_>>, AllocError>
+    ensures { IfOk result (λ words. map word_seen words.items ≡ words_of line.now) }
+{
+    let mut words = Vec::new(alloc);
+    let mut rest = line;
+    while let Some(Cut { word, behind }) = next_word(rest) {
+        words.push(word)?;
+        rest = behind;
+    }
+    Ok(words)
 }
 
-/// A word, and the bytes after it.
+/// A word, and the bytes in which the words behind it stand.
 #[derive(Clone, Copy, Debug)]
 struct Cut<'a> {
     word: Word<'a>,
     behind: &'a [u8],
 }
 
-impl<'a> Words<'a> {
-    /// The words of a line.
-    pub(crate) fn new(line: &'a [u8]) -> Self
-        ensures { result.rest.now ≡ line.now }
-    {
-        Words { rest: line }
-    }
-
-    /// Takes the next word. There is none at the line's end, or before a comment.
-    pub(crate) fn take(&mut self) -> Option<Word<'a>>
-        ensures shorter { OnSome result (length self.new.rest.now < length self.old.rest.now) }
-    {
-        self.skip_blanks();
-        match self.rest {
-            [] | [b'#', ..] => None,
-            [first, tail @ ..] => {
-                let Cut { word, behind } = first_word(self.rest, *first, tail);
-                self.rest = behind;
-                Some(word)
-            }
-        }
-    }
-
-    /// Takes a colon, if that is the next word.
-    pub(crate) fn take_colon(&mut self) -> bool
-        ensures { length self.new.rest.now ≤ length self.old.rest.now }
-    {
-        self.skip_blanks();
-        let [b':', tail @ ..] = self.rest else {
-            return false;
-        };
-        self.rest = tail;
-        true
-    }
-
-    /// Goes past blanks.
-    fn skip_blanks(&mut self)
-        ensures { length self.new.rest.now ≤ length self.old.rest.now }
-    {
-        self.rest = after_blanks(self.rest);
-    }
-}
-
-/// The bytes from the first one that is no blank.
-fn after_blanks(bytes: &[u8]) -> &[u8]
-    ensures { length result.now ≤ length bytes.now }
+/// The next word. There is none at the line's end, or before a comment.
+fn next_word(line: &[u8]) -> Option<Cut<'_>>
+    ensures exact { MatchOption result (words_of line.now ≡ []) (λ cut. words_of line.now ≡ word_seen cut.word ∷ words_of cut.behind.now) }
+    ensures shorter { IfSome result (λ cut. length cut.behind.now < length line.now) }
 {
-    let mut rest = bytes;
+    let mut rest = line;
     while let [first, tail @ ..] = rest {
-        if !is_blank(*first) {
-            break;
+        match class_of(*first) {
+            Class::Blank => rest = tail,
+            Class::Comment => return None,
+            Class::Word(start) => return Some(cut_at(front_at(start, rest, *first, tail), tail)),
         }
-        rest = tail;
     }
-    rest
+    None
 }
 
-/// The word that the bytes, which are `first` and `tail`, begin with.
-fn first_word<'a>(bytes: &'a [u8], first: u8, tail: &'a [u8]) -> Cut<'a>
-    requires { length bytes.now ≡ length tail.now + 1 }
-    ensures { length result.behind.now < length bytes.now }
+/// The word that was found at a place, and what is behind it. Nothing is behind bytes that begin no word.
+fn cut_at<'a>(found: Option<Found<'a>>, tail: &'a [u8]) -> Cut<'a>
+    requires { IfSome found (λ f. f.after ≤ length tail.now) }
+    ensures exact { word_seen result.word ∷ words_of result.behind.now ≡ with_front (option_map found_seen found.entry) (λ n. words_behind n tail.now) }
+    ensures shorter { length result.behind.now ≤ length tail.now }
 {
-    match first {
-        b':' => Cut {
-            word: Word::Colon,
-            behind: tail,
-        },
-        b'(' => Cut {
-            word: Word::Open,
-            behind: tail,
-        },
-        b')' => Cut {
-            word: Word::Close,
-            behind: tail,
-        },
-        b'"' => text(tail),
-        b'$' => register(tail),
-        _ if begins_name(first) => name(bytes, tail),
-        _ => match read_number(bytes) {
-            Some(Number { value, behind }) => Cut {
-                word: Word::Number(value),
-                behind,
-            },
-            None => Cut {
-                word: Word::Stray,
-                behind: tail,
-            },
-        },
-    }
-}
-
-/// The name that the bytes begin with; `tail` is all but the first of them.
-fn name<'a>(bytes: &'a [u8], tail: &'a [u8]) -> Cut<'a>
-    requires { length bytes.now ≡ length tail.now + 1 }
-    ensures { length result.behind.now < length bytes.now }
-{
-    let more = tail.iter().position(|byte| !continues_name(*byte));
-    let end = 1 + more.unwrap_or(tail.len());
-    Cut {
-        word: Word::Name(&bytes[..end]),
-        behind: &bytes[end..],
-    }
-}
-
-/// The register whose `$` stood before the bytes.
-fn register(bytes: &[u8]) -> Cut<'_>
-    ensures { length result.behind.now ≤ length bytes.now }
-{
-    let end = bytes
-        .iter()
-        .position(|byte| !continues_register(*byte))
-        .unwrap_or(bytes.len());
-    if end == 0 {
-        return Cut {
+    match found {
+        Some(found) => cut_behind(found, tail),
+        None => Cut {
             word: Word::Stray,
-            behind: bytes,
-        };
-    }
-    Cut {
-        word: Word::Register(&bytes[..end]),
-        behind: &bytes[end..],
+            behind: &[],
+        },
     }
 }
 
-/// The string whose first quote stood before the bytes. A backslash takes the next byte with it.
-fn text(bytes: &[u8]) -> Cut<'_>
-    ensures { length result.behind.now ≤ length bytes.now }
+/// The word that was found at a place, and what is behind it.
+fn cut_behind<'a>(found: Found<'a>, tail: &'a [u8]) -> Cut<'a>
+    requires { found.after ≤ length tail.now }
+    ensures word { word_seen result.word ≡ word_seen found.entry.word }
+    ensures behind { words_of result.behind.now ≡ words_behind found.entry.after tail.now }
+    ensures shorter { length result.behind.now ≤ length tail.now }
 {
-    let mut rest = bytes;
-    loop {
-        rest = match rest {
-            [b'\\', _, tail @ ..] => tail,
-            [b'"', behind @ ..] => {
-                return Cut {
-                    word: Word::Text(&bytes[..bytes.len() - rest.len()]),
-                    behind,
-                };
-            }
-            [_, tail @ ..] => tail,
-            [] => {
-                return Cut {
-                    word: Word::Stray,
-                    behind: rest,
-                };
-            }
-        };
+    Cut {
+        word: found.word,
+        behind: &tail[found.after..],
     }
 }

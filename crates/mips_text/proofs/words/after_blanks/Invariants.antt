@@ -1,8 +1,0 @@
-use Rattle.std.proofs.Common.{◌≤◌, length}
-use Rattle.mips_text.proofs.words.after_blanks.Given as goal
-
-abbrev pub invariant-loop-rest : goal.invariant-loop-rest
-invariant-loop-rest l = length l.rest ≤ length l.bytes
-
-abbrev pub decreases-loop-rest : goal.decreases-loop-rest
-decreases-loop-rest l = length l.rest

@@ -1,0 +1,63 @@
+//! The classes of bytes: what a byte of a line begins.
+
+ghost use Rattle.std.specs.Prelude.{◌≡◌};
+ghost use Rattle.mips_text.specs.Letters.{blank, class_of, start_of};
+
+use crate::letters::{begins_name, is_blank};
+
+/// What word a byte begins.
+#[derive(Clone, Copy, Debug, PartialEq, Eq)]
+pub(crate) enum Start {
+    Name,
+    /// A number without a sign.
+    Digit,
+    /// A number below zero.
+    Minus,
+    Register,
+    Text,
+    Colon,
+    Open,
+    Close,
+    /// None.
+    Stray,
+}
+
+/// What stands at a byte.
+#[derive(Clone, Copy, Debug, PartialEq, Eq)]
+pub(crate) enum Class {
+    Blank,
+    Comment,
+    Word(Start),
+}
+
+/// What stands at this byte.
+pub(crate) fn class_of(byte: u8) -> Class
+    ensures { result ≡ class_of byte }
+{
+    if is_blank(byte) {
+        return Class::Blank;
+    }
+    match byte {
+        b'#' => Class::Comment,
+        _ => Class::Word(start_of(byte)),
+    }
+}
+
+/// What word this byte begins.
+fn start_of(byte: u8) -> Start
+    ensures { result ≡ start_of byte }
+{
+    if begins_name(byte) {
+        return Start::Name;
+    }
+    match byte {
+        b'0'..=b'9' => Start::Digit,
+        b'-' => Start::Minus,
+        b'$' => Start::Register,
+        b'"' => Start::Text,
+        b':' => Start::Colon,
+        b'(' => Start::Open,
+        b')' => Start::Close,
+        _ => Start::Stray,
+    }
+}
