@@ -1,12 +1,15 @@
 pub mod CappedNumbers
 pub mod FrontsAreLongest
+pub mod KindsOfReading
 pub mod LabelsOfLines
 pub mod LinesOfTexts
 pub mod Longest
 pub mod LongestNumbers
 pub mod LongestStrings
 pub mod LongestWords
+pub mod LongestWordsAreThere
 pub mod MissingOperands
+pub mod OneReading
 pub mod Prefixes
 pub mod PrintedParts
 pub mod ReadLines

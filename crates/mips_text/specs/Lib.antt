@@ -1,5 +1,6 @@
 pub mod Answers
 pub mod Fronts
+pub mod Laws
 pub mod Letters
 pub mod Names
 pub mod Operands

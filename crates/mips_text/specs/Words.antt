@@ -1,6 +1,6 @@
 -- The words of a line: which bytes are a word as a whole, the longest word at a place, and all words of a line up to its end, to a
 -- comment, or to the first byte that begins none. The rule is in `docs/assembly.md`, Lines.
-use Rattle.std.specs.Prelude.{◌≡◌, refl, ℕ, zero, suc, ◌+◌, ◌-◌, ◌*◌, min, ℤ, pos, negsuc, Bool, true, false, not, ◌&&◌, ◌==◌, nat_le, nat_lt, if◌then◌else◌, List, [], ◌∷◌, length, take, codes, Option, Some, None, option_map}
+use Rattle.std.specs.Prelude.{◌≡◌, refl, ℕ, zero, suc, ◌+◌, ◌-◌, ◌*◌, ◌≤◌, min, ℤ, pos, negsuc, Bool, true, false, not, ◌&&◌, ◌==◌, nat_le, nat_lt, if◌then◌else◌, List, [], ◌∷◌, length, take, codes, Option, Some, None, option_map}
 use Rattle.std.specs.Option.{option_or}
 use Rattle.std.specs.List.{fold, list_all}
 use Rattle.std.specs.Char.{is_ascii_digit, is_ascii_alphanumeric}
@@ -115,6 +115,20 @@ longest s b bs (suc k) = found (form_of s b (take (suc k) bs)) (suc k) (longest 
 
 abbrev pub front : Start → ℕ → List ℕ → Option Front
 front s b bs = longest s b bs (length bs)
+
+-- This word is there, and no longer one.
+pub record IsLongestWord (s : Start) (b : ℕ) (bs : List ℕ) (f : Front) : Type 0 where
+  pub within : f.after ≤ length bs
+  pub is_word : form_of s b (take f.after bs) ≡ Some f.word
+  pub longest : (m : ℕ) (other : Word) → m ≤ length bs → form_of s b (take m bs) ≡ Some other → m ≤ f.after
+
+-- No word is there.
+abbrev pub HasNoWord : Start → ℕ → List ℕ → Type 0
+HasNoWord s b bs = (m : ℕ) → m ≤ length bs → form_of s b (take m bs) ≡ None
+
+abbrev pub IsWordThere : Start → ℕ → List ℕ → Option Front → Type 0
+IsWordThere s b bs (Some f) = IsLongestWord s b bs f
+IsWordThere s b bs None = HasNoWord s b bs
 
 -- Lines
 

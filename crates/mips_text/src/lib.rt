@@ -10,6 +10,7 @@ mod directives;
 mod flaw;
 mod fronts;
 mod instructions;
+mod laws;
 mod letters;
 mod lines;
 mod magnitudes;
@@ -26,5 +27,9 @@ mod strings;
 mod wanted;
 mod words;
 
+pub use laws::{
+    law_always_one, law_kinds_of_reading, law_longest_words, law_never_both, law_one_first_fault,
+    law_one_reading,
+};
 pub use printing::print_asm;
 pub use reading::read_asm;
