@@ -4,6 +4,7 @@ pub mod Laws
 pub mod Letters
 pub mod Names
 pub mod Operands
+pub mod Printable
 pub mod Printing
 pub mod Reading
 pub mod Spelling

@@ -1,6 +1,7 @@
 -- The names of mnemonics, of directives and of registers.
-use Rattle.std.specs.Prelude.{ℕ, List, [], ◌∷◌, codes, get_or, bytes_eq, Option}
-use Rattle.std.specs.List.{find}
+use Rattle.std.specs.Prelude.{ℕ, List, [], ◌∷◌, codes, get_or, bytes_eq, Option, Bool, false, ◌&&◌}
+use Rattle.std.specs.List.{find, list_all}
+use Rattle.mips_text.specs.Letters.{name_rest, name_start}
 use Rattle.mips_isa.specs.declared.instr.ThreeOp.{ThreeOp}
 use Rattle.mips_isa.specs.declared.instr.ThreeOp.TheVariants.{Add, Addu, Sub, Subu, And, Or, Xor, Nor, Slt, Sltu}
 use Rattle.mips_isa.specs.declared.instr.ShiftOp.{ShiftOp}
@@ -179,6 +180,11 @@ all_directives =
 
 unfoldable pub directive_named : List ℕ → Option Directive
 directive_named name = find (λ directive. bytes_eq (directive_text directive) name) all_directives
+
+-- a name: a letter, `_` or `.`, and then these and digits
+abbrev pub is_name : List ℕ → Bool
+is_name [] = false
+is_name (b ∷ bs) = name_start b && list_all name_rest bs
 
 -- the names of registers, without the `$`, in the order of their numbers
 abbrev pub register_texts : List (List ℕ)

@@ -1,10 +1,13 @@
-//! Laws on the reading of texts: each has one, and each word is the longest at its place.
+//! Laws on the reading of texts: each has one, each word is the longest at its place, and what is printed
+//! is read again.
 
 ghost use Rattle.std.specs.Prelude.{◌≡◌, ℕ, List};
 ghost use Rattle.mips_isa.specs.declared.asm_fault.AsmFault.{AsmFault};
 ghost use Rattle.mips_isa.specs.Lines.{Line};
 ghost use Rattle.mips_text.specs.declared.class.Start.{Start};
 ghost use Rattle.mips_text.specs.Laws.{HasReading, IsReadingKind};
+ghost use Rattle.mips_text.specs.Printable.{ArePrintable};
+ghost use Rattle.mips_text.specs.Printing.{printed};
 ghost use Rattle.mips_text.specs.Reading.{FirstFault, Reads};
 ghost use Rattle.mips_text.specs.Words.{IsWordThere, front};
 
@@ -36,4 +39,9 @@ pub fn law_kinds_of_reading()
 /// The word that is cut at a place is the longest one there.
 pub fn law_longest_words()
     ensures { (s : Start) (b : ℕ) (bs : List ℕ) → IsWordThere s b bs (front s b bs) }
+{}
+
+/// What is printed of lines is read as these lines.
+pub fn law_printed_is_read()
+    ensures { (lines : List Line) → ArePrintable lines → Reads (printed lines) lines }
 {}

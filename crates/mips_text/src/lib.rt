@@ -29,7 +29,7 @@ mod words;
 
 pub use laws::{
     law_always_one, law_kinds_of_reading, law_longest_words, law_never_both, law_one_first_fault,
-    law_one_reading,
+    law_one_reading, law_printed_is_read,
 };
 pub use printing::print_asm;
 pub use reading::read_asm;
