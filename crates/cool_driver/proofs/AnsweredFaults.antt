@@ -120,7 +120,7 @@ answered r _ _ _ _ files command names contents faults (unread_source steps name
     answered_by_evaluation r files steps p command names' names contents faults _ _ _ is told read list
 answered r _ _ _ _ files command names contents faults (unfit limits name bytes fault read' binary is) told read may list =
     absurd (may_refuse r files command (Exec limits) names (name ∷ []) contents (bytes ∷ []) told read read' may)
-answered r _ _ _ _ files command names contents faults (misread limits name bytes fault read' text) told read may list =
+answered r _ _ _ _ files command names contents faults (misread limits name bytes fault read' text wrong) told read may list =
     absurd (may_refuse r files command (Exec limits) names (name ∷ []) contents (bytes ∷ []) told read read' may)
 answered r _ _ _ _ files command names contents faults (summed n line asked calm is) told read may list =
     absurd (no_plan_and_plan _ _ _ (no_files_for_big r.words n asked) read.plan)

@@ -71,7 +71,7 @@ file_due : (r : Request) (limits : RunLimits) (name bytes : List ℕ) (task : Ta
 file_due r limits name bytes (Tell status lines) bounded read (twelve, are, inl h) =
     rw (twelve, h.1) (unfit limits name bytes h.0 read h.2 h.3, are, λ e. omega (arith, e))
 file_due r limits name bytes (Tell status lines) bounded read (twelve, are, inr h) =
-    rw (twelve, h.1) (misread limits name bytes h.0 read h.2, are, λ e. omega (arith, e))
+    rw (twelve, h.1) (misread limits name bytes h.0 read h.2 h.3, are, λ e. omega (arith, e))
 file_due r limits name bytes (Write made) bounded read h = absurd h
 file_due r limits name bytes (Run within image) bounded read h = absurd h
 file_due r limits name bytes (Execute within image) bounded read (same, h) = rw same (bounded, of_file name bytes read h)

@@ -81,7 +81,7 @@ due_by r status _ _ _ files steps names contents p (evaluated most names' p' _ i
 due_by r _ output note left files steps names contents p (unread_source most names' p' _ _ is part) told read form =
     subst (λ (x : source.Run). IsDueBy x 7 output note left) (same_run r files most steps names' names contents p' p is told read form) (inl (refl, part))
 due_by r _ _ _ _ files steps names contents p (unfit limits name bytes fault read' binary is) told read form = absurd (no_eval _ (Exec limits) steps _ _ tt read'.plan read.plan)
-due_by r _ _ _ _ files steps names contents p (misread limits name bytes fault read' text) told read form = absurd (no_eval _ (Exec limits) steps _ _ tt read'.plan read.plan)
+due_by r _ _ _ _ files steps names contents p (misread limits name bytes fault read' text wrong) told read form = absurd (no_eval _ (Exec limits) steps _ _ tt read'.plan read.plan)
 due_by r _ _ _ _ files steps names contents p (summed n line asked calm is) told read form = absurd (no_plan_and_plan _ _ _ (no_files_for_big r.words n asked) read.plan)
 due_by r _ _ _ _ files steps names contents p (usage none calm) told read form = absurd (no_plan_and_plan _ _ _ (no_files_for_nothing r.words none) read.plan)
 due_by r _ _ _ _ files steps names contents p (too_many command' names' plan many calm) told read form = absurd (no_file_fault r files _ _ _ _ _ told read plan (inl (many, calm)))

@@ -11,6 +11,7 @@ use Rattle.cool_ports.specs.Counts.{Rose}
 use Rattle.cool_ports.specs.ShelfFiles.{FileMap, IsMissing, IsLonger}
 use Rattle.mips_isa.specs.Assembly.{image_of}
 use Rattle.mips_isa.specs.ImageBounds.{ImageParts}
+use Rattle.mips_isa.specs.declared.asm_fault.AsmFault.{AsmFault}
 use Rattle.mips_isa.specs.Calls.{Outcome, Running, Exited, Trapped}
 use Rattle.mips_image.specs.ImageReading.{first_fault}
 use Rattle.mips_image.specs.declared.image_error.ImageError.{ImageError}
@@ -20,7 +21,7 @@ use Rattle.cool_words.specs.Plans.{Asked}
 use Rattle.cool_words.specs.Plans.Asked.{big}
 use Rattle.cool_driver.specs.Big.{IsBigLine}
 use Rattle.cool_driver.specs.CommandLine.{asked_for, plan_of, most_bytes}
-use Rattle.cool_driver.specs.Execution.{IsImageOf, is_text_file, run_of, status_of}
+use Rattle.cool_driver.specs.Execution.{IsRunnable, IsTextFault, is_text_file, run_of, status_of}
 use Rattle.cool_driver.specs.Evaluation.{status_of_end}
 use Rattle.cool_words.specs.declared.plan.RunLimits.{RunLimits}
 use Rattle.cool_driver.specs.SimpleFiles.{RunSimply, RunOtherwise}
@@ -31,7 +32,7 @@ use Rattle.cool_driver.specs.declared.command_line.Command.TheVariants.{Check, B
 use Rattle.cool_driver.proofs.HeldFiles.{held_same, held_later, none_missing}
 use Rattle.cool_driver.proofs.Plans.{same_number, no_files_for_big, no_files_for_nothing}
 use Rattle.cool_driver.proofs.ReadTwice.{same_plan, no_run_exec, RunsNothing, runs_nothing, no_plan_and_plan, held_told, files_read, same_read, same_file, may_refuse}
-use Rattle.cool_driver.proofs.ImagesOfCalls.{simple_again, image_without_fault, no_text, not_runnable, same_runnable, read_for_run, run_of_file, run_of_program, simple_not_run}
+use Rattle.cool_driver.proofs.ImagesOfCalls.{fault_or_runs, one_runnable, simple_again, unfit_or_runs, read_for_run, run_of_file, run_of_program, simple_not_run}
 
 -- a file that is missing or too large, after those that were read
 pub record IsRefusedFile (r : Request) (command : Command) (names : List (List ℕ)) : Type 0 where
@@ -68,8 +69,8 @@ pub data Finding (r : Request) (status : ℕ) : Type 0 where
   faulty : (command : Command) (names contents : List (List ℕ)) (faults : List Fault) → IsRead r command names contents → MayRefuse command contents → IsRefused contents faults → status ≡ 1 → Finding r status
   simple : (limits : RunLimits) (names contents strings : List (List ℕ)) → IsRead r (Run limits) names contents → RunSimply limits contents strings → status ≡ 0 → Finding r status
   image : (limits : RunLimits) (found : ImageParts) → IsRunOf r limits found → IsRunStatus status → (status ≡ 7) ⊎ (status ≡ status_of (run_of limits found r.input)) → Finding r status
-  no_image : (limits : RunLimits) (name bytes : List ℕ) (fault : ImageError) → IsRead r (Exec limits) (name ∷ []) (bytes ∷ []) → first_fault bytes ≡ Some fault → status ≡ 12 → Finding r status
-  bad_text : (limits : RunLimits) (name bytes : List ℕ) → IsRead r (Exec limits) (name ∷ []) (bytes ∷ []) → is_text_file bytes ≡ true → status ≡ 12 → Finding r status
+  no_image : (limits : RunLimits) (name bytes : List ℕ) (fault : ImageError) → IsRead r (Exec limits) (name ∷ []) (bytes ∷ []) → is_text_file bytes ≡ false → first_fault bytes ≡ Some fault → status ≡ 12 → Finding r status
+  bad_text : (limits : RunLimits) (name bytes : List ℕ) (fault : AsmFault) → IsRead r (Exec limits) (name ∷ []) (bytes ∷ []) → is_text_file bytes ≡ true → IsTextFault bytes fault → status ≡ 12 → Finding r status
   -- no files are asked about: `big` is asked for, or nothing
   no_plan : plan_of r.words ≡ None → r.faults_after ≡ r.faults_before → IsWithoutFiles (asked_for r.words) status → Finding r status
   no_file : (command : Command) (names : List (List ℕ)) → plan_of r.words ≡ Some (command, names) → IsFileFault r command names → status ≡ 10 → Finding r status
@@ -95,8 +96,8 @@ finding_of_due r _ _ _ _ (executed limits found run) = image limits found run (i
 finding_of_due r _ _ _ _ (unread_input limits found at output left run comes fails) = image limits found run (inr refl) (inl refl)
 finding_of_due r status _ _ _ (evaluated steps names p _ is e) = accepted (Eval steps) names is.contents tt is.read (status_of_source _ status e)
 finding_of_due r _ _ _ _ (unread_source steps names p output left is part) = accepted (Eval steps) names is.contents tt is.read (inr (inr (inr (inr (inr (inl refl))))))
-finding_of_due r _ _ _ _ (unfit limits name bytes fault read binary is) = no_image limits name bytes fault read is refl
-finding_of_due r _ _ _ _ (misread limits name bytes fault read text) = bad_text limits name bytes read text refl
+finding_of_due r _ _ _ _ (unfit limits name bytes fault read binary is) = no_image limits name bytes fault read binary is refl
+finding_of_due r _ _ _ _ (misread limits name bytes fault read text wrong) = bad_text limits name bytes fault read text wrong refl
 finding_of_due r _ _ _ _ (summed n line asked calm is) = no_plan (no_files_for_big r.words n asked) calm (inr (n, asked, refl))
 finding_of_due r _ _ _ _ (usage none calm) = no_plan (no_files_for_nothing r.words none) calm (inl (none, refl))
 finding_of_due r _ _ _ _ (too_many command names plan many calm) = no_file command names plan (inl (many, calm)) refl
@@ -140,8 +141,8 @@ finding_below r status (simple limits names contents strings read is e) = (omega
 finding_below r status (image limits' found run ends e) =
     let one = run_status status ends in
     (below status one, λ q. not_of_run status 8 one q (inr (inr (inl refl))), λ q. not_of_run status 9 one q (inr (inr (inr (inl refl)))))
-finding_below r status (no_image limits name bytes fault read is e) = (omega (arith, e), λ q. omega (arith, e, q), λ q. omega (arith, e, q))
-finding_below r status (bad_text limits name bytes read text e) = (omega (arith, e), λ q. omega (arith, e, q), λ q. omega (arith, e, q))
+finding_below r status (no_image limits name bytes fault read binary is e) = (omega (arith, e), λ q. omega (arith, e, q), λ q. omega (arith, e, q))
+finding_below r status (bad_text limits name bytes fault read text wrong e) = (omega (arith, e), λ q. omega (arith, e, q), λ q. omega (arith, e, q))
 finding_below r status (no_plan plan calm (inl e)) = (omega (arith, e.1), λ q. omega (arith, e.1, q), λ q. omega (arith, e.1, q))
 finding_below r status (no_plan plan calm (inr e)) = (omega (arith, e.2), λ q. omega (arith, e.2, q), λ q. omega (arith, e.2, q))
 finding_below r status (no_file command names plan fault e) = (omega (arith, e), λ q. omega (arith, e, q), λ q. omega (arith, e, q))
@@ -196,8 +197,8 @@ usage_only r status (accepted command' names' contents' quiet read' e) q = absur
 usage_only r status (faulty command' names' contents' faults' read' may is e) q = absurd (omega (arith, e, q))
 usage_only r status (simple limits' names' contents' strings' read' is e) q = absurd (omega (arith, e, q))
 usage_only r status (image limits' found run ends e) q = absurd (not_of_run status 2 (run_status status ends) q (inr (inl refl)))
-usage_only r status (no_image limits' name' bytes' fault read' is e) q = absurd (omega (arith, e, q))
-usage_only r status (bad_text limits' name' bytes' read' text e) q = absurd (omega (arith, e, q))
+usage_only r status (no_image limits' name' bytes' fault read' binary is e) q = absurd (omega (arith, e, q))
+usage_only r status (bad_text limits' name' bytes' fault' read' text wrong e) q = absurd (omega (arith, e, q))
 usage_only r status (no_plan plan calm (inl e)) q = e.0
 usage_only r status (no_plan plan calm (inr e)) q = absurd (omega (arith, e.2, q))
 usage_only r status (no_file command' names' plan' fault e) q = absurd (omega (arith, e, q))
@@ -208,8 +209,8 @@ usage_exactly r status (accepted command' names' contents' quiet read' e) gone =
 usage_exactly r status (faulty command' names' contents' faults' read' may is e) gone = absurd (no_plan_and_plan _ _ _ (no_files_for_nothing r.words gone) read'.plan)
 usage_exactly r status (simple limits' names' contents' strings' read' is e) gone = absurd (no_plan_and_plan _ _ _ (no_files_for_nothing r.words gone) read'.plan)
 usage_exactly r status (image limits' found run ends e) gone = absurd (no_plan_and_plan _ _ _ (no_files_for_nothing r.words gone) (read_for_run r limits' found run).3.plan)
-usage_exactly r status (no_image limits' name' bytes' fault read' is e) gone = absurd (no_plan_and_plan _ _ _ (no_files_for_nothing r.words gone) read'.plan)
-usage_exactly r status (bad_text limits' name' bytes' read' text e) gone = absurd (no_plan_and_plan _ _ _ (no_files_for_nothing r.words gone) read'.plan)
+usage_exactly r status (no_image limits' name' bytes' fault read' binary is e) gone = absurd (no_plan_and_plan _ _ _ (no_files_for_nothing r.words gone) read'.plan)
+usage_exactly r status (bad_text limits' name' bytes' fault' read' text wrong e) gone = absurd (no_plan_and_plan _ _ _ (no_files_for_nothing r.words gone) read'.plan)
 usage_exactly r status (no_plan plan calm (inl e)) gone = e.1
 usage_exactly r status (no_plan plan calm (inr e)) gone = absurd (asks_twice _ _ gone e.1)
 usage_exactly r status (no_file command' names' plan' fault e) gone = absurd (no_plan_and_plan _ _ _ (no_files_for_nothing r.words gone) plan')
@@ -226,8 +227,8 @@ too_many_exactly r status command names (accepted command' names' contents' quie
 too_many_exactly r status command names (faulty command' names' contents' faults' read' may is e) plan many = absurd (read_are_few r _ _ _ _ _ read' plan many)
 too_many_exactly r status command names (simple limits' names' contents' strings' read' is e) plan many = absurd (read_are_few r _ _ _ _ _ read' plan many)
 too_many_exactly r status command names (image limits' found run ends e) plan many = absurd (read_are_few r _ _ _ _ _ (read_for_run r limits' found run).3 plan many)
-too_many_exactly r status command names (no_image limits' name' bytes' fault read' is e) plan many = absurd (read_are_few r _ _ _ _ _ read' plan many)
-too_many_exactly r status command names (bad_text limits' name' bytes' read' text e) plan many = absurd (read_are_few r _ _ _ _ _ read' plan many)
+too_many_exactly r status command names (no_image limits' name' bytes' fault read' binary is e) plan many = absurd (read_are_few r _ _ _ _ _ read' plan many)
+too_many_exactly r status command names (bad_text limits' name' bytes' fault' read' text wrong e) plan many = absurd (read_are_few r _ _ _ _ _ read' plan many)
 too_many_exactly r status command names (no_plan none calm e) plan many = absurd (no_plan_and_plan _ _ _ none plan)
 too_many_exactly r status command names (no_file command' names' plan' fault e) plan many = e
 
@@ -241,8 +242,8 @@ missing_exactly r status files command names name (accepted command' names' cont
 missing_exactly r status files command names name (faulty command' names' contents' faults' read' may is e) told plan named gone = absurd (read_are_there r files _ _ _ _ _ _ told read' plan named gone)
 missing_exactly r status files command names name (simple limits' names' contents' strings' read' is e) told plan named gone = absurd (read_are_there r files _ _ _ _ _ _ told read' plan named gone)
 missing_exactly r status files command names name (image limits' found run ends e) told plan named gone = absurd (read_are_there r files _ _ _ _ _ _ told (read_for_run r limits' found run).3 plan named gone)
-missing_exactly r status files command names name (no_image limits' name' bytes' fault read' is e) told plan named gone = absurd (read_are_there r files _ _ _ _ _ _ told read' plan named gone)
-missing_exactly r status files command names name (bad_text limits' name' bytes' read' text e) told plan named gone = absurd (read_are_there r files _ _ _ _ _ _ told read' plan named gone)
+missing_exactly r status files command names name (no_image limits' name' bytes' fault read' binary is e) told plan named gone = absurd (read_are_there r files _ _ _ _ _ _ told read' plan named gone)
+missing_exactly r status files command names name (bad_text limits' name' bytes' fault' read' text wrong e) told plan named gone = absurd (read_are_there r files _ _ _ _ _ _ told read' plan named gone)
 missing_exactly r status files command names name (no_plan none calm e) told plan named gone = absurd (no_plan_and_plan _ _ _ none plan)
 missing_exactly r status files command names name (no_file command' names' plan' fault e) told plan named gone = e
 
@@ -259,8 +260,8 @@ too_large_exactly r status files command names large (accepted command' names' c
 too_large_exactly r status files command names large (faulty command' names' contents' faults' read' may is e) told plan held more = absurd (read_are_small r files _ _ _ _ _ _ told read' plan held more)
 too_large_exactly r status files command names large (simple limits' names' contents' strings' read' is e) told plan held more = absurd (read_are_small r files _ _ _ _ _ _ told read' plan held more)
 too_large_exactly r status files command names large (image limits' found run ends e) told plan held more = absurd (read_are_small r files _ _ _ _ _ _ told (read_for_run r limits' found run).3 plan held more)
-too_large_exactly r status files command names large (no_image limits' name' bytes' fault read' is e) told plan held more = absurd (read_are_small r files _ _ _ _ _ _ told read' plan held more)
-too_large_exactly r status files command names large (bad_text limits' name' bytes' read' text e) told plan held more = absurd (read_are_small r files _ _ _ _ _ _ told read' plan held more)
+too_large_exactly r status files command names large (no_image limits' name' bytes' fault read' binary is e) told plan held more = absurd (read_are_small r files _ _ _ _ _ _ told read' plan held more)
+too_large_exactly r status files command names large (bad_text limits' name' bytes' fault' read' text wrong e) told plan held more = absurd (read_are_small r files _ _ _ _ _ _ told read' plan held more)
 too_large_exactly r status files command names large (no_plan none calm e) told plan held more = absurd (no_plan_and_plan _ _ _ none plan)
 too_large_exactly r status files command names large (no_file command' names' plan' fault e) told plan held more = e
 
@@ -271,8 +272,8 @@ ran_exactly r status files limits names contents strings (accepted command' name
 ran_exactly r status files limits names contents strings (faulty command' names' contents' faults' read' may is e) told read form = absurd (may_refuse r files command' (Run limits) names' names contents' contents told read' read may strings form)
 ran_exactly r status files limits names contents strings (simple limits' names' contents' strings' read' is e) told read form = e
 ran_exactly r status files limits names contents strings (image limits' found run ends e) told read form = absurd (simple_not_run r files limits' limits found names contents strings run told read form)
-ran_exactly r status files limits names contents strings (no_image limits' name' bytes' fault read' is e) told read form = absurd (no_run_exec _ _ _ _ _ read.plan read'.plan)
-ran_exactly r status files limits names contents strings (bad_text limits' name' bytes' read' text e) told read form = absurd (no_run_exec _ _ _ _ _ read.plan read'.plan)
+ran_exactly r status files limits names contents strings (no_image limits' name' bytes' fault read' binary is e) told read form = absurd (no_run_exec _ _ _ _ _ read.plan read'.plan)
+ran_exactly r status files limits names contents strings (bad_text limits' name' bytes' fault' read' text wrong e) told read form = absurd (no_run_exec _ _ _ _ _ read.plan read'.plan)
 ran_exactly r status files limits names contents strings (no_plan none calm e) told read form = absurd (no_plan_and_plan _ _ _ none read.plan)
 ran_exactly r status files limits names contents strings (no_file command' names' plan' fault e) told read form = absurd (no_file_fault r files _ _ _ _ _ told read plan' fault)
 
@@ -289,36 +290,41 @@ compiled_exactly r status files limits names contents p (image limits' found run
     let (within, same) = run_of_program r files limits' limits found names contents p run told read form in
     subst (λ w. (status ≡ 7) ⊎ (status ≡ status_of (run_of w (image_of (program_lines p names)) r.input))) within
     (subst (λ i. (status ≡ 7) ⊎ (status ≡ status_of (run_of limits' i r.input))) same e)
-compiled_exactly r status files limits names contents p (no_image limits' name' bytes' fault read' is e) told read other form = absurd (no_run_exec _ _ _ _ _ read.plan read'.plan)
-compiled_exactly r status files limits names contents p (bad_text limits' name' bytes' read' text e) told read other form = absurd (no_run_exec _ _ _ _ _ read.plan read'.plan)
+compiled_exactly r status files limits names contents p (no_image limits' name' bytes' fault read' binary is e) told read other form = absurd (no_run_exec _ _ _ _ _ read.plan read'.plan)
+compiled_exactly r status files limits names contents p (bad_text limits' name' bytes' fault' read' text wrong e) told read other form = absurd (no_run_exec _ _ _ _ _ read.plan read'.plan)
 compiled_exactly r status files limits names contents p (no_plan none calm e) told read other form = absurd (no_plan_and_plan _ _ _ none read.plan)
 compiled_exactly r status files limits names contents p (no_file command' names' plan' fault e) told read other form = absurd (no_file_fault r files _ _ _ _ _ told read plan' fault)
 
--- status 12 is left where `exec` read a file that is no text and no image
-pub unfit_exactly : (r : Request) (status : ℕ) (files : FileMap) (limits : RunLimits) (name bytes : List ℕ) → Finding r status → Told r files → IsRead r (Exec limits) (name ∷ []) (bytes ∷ []) → is_text_file bytes ≡ false → ((found : ImageParts) → IsImageOf found bytes → ⊥) → status ≡ 12
-unfit_exactly r status files limits name bytes (accepted command' names' contents' quiet read' e) told read binary other = absurd (runs_nothing _ _ (Exec limits) _ _ quiet read'.plan read.plan)
-unfit_exactly r status files limits name bytes (faulty command' names' contents' faults' read' may is e) told read binary other = absurd (may_refuse r files command' (Exec limits) names' (name ∷ []) contents' (bytes ∷ []) told read' read may)
-unfit_exactly r status files limits name bytes (simple limits' names' contents' strings' read' is e) told read binary other = absurd (no_run_exec _ _ _ _ _ read'.plan read.plan)
-unfit_exactly r status files limits name bytes (image limits' found run ends e) told read binary other = absurd (not_runnable found bytes (run_of_file r files limits' limits found name bytes run told read).1 binary other)
-unfit_exactly r status files limits name bytes (no_image limits' name' bytes' fault read' is e) told read binary other = e
-unfit_exactly r status files limits name bytes (bad_text limits' name' bytes' read' text e) told read binary other = e
-unfit_exactly r status files limits name bytes (no_plan none calm e) told read binary other = absurd (no_plan_and_plan _ _ _ none read.plan)
-unfit_exactly r status files limits name bytes (no_file command' names' plan' fault e) told read binary other = absurd (no_file_fault r files _ _ _ _ _ told read plan' fault)
+-- status 12 is left where `exec` read a file that stands for no image
+pub unfit_exactly : (r : Request) (status : ℕ) (files : FileMap) (limits : RunLimits) (name bytes : List ℕ) → Finding r status → Told r files → IsRead r (Exec limits) (name ∷ []) (bytes ∷ []) → ((found : ImageParts) → IsRunnable found bytes → ⊥) → status ≡ 12
+unfit_exactly r status files limits name bytes (accepted command' names' contents' quiet read' e) told read other = absurd (runs_nothing _ _ (Exec limits) _ _ quiet read'.plan read.plan)
+unfit_exactly r status files limits name bytes (faulty command' names' contents' faults' read' may is e) told read other = absurd (may_refuse r files command' (Exec limits) names' (name ∷ []) contents' (bytes ∷ []) told read' read may)
+unfit_exactly r status files limits name bytes (simple limits' names' contents' strings' read' is e) told read other = absurd (no_run_exec _ _ _ _ _ read'.plan read.plan)
+unfit_exactly r status files limits name bytes (image limits' found run ends e) told read other = absurd (other found (run_of_file r files limits' limits found name bytes run told read).1)
+unfit_exactly r status files limits name bytes (no_image limits' name' bytes' fault read' binary is e) told read other = e
+unfit_exactly r status files limits name bytes (bad_text limits' name' bytes' fault' read' text wrong e) told read other = e
+unfit_exactly r status files limits name bytes (no_plan none calm e) told read other = absurd (no_plan_and_plan _ _ _ none read.plan)
+unfit_exactly r status files limits name bytes (no_file command' names' plan' fault e) told read other = absurd (no_file_fault r files _ _ _ _ _ told read plan' fault)
 
--- and the status of the run's end, or 7, where it is an image
+-- as a text with a fault does
+pub misread_exactly : (r : Request) (status : ℕ) (files : FileMap) (limits : RunLimits) (name bytes : List ℕ) (fault : AsmFault) → Finding r status → Told r files → IsRead r (Exec limits) (name ∷ []) (bytes ∷ [])
+    → is_text_file bytes ≡ true → IsTextFault bytes fault → status ≡ 12
+misread_exactly r status files limits name bytes fault finding told read text wrong = unfit_exactly r status files limits name bytes finding told read (λ found runs. fault_or_runs found bytes fault text wrong runs)
+
+-- and the status of the run's end, or 7, where it stands for one
 pub executed_exactly : (r : Request) (status : ℕ) (files : FileMap) (limits : RunLimits) (name bytes : List ℕ) (image' : ImageParts) → Finding r status → Told r files
-    → IsRead r (Exec limits) (name ∷ []) (bytes ∷ []) → IsImageOf image' bytes → (status ≡ 7) ⊎ (status ≡ status_of (run_of limits image' r.input))
+    → IsRead r (Exec limits) (name ∷ []) (bytes ∷ []) → IsRunnable image' bytes → (status ≡ 7) ⊎ (status ≡ status_of (run_of limits image' r.input))
 executed_exactly r status files limits name bytes image' (accepted command' names' contents' quiet read' e) told read form = absurd (runs_nothing _ _ (Exec limits) _ _ quiet read'.plan read.plan)
 executed_exactly r status files limits name bytes image' (faulty command' names' contents' faults' read' may is e) told read form = absurd (may_refuse r files command' (Exec limits) names' (name ∷ []) contents' (bytes ∷ []) told read' read may)
 executed_exactly r status files limits name bytes image' (simple limits' names' contents' strings' read' is e) told read form = absurd (no_run_exec _ _ _ _ _ read'.plan read.plan)
 executed_exactly r status files limits name bytes image' (image limits' found run ends e) told read form =
     let (within, runnable) = run_of_file r files limits' limits found name bytes run told read in
-    let same = same_runnable found image' bytes runnable form in
+    let same = one_runnable found image' bytes runnable form in
     subst (λ w. (status ≡ 7) ⊎ (status ≡ status_of (run_of w image' r.input))) within
     (subst (λ i. (status ≡ 7) ⊎ (status ≡ status_of (run_of limits' i r.input))) same e)
-executed_exactly r status files limits name bytes image' (no_image limits' name' bytes' fault read' is e) told read form =
-    absurd (image_without_fault image' bytes' fault (subst (λ (b : List ℕ). IsImageOf image' b) (same_file r files _ _ _ _ _ _ told read read') form) is)
-executed_exactly r status files limits name bytes image' (bad_text limits' name' bytes' read' text e) told read form = absurd (no_text image' bytes' (subst (λ (b : List ℕ). IsImageOf image' b) (same_file r files _ _ _ _ _ _ told read read') form) text)
+executed_exactly r status files limits name bytes image' (no_image limits' name' bytes' fault read' binary is e) told read form =
+    absurd (unfit_or_runs image' bytes' fault binary is (subst (λ (b : List ℕ). IsRunnable image' b) (same_file r files _ _ _ _ _ _ told read read') form))
+executed_exactly r status files limits name bytes image' (bad_text limits' name' bytes' fault' read' text wrong e) told read form = absurd (fault_or_runs image' bytes' fault' text wrong (subst (λ (b : List ℕ). IsRunnable image' b) (same_file r files _ _ _ _ _ _ told read read') form))
 executed_exactly r status files limits name bytes image' (no_plan none calm e) told read form = absurd (no_plan_and_plan _ _ _ none read.plan)
 executed_exactly r status files limits name bytes image' (no_file command' names' plan' fault e) told read form = absurd (no_file_fault r files _ _ _ _ _ told read plan' fault)
 
@@ -328,8 +334,8 @@ shelf_fault r status (accepted command' names' contents' quiet read' e) more = a
 shelf_fault r status (faulty command' names' contents' faults' read' may is e) more = absurd (omega (arith, read'.calm, more))
 shelf_fault r status (simple limits' names' contents' strings' read' is e) more = absurd (omega (arith, read'.calm, more))
 shelf_fault r status (image limits' found run ends e) more = absurd (omega (arith, (read_for_run r limits' found run).3.calm, more))
-shelf_fault r status (no_image limits' name' bytes' fault read' is e) more = absurd (omega (arith, read'.calm, more))
-shelf_fault r status (bad_text limits' name' bytes' read' text e) more = absurd (omega (arith, read'.calm, more))
+shelf_fault r status (no_image limits' name' bytes' fault read' binary is e) more = absurd (omega (arith, read'.calm, more))
+shelf_fault r status (bad_text limits' name' bytes' fault' read' text wrong e) more = absurd (omega (arith, read'.calm, more))
 shelf_fault r status (no_plan none calm e) more = absurd (omega (arith, calm, more))
 shelf_fault r status (no_file command' names' plan' fault e) more = e
 
@@ -346,8 +352,8 @@ shelf_no_less r status (accepted command' names' contents' quiet read' e) = omeg
 shelf_no_less r status (faulty command' names' contents' faults' read' may is e) = omega (arith, read'.calm)
 shelf_no_less r status (simple limits' names' contents' strings' read' is e) = omega (arith, read'.calm)
 shelf_no_less r status (image limits' found run ends e) = omega (arith, (read_for_run r limits' found run).3.calm)
-shelf_no_less r status (no_image limits' name' bytes' fault read' is e) = omega (arith, read'.calm)
-shelf_no_less r status (bad_text limits' name' bytes' read' text e) = omega (arith, read'.calm)
+shelf_no_less r status (no_image limits' name' bytes' fault read' binary is e) = omega (arith, read'.calm)
+shelf_no_less r status (bad_text limits' name' bytes' fault' read' text wrong e) = omega (arith, read'.calm)
 shelf_no_less r status (no_plan none calm e) = omega (arith, calm)
 shelf_no_less r status (no_file command' names' plan' (inl many) e) = omega (arith, many.1)
 shelf_no_less r status (no_file command' names' plan' (inr (inl rose)) e) = rose.no_less
@@ -365,7 +371,7 @@ big_due r _ _ _ _ n (unread_input limits found at output left run comes fails) a
 big_due r _ _ _ _ n (evaluated steps names p status is e) asked = absurd (no_plan_and_plan _ _ _ (no_files_for_big r.words n asked) is.read.plan)
 big_due r _ _ _ _ n (unread_source steps names p output left is part) asked = absurd (no_plan_and_plan _ _ _ (no_files_for_big r.words n asked) is.read.plan)
 big_due r _ _ _ _ n (unfit limits name bytes fault read binary is) asked = absurd (no_plan_and_plan _ _ _ (no_files_for_big r.words n asked) read.plan)
-big_due r _ _ _ _ n (misread limits name bytes fault read text) asked = absurd (no_plan_and_plan _ _ _ (no_files_for_big r.words n asked) read.plan)
+big_due r _ _ _ _ n (misread limits name bytes fault read text wrong) asked = absurd (no_plan_and_plan _ _ _ (no_files_for_big r.words n asked) read.plan)
 big_due r _ _ _ _ n (summed m line asks calm is) asked = (refl, subst (λ (k : ℕ). IsBigLine k line) (same_number _ m n asks asked) is)
 big_due r _ _ _ _ n (usage none calm) asked = absurd (asks_twice _ n none asked)
 big_due r _ _ _ _ n (too_many command names plan many calm) asked = absurd (no_plan_and_plan _ _ _ (no_files_for_big r.words n asked) plan)

@@ -1,3 +1,4 @@
+pub mod AssembledTexts
 pub mod ReadingCalls
 pub mod ReadingLexemes
 pub mod ReadingStrings

@@ -114,7 +114,7 @@ pub misread_line : (limits : RunLimits) (name bytes line : List ℕ) (task : Tas
 misread_line limits name bytes line (Tell status lines) is h =
     let some : 0 < length line = rw is.1 (some_misread name is.0) in
     let same : note_of lines.items ≡ asm_note name is.0 = one_line lines.items line h.1 ∙ is.1 in
-    (ap code_of h.0, are_lines lines.items (line ∷ []) h.1 (some, tt), inr (is.0, same, is.2))
+    (ap code_of h.0, are_lines lines.items (line ∷ []) h.1 (some, tt), inr (is.0, same, is.2, is.3))
 misread_line limits name bytes line (Write made) is h = absurd h
 misread_line limits name bytes line (Run within image) is h = absurd h
 misread_line limits name bytes line (Execute within image) is h = absurd h

@@ -27,7 +27,7 @@ use Rattle.cool_driver.specs.Big.{IsBigLine}
 use Rattle.cool_driver.specs.CommandLine.{asked_for, plan_of, most_bytes}
 use Rattle.cool_driver.specs.Notes.{end_text, refused_note, usage_note, missing_note, unread_note, too_many_note, too_large_note, read_fault_note, image_note, asm_note}
 use Rattle.cool_driver.specs.SimpleFiles.{RunSimply, RunOtherwise}
-use Rattle.cool_driver.specs.Execution.{IsImageOf, IsRunnable, is_text_file, segments_within, run_of, ComesTo, left_by, status_of, note_of}
+use Rattle.cool_driver.specs.Execution.{IsRunnable, IsTextFault, is_text_file, segments_within, run_of, ComesTo, left_by, status_of, note_of}
 use Rattle.cool_driver.specs.Evaluation.{status_of_end, note_of_end, IsPartOf}
 use Rattle.cool_driver.specs.declared.command_line.Command.{Command}
 use Rattle.cool_driver.specs.declared.command_line.Command.TheVariants.{Check, Build, Run, Eval, Exec}
@@ -129,7 +129,7 @@ pub data Due (r : Request) : ℕ → List ℕ → List ℕ → List ℕ → Type
   unfit : (limits : RunLimits) (name bytes : List ℕ) (fault : ImageError) → IsRead r (Exec limits) (name ∷ []) (bytes ∷ [])
       → is_text_file bytes ≡ false → first_fault bytes ≡ Some fault → Due r 12 [] (image_note name fault) r.input
   misread : (limits : RunLimits) (name bytes : List ℕ) (fault : AsmFault) → IsRead r (Exec limits) (name ∷ []) (bytes ∷ [])
-      → is_text_file bytes ≡ true → Due r 12 [] (asm_note name fault) r.input
+      → is_text_file bytes ≡ true → IsTextFault bytes fault → Due r 12 [] (asm_note name fault) r.input
   -- `big`: its line
   summed : (n : ℕ) (line : List ℕ) → asked_for r.words ≡ Some (big n) → r.faults_after ≡ r.faults_before → IsBigLine n line
       → Due r 0 line [] r.input
@@ -276,12 +276,16 @@ pub record Ends (c : Call) (status : ℕ) : Type 0 where
   pub evaluated_prefix : (files : FileMap) (steps : ℕ) (names contents : List (List ℕ)) (p : List Class) → Told c.request files
       → IsRead c.request (Eval steps) names contents → IsAccepted contents p
       → GotPrefix c.out.held_before (source.run p names c.request.input steps).output c.out.held_after
-  -- `exec`: status 12 comes where the file was read, is no text and no image, and the status of the run's end where it is an image
+  -- `exec`: status 12 comes where the file was read and stands for no image, as a text with a fault does, and the status of the run's end
+  -- where it stands for one
   pub unfit_exactly : (files : FileMap) (limits : RunLimits) (name bytes : List ℕ) → Told c.request files
-      → IsRead c.request (Exec limits) (name ∷ []) (bytes ∷ []) → is_text_file bytes ≡ false → ((image : ImageParts) → IsImageOf image bytes → ⊥)
+      → IsRead c.request (Exec limits) (name ∷ []) (bytes ∷ []) → ((image : ImageParts) → IsRunnable image bytes → ⊥)
+      → Unless status (status ≡ 12)
+  pub misread_exactly : (files : FileMap) (limits : RunLimits) (name bytes : List ℕ) (fault : AsmFault) → Told c.request files
+      → IsRead c.request (Exec limits) (name ∷ []) (bytes ∷ []) → is_text_file bytes ≡ true → IsTextFault bytes fault
       → Unless status (status ≡ 12)
   pub executed_exactly : (files : FileMap) (limits : RunLimits) (name bytes : List ℕ) (image : ImageParts) → Told c.request files
-      → IsRead c.request (Exec limits) (name ∷ []) (bytes ∷ []) → IsImageOf image bytes
+      → IsRead c.request (Exec limits) (name ∷ []) (bytes ∷ []) → IsRunnable image bytes
       → Unless status ((status ≡ 7) ⊎ (status ≡ status_of (run_of limits image c.request.input)))
   -- `big`: status 0, and its line, come where the words ask for it
   pub summed_exactly : (n : ℕ) → asked_for c.request.words ≡ Some (big n)

@@ -1,9 +1,11 @@
 -- What `exec` does with the bytes of a file: the image that they are, its run, and how that ends.
-use Rattle.std.specs.Prelude.{◌≡◌, ℕ, ◌*◌, ◌==◌, ◌⊎◌, not, if◌then◌else◌, Bool, true, List, [], ◌∷◌, None}
+use Rattle.std.specs.Prelude.{◌≡◌, ℕ, ◌*◌, ◌==◌, ◌⊎◌, not, if◌then◌else◌, Bool, true, List, [], ◌∷◌, None, Some}
 use Rattle.mips_isa.specs.ImageBounds.{ImageParts, IsImage}
 use Rattle.mips_isa.specs.Bytes.{Segments, segments_of}
 use Rattle.mips_isa.specs.Lines.{Line}
 use Rattle.mips_isa.specs.Assembly.{fault_of, image_of}
+use Rattle.mips_isa.specs.declared.asm_fault.AsmFault.{AsmFault}
+use Rattle.mips_text.specs.Reading.{Reads, FirstFault}
 use Rattle.mips_isa.specs.Calls.{State, Outcome, Running, Exited, Trapped}
 use Rattle.mips_isa.specs.Run.{start, run_image}
 use Rattle.mips_image.specs.ImageBytes.{IsVersion, image_bytes, HasWords}
@@ -26,12 +28,17 @@ abbrev pub is_text_file : List ℕ → Bool
 is_text_file [] = true
 is_text_file (b ∷ rest) = not (b == 127)
 
--- The image is that of lines of assembly without a fault. Which lines the bytes are is not said yet.
+-- The image is that of the lines of assembly that the bytes are, which have no fault.
 pub record IsAssembled (image : ImageParts) (bytes : List ℕ) : Type 0 where
   pub text : is_text_file bytes ≡ true
   pub lines : List Line
+  pub reads : Reads bytes lines
   pub no_fault : fault_of lines ≡ None
   pub image_is : image ≡ image_of lines
+
+-- the fault of a text: its first fault of reading, or the first one of assembling its lines
+abbrev pub IsTextFault : List ℕ → AsmFault → Type 0
+IsTextFault bytes fault = FirstFault bytes fault ⊎ ((lines : List Line) × Reads bytes lines × (fault_of lines ≡ Some fault))
 
 -- what a file stands for, which `exec` runs
 abbrev pub IsRunnable : ImageParts → List ℕ → Type 0

@@ -1,5 +1,5 @@
 -- What is left to do once the words and the files were read: a note, lines or an image to write, an image to run, or a program to evaluate.
-use Rattle.std.specs.Prelude.{◌≡◌, ◌≢◌, ℕ, ◌<◌, ◌≤◌, ◌⊎◌, true, false, List, [], ◌∷◌, ◌++◌, Option, Some, None, get_or, map, length, String}
+use Rattle.std.specs.Prelude.{◌≡◌, ◌≢◌, ℕ, ◌<◌, ◌≤◌, ◌⊎◌, true, false, List, [], ◌∷◌, ◌++◌, Option, Some, None, get_or, map, length, String, Result, Ok, Err}
 use Rattle.std.specs.List.{concat, list_all, AllByRecursion}
 use Rattle.std.specs.Global.{Global, Vec}
 use Rattle.cool_syntax.specs.declared.TheConstants.{MOST_FILES, MOST_SOURCE_BYTES}
@@ -11,7 +11,11 @@ use Rattle.cool_faults.specs.Verdicts.{IsAccepted, IsRefused}
 use Rattle.cool_ports.specs.declared.shelf.ShelfFault.{ShelfFault}
 use Rattle.cool_ports.specs.declared.shelf.ShelfFault.TheVariants as faults
 use Rattle.cool_ports.specs.ShelfFiles.{FileMap}
-use Rattle.mips_isa.specs.Assembly.{image_of}
+use Rattle.mips_isa.specs.Assembly.{fault_of, image_of}
+use Rattle.mips_isa.specs.Lines.{Line}
+use Rattle.mips_isa.specs.declared.asm_fault.AsmError.{AsmError}
+use Rattle.mips_isa.specs.declared.asm_fault.AsmError.TheVariants as error
+use Rattle.mips_text.specs.Reading.{Reads}
 use Rattle.mips_isa.specs.ImageBounds.{ImageParts}
 use Rattle.mips_isa.specs.Calls.{State, Exited}
 use Rattle.mips_isa.specs.declared.asm_fault.AsmFault.{AsmFault}
@@ -22,7 +26,7 @@ use Rattle.cool_words.specs.declared.plan.RunLimits.{RunLimits}
 use Rattle.cool_words.specs.Plans.{IsBounded, is_file_name}
 use Rattle.cool_driver.specs.CommandLine.{words_of, plan_of}
 use Rattle.cool_driver.specs.Notes.{end_text, refused_note, missing_note, unread_note, too_large_note, image_note, asm_note}
-use Rattle.cool_driver.specs.Execution.{IsRunnable, is_text_file, run_of}
+use Rattle.cool_driver.specs.Execution.{IsRunnable, IsTextFault, is_text_file, run_of}
 use Rattle.cool_driver.specs.Ends.{Request, Due, Writing, IsRead, IsRunOf, IsEvaluationOf, built_bytes, SinkUse, Got, GotPart}
 use Rattle.cool_driver.specs.SimpleFiles.{RunSimply, RunOtherwise}
 use Rattle.cool_driver.specs.SimpleReading.{texts}
@@ -81,7 +85,13 @@ abbrev pub IsUnfit : List ℕ → List ℕ → List ℕ → Type 0
 IsUnfit name bytes note = (fault : ImageError) × (note ≡ image_note name fault) × (is_text_file bytes ≡ false) × (first_fault bytes ≡ Some fault)
 
 abbrev pub IsMisread : List ℕ → List ℕ → List ℕ → Type 0
-IsMisread name bytes note = (fault : AsmFault) × (note ≡ asm_note name fault) × (is_text_file bytes ≡ true)
+IsMisread name bytes note = (fault : AsmFault) × (note ≡ asm_note name fault) × (is_text_file bytes ≡ true) × IsTextFault bytes fault
+
+-- the image of a text, or its fault, unless memory ran out
+abbrev pub AssemblesText : List ℕ → Result ImageParts AsmError → Type 0
+AssemblesText bytes (Ok image) = (lines : List Line) × Reads bytes lines × (fault_of lines ≡ None) × (image ≡ image_of lines)
+AssemblesText bytes (Err error.Memory) = Unit {0}
+AssemblesText bytes (Err (error.Fault fault)) = IsTextFault bytes fault
 
 -- what is left to do for a file of this name that `exec` names, within these limits, and that has these bytes
 abbrev pub IsTaskOfFile : RunLimits → List ℕ → List ℕ → Task → Type 0

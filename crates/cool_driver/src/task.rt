@@ -12,14 +12,12 @@ ghost use Rattle.cool_driver.specs.declared.simple_form.TheConstants.{MOST_CALLS
 ghost use Rattle.cool_driver.specs.declared.TheConstants.{MOST_IMAGE_BYTES, SIMPLE_STEPS};
 ghost use Rattle.cool_driver.specs.Notes.{end_text, usage_note};
 ghost use Rattle.cool_driver.specs.Execution.{is_text_file};
-ghost use Rattle.mips_isa.specs.Lines.{Line};
-ghost use Rattle.mips_isa.specs.Assembly.{fault_of, image_of};
 ghost use Rattle.cool_rules.specs.Fits.{Fits};
 ghost use Rattle.cool_faults.specs.Files.{total};
 ghost use Rattle.cool_driver.specs.Ends.{built_bytes};
 ghost use Rattle.cool_faults.specs.Verdicts.{place_of};
 ghost use Rattle.cool_driver.specs.CommandLine.{is_number_of_files, most_bytes};
-ghost use Rattle.cool_driver.specs.Tasks.{AreSources, Prints, IsLine, AreLinesOf, IsTaskOf, IsTaskOfFile, IsTaskOfChecked, IsTaskOfBuilt, IsTaskOfRun, IsTaskOfEval, IsDue, IsFileTask, HasLimits};
+ghost use Rattle.cool_driver.specs.Tasks.{AreSources, AssemblesText, Prints, IsLine, AreLinesOf, IsTaskOf, IsTaskOfFile, IsTaskOfChecked, IsTaskOfBuilt, IsTaskOfRun, IsTaskOfEval, IsDue, IsFileTask, HasLimits};
 
 use crate::SIMPLE_STEPS;
 use crate::big::big_line;
@@ -343,10 +341,12 @@ fn load_text(alloc: Global, limits: RunLimits, name: &str, bytes: &[u8]) -> Resu
 /// The image of a text of assembly.
 fn assemble_text(alloc: Global, bytes: &[u8]) -> Result<Image, AsmError>
     requires { length bytes.now ≤ MOST_IMAGE_BYTES }
-    ensures { IfOk result (λ image. (lines : List Line) × (fault_of lines ≡ None) × (image ≡ image_of lines)) }
+    ensures { AssemblesText bytes.now result }
 {
-    let lines = read_asm(alloc, bytes)?;
-    assemble(alloc, &lines)
+    match read_asm(alloc, bytes) {
+        Ok(lines) => assemble(alloc, &lines),
+        Err(error) => Err(error),
+    }
 }
 
 /// The image of a program that prints the strings and then the end text.
