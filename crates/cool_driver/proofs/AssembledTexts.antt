@@ -1,5 +1,5 @@
 -- What assembling the lines of a text says of the text.
-use Rattle.std.proofs.Common.{◌≡◌, inl, inr, List, ℕ, Result, Ok, Err, Vec}
+use Rattle.std.proofs.Common.{inl, inr, List, ℕ, Result, Ok, Err}
 use Rattle.mips_isa.specs.ImageBounds.{ImageParts}
 use Rattle.mips_isa.specs.Assembly.{Assembles}
 use Rattle.mips_isa.specs.Lines.{Line}

@@ -9,6 +9,7 @@ use Rattle.cool_driver.specs.declared.command_line.Command.{Command}
 use Rattle.cool_driver.specs.declared.command_line.Command.TheVariants.{Check, Build}
 use Rattle.cool_driver.specs.Ends.{Request, Due, Writing, Call, NoLess, Ends, FailedOutput, FailedNote, DidNothing, RanShort, Got, Told, IsRead, MayRefuse}
 use Rattle.cool_driver.specs.Ends.Writing.{by_build, by_run, by_big, by_image, by_eval}
+use Rattle.cool_driver.proofs.NotesOfTexts.{misread_note}
 use Rattle.cool_driver.proofs.AnsweredFaults.{answered}
 use Rattle.cool_driver.proofs.Findings as findings
 use Rattle.cool_driver.proofs.Findings.{Finding, finding_of_due, finding_below}
@@ -82,7 +83,10 @@ ends_found c status found calm written =
           evaluated_ends c status written.0 written.1 files steps names contents p written.2 written.3 written.4 told read is;
       evaluated_prefix = λ files steps names contents p told read is. prefix_of_due c status written.0 written.1 files steps names contents p written.2 written.3 told read is;
       unfit_exactly = λ files limits name bytes told read none _ _. findings.unfit_exactly r status files limits name bytes found told read none;
-      misread_exactly = λ files limits name bytes fault told read text wrong _ _. findings.misread_exactly r status files limits name bytes fault found told read text wrong;
+      misread_exactly = λ files limits name bytes fault told read text wrong _ _. (
+        findings.misread_exactly r status files limits name bytes fault found told read text wrong,
+        subst (Got c.notes) (misread_note r status written.0 written.1 c.left files limits name bytes fault written.2 told read text wrong) written.4,
+      );
       executed_exactly = λ files limits name bytes image told read is _ _. findings.executed_exactly r status files limits name bytes image found told read is;
       summed_exactly = λ n asked _ _.
           let due = findings.big_due r status written.0 written.1 c.left n written.2 asked in

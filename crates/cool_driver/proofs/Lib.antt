@@ -1,3 +1,4 @@
+pub mod NotesOfTexts
 pub mod AssembledTexts
 pub mod ReadingCalls
 pub mod ReadingLexemes

@@ -276,14 +276,14 @@ pub record Ends (c : Call) (status : ℕ) : Type 0 where
   pub evaluated_prefix : (files : FileMap) (steps : ℕ) (names contents : List (List ℕ)) (p : List Class) → Told c.request files
       → IsRead c.request (Eval steps) names contents → IsAccepted contents p
       → GotPrefix c.out.held_before (source.run p names c.request.input steps).output c.out.held_after
-  -- `exec`: status 12 comes where the file was read and stands for no image, as a text with a fault does, and the status of the run's end
-  -- where it stands for one
+  -- `exec`: status 12 comes where the file was read and stands for no image, as a text with a fault does, which the note then tells; and the
+  -- status of the run's end where it stands for one
   pub unfit_exactly : (files : FileMap) (limits : RunLimits) (name bytes : List ℕ) → Told c.request files
       → IsRead c.request (Exec limits) (name ∷ []) (bytes ∷ []) → ((image : ImageParts) → IsRunnable image bytes → ⊥)
       → Unless status (status ≡ 12)
   pub misread_exactly : (files : FileMap) (limits : RunLimits) (name bytes : List ℕ) (fault : AsmFault) → Told c.request files
       → IsRead c.request (Exec limits) (name ∷ []) (bytes ∷ []) → is_text_file bytes ≡ true → IsTextFault bytes fault
-      → Unless status (status ≡ 12)
+      → Unless status ((status ≡ 12) × Got c.notes (asm_note name fault))
   pub executed_exactly : (files : FileMap) (limits : RunLimits) (name bytes : List ℕ) (image : ImageParts) → Told c.request files
       → IsRead c.request (Exec limits) (name ∷ []) (bytes ∷ []) → IsRunnable image bytes
       → Unless status ((status ≡ 7) ⊎ (status ≡ status_of (run_of limits image c.request.input)))

@@ -1,5 +1,5 @@
 -- Numbers that are cut off at a bound, digit by digit.
-use Rattle.std.proofs.Common.{◌≡◌, ap, sym, ◌∙◌, subst, arith, ℕ, suc, ◌+◌, ◌-◌, ◌*◌, ◌<◌, ◌≤◌, ◌⊎◌, inl, inr, List, [], ◌∷◌, length, drop, get_or, drop-cons, min, add-one}
+use Rattle.std.proofs.Common.{◌≡◌, ap, sym, ◌∙◌, arith, ℕ, suc, ◌+◌, ◌*◌, ◌<◌, ◌≤◌, ◌⊎◌, inl, inr, List, [], ◌∷◌, length, drop, get_or, drop-cons, min, add-one}
 use Rattle.std.specs.List.{fold}
 use Rattle.mips_text.specs.Words.{digit_value}
 
@@ -37,8 +37,8 @@ pub capped_more : (base bound n next i total : ℕ) (ds : List ℕ) → 1 ≤ ba
 capped_more base bound n next i total ds h l e inv =
     let cut : drop i ds ≡ get_or ds i 0 ∷ drop (suc i) ds = drop-cons ds i 0 l in
     let split : min (fold (step base) n (drop i ds)) bound ≡ min (fold (step base) (step base n (get_or ds i 0)) (drop (suc i) ds)) bound =
-        ap (λ l. min (fold (step base) n l) bound) cut in
+    ap (λ l. min (fold (step base) n l) bound) cut in
     let whole : min (fold (step base) next (drop (suc i) ds)) bound ≡ total =
-        ap (λ k. min (fold (step base) k (drop (suc i) ds)) bound) e
-        ∙ (capped_fold base (step base n (get_or ds i 0)) bound (drop (suc i) ds) h (sides _ bound) ∙ (sym split ∙ inv)) in
+    ap (λ k. min (fold (step base) k (drop (suc i) ds)) bound) e
+    ∙ (capped_fold base (step base n (get_or ds i 0)) bound (drop (suc i) ds) h (sides _ bound) ∙ (sym split ∙ inv)) in
     rw add-one whole

@@ -1,15 +1,15 @@
 -- What the scanning functions find at a place is the longest word there.
-use Rattle.std.proofs.Common.{◌≡◌, ◌∙◌, sym, ap, subst, refl, arith, ℕ, zero, suc, ◌+◌, ◌-◌, ◌≤◌, ◌<◌, ◌⊎◌, ⊎_elim, Bool, true, false, List, [], ◌∷◌, length, take, nat_lt, if◌then◌else◌}
+use Rattle.std.proofs.Common.{◌≡◌, ◌∙◌, sym, ap, refl, arith, ℕ, zero, suc, ◌-◌, ◌≤◌, ◌<◌, ◌⊎◌, ⊎_elim, Bool, false, List, [], ◌∷◌, take, if◌then◌else◌}
 use Rattle.std.specs.Prelude.{Option, Some, None, option_map}
-use Rattle.std.specs.List.{list_all, prefix_len}
+use Rattle.std.specs.List.{prefix_len}
 use Rattle.std.specs.Char.{is_ascii_alphanumeric}
 use Rattle.mips_text.specs.declared.class.Start.{Start}
 use Rattle.mips_text.specs.declared.class.Start.TheVariants as start
 use Rattle.mips_text.specs.declared.span.Span.TheVariants as span
 use Rattle.mips_text.specs.Letters.{name_rest}
-use Rattle.mips_text.specs.Words.{Word, Name, Register, Text, Colon, Open, Close, Front, front, form_of, magnitude, enclosed, number, number_below_zero}
-use Rattle.mips_text.specs.Fronts.{Magnitude, takes, front_found, magnitude_found, closing_quote, digits_front, minus_front, text_front, register_front}
-use Rattle.mips_text.proofs.Longest.{IsLongest, HasNone, behind_longest, behind_none, front_fails, front_finds, seen_longest, seen_none}
+use Rattle.mips_text.specs.Words.{Name, Register, Text, Colon, Open, Close, front, magnitude, enclosed, number, number_below_zero}
+use Rattle.mips_text.specs.Fronts.{Magnitude, takes, front_found, digits_front, minus_front, text_front}
+use Rattle.mips_text.proofs.Longest.{IsLongest, behind_longest, behind_none, front_fails, front_finds, seen_longest, seen_none}
 use Rattle.mips_text.proofs.LongestWords.{all_longest, alone_longest, left, none_left, some_longest, some_none}
 use Rattle.mips_text.proofs.LongestStrings.{IsQuote, quote_is}
 use Rattle.mips_text.proofs.LongestNumbers.{IsFound, magnitude_is}

@@ -1,10 +1,10 @@
 -- The faults of reading are A1 to A4.
-use Rattle.std.proofs.Common.{◌≡◌, ◌∙◌, sym, ap, subst, refl, ℕ, Bool, true, false, List, [], ◌∷◌, ◌++◌, length, map, if◌then◌else◌, Result, Ok, Err}
+use Rattle.std.proofs.Common.{subst, ℕ, Bool, true, false, List, [], ◌∷◌, ◌++◌, map, if◌then◌else◌, Result, Ok, Err}
 use Rattle.std.specs.Prelude.{Option, Some, None, is_some}
 use Rattle.std.specs.Option.{option_or}
 use Rattle.std.specs.List.{AllByRecursion}
 use Rattle.mips_isa.specs.declared.asm_fault.AsmKind.{AsmKind}
-use Rattle.mips_isa.specs.declared.asm_fault.AsmKind.TheVariants.{A1, A2, A3}
+use Rattle.mips_isa.specs.declared.asm_fault.AsmKind.TheVariants.{A2, A3}
 use Rattle.mips_isa.specs.declared.asm_fault.AsmFault.{AsmFault}
 use Rattle.mips_isa.specs.Lines.{Line, Statement, Instruction}
 use Rattle.mips_text.specs.declared.directives.Directive.{Directive}
@@ -16,7 +16,7 @@ use Rattle.mips_text.specs.declared.wanted.Wanted.TheVariants as wanted
 use Rattle.mips_text.specs.Laws.{IsReadingKind}
 use Rattle.mips_text.specs.Names.{directive_named, mnemonic_named}
 use Rattle.mips_text.specs.Operands.{each_fault, fault_unless, is_within, many_fault, misplaced, register_named, row_fault, word_fault}
-use Rattle.mips_text.specs.Reading.{FirstFault, begins_with_dot, directive_read, instruction_read, judged, line_read, lines_in, readings, rest_read, statement_read, with_label, without_label}
+use Rattle.mips_text.specs.Reading.{FirstFault, begins_with_dot, directive_read, instruction_read, judged, line_read, lines_in, rest_read, statement_read, with_label, without_label}
 use Rattle.mips_text.specs.Statements.{directive_fault, directive_made, instruction_made, instruction_operands}
 use Rattle.mips_text.specs.Strings.{all_known}
 use Rattle.mips_text.specs.Words.{Word, Name, Number, Register, Text, Colon, Open, Close, Stray, words_of}

@@ -1,12 +1,9 @@
 -- Labels before the rest of a line.
-use Rattle.std.proofs.Common.{◌≡◌, ◌∙◌, sym, ap, refl, arith, ℕ, zero, suc, ◌+◌, ◌-◌, ◌≤◌, ◌<◌, Bool, true, false, List, [], ◌∷◌, ◌++◌, length, map, take, drop, length-drop, Result, Ok, Err}
-
+use Rattle.std.proofs.Common.{◌≡◌, ◌∙◌, sym, ap, refl, arith, ℕ, zero, suc, ◌+◌, ◌-◌, Bool, true, false, List, [], ◌∷◌, ◌++◌, length, map, take, drop, length-drop, Result, Ok, Err}
 use Rattle.std.proofs.lemmas.List.{drop-map, take_all}
 use Rattle.std.specs.List.{slice_get}
 use Rattle.std.specs.Prelude.{◌&&◌}
 use Rattle.mips_isa.specs.declared.asm_fault.AsmKind.{AsmKind}
-use Rattle.mips_isa.specs.declared.line.Line as declared_line
-use Rattle.mips_isa.specs.declared.line.Statement as declared_statement
 use Rattle.mips_isa.specs.Lines.{Line, Statement, line_of, statement_of}
 use Rattle.mips_text.specs.declared.flaw.Flaw.{Flaw}
 use Rattle.mips_text.specs.declared.flaw.Flaw.TheVariants as flaw
@@ -15,7 +12,7 @@ use Rattle.mips_text.specs.Answers.{Meets, labelled}
 use Rattle.mips_text.specs.Reading.{has_label, line_read, rest_read, with_label, without_label}
 use Rattle.mips_text.specs.Statements.{has_name, is_colon, label_at}
 use Rattle.mips_text.specs.Views.{word_seen}
-use Rattle.mips_text.specs.Words.{Word, Name, Number, Register, Text, Colon, Open, Close, Stray}
+use Rattle.mips_text.specs.Words.{Word, Name, Colon}
 
 -- words that begin with no label are the rest of a line
 pub no_label : (words : List Word) → has_label words 0 ≡ false → line_read words ≡ without_label (rest_read words)

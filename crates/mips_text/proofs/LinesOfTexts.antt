@@ -1,6 +1,6 @@
 -- The first line of a text, by where its newline is.
 use Rattle.std.proofs.Common.{◌≡◌, refl, ap, sym, ◌∙◌, arith, ℕ, zero, suc, ◌+◌, ◌-◌, ◌<◌, ◌≤◌, Bool, true, false, List, [], ◌∷◌, length, take, drop}
-use Rattle.std.specs.Prelude.{not, ◌==◌, cond}
+use Rattle.std.specs.Prelude.{not, ◌==◌}
 use Rattle.std.specs.List.{prefix_len}
 use Rattle.std.proofs.lemmas.List.{take_all}
 use Rattle.mips_text.specs.Reading.{lines_in, with_byte}
@@ -44,5 +44,5 @@ pub line_parted : (bs : List ℕ) (n : ℕ) → n ≡ prefix_len in_line bs → 
 line_parted bs n e h =
     let within : prefix_len in_line bs < length bs = omega arith in
     let behind : take (length bs - (n + 1)) (drop (n + 1) bs) ≡ drop (suc n) bs =
-        take_all _ (drop (n + 1) bs) (omega (arith, Rattle.std.proofs.Common.length-drop (n + 1) bs)) ∙ ap (λ k. drop k bs) (let s : n + 1 ≡ suc n = omega arith in s) in
+    take_all _ (drop (n + 1) bs) (omega (arith, Rattle.std.proofs.Common.length-drop (n + 1) bs)) ∙ ap (λ k. drop k bs) (let s : n + 1 ≡ suc n = omega arith in s) in
     line_cut bs within ∙ (ap (λ k. take k bs ∷ lines_in (drop (suc k) bs)) (sym e) ∙ ap (λ l. take n bs ∷ lines_in l) (sym behind))

@@ -1,8 +1,8 @@
 -- The longest form at the front of a list: what it is, and that the definition finds it.
-use Rattle.std.proofs.Common.{◌≡◌, ◌∙◌, sym, ap, subst, refl, arith, ℕ, zero, suc, ◌+◌, ◌≤◌, ◌<◌, ◌⊎◌, inl, inr, ⊎_elim, List, [], ◌∷◌, length, take}
+use Rattle.std.proofs.Common.{◌≡◌, ◌∙◌, sym, ap, arith, ℕ, zero, suc, ◌≤◌, ◌<◌, ◌⊎◌, ⊎_elim, List, [], ◌∷◌, length, take}
 use Rattle.std.specs.Prelude.{Option, Some, None, option_map}
 use Rattle.mips_text.specs.declared.class.Start.{Start}
-use Rattle.mips_text.specs.Words.{Word, Front, form_of, found, front, longest}
+use Rattle.mips_text.specs.Words.{Word, form_of, found, front, longest}
 
 -- so many bytes are of this form, and no more bytes are of one
 pub record IsLongest {A : Type 0} (form : List ℕ → Option A) (bs : List ℕ) (x : A) (n : ℕ) : Type 0 where
@@ -48,11 +48,11 @@ search_finds s b bs w n zero l f none =
     ap (λ o. found o 0 None) here ∙ ap (λ m. Some (record { word = w; after = m })) (sym e)
 search_finds s b bs w n (suc k) l f none =
     ⊎_elim (λ e.
-      let here : form_of s b (take (suc k) bs) ≡ Some w = ap (λ m. form_of s b (take m bs)) (sym e) ∙ f in
-      ap (λ o. found o (suc k) (longest s b bs k)) here ∙ ap (λ m. Some (record { word = w; after = m })) (sym e))
+    let here : form_of s b (take (suc k) bs) ≡ Some w = ap (λ m. form_of s b (take m bs)) (sym e) ∙ f in
+    ap (λ o. found o (suc k) (longest s b bs k)) here ∙ ap (λ m. Some (record { word = w; after = m })) (sym e))
     (λ g.
-      let above : form_of s b (take (suc k) bs) ≡ None = none (suc k) (omega arith) (omega arith) in
-      ap (λ o. found o (suc k) (longest s b bs k)) above ∙ search_finds s b bs w n k g f (λ m a c. none m a (omega arith)))
+    let above : form_of s b (take (suc k) bs) ≡ None = none (suc k) (omega arith) (omega arith) in
+    ap (λ o. found o (suc k) (longest s b bs k)) above ∙ search_finds s b bs w n k g f (λ m a c. none m a (omega arith)))
     (all_or_fewer n k l)
 
 search_fails : (s : Start) (b : ℕ) (bs : List ℕ) (k : ℕ) → ((m : ℕ) → m ≤ k → form_of s b (take m bs) ≡ None) → longest s b bs k ≡ None

@@ -1,13 +1,13 @@
 -- The longest number without a sign at a place.
-use Rattle.std.proofs.Common.{◌≡◌, ◌∙◌, sym, ap, subst, refl, arith, ℕ, zero, suc, ◌+◌, ◌-◌, ◌≤◌, ◌<◌, ◌⊎◌, inl, inr, ⊎_elim, Bool, true, false, List, [], ◌∷◌, length, take, nat_lt, if◌then◌else◌}
-use Rattle.std.specs.Prelude.{Option, Some, None, option_map, ◌&&◌, ◌==◌}
+use Rattle.std.proofs.Common.{◌≡◌, ◌∙◌, ap, refl, arith, ℕ, zero, suc, ◌+◌, ◌≤◌, ◌<◌, ◌⊎◌, ⊎_elim, Bool, true, false, List, [], ◌∷◌, length, take, nat_lt, if◌then◌else◌}
+use Rattle.std.specs.Prelude.{Option, Some, None, ◌&&◌, ◌==◌}
 use Rattle.std.specs.Option.{option_or}
 use Rattle.std.specs.List.{list_all, prefix_len}
 use Rattle.std.specs.Char.{is_ascii_digit}
 use Rattle.std.proofs.lemmas.Bool.Decides.{nat_tests}
 use Rattle.mips_text.specs.declared.span.Span.TheVariants as span
 use Rattle.mips_text.specs.Letters.{hex_digit}
-use Rattle.mips_text.specs.Fronts.{Magnitude, takes, decimal_of, decimal_found, hexadecimal_of, hexadecimal_found, magnitude_found}
+use Rattle.mips_text.specs.Fronts.{Magnitude, takes, decimal_found, hexadecimal_of, hexadecimal_found, magnitude_found}
 use Rattle.mips_text.specs.Words.{value, some_all, decimal, hexadecimal, magnitude}
 use Rattle.mips_text.proofs.Longest.{IsLongest, HasNone}
 use Rattle.mips_text.proofs.LongestWords.{left, none_left, some_longest, some_none}
@@ -65,7 +65,7 @@ no_decimal z x ds h zero l = absurd (omega arith)
 no_decimal z x ds h (suc zero) l = absurd (omega arith)
 no_decimal z x ds h (suc (suc k)) l =
     let not_all : list_all is_ascii_digit (z ∷ x ∷ take k ds) ≡ false =
-        ap (λ (t : Bool). is_ascii_digit z && (t && list_all is_ascii_digit (take k ds))) (x_is_no_digit x h) ∙ and_no (is_ascii_digit z) (list_all is_ascii_digit (take k ds)) in
+    ap (λ (t : Bool). is_ascii_digit z && (t && list_all is_ascii_digit (take k ds))) (x_is_no_digit x h) ∙ and_no (is_ascii_digit z) (list_all is_ascii_digit (take k ds)) in
     let none : some_all is_ascii_digit (z ∷ x ∷ take k ds) ≡ false = ap (λ (t : Bool). nat_lt 0 (length (z ∷ x ∷ take k ds)) && t) not_all ∙ and_last (nat_lt 0 (length (z ∷ x ∷ take k ds))) in
     ap (λ (t : Bool). if t then Some (value 10 (z ∷ x ∷ take k ds)) else None) none
 
@@ -91,13 +91,13 @@ hexadecimal_by : (z x : ℕ) (ds : List ℕ) (t : Bool) → (z == 48 && x == 120
 hexadecimal_by z x ds true h =
     let n : ℕ = prefix_len (takes span.HexDigits) ds in
     let same : (xs : List ℕ) → hexadecimal (z ∷ x ∷ xs) ≡ (if some_all hex_digit xs then Some (value 16 xs) else None) =
-        λ xs. ap (λ (t : Bool). if t && some_all hex_digit xs then Some (value 16 xs) else None) h in
+    λ xs. ap (λ (t : Bool). if t && some_all hex_digit xs then Some (value 16 xs) else None) h in
     ⊎_elim (λ l. rw (left n l) (two_more hexadecimal _ z x ds _ n same (some_longest hex_digit (value 16) ds l), omega arith, no_decimal z x ds (both (z == 48) (x == 120) h)))
     (λ l. rw (none_left n l) (two_more_none hexadecimal _ z x ds same refl refl (some_none hex_digit (value 16) ds l)))
     (none_or_some n)
 hexadecimal_by z x ds false h =
     let same : (xs : List ℕ) → hexadecimal (z ∷ x ∷ xs) ≡ None =
-        λ xs. ap (λ (t : Bool). if t && some_all hex_digit xs then Some (value 16 xs) else None) h in
+    λ xs. ap (λ (t : Bool). if t && some_all hex_digit xs then Some (value 16 xs) else None) h in
     two_more_none hexadecimal (λ xs. None) z x ds same refl refl (λ m l. refl)
 
 hexadecimal_is : (bs : List ℕ) → IsHexadecimal bs (hexadecimal_found bs)

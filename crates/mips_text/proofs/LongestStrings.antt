@@ -3,7 +3,7 @@ use Rattle.std.proofs.Common.{◌≡◌, ◌∙◌, sym, ap, refl, arith, ℕ, z
 use Rattle.std.specs.Prelude.{Option, Some, None, option_map}
 use Rattle.mips_text.specs.Strings.{closes_string, opens_escape}
 use Rattle.mips_text.specs.Fronts.{closing_quote}
-use Rattle.mips_text.specs.Words.{enclosed, nothing_if_empty}
+use Rattle.mips_text.specs.Words.{enclosed}
 use Rattle.mips_text.proofs.Longest.{IsLongest, HasNone}
 
 -- what a search for the quote finds, from a place on

@@ -1,5 +1,5 @@
 -- The word that the definition cuts at a place is the longest one there.
-use Rattle.std.proofs.Common.{◌≡◌, ◌∙◌, sym, ap, refl, arith, ℕ, zero, suc, ◌≤◌, ◌⊎◌, ⊎_elim, List, [], ◌∷◌, length, take}
+use Rattle.std.proofs.Common.{◌≡◌, ◌∙◌, sym, ap, refl, arith, ℕ, zero, suc, ◌≤◌, ◌⊎◌, ⊎_elim, List, [], length, take}
 use Rattle.std.specs.Prelude.{Option, Some, None}
 use Rattle.mips_text.specs.declared.class.Start.{Start}
 use Rattle.mips_text.specs.Words.{Word, Front, IsWordThere, form_of, found, front, longest}

@@ -1,5 +1,5 @@
 -- Operands that are missing.
-use Rattle.std.proofs.Common.{◌≡◌, refl, arith, List, [], ◌∷◌, length, map, ◌≤◌, ◌<◌}
+use Rattle.std.proofs.Common.{◌≡◌, refl, arith, List, [], ◌∷◌, length, map, ◌<◌}
 use Rattle.std.specs.Prelude.{Some}
 use Rattle.mips_isa.specs.declared.asm_fault.AsmKind.TheVariants.{A2}
 use Rattle.mips_text.specs.declared.wanted.Wanted.{Wanted}

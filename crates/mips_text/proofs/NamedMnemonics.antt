@@ -1,5 +1,5 @@
 -- Each mnemonic and each directive is found by its name.
-use Rattle.std.proofs.Common.{◌≡◌, refl, ℕ, true, false, List}
+use Rattle.std.proofs.Common.{◌≡◌, refl, true, false}
 use Rattle.std.specs.Prelude.{Some}
 use Rattle.mips_isa.specs.declared.instr.ThreeOp.TheVariants.{Add, Addu, Sub, Subu, And, Or, Xor, Nor, Slt, Sltu}
 use Rattle.mips_isa.specs.declared.instr.ShiftOp.TheVariants.{Sll, Srl, Sra}

@@ -1,11 +1,9 @@
 -- Printed instructions are read as what they were.
-use Rattle.std.proofs.Common.{◌≡◌, ◌∙◌, sym, ap, subst, refl, arith, ℕ, zero, suc, ◌+◌, ◌≤◌, ◌<◌, ℤ, pos, negsuc, Bool, true, false, List, [], ◌∷◌, ◌++◌, length, map, nat_lt, nat_le, if◌then◌else◌, Result, Ok, Err}
-use Rattle.std.specs.Prelude.{Option, Some, None}
-use Rattle.std.specs.List.{AllByRecursion, list_all}
+use Rattle.std.proofs.Common.{◌≡◌, ◌∙◌, ap, refl, arith, ℕ, suc, ◌<◌, ℤ, pos, negsuc, Bool, true, false, List, [], ◌∷◌, nat_lt, if◌then◌else◌, Ok}
+use Rattle.std.specs.Prelude.{Some, None}
+use Rattle.std.specs.List.{AllByRecursion}
 use Rattle.std.specs.Fmt.{signed_decimal}
 use Rattle.std.proofs.lemmas.Bool.Decides.{nat_tests}
-use Rattle.mips_isa.specs.declared.asm_fault.AsmKind.{AsmKind}
-use Rattle.mips_isa.specs.declared.address_map.TheConstants.{MOST_DATA_BYTES}
 use Rattle.mips_isa.specs.declared.instr.Instr.{Instr}
 use Rattle.mips_isa.specs.declared.instr.Instr.TheVariants as instr
 use Rattle.mips_isa.specs.declared.instr.ThreeOp.{ThreeOp}
@@ -23,28 +21,26 @@ use Rattle.mips_isa.specs.declared.line.OrderOp.{OrderOp}
 use Rattle.mips_isa.specs.declared.instr.ImmOp.{ImmOp}
 use Rattle.mips_isa.specs.declared.instr.ImmOp.TheVariants.{Addi, Addiu, Slti, Sltiu, Andi, Ori, Xori}
 use Rattle.mips_isa.specs.Words.{InRange, IsSigned, IsUnsigned, IsImmediate}
-use Rattle.mips_isa.specs.Assembly.{names_of_instruction, names_of_items}
+use Rattle.mips_isa.specs.Assembly.{names_of_instruction}
 use Rattle.mips_isa.specs.Lines as lines
 use Rattle.mips_isa.specs.Lines.{Statement, IsByte, IsInRange, IsInstructionInRange, IsItem, IsWord}
-use Rattle.mips_text.specs.declared.directives.Directive.{Directive}
-use Rattle.mips_text.specs.declared.directives.Directive.TheVariants as directives
 use Rattle.mips_text.specs.declared.mnemonics.Mnemonic.{Mnemonic}
 use Rattle.mips_text.specs.declared.mnemonics.Mnemonic.TheVariants as mnemonics
 use Rattle.mips_text.specs.declared.wanted.Range.{Range}
 use Rattle.mips_text.specs.declared.wanted.Range.TheVariants as range
-use Rattle.mips_text.specs.Names.{directive_named, directive_text, is_name, mnemonic_named, mnemonic_text, register_text}
+use Rattle.mips_text.specs.Names.{directive_named, is_name, mnemonic_named, mnemonic_text, register_text}
 use Rattle.mips_text.specs.Operands.{is_within, row_fault}
-use Rattle.mips_text.specs.Printable.{IsName, IsPrintableStatement}
-use Rattle.mips_text.specs.Printing.{memory_operand, instruction_text, plain_text, statement_text, string_operand}
-use Rattle.mips_text.specs.Reading.{begins_with_dot, directive_read, has_label, instruction_read, judged, rest_read, statement_read}
+use Rattle.mips_text.specs.Printable.{IsName}
+use Rattle.mips_text.specs.Printing.{memory_operand, instruction_text, plain_text}
+use Rattle.mips_text.specs.Reading.{directive_read, has_label, instruction_read, judged, rest_read, statement_read}
 use Rattle.mips_text.specs.Spelling.{operands_text, register_operand, row_text}
-use Rattle.mips_text.specs.Statements.{directive_fault, directive_made, imm_range, instruction_made, instruction_operands, kept, natural}
-use Rattle.mips_text.specs.Words.{Word, Name, Number, Register, Text, Colon, Open, Close, Stray, words_of}
-use Rattle.mips_text.proofs.NamedMnemonics.{NamedDirective, NamedMnemonic, directed, named}
+use Rattle.mips_text.specs.Statements.{imm_range, instruction_made, instruction_operands, kept}
+use Rattle.mips_text.specs.Words.{Word, Name, Number, Register, Open, Close}
+use Rattle.mips_text.proofs.NamedMnemonics.{NamedMnemonic, named}
 use Rattle.mips_text.proofs.SpelledNumbers.{IsSmall, number_spells}
 use Rattle.mips_text.proofs.SpelledRegisters.{Known, known, memory_spells, register_spells}
 use Rattle.mips_text.proofs.SpelledRows.{Ends, Row, ends_nothing, operand_ends, row_reads, small_word}
-use Rattle.mips_text.proofs.SpelledWords.{Spells, in_line, name_spells}
+use Rattle.mips_text.proofs.SpelledWords.{name_spells}
 
 -- a text that is read as a statement, with no label before it
 pub record Said (text : List ℕ) (statement : Statement) : Type 0 where
@@ -115,9 +111,9 @@ instruction_said : (m : Mnemonic) (operands : List (List ℕ)) (words : List Wor
 instruction_said m operands words i e l fault made =
     let k : NamedMnemonic m = named m in
     let read : instruction_read (Some m) words ≡ Ok (lines.Instruction i) =
-        ap (λ o. judged o (lines.Instruction (instruction_made m words))) fault ∙ ap (λ x. Ok (lines.Instruction x)) made in
+    ap (λ o. judged o (lines.Instruction (instruction_made m words))) fault ∙ ap (λ x. Ok (lines.Instruction x)) made in
     let told : statement_read (mnemonic_text m) words ≡ instruction_read (mnemonic_named (mnemonic_text m)) words =
-        ap (λ (t : Bool). if t then directive_read (directive_named (mnemonic_text m)) words else instruction_read (mnemonic_named (mnemonic_text m)) words) k.no_dot in
+    ap (λ (t : Bool). if t then directive_read (directive_named (mnemonic_text m)) words else instruction_read (mnemonic_named (mnemonic_text m)) words) k.no_dot in
     record {
       words = Name (mnemonic_text m) ∷ words;
       row = row_reads (mnemonic_text m) operands words k.name e;
@@ -279,7 +275,7 @@ memory op rt rs v h0 h1 h2 =
     let w_v : is_within range.Signed v ≡ true = signed v h2 in
     let words : List Word = Number v ∷ Open ∷ Register (register_text rs) ∷ Close ∷ [] in
     let last : Ends (operands_text 1 (memory_operand v rs ∷ [])) words =
-        operand_ends 1 (memory_operand v rs) [] words [] (memory_spells v rs (small_signed v h2) h1) ends_nothing in
+    operand_ends 1 (memory_operand v rs) [] words [] (memory_spells v rs (small_signed v h2) h1) ends_nothing in
     instruction_said (mnemonics.Mem op) (register_operand rt ∷ memory_operand v rs ∷ []) (Register (register_text rt) ∷ words) (lines.Plain (instr.Mem op rt rs v)) (reg 0 rt (memory_operand v rs ∷ []) words h0 last) refl (rw (k_rt.named, k_rs.named, w_v) refl) (rw (k_rt.named, k_rs.named, w_v) refl)
 
 -- All instructions

@@ -1,39 +1,35 @@
 -- Printed texts are read as the lines that they were.
-use Rattle.std.proofs.Common.{◌≡◌, ◌∙◌, sym, ap, subst, refl, arith, ℕ, zero, suc, ◌+◌, ◌≤◌, ◌<◌, ℤ, pos, negsuc, Bool, true, false, List, [], ◌∷◌, ◌++◌, append_assoc, length, map, flat_map, codes, nat_lt, nat_le, if◌then◌else◌, Result, Ok, Err}
-use Rattle.std.specs.Prelude.{Option, Some, None, not, ◌&&◌, ◌==◌}
+use Rattle.std.proofs.Common.{◌≡◌, ◌∙◌, ap, refl, arith, ℕ, ◌≤◌, ◌<◌, ℤ, pos, negsuc, Bool, true, false, List, [], ◌∷◌, ◌++◌, append_assoc, length, map, flat_map, codes, nat_le, if◌then◌else◌, Ok}
+use Rattle.std.specs.Prelude.{Some, None, not, ◌&&◌, ◌==◌}
 use Rattle.std.specs.List.{AllByRecursion, list_all}
 use Rattle.std.specs.Option.{option_or}
 use Rattle.std.specs.Fmt.{signed_decimal}
 use Rattle.std.proofs.lemmas.List.{length-map}
 use Rattle.std.proofs.lemmas.List.Folds.{list_all-append}
 use Rattle.std.proofs.lemmas.Bool.Decides.{nat_tests}
-use Rattle.mips_isa.specs.declared.asm_fault.AsmKind.{AsmKind}
 use Rattle.mips_isa.specs.declared.address_map.TheConstants.{MOST_DATA_BYTES}
-use Rattle.mips_isa.specs.Assembly.{names_of_items}
 use Rattle.mips_isa.specs.Lines as lines
 use Rattle.mips_isa.specs.Lines.{Line, Statement, IsByte, IsDataInRange, IsDirectiveInRange, IsInRange, IsItem, IsWord}
 use Rattle.mips_text.specs.declared.directives.Directive.{Directive}
 use Rattle.mips_text.specs.declared.directives.Directive.TheVariants as directives
-use Rattle.mips_text.specs.declared.wanted.Range.{Range}
 use Rattle.mips_text.specs.declared.wanted.Range.TheVariants as range
 use Rattle.mips_text.specs.declared.wanted.Wanted.{Wanted}
 use Rattle.mips_text.specs.declared.wanted.Wanted.TheVariants as wanted
 use Rattle.mips_text.specs.declared.class.Start.TheVariants as start
-use Rattle.mips_text.specs.Answers.{labelled}
 use Rattle.mips_text.specs.Names.{directive_named, directive_text, is_name, mnemonic_named}
 use Rattle.mips_text.specs.Operands.{each_fault, is_within, many_fault, word_fault}
-use Rattle.mips_text.specs.Printable.{ArePrintable, IsName, IsPrintable, IsPrintableData, IsPrintableDirective, IsPrintableStatement}
-use Rattle.mips_text.specs.Printing.{data_text, item_operand, label_text, line_text, other_directive_text, printed, statement_text, string_operand}
-use Rattle.mips_text.specs.Reading.{Reads, begins_with_dot, directive_read, has_label, instruction_read, judged, line_read, lines_in, readings, rest_read, statement_read, with_byte, with_label, without_label}
+use Rattle.mips_text.specs.Printable.{ArePrintable, IsName, IsPrintableData, IsPrintableDirective, IsPrintableStatement}
+use Rattle.mips_text.specs.Printing.{data_text, item_operand, label_text, other_directive_text, printed, statement_text, string_operand}
+use Rattle.mips_text.specs.Reading.{Reads, directive_read, has_label, instruction_read, judged, line_read, lines_in, statement_read, with_byte, with_label, without_label}
 use Rattle.mips_text.specs.Spelling.{letter_text, operands_text, row_text}
-use Rattle.mips_text.specs.Statements.{byte_made, directive_fault, directive_made, item_made, kept, natural}
-use Rattle.mips_text.specs.Words.{Word, Name, Number, Register, Text, Colon, Open, Close, Stray, words_of}
+use Rattle.mips_text.specs.Statements.{byte_made, directive_fault, directive_made, item_made}
+use Rattle.mips_text.specs.Words.{Word, Name, Number, Text, Colon, words_of}
 use Rattle.mips_text.proofs.LabelsOfLines.{no_label}
 use Rattle.mips_text.proofs.NamedMnemonics.{NamedDirective, directed}
 use Rattle.mips_text.proofs.PrintedInstructions.{Said, instruction_is_said, word}
 use Rattle.mips_text.proofs.SpelledNumbers.{IsSmall, number_spells}
 use Rattle.mips_text.proofs.SpelledRegisters.{and_both}
-use Rattle.mips_text.proofs.SpelledRows.{Ends, Row, bytes_end, ends_nothing, item_word, items_end, operand_ends, row_reads}
+use Rattle.mips_text.proofs.SpelledRows.{Ends, bytes_end, ends_nothing, item_word, items_end, operand_ends, row_reads}
 use Rattle.mips_text.proofs.SpelledStrings.{raw_known, raw_unescaped, string_spells}
 use Rattle.mips_text.proofs.SpelledWords.{Spells, in_line, name_spells, word_here}
 
@@ -43,7 +39,7 @@ directive_said d operands words s e l fault made =
     let k : NamedDirective d = directed d in
     let read : directive_read (Some d) words ≡ Ok s = ap (λ o. judged o (directive_made d words)) fault ∙ ap (λ x. Ok x) made in
     let told : statement_read (directive_text d) words ≡ directive_read (directive_named (directive_text d)) words =
-        ap (λ (t : Bool). if t then directive_read (directive_named (directive_text d)) words else instruction_read (mnemonic_named (directive_text d)) words) k.dot in
+    ap (λ (t : Bool). if t then directive_read (directive_named (directive_text d)) words else instruction_read (mnemonic_named (directive_text d)) words) k.dot in
     record {
       words = Name (directive_text d) ∷ words;
       row = row_reads (directive_text d) operands words k.name e;
@@ -106,12 +102,12 @@ data_said : (item : lines.DataItem) → IsDataInRange item → IsPrintableData i
 data_said (lines.Word list) h g =
     let good = items_good list h in
     let some : many_fault (wanted.Target range.Word) (map item_word list) ≡ None =
-        one_or_more (wanted.Target range.Word) (map item_word list) (omega (arith, g.0, length-map list item_word)) ∙ good.0 in
+    one_or_more (wanted.Target range.Word) (map item_word list) (omega (arith, g.0, length-map list item_word)) ∙ good.0 in
     directive_said directives.Word (map item_operand list) (map item_word list) (lines.Data (lines.Word list)) (items_end 0 list h g.1) (items_plain list (directive_text directives.Word)) some (ap (λ l. lines.Data (lines.Word l)) good.1)
 data_said (lines.Byte list) h g =
     let good = bytes_good list h in
     let some : many_fault (wanted.Number range.Byte) (map Number list) ≡ None =
-        one_or_more (wanted.Number range.Byte) (map Number list) (omega (arith, g, length-map list Number)) ∙ good.0 in
+    one_or_more (wanted.Number range.Byte) (map Number list) (omega (arith, g, length-map list Number)) ∙ good.0 in
     directive_said directives.Byte (map signed_decimal list) (map Number list) (lines.Data (lines.Byte list)) (bytes_end 0 list h) (bytes_plain list (directive_text directives.Byte)) some (ap (λ l. lines.Data (lines.Byte l)) good.1)
 data_said (lines.Ascii bytes) h g =
     directive_said directives.Ascii (string_operand bytes ∷ []) (Text (flat_map letter_text bytes) ∷ []) (lines.Data (lines.Ascii bytes)) (text bytes) refl (rw (raw_known bytes) refl) (ap (λ l. lines.Data (lines.Ascii l)) (raw_unescaped bytes))
@@ -199,7 +195,7 @@ printed_is_read (line ∷ ls) h =
     let said : Said (statement_text line.statement) line.statement = statement_said line.statement h.0.ranges h.0.names in
     let body : List ℕ = labels_before line.labels (statement_text line.statement) in
     let cut : lines_in (printed (line ∷ ls)) ≡ body ∷ lines_in (printed ls) =
-        ap lines_in (regroup (flat_map label_text line.labels) (statement_text line.statement) (printed ls))
-        ∙ line_ends body (printed ls) (one_line line.labels (statement_text line.statement) h.0.labels said.row.one_line) in
+    ap lines_in (regroup (flat_map label_text line.labels) (statement_text line.statement) (printed ls))
+    ∙ line_ends body (printed ls) (one_line line.labels (statement_text line.statement) h.0.labels said.row.one_line) in
     ap (map (λ l. line_read (words_of l))) cut
     ∙ (λ i. line_reads line.labels (statement_text line.statement) line.statement h.0.labels said i ∷ printed_is_read ls h.1 i)

@@ -1,5 +1,5 @@
 -- Texts that are read line by line.
-use Rattle.std.proofs.Common.{◌≡◌, ◌∙◌, sym, ap, refl, arith, ℕ, zero, suc, ◌+◌, ◌≤◌, ◌<◌, List, [], ◌∷◌, ◌++◌, append_assoc, length, map, Result, Ok, Err}
+use Rattle.std.proofs.Common.{◌≡◌, ◌∙◌, sym, ap, arith, ℕ, ◌+◌, ◌≤◌, List, [], ◌∷◌, ◌++◌, append_assoc, length, map, Result, Ok, Err}
 use Rattle.std.proofs.lemmas.List.{append-nil, length-map, map-append}
 use Rattle.mips_isa.specs.declared.asm_fault.AsmKind.{AsmKind}
 use Rattle.mips_isa.specs.declared.asm_fault.AsmFault.{AsmFault}
@@ -19,7 +19,7 @@ readings_cut rest line behind e = ap (map read) e
 pub line_more : (lines : List declared_line.Line) (next : declared_line.Line) (rest line behind : List ℕ) (total : List (Result Line AsmKind)) → lines_in rest ≡ line ∷ lines_in behind → line_read (words_of line) ≡ Ok (line_of next) → map Ok (lines_of lines) ++ readings rest ≡ total → map Ok (lines_of (lines ++ next ∷ [])) ++ readings behind ≡ total
 line_more lines next rest line behind total e f inv =
     let split : map Ok (lines_of (lines ++ next ∷ [])) ≡ map Ok (lines_of lines) ++ Ok (line_of next) ∷ [] =
-        ap (map Ok) (map-append line_of lines (next ∷ [])) ∙ map-append Ok (lines_of lines) (line_of next ∷ []) in
+    ap (map Ok) (map-append line_of lines (next ∷ [])) ∙ map-append Ok (lines_of lines) (line_of next ∷ []) in
     let one : readings rest ≡ Ok (line_of next) ∷ readings behind = readings_cut rest line behind e ∙ ap (λ r. r ∷ readings behind) f in
     ap (λ l. l ++ readings behind) split ∙ (append_assoc (map Ok (lines_of lines)) (Ok (line_of next) ∷ []) (readings behind) ∙ (ap (λ l. map Ok (lines_of lines) ++ l) (sym one) ∙ inv))
 

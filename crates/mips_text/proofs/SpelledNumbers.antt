@@ -1,8 +1,8 @@
 -- Decimal numbers spell their values.
 use Rattle.std.proofs.Common.{◌≡◌, ◌∙◌, sym, ap, subst, refl, arith, ℕ, zero, suc, ◌+◌, ◌-◌, ◌*◌, ◌/◌, ◌%◌, ◌^◌, ◌≤◌, ◌<◌, ℤ, pos, negsuc, Bool, true, false, List, [], ◌∷◌, ◌++◌, length, take, drop, nat_lt, min, if◌then◌else◌}
-use Rattle.std.specs.Prelude.{Option, Some, None, option_map, not, ◌&&◌, ◌==◌}
+use Rattle.std.specs.Prelude.{Some, None, option_map, not, ◌&&◌, ◌==◌}
 use Rattle.std.specs.Option.{option_or}
-use Rattle.std.specs.List.{fold, list_all, prefix_len}
+use Rattle.std.specs.List.{list_all, prefix_len}
 use Rattle.std.specs.Char.{is_ascii_digit}
 use Rattle.std.specs.Fmt.{decimal, signed_decimal}
 use Rattle.std.proofs.lemmas.Fmt.{decimal_by_steps}
@@ -16,7 +16,7 @@ use Rattle.mips_text.specs.declared.span.Span.TheVariants as span
 use Rattle.mips_text.specs.declared.numbers.TheConstants.{LARGEST}
 use Rattle.mips_text.specs.Letters.{class_of, name_rest}
 use Rattle.mips_text.specs.Words.{Word, Number, Front, capped, digit_value, value, words_of}
-use Rattle.mips_text.specs.Fronts.{Magnitude, decimal_found, decimal_of, digits_front, front_found, hexadecimal_found, magnitude_found, minus_front, takes}
+use Rattle.mips_text.specs.Fronts.{decimal_found, decimal_of, digits_front, hexadecimal_found, magnitude_found, minus_front, takes}
 use Rattle.mips_text.proofs.SpelledWords.{Spells, all_in_line, both_hold, breaks, in_line, prefix_stop, stops, word_here}
 
 -- decimal digits, one at the least, and their value
@@ -90,7 +90,7 @@ magnitude_read n ds rest h g =
     let size : prefix_len (takes span.Digits) (ds ++ rest) ≡ length ds = prefix_stop is_ascii_digit ds rest h.digits (digits_stop rest g) in
     let found : decimal_found (ds ++ rest) ≡ decimal_of (length ds) (ds ++ rest) = ap (λ k. decimal_of k (ds ++ rest)) size in
     let some : decimal_of (length ds) (ds ++ rest) ≡ Some (record { value = value 10 (take (length ds) (ds ++ rest)); size = length ds }) =
-        ap (λ (t : Bool). if t then Some (record { value = value 10 (take (length ds) (ds ++ rest)); size = length ds }) else None) (left (length ds) h.some) in
+    ap (λ (t : Bool). if t then Some (record { value = value 10 (take (length ds) (ds ++ rest)); size = length ds }) else None) (left (length ds) h.some) in
     ap (λ o. option_or o (decimal_found (ds ++ rest))) (no_hexadecimal ds rest h.digits h.some g)
     ∙ (found ∙ (some ∙ ap (λ v. Some (record { value = v; size = length ds })) (ap (value 10) (take-append_seam ds rest) ∙ h.value_is)))
 

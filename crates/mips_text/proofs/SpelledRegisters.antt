@@ -1,6 +1,6 @@
 -- Registers spell themselves, and so do operands in memory.
-use Rattle.std.proofs.Common.{◌≡◌, ◌∙◌, sym, ap, subst, refl, arith, ℕ, zero, suc, ◌+◌, ◌≤◌, ◌<◌, ℤ, Bool, true, false, List, [], ◌∷◌, ◌++◌, append_assoc, length, take, codes, nat_lt, if◌then◌else◌}
-use Rattle.std.specs.Prelude.{Option, Some, None, not, ◌&&◌}
+use Rattle.std.proofs.Common.{◌≡◌, ◌∙◌, ap, refl, arith, ℕ, zero, suc, ◌<◌, ℤ, Bool, true, List, [], ◌∷◌, ◌++◌, append_assoc, length, take, nat_lt, if◌then◌else◌}
+use Rattle.std.specs.Prelude.{Some, None, not, ◌&&◌}
 use Rattle.std.specs.List.{list_all, prefix_len}
 use Rattle.std.specs.Char.{is_ascii_alphanumeric}
 use Rattle.std.specs.Fmt.{signed_decimal}
@@ -14,7 +14,7 @@ use Rattle.mips_text.specs.Names.{register_text}
 use Rattle.mips_text.specs.Operands.{register_named}
 use Rattle.mips_text.specs.Printing.{memory_operand}
 use Rattle.mips_text.specs.Spelling.{register_operand}
-use Rattle.mips_text.specs.Words.{Word, Number, Register, Open, Close, Front, words_of}
+use Rattle.mips_text.specs.Words.{Word, Number, Register, Open, Close, words_of}
 use Rattle.mips_text.specs.Fronts.{register_front, takes}
 use Rattle.mips_text.proofs.SpelledWords.{Spells, all_in_line, breaks, in_line, prefix_stop, stops, word_here}
 use Rattle.mips_text.proofs.SpelledNumbers.{IsSmall, number_spells}

@@ -1,6 +1,6 @@
 -- Strings in their quotes spell their bytes.
-use Rattle.std.proofs.Common.{◌≡◌, ◌∙◌, sym, ap, subst, refl, arith, ℕ, zero, suc, ◌+◌, ◌≤◌, ◌<◌, Bool, true, false, List, [], ◌∷◌, ◌++◌, append_assoc, length, take, map, flat_map, codes, length-append, if◌then◌else◌}
-use Rattle.std.specs.Prelude.{Option, Some, None, option_map, not, ◌&&◌, ◌==◌}
+use Rattle.std.proofs.Common.{◌≡◌, ◌∙◌, sym, ap, refl, arith, ℕ, ◌+◌, Bool, true, false, List, [], ◌∷◌, ◌++◌, append_assoc, length, take, flat_map, length-append, if◌then◌else◌}
+use Rattle.std.specs.Prelude.{Some, option_map, not, ◌&&◌, ◌==◌}
 use Rattle.std.specs.List.{list_all}
 use Rattle.std.proofs.lemmas.List.Folds.{list_all-append}
 use Rattle.std.proofs.Math.Seq.{take-append_seam}
@@ -8,10 +8,10 @@ use Rattle.std.proofs.lemmas.Bool.Decides.{nat_tests}
 use Rattle.mips_text.specs.declared.class.Start.TheVariants as start
 use Rattle.mips_text.specs.Spelling.{letter_text}
 use Rattle.mips_text.specs.Printing.{string_operand}
-use Rattle.mips_text.specs.Strings.{all_known, closes_string, is_known, letter, opens_escape, unescaped}
-use Rattle.mips_text.specs.Words.{Word, Text, Front, words_of}
+use Rattle.mips_text.specs.Strings.{all_known, is_known, letter, unescaped}
+use Rattle.mips_text.specs.Words.{Text, words_of}
 use Rattle.mips_text.specs.Fronts.{closing_quote, text_front}
-use Rattle.mips_text.proofs.SpelledWords.{Spells, breaks, in_line, word_here}
+use Rattle.mips_text.proofs.SpelledWords.{Spells, in_line, word_here}
 
 -- how a byte is spelled: as an escape, or as itself
 data Letter (b : ℕ) : Type 0 where
@@ -83,7 +83,7 @@ string_read bytes rest =
     let group : (raw bytes ++ (34 ∷ [])) ++ rest ≡ raw bytes ++ (34 ∷ rest) = append_assoc (raw bytes) (34 ∷ []) rest in
     let size : length (raw bytes) + 1 ≡ length (raw bytes ++ (34 ∷ [])) = omega (arith, length-append (raw bytes) (34 ∷ [])) in
     let found : closing_quote false 0 ((raw bytes ++ (34 ∷ [])) ++ rest) ≡ Some (length (raw bytes)) =
-        ap (closing_quote false 0) group ∙ (quote_found bytes rest 0 ∙ ap (λ p. Some p) (let z : 0 + length (raw bytes) ≡ length (raw bytes) = omega arith in z)) in
+    ap (closing_quote false 0) group ∙ (quote_found bytes rest 0 ∙ ap (λ p. Some p) (let z : 0 + length (raw bytes) ≡ length (raw bytes) = omega arith in z)) in
     let text : take (length (raw bytes)) ((raw bytes ++ (34 ∷ [])) ++ rest) ≡ raw bytes = ap (take (length (raw bytes))) group ∙ take-append_seam (raw bytes) (34 ∷ rest) in
     word_here start.Text 34 (raw bytes ++ (34 ∷ [])) rest (Text (raw bytes)) refl
     (ap (option_map (text_front ((raw bytes ++ (34 ∷ [])) ++ rest))) found ∙ (λ i. Some (record { word = Text (text i); after = size i })))

@@ -1,8 +1,7 @@
 -- Texts that spell words, up to where a word ends.
-use Rattle.std.proofs.Common.{◌≡◌, ◌∙◌, sym, ap, subst, refl, arith, ℕ, zero, suc, ◌+◌, ◌-◌, ◌≤◌, ◌<◌, Bool, true, false, List, [], ◌∷◌, ◌++◌, length, take, drop, nat_lt, if◌then◌else◌}
-use Rattle.std.specs.Prelude.{Option, Some, None, not, ◌&&◌, ◌==◌}
+use Rattle.std.proofs.Common.{◌≡◌, ◌∙◌, ap, refl, arith, ℕ, suc, Bool, true, false, List, [], ◌∷◌, ◌++◌, length}
+use Rattle.std.specs.Prelude.{Some, not, ◌&&◌, ◌==◌}
 use Rattle.std.specs.List.{list_all, prefix_len}
-use Rattle.std.specs.Char.{is_ascii_digit, is_ascii_alphanumeric}
 use Rattle.std.proofs.Math.Seq.{take-append_seam, drop-append_seam}
 use Rattle.std.proofs.lemmas.Bool.Decides.{nat_tests}
 use Rattle.mips_text.specs.declared.class.Class.TheVariants as class
@@ -11,7 +10,7 @@ use Rattle.mips_text.specs.declared.class.Start.TheVariants as start
 use Rattle.mips_text.specs.declared.span.Span.TheVariants as span
 use Rattle.mips_text.specs.Letters.{class_of, name_rest, name_start}
 use Rattle.mips_text.specs.Names.{is_name}
-use Rattle.mips_text.specs.Words.{Word, Name, Front, front, with_class, with_front, words_behind, words_of}
+use Rattle.mips_text.specs.Words.{Word, Name, front, with_class, with_front, words_behind, words_of}
 use Rattle.mips_text.specs.Fronts.{front_found, name_front, takes}
 use Rattle.mips_text.proofs.FrontsAreLongest.{front_is}
 use Rattle.mips_text.proofs.Prefixes.{prefix_no, prefix_yes}

@@ -1,5 +1,5 @@
 -- The numbers of the lines that are read are in their ranges.
-use Rattle.std.proofs.Common.{◌≡◌, ◌∙◌, sym, ap, subst, refl, arith, ℕ, zero, suc, ℤ, pos, negsuc, ◌+◌, ◌≤◌, ◌<◌, Bool, true, false, List, [], ◌∷◌, length, map, nat_lt, if◌then◌else◌, Result, Ok, Err}
+use Rattle.std.proofs.Common.{◌≡◌, subst, refl, arith, ℕ, ℤ, pos, negsuc, ◌+◌, ◌≤◌, ◌<◌, Bool, true, false, List, [], ◌∷◌, length, map, nat_lt, if◌then◌else◌, Result, Ok, Err}
 use Rattle.std.specs.Prelude.{Option, Some, None, bytes_eq}
 use Rattle.std.specs.List.{AllByRecursion, slice_get}
 use Rattle.std.specs.Option.{option_or}
@@ -25,8 +25,8 @@ use Rattle.mips_text.specs.Operands.{is_within, number_texts, place_from, regist
 use Rattle.mips_text.specs.Names.{directive_named, mnemonic_named, register_texts}
 use Rattle.mips_text.specs.Statements.{byte_made, directive_fault, directive_made, imm_range, instruction_made, instruction_operands, item_made, item_or, jalr_made, kept, memory_made, name_at, name_of, natural, number_at, number_of, has_open, register_at, register_of, register_or_zero, to_jump, to_one, to_two}
 use Rattle.mips_text.specs.Operands.{row_fault}
-use Rattle.mips_text.specs.Reading.{begins_with_dot, directive_read, instruction_read, judged, line_read, lines_in, readings, Reads, rest_read, statement_read, with_label, without_label}
-use Rattle.mips_text.specs.Words.{Word, Name, Number, Register, Text, Colon, Open, Close, Stray, words_of}
+use Rattle.mips_text.specs.Reading.{begins_with_dot, directive_read, instruction_read, judged, line_read, lines_in, Reads, rest_read, statement_read, with_label, without_label}
+use Rattle.mips_text.specs.Words.{Word, Name, Register, Colon, words_of}
 
 -- Registers
 

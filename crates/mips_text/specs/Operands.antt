@@ -1,5 +1,5 @@
 -- The operands of statements, and the fault of the first word that is none: `docs/assembly.md`, Statements and Faults.
-use Rattle.std.specs.Prelude.{ℕ, ◌+◌, ℤ, pos, negsuc, nat_lt, nat_le, Bool, true, false, if◌then◌else◌, bytes_eq, List, [], ◌∷◌, codes, Option, Some, None, is_some}
+use Rattle.std.specs.Prelude.{ℕ, ◌+◌, ℤ, pos, negsuc, nat_lt, nat_le, Bool, false, if◌then◌else◌, bytes_eq, List, [], ◌∷◌, codes, Option, Some, None, is_some}
 use Rattle.std.specs.Option.{option_or}
 use Rattle.mips_isa.specs.declared.address_map.TheConstants.{MOST_DATA_BYTES}
 use Rattle.mips_isa.specs.declared.asm_fault.AsmKind.{AsmKind}
@@ -10,7 +10,7 @@ use Rattle.mips_text.specs.declared.wanted.Wanted.{Wanted}
 use Rattle.mips_text.specs.declared.wanted.Wanted.TheVariants as wanted
 use Rattle.mips_text.specs.Names.{register_texts}
 use Rattle.mips_text.specs.Strings.{all_known}
-use Rattle.mips_text.specs.Words.{Word, Name, Number, Register, Text, Colon, Open, Close, Stray}
+use Rattle.mips_text.specs.Words.{Word, Name, Number, Register, Text, Open, Close, Stray}
 
 -- the numbers of registers, in decimal without leading zeros
 abbrev pub number_texts : List (List ℕ)

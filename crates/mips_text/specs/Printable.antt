@@ -1,6 +1,6 @@
 -- The lines that can be printed so that reading what was printed gives them again: their numbers are in their ranges, their names are
 -- names, and `.word` and `.byte` have an operand.
-use Rattle.std.specs.Prelude.{◌≡◌, ◌<◌, ℕ, true, List, length}
+use Rattle.std.specs.Prelude.{◌≡◌, ◌<◌, true, List, length}
 use Rattle.std.specs.List.{AllByRecursion}
 use Rattle.mips_isa.specs.Assembly.{names_of_instruction, names_of_items}
 use Rattle.mips_isa.specs.Lines.{Name, AsmDirective, ToText, ToData, Globl, Align, DataItem, Word, Byte, Ascii, Asciiz, Space, Statement, Empty, Instruction, Data, Directive, Line, IsInRange}

@@ -22,7 +22,7 @@ use Rattle.mips_text.specs.declared.wanted.Wanted.{Wanted}
 use Rattle.mips_text.specs.declared.wanted.Wanted.TheVariants as wanted
 use Rattle.mips_text.specs.Operands.{register_named, is_within, row_fault, many_fault}
 use Rattle.mips_text.specs.Strings.{unescaped}
-use Rattle.mips_text.specs.Words.{Word, Name, Number, Register, Text, Colon, Open, Close, Stray}
+use Rattle.mips_text.specs.Words.{Word, Name, Number, Register, Text, Colon, Open}
 
 -- Operands by their places
 

@@ -1,5 +1,4 @@
 -- The code's words and fronts as those of the definition.
-use Rattle.std.specs.Prelude.{ℕ, Option, List, pos}
 use Rattle.mips_text.specs.declared.words.Word as declared_word
 use Rattle.mips_text.specs.declared.words.Word.TheVariants as words
 use Rattle.mips_text.specs.declared.fronts.Found as declared_found

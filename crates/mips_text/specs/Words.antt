@@ -1,6 +1,6 @@
 -- The words of a line: which bytes are a word as a whole, the longest word at a place, and all words of a line up to its end, to a
 -- comment, or to the first byte that begins none. The rule is in `docs/assembly.md`, Lines.
-use Rattle.std.specs.Prelude.{◌≡◌, refl, ℕ, zero, suc, ◌+◌, ◌-◌, ◌*◌, ◌≤◌, min, ℤ, pos, negsuc, Bool, true, false, not, ◌&&◌, ◌==◌, nat_le, nat_lt, if◌then◌else◌, List, [], ◌∷◌, length, take, codes, Option, Some, None, option_map}
+use Rattle.std.specs.Prelude.{◌≡◌, refl, ℕ, zero, suc, ◌+◌, ◌-◌, ◌*◌, ◌≤◌, min, ℤ, pos, negsuc, Bool, false, ◌&&◌, ◌==◌, nat_le, nat_lt, if◌then◌else◌, List, [], ◌∷◌, length, take, codes, Option, Some, None, option_map}
 use Rattle.std.specs.Option.{option_or}
 use Rattle.std.specs.List.{fold, list_all}
 use Rattle.std.specs.Char.{is_ascii_digit, is_ascii_alphanumeric}
@@ -10,7 +10,7 @@ use Rattle.mips_text.specs.declared.class.Start.{Start}
 use Rattle.mips_text.specs.declared.class.Start.TheVariants as start
 use Rattle.mips_text.specs.declared.numbers.TheConstants.{LARGEST}
 use Rattle.mips_text.specs.Strings.{closes_string, opens_escape}
-use Rattle.mips_text.specs.Letters.{name_rest, hex_digit, start_of, class_of}
+use Rattle.mips_text.specs.Letters.{name_rest, hex_digit, class_of}
 
 pub data Word : Type 0 where
   Name : (bytes : List ℕ) → Word

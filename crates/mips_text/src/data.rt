@@ -15,9 +15,13 @@ use mips_isa::{AsmDirective, AsmKind, DataItem, Label, Statement, WordItem};
 use std::alloc::{AllocError, Global};
 
 static NOTHING: [Wanted; 0] = [];
+
 static NAME: [Wanted; 1] = [Wanted::Name];
+
 static TEXT: [Wanted; 1] = [Wanted::Text];
+
 static SPACE: [Wanted; 1] = [Wanted::Number(Range::Space)];
+
 static POWER: [Wanted; 1] = [Wanted::Number(Range::Power)];
 
 /// The first fault of the words behind a directive.

@@ -17,38 +17,50 @@ use mips_isa::{AsmInstr, ImmOp, Instr, JumpOp, Label, MemOp, OneOp, Reg, TwoOp};
 use std::alloc::{AllocError, Global};
 
 static NOTHING: [Wanted; 0] = [];
+
 static ONE: [Wanted; 1] = [Wanted::Register];
+
 static TWO: [Wanted; 2] = [Wanted::Register, Wanted::Register];
+
 static THREE: [Wanted; 3] = [Wanted::Register, Wanted::Register, Wanted::Register];
+
 static SHIFT: [Wanted; 3] = [
     Wanted::Register,
     Wanted::Register,
     Wanted::Number(Range::Shift),
 ];
+
 static SIGNED: [Wanted; 3] = [
     Wanted::Register,
     Wanted::Register,
     Wanted::Number(Range::Signed),
 ];
+
 static UNSIGNED: [Wanted; 3] = [
     Wanted::Register,
     Wanted::Register,
     Wanted::Number(Range::Unsigned),
 ];
+
 static UPPER: [Wanted; 2] = [Wanted::Register, Wanted::Number(Range::Unsigned)];
+
 static BRANCH_TWO: [Wanted; 3] = [
     Wanted::Register,
     Wanted::Register,
     Wanted::Target(Range::Signed),
 ];
+
 static BRANCH_ONE: [Wanted; 2] = [Wanted::Register, Wanted::Target(Range::Signed)];
+
 static JUMP: [Wanted; 1] = [Wanted::Target(Range::Index)];
+
 static BARE_MEMORY: [Wanted; 4] = [
     Wanted::Register,
     Wanted::Open,
     Wanted::Register,
     Wanted::Close,
 ];
+
 static MEMORY: [Wanted; 5] = [
     Wanted::Register,
     Wanted::Number(Range::Signed),
@@ -56,9 +68,13 @@ static MEMORY: [Wanted; 5] = [
     Wanted::Register,
     Wanted::Close,
 ];
+
 static LOAD: [Wanted; 2] = [Wanted::Register, Wanted::Number(Range::Word)];
+
 static NAME: [Wanted; 1] = [Wanted::Name];
+
 static ONE_NAME: [Wanted; 2] = [Wanted::Register, Wanted::Name];
+
 static TWO_NAME: [Wanted; 3] = [Wanted::Register, Wanted::Register, Wanted::Name];
 
 /// The operands that a mnemonic wants, where these words stand behind it.

@@ -100,8 +100,6 @@ fn read_instruction(
     };
     match row_fault(instruction_operands(mnemonic, words), words) {
         Some(kind) => Err(Flaw::Fault(kind)),
-        None => Ok(Statement::Instruction(instruction(
-            alloc, mnemonic, words,
-        )?)),
+        None => Ok(Statement::Instruction(instruction(alloc, mnemonic, words)?)),
     }
 }

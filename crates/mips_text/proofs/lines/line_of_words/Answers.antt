@@ -1,6 +1,5 @@
-use Rattle.std.proofs.Common.{◌≡◌, ◌++◌, ◌∷◌, [], ◌∙◌, sym, ap, subst, true, false, List, map, take, drop, length, ◌-◌, arith, rules, Result, Ok, Err}
-use Rattle.mips_isa.specs.declared.asm_fault.AsmKind.{AsmKind}
-use Rattle.mips_isa.specs.Lines.{statement_of, line_of}
+use Rattle.std.proofs.Common.{◌≡◌, ◌++◌, ◌∷◌, [], ◌∙◌, sym, ap, subst, true, false, List, map, arith, rules, Err}
+use Rattle.mips_isa.specs.Lines.{statement_of}
 use Rattle.mips_text.specs.Answers.{Meets}
 use Rattle.mips_text.specs.Reading.{has_label, line_read, rest_read}
 use Rattle.mips_text.specs.Statements.{label_at}

@@ -1,4 +1,4 @@
-use Rattle.std.proofs.Common.{◌≡◌, sym, ap, ◌∙◌, arith, ◌<◌, length}
+use Rattle.std.proofs.Common.{sym, ◌∙◌, arith}
 use Rattle.std.specs.Prelude.{option_map}
 use Rattle.mips_text.specs.Views.{found_seen, word_seen}
 use Rattle.mips_text.proofs.WordsBehind.{word_first}
