@@ -9,6 +9,7 @@ mod data;
 mod directives;
 mod flaw;
 mod fronts;
+mod instruction_operands;
 mod instructions;
 mod laws;
 mod letters;
