@@ -4,3 +4,4 @@ pub mod LoadingBytes
 pub mod LoadsAnswer
 pub mod StringsOfBytes
 pub mod FindingInstructions
+pub mod GrowingStacks

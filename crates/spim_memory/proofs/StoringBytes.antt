@@ -72,8 +72,8 @@ writes_four seen first n one l i v size within =
     ∙ ap (λ m. set_byte m (first + (i + 1)) (v / 256 % 256)) (one l i (v % 256) size (omega arith)))))
 
 -- a byte, a half or a word that is written into a list is stored at its address
-pub stored_byte : (seen : List ℕ → Bytes) (first : ℕ) (l : List ℕ) (before : Bytes) (a i v : ℕ) → Writes seen first (length l) → seen l ≡ before → a ≡ first + i → i < length l → seen (slice_set l i v) ≡ set_byte before a v
-stored_byte seen first l before a i v one was place within = rw (sym was, place) (one l i v refl within)
+pub stored_byte : (seen : List ℕ → Bytes) (first : ℕ) (l new : List ℕ) (before : Bytes) (a i v : ℕ) → Writes seen first (length l) → seen l ≡ before → a ≡ first + i → i < length l → new ≡ slice_set l i v → seen new ≡ set_byte before a v
+stored_byte seen first l new before a i v one was place within is = rw (sym was, place, is) (one l i v refl within)
 
 pub stored_half : (seen : List ℕ → Bytes) (first : ℕ) (l new : List ℕ) (before : Bytes) (a i v : ℕ) → Writes seen first (length l) → seen l ≡ before → a ≡ first + i → i + 2 ≤ length l → new ≡ set_two l i v → seen new ≡ set_half before a v
 stored_half seen first l new before a i v one was place within is =

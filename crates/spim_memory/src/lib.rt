@@ -5,9 +5,11 @@
 #![tactic(auto)]
 
 mod fault;
+mod heap_bytes;
 mod limits;
 mod little_endian;
 mod memory;
+mod stack_bytes;
 
 pub use fault::MemFault;
 pub use limits::Limits;

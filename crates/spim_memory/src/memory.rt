@@ -10,7 +10,9 @@ ghost use Rattle.spim_memory.specs.Places.{IsPlace, IsTextWord, IsTextFrom, whol
 
 mod strings;
 
+use crate::heap_bytes::HeapBytes;
 use crate::little_endian::{read_half, read_word, write_half, write_word};
+use crate::stack_bytes::StackBytes;
 use crate::{Limits, MemFault};
 use mips_isa::{DATA_START, HEAP_START, Image, Instr, STACK_END, TEXT_START, decode};
 use std::alloc::{AllocError, Global};
@@ -19,7 +21,8 @@ use std::marker::Model;
 /// A word of text takes 20 bytes more where it is decoded.
 const _: () = prove!(size_of::<Option<Instr>>() == 20);
 
-/// The segments: text that is only read, and bytes of data, heap and stack.
+/// The segments: text that is only read, and bytes of data, heap and stack. Heap and stack are zeros that take no time before
+/// they are written.
 ///
 /// The instructions are those of the words of the text, in their order.
 #[derive(Drop)]
@@ -27,8 +30,8 @@ pub struct Memory {
     text: Vec<u32>,
     instructions: Vec<Option<Instr>>,
     static_bytes: Vec<u8>,
-    heap: Vec<u8>,
-    stack: Vec<u8>,
+    heap: HeapBytes,
+    stack: StackBytes,
 }
 
 impl Model for Memory {
@@ -38,9 +41,9 @@ impl Model for Memory {
 
     ghost Value = { MemoryParts };
 
-    ghost view = { λ m. record { text = m.text.items; static_bytes = m.static_bytes.items; heap = m.heap.items; stack = m.stack.items } };
+    ghost view = { λ m. record { text = m.text.items; static_bytes = m.static_bytes.items; heap = m.heap; stack = m.stack } };
 
-    ghost invariant = { λ m. IsMemory (record { text = m.text.items; static_bytes = m.static_bytes.items; heap = m.heap.items; stack = m.stack.items }) × (m.instructions.items ≡ map decoded m.text.items) };
+    ghost invariant = { λ m. IsMemory (record { text = m.text.items; static_bytes = m.static_bytes.items; heap = m.heap; stack = m.stack }) × (m.instructions.items ≡ map decoded m.text.items) };
 }
 
 /// A segment that may be stored, and an offset in it.
@@ -91,8 +94,8 @@ impl Memory {
             text: Vec::from_slice(alloc, &image.text)?,
             instructions: decoded_words(alloc, &image.text)?,
             static_bytes: padded(alloc, &image.bytes)?,
-            heap: zeros(alloc, limits.heap as usize)?,
-            stack: zeros(alloc, limits.stack as usize)?,
+            heap: HeapBytes::zeros(alloc, limits.heap as usize)?,
+            stack: StackBytes::zeros(alloc, limits.stack as usize)?,
         })
     }
 
@@ -167,8 +170,8 @@ impl Memory {
     {
         match self.place(a) {
             Some(Place::StaticBytes(offset)) => Ok(self.static_bytes[offset]),
-            Some(Place::Heap(offset)) => Ok(self.heap[offset]),
-            Some(Place::Stack(offset)) => Ok(self.stack[offset]),
+            Some(Place::Heap(offset)) => Ok(self.heap.byte(offset)),
+            Some(Place::Stack(offset)) => Ok(self.stack.byte(offset)),
             None => Ok((self.text_from(a)? % 0x100) as u8),
         }
     }
@@ -185,8 +188,8 @@ impl Memory {
         }
         match self.place(a) {
             Some(Place::StaticBytes(offset)) => Ok(read_half(&self.static_bytes, offset)),
-            Some(Place::Heap(offset)) => Ok(read_half(&self.heap, offset)),
-            Some(Place::Stack(offset)) => Ok(read_half(&self.stack, offset)),
+            Some(Place::Heap(offset)) => Ok(self.heap.half(offset)),
+            Some(Place::Stack(offset)) => Ok(self.stack.half(offset)),
             None => Ok((self.text_from(a)? % 0x1_0000) as u16),
         }
     }
@@ -203,8 +206,8 @@ impl Memory {
         }
         match self.place(a) {
             Some(Place::StaticBytes(offset)) => Ok(read_word(&self.static_bytes, offset)),
-            Some(Place::Heap(offset)) => Ok(read_word(&self.heap, offset)),
-            Some(Place::Stack(offset)) => Ok(read_word(&self.stack, offset)),
+            Some(Place::Heap(offset)) => Ok(self.heap.word(offset)),
+            Some(Place::Stack(offset)) => Ok(self.stack.word(offset)),
             None => self.text_from(a),
         }
     }
@@ -219,8 +222,8 @@ impl Memory {
     {
         match self.place(a) {
             Some(Place::StaticBytes(offset)) => self.static_bytes[offset] = v,
-            Some(Place::Heap(offset)) => self.heap[offset] = v,
-            Some(Place::Stack(offset)) => self.stack[offset] = v,
+            Some(Place::Heap(offset)) => self.heap.set_byte(offset, v),
+            Some(Place::Stack(offset)) => self.stack.set_byte(offset, v),
             None => return Err(MemFault::BadAddress(a)),
         }
         Ok(())
@@ -242,8 +245,8 @@ impl Memory {
         }
         match self.place(a) {
             Some(Place::StaticBytes(offset)) => write_half(&mut self.static_bytes, offset, v),
-            Some(Place::Heap(offset)) => write_half(&mut self.heap, offset, v),
-            Some(Place::Stack(offset)) => write_half(&mut self.stack, offset, v),
+            Some(Place::Heap(offset)) => self.heap.set_half(offset, v),
+            Some(Place::Stack(offset)) => self.stack.set_half(offset, v),
             None => return Err(MemFault::BadAddress(a)),
         }
         Ok(())
@@ -265,8 +268,8 @@ impl Memory {
         }
         match self.place(a) {
             Some(Place::StaticBytes(offset)) => write_word(&mut self.static_bytes, offset, v),
-            Some(Place::Heap(offset)) => write_word(&mut self.heap, offset, v),
-            Some(Place::Stack(offset)) => write_word(&mut self.stack, offset, v),
+            Some(Place::Heap(offset)) => self.heap.set_word(offset, v),
+            Some(Place::Stack(offset)) => self.stack.set_word(offset, v),
             None => return Err(MemFault::BadAddress(a)),
         }
         Ok(())

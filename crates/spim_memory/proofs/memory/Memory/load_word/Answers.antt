@@ -13,15 +13,15 @@ pub returns-in-Some-Heap : goal.returns-in-Some-Heap
 returns-in-Some-Heap c =
     let found = c.in-Some-Heap in
     let at = rw found.field-0-is at found.ensures in
-    let same = c.deref-in-Some-Heap.ensures.value ∙ ap (λ parts. parts.heap) c.self.view_is in
-    word_of_heap c.args.self.now _ c.args.a found.offset _ (same_memory _ _ c.self.view_is c.self.invariant.0) (omega (arith, c.if-a-ne0.false)) at same c.read_word-in-Some-Heap.ensures
+    let same = ap (λ parts. parts.heap) c.self.view_is in
+    word_of_heap c.args.self.now _ c.args.a found.offset _ (same_memory _ _ c.self.view_is c.self.invariant.0) (omega (arith, c.if-a-ne0.false)) at same c.word.ensures
 
 pub returns-in-Some-Stack : goal.returns-in-Some-Stack
 returns-in-Some-Stack c =
     let found = c.in-Some-Stack in
     let at = rw found.field-0-is at found.ensures in
-    let same = c.deref-in-Some-Stack.ensures.value ∙ ap (λ parts. parts.stack) c.self.view_is in
-    word_of_stack c.args.self.now _ c.args.a found.offset _ (same_memory _ _ c.self.view_is c.self.invariant.0) (omega (arith, c.if-a-ne0.false)) at same c.read_word-in-Some-Stack.ensures
+    let same = ap (λ parts. parts.stack) c.self.view_is in
+    word_of_stack c.args.self.now _ c.args.a found.offset _ (same_memory _ _ c.self.view_is c.self.invariant.0) (omega (arith, c.if-a-ne0.false)) at same c.word-in-Some-Stack.ensures
 
 pub returns-in-None : goal.returns-in-None
 returns-in-None c =

@@ -1,4 +1,4 @@
-use Rattle.std.proofs.Common.{ap, length, ◌-◌, arith}
+use Rattle.std.proofs.Common.{refl, ap, length, ◌-◌, arith}
 use Rattle.mips_isa.specs.declared.address_map.TheConstants.{DATA_START, HEAP_START, STACK_END}
 use Rattle.spim_memory.specs.Memory.{bytes_of}
 use Rattle.spim_memory.proofs.StoringBytes.{writes_static, writes_heap, writes_stack, stored_byte}
@@ -10,8 +10,8 @@ returns-in-Some-StaticBytes-clause-stored c =
     let at = rw found.field-0-is at found.ensures in
     let m = c.self.inside in
     let size = ap (λ parts. length parts.static_bytes) c.self.view_is in
-    stored_byte (λ d. bytes_of (record { text = m.text.items; static_bytes = d; heap = m.heap.items; stack = m.stack.items })) DATA_START m.static_bytes.items _ c.args.a found.offset c.args.v
-    (writes_static m.text.items m.heap.items m.stack.items _ c.self.invariant.0.static_bytes) (ap bytes_of c.self.view_is) (omega (arith, at.0, size)) (omega (arith, at.1, size))
+    stored_byte (λ d. bytes_of (record { text = m.text.items; static_bytes = d; heap = m.heap; stack = m.stack })) DATA_START m.static_bytes.items _ _ c.args.a found.offset c.args.v
+    (writes_static m.text.items m.heap m.stack _ c.self.invariant.0.static_bytes) (ap bytes_of c.self.view_is) (omega (arith, at.0, size)) (omega (arith, at.1, size)) refl
 
 pub returns-in-Some-Heap-clause-stored : goal.returns-in-Some-Heap-clause-stored
 returns-in-Some-Heap-clause-stored c =
@@ -19,8 +19,8 @@ returns-in-Some-Heap-clause-stored c =
     let at = rw found.field-0-is at found.ensures in
     let m = c.self.inside in
     let size = ap (λ parts. length parts.heap) c.self.view_is in
-    stored_byte (λ h. bytes_of (record { text = m.text.items; static_bytes = m.static_bytes.items; heap = h; stack = m.stack.items })) HEAP_START m.heap.items _ c.args.a found.offset c.args.v
-    (writes_heap m.text.items m.static_bytes.items m.stack.items _ c.self.invariant.0.heap c.self.invariant.0.stack) (ap bytes_of c.self.view_is) (omega (arith, at.0, size)) (omega (arith, at.1, size))
+    stored_byte (λ h. bytes_of (record { text = m.text.items; static_bytes = m.static_bytes.items; heap = h; stack = m.stack })) HEAP_START m.heap _ _ c.args.a found.offset c.args.v
+    (writes_heap m.text.items m.static_bytes.items m.stack _ c.self.invariant.0.heap c.self.invariant.0.stack) (ap bytes_of c.self.view_is) (omega (arith, at.0, size)) (omega (arith, at.1, size)) c.set_byte.ensures
 
 pub returns-in-Some-Stack-clause-stored : goal.returns-in-Some-Stack-clause-stored
 returns-in-Some-Stack-clause-stored c =
@@ -28,5 +28,5 @@ returns-in-Some-Stack-clause-stored c =
     let at = rw found.field-0-is at found.ensures in
     let m = c.self.inside in
     let size = ap (λ parts. length parts.stack) c.self.view_is in
-    stored_byte (λ s. bytes_of (record { text = m.text.items; static_bytes = m.static_bytes.items; heap = m.heap.items; stack = s })) (STACK_END - length m.stack.items) m.stack.items _ c.args.a found.offset c.args.v
-    (writes_stack m.text.items m.static_bytes.items m.heap.items _ c.self.invariant.0.stack) (ap bytes_of c.self.view_is) (omega (arith, at.0, size)) (omega (arith, at.1, size))
+    stored_byte (λ s. bytes_of (record { text = m.text.items; static_bytes = m.static_bytes.items; heap = m.heap; stack = s })) (STACK_END - length m.stack) m.stack _ _ c.args.a found.offset c.args.v
+    (writes_stack m.text.items m.static_bytes.items m.heap _ c.self.invariant.0.stack) (ap bytes_of c.self.view_is) (omega (arith, at.0, size)) (omega (arith, at.1, size)) c.set_byte-in-Some-Stack.ensures

@@ -13,8 +13,8 @@ returns-in-Some-StaticBytes-clause-stored c =
     let size = ap (λ parts. length parts.static_bytes) c.self.view_is in
     let same = c.deref_mut.ensures.value in
     let new = written m.static_bytes _ _ _ same c.write_word.ensures (length_four _ found.offset c.args.v) ∙ ap (λ bytes. set_four bytes found.offset c.args.v) same in
-    stored_word (λ d. bytes_of (record { text = m.text.items; static_bytes = d; heap = m.heap.items; stack = m.stack.items })) DATA_START m.static_bytes.items _ _ c.args.a found.offset c.args.v
-    (writes_static m.text.items m.heap.items m.stack.items _ c.self.invariant.0.static_bytes) (ap bytes_of c.self.view_is) (omega (arith, at.0, size)) (omega (arith, at.0, at.1, size, c.if-a-ne0.false, c.self.invariant.0.static_words)) new
+    stored_word (λ d. bytes_of (record { text = m.text.items; static_bytes = d; heap = m.heap; stack = m.stack })) DATA_START m.static_bytes.items _ _ c.args.a found.offset c.args.v
+    (writes_static m.text.items m.heap m.stack _ c.self.invariant.0.static_bytes) (ap bytes_of c.self.view_is) (omega (arith, at.0, size)) (omega (arith, at.0, at.1, size, c.if-a-ne0.false, c.self.invariant.0.static_words)) new
 
 pub returns-in-Some-Heap-clause-stored : goal.returns-in-Some-Heap-clause-stored
 returns-in-Some-Heap-clause-stored c =
@@ -22,10 +22,8 @@ returns-in-Some-Heap-clause-stored c =
     let at = rw found.field-0-is at found.ensures in
     let m = c.self.inside in
     let size = ap (λ parts. length parts.heap) c.self.view_is in
-    let same = c.deref_mut-in-Some-Heap.ensures.value in
-    let new = written m.heap _ _ _ same c.write_word-in-Some-Heap.ensures (length_four _ found.offset c.args.v) ∙ ap (λ bytes. set_four bytes found.offset c.args.v) same in
-    stored_word (λ h. bytes_of (record { text = m.text.items; static_bytes = m.static_bytes.items; heap = h; stack = m.stack.items })) HEAP_START m.heap.items _ _ c.args.a found.offset c.args.v
-    (writes_heap m.text.items m.static_bytes.items m.stack.items _ c.self.invariant.0.heap c.self.invariant.0.stack) (ap bytes_of c.self.view_is) (omega (arith, at.0, size)) (omega (arith, at.0, at.1, size, c.if-a-ne0.false, c.self.invariant.0.heap_words)) new
+    stored_word (λ h. bytes_of (record { text = m.text.items; static_bytes = m.static_bytes.items; heap = h; stack = m.stack })) HEAP_START m.heap _ _ c.args.a found.offset c.args.v
+    (writes_heap m.text.items m.static_bytes.items m.stack _ c.self.invariant.0.heap c.self.invariant.0.stack) (ap bytes_of c.self.view_is) (omega (arith, at.0, size)) (omega (arith, at.0, at.1, size, c.if-a-ne0.false, c.self.invariant.0.heap_words)) c.set_word.ensures
 
 pub returns-in-Some-Stack-clause-stored : goal.returns-in-Some-Stack-clause-stored
 returns-in-Some-Stack-clause-stored c =
@@ -33,7 +31,5 @@ returns-in-Some-Stack-clause-stored c =
     let at = rw found.field-0-is at found.ensures in
     let m = c.self.inside in
     let size = ap (λ parts. length parts.stack) c.self.view_is in
-    let same = c.deref_mut-in-Some-Stack.ensures.value in
-    let new = written m.stack _ _ _ same c.write_word-in-Some-Stack.ensures (length_four _ found.offset c.args.v) ∙ ap (λ bytes. set_four bytes found.offset c.args.v) same in
-    stored_word (λ s. bytes_of (record { text = m.text.items; static_bytes = m.static_bytes.items; heap = m.heap.items; stack = s })) (STACK_END - length m.stack.items) m.stack.items _ _ c.args.a found.offset c.args.v
-    (writes_stack m.text.items m.static_bytes.items m.heap.items _ c.self.invariant.0.stack) (ap bytes_of c.self.view_is) (omega (arith, at.0, size)) (omega (arith, at.0, at.1, size, c.if-a-ne0.false, c.self.invariant.0.stack_words)) new
+    stored_word (λ s. bytes_of (record { text = m.text.items; static_bytes = m.static_bytes.items; heap = m.heap; stack = s })) (STACK_END - length m.stack) m.stack _ _ c.args.a found.offset c.args.v
+    (writes_stack m.text.items m.static_bytes.items m.heap _ c.self.invariant.0.stack) (ap bytes_of c.self.view_is) (omega (arith, at.0, size)) (omega (arith, at.0, at.1, size, c.if-a-ne0.false, c.self.invariant.0.stack_words)) c.set_word-in-Some-Stack.ensures

@@ -1,0 +1,147 @@
+//! The bytes of a heap, which are zeros until they are written.
+
+ghost use Rattle.std.specs.Prelude.{◌≡◌, ◌+◌, ◌%◌, ◌<◌, ◌≤◌, length, replicate, get_or, slice_set, vec_capacity, IfOk};
+ghost use Rattle.spim_memory.specs.Places.{set_two, set_four};
+ghost use Rattle.spim_memory.specs.Zeros.{and_zeros, IsPart, two_at, four_at};
+
+use crate::little_endian::{read_half, read_word, write_half, write_word};
+use std::alloc::{AllocError, Global};
+use std::marker::Model;
+
+/// How many bytes of a heap are written at once.
+const PAGE: usize = 4096;
+
+/// The bytes of a heap. Those from some byte on are zeros, and take no time before they are written.
+///
+/// The memory for all of them is taken at the start.
+#[derive(Drop)]
+pub(crate) struct HeapBytes {
+    written: Vec<u8>,
+    size: usize,
+}
+
+impl Model for HeapBytes {
+    ghost use Rattle.std.specs.Prelude.{List, ℕ, vec_capacity};
+    ghost use Rattle.spim_memory.specs.Zeros.{and_zeros, IsPart};
+
+    ghost Value = { List ℕ };
+
+    ghost view = { λ b. and_zeros b.written.items b.size };
+
+    ghost invariant = { λ b. IsPart b.written.items (vec_capacity b.written) b.size };
+}
+
+/// Writes zeros, so that the byte at an offset is a written one.
+#[inline(never)]
+fn reach(written: &mut Vec<u8>, size: usize, offset: usize)
+    requires part { IsPart written.old.items (vec_capacity written.old) size }
+    requires inside { offset < size }
+    requires zero { length written.old.items ≤ offset }
+    ensures part { IsPart written.new.items (vec_capacity written.new) size }
+    ensures reached { offset < length written.new.items }
+    ensures kept { and_zeros written.new.items size ≡ and_zeros written.old.items size }
+{
+    let end = (offset / PAGE * PAGE + PAGE).min(size);
+    let Ok(()) = written.resize(end, 0) else {
+        unreachable!();
+    };
+}
+
+impl HeapBytes {
+    /// So many zeros. `Err` comes only for want of memory.
+    pub(crate) fn zeros(alloc: Global, size: usize) -> Result<HeapBytes, AllocError>
+        requires { size % 4 ≡ 0 }
+        ensures { IfOk result (λ bytes. bytes ≡ replicate size 0) }
+    {
+        Ok(HeapBytes {
+            written: Vec::with_capacity(alloc, size)?,
+            size,
+        })
+    }
+
+    /// How many bytes there are.
+    pub(crate) fn len(&self) -> usize
+        ensures { result ≡ length self.now }
+    {
+        self.size
+    }
+
+    /// The byte at an offset.
+    #[inline(always)]
+    pub(crate) fn byte(&self, offset: usize) -> u8
+        requires { offset < length self.now }
+        ensures { result ≡ get_or self.now offset 0 }
+    {
+        if offset < self.written.len() {
+            self.written[offset]
+        } else {
+            0
+        }
+    }
+
+    /// The half at an offset.
+    #[inline(always)]
+    pub(crate) fn half(&self, offset: usize) -> u16
+        requires even { offset % 2 ≡ 0 }
+        requires inside { offset + 2 ≤ length self.now }
+        ensures { result ≡ two_at self.now offset }
+    {
+        if offset < self.written.len() {
+            read_half(&self.written, offset)
+        } else {
+            0
+        }
+    }
+
+    /// The word at an offset.
+    #[inline(always)]
+    pub(crate) fn word(&self, offset: usize) -> u32
+        requires even { offset % 4 ≡ 0 }
+        requires inside { offset + 4 ≤ length self.now }
+        ensures { result ≡ four_at self.now offset }
+    {
+        if offset < self.written.len() {
+            read_word(&self.written, offset)
+        } else {
+            0
+        }
+    }
+
+    /// Writes a byte at an offset.
+    #[inline(always)]
+    pub(crate) fn set_byte(&mut self, offset: usize, v: u8)
+        requires { offset < length self.old }
+        ensures { self.new ≡ slice_set self.old offset v }
+    {
+        if self.written.len() <= offset {
+            reach(&mut self.written, self.size, offset);
+        }
+        self.written[offset] = v;
+    }
+
+    /// Writes a half at an offset.
+    #[inline(always)]
+    pub(crate) fn set_half(&mut self, offset: usize, v: u16)
+        requires even { offset % 2 ≡ 0 }
+        requires inside { offset + 2 ≤ length self.old }
+        ensures { self.new ≡ set_two self.old offset v }
+    {
+        if self.written.len() <= offset {
+            reach(&mut self.written, self.size, offset);
+        }
+        write_half(&mut self.written, offset, v);
+    }
+
+    /// Writes a word at an offset.
+    #[inline(always)]
+    pub(crate) fn set_word(&mut self, offset: usize, v: u32)
+        requires even { offset % 4 ≡ 0 }
+        requires inside { offset + 4 ≤ length self.old }
+        ensures { self.new ≡ set_four self.old offset v }
+    {
+        if self.written.len() <= offset {
+            reach(&mut self.written, self.size, offset);
+        }
+        write_word(&mut self.written, offset, v);
+    }
+}
