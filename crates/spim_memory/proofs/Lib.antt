@@ -3,5 +3,5 @@ pub mod MakingBytes
 pub mod LoadingBytes
 pub mod LoadsAnswer
 pub mod StringsOfBytes
-pub mod FindingInstructions
+pub mod DecodedInRange
 pub mod GrowingStacks

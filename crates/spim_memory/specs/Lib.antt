@@ -1,4 +1,5 @@
 pub mod Memory
+pub mod Operations
 pub mod Places
 pub mod Strings
 pub mod Zeros

@@ -9,8 +9,10 @@ mod heap_bytes;
 mod limits;
 mod little_endian;
 mod memory;
+mod operation;
 mod stack_bytes;
 
 pub use fault::MemFault;
 pub use limits::Limits;
 pub use memory::Memory;
+pub use operation::Operation;

@@ -1,34 +1,34 @@
 //! Loads and stores.
 
-ghost use Rattle.std.specs.Prelude.{◌≡◌, ◌<◌, map, replicate, IfOk, IfSome, OnOk, OnErr};
+ghost use Rattle.std.specs.Prelude.{◌≡◌, ◌<◌, replicate, IfOk, IfSome, OnOk, OnErr};
 ghost use Rattle.mips_isa.specs.Words.{InRange};
 ghost use Rattle.mips_isa.specs.Decoding.{decoded};
 ghost use Rattle.mips_isa.specs.Bytes.{half, word, set_byte, set_half, set_word, readable, writable, lies, segments_of, bytes_of_image};
 ghost use Rattle.mips_isa.specs.Machine.{word_of_text};
 ghost use Rattle.spim_memory.specs.Memory.{segments, bytes_of, accessed, IsLimits};
+ghost use Rattle.spim_memory.specs.Operations.{AreOf};
 ghost use Rattle.spim_memory.specs.Places.{IsPlace, IsTextWord, IsTextFrom, whole_words};
 
 mod strings;
 
 use crate::heap_bytes::HeapBytes;
 use crate::little_endian::{read_half, read_word, write_half, write_word};
+use crate::operation::operation_of;
 use crate::stack_bytes::StackBytes;
-use crate::{Limits, MemFault};
+use crate::{Limits, MemFault, Operation};
 use mips_isa::{DATA_START, HEAP_START, Image, Instr, STACK_END, TEXT_START, decode};
 use std::alloc::{AllocError, Global};
 use std::marker::Model;
-
-/// A word of text takes 20 bytes more where it is decoded.
-const _: () = prove!(size_of::<Option<Instr>>() == 20);
+use std::mem::replace;
 
 /// The segments: text that is only read, and bytes of data, heap and stack. Heap and stack are zeros that take no time before
 /// they are written.
 ///
-/// The instructions are those of the words of the text, in their order.
+/// The operations are those of the words of the text, in their order, or none while they are taken out.
 #[derive(Drop)]
 pub struct Memory {
     text: Vec<u32>,
-    instructions: Vec<Option<Instr>>,
+    operations: Vec<Operation>,
     static_bytes: Vec<u8>,
     heap: HeapBytes,
     stack: StackBytes,
@@ -36,14 +36,13 @@ pub struct Memory {
 
 impl Model for Memory {
     ghost use Rattle.spim_memory.specs.Memory.{MemoryParts, IsMemory};
-    ghost use Rattle.std.specs.Prelude.{◌≡◌, map};
-    ghost use Rattle.mips_isa.specs.Decoding.{decoded};
+    ghost use Rattle.spim_memory.specs.Operations.{AreOf};
 
     ghost Value = { MemoryParts };
 
     ghost view = { λ m. record { text = m.text.items; static_bytes = m.static_bytes.items; heap = m.heap; stack = m.stack } };
 
-    ghost invariant = { λ m. IsMemory (record { text = m.text.items; static_bytes = m.static_bytes.items; heap = m.heap; stack = m.stack }) × (m.instructions.items ≡ map decoded m.text.items) };
+    ghost invariant = { λ m. IsMemory (record { text = m.text.items; static_bytes = m.static_bytes.items; heap = m.heap; stack = m.stack }) × AreOf m.operations.items m.text.items };
 }
 
 /// A segment that may be stored, and an offset in it.
@@ -72,17 +71,17 @@ fn padded(alloc: Global, bytes: &[u8]) -> Result<Vec<u8>, AllocError>
     Ok(words)
 }
 
-/// The instruction of each word, or `None` for a word that is that of no instruction.
-fn decoded_words(alloc: Global, words: &[u32]) -> Result<Vec<Option<Instr>>, AllocError>
-    ensures { IfOk result (λ all. all.items ≡ map decoded words.now) }
+/// The operation of each word.
+fn operations_of(alloc: Global, words: &[u32]) -> Result<Vec<Operation>, AllocError>
+    ensures { IfOk result (λ all. AreOf all.items words.now) }
 {
-    words.iter().map(|word| decode(*word)).collect(alloc)
+    words.iter().map(|word| operation_of(*word)).collect(alloc)
 }
 
 impl Memory {
     /// The memory of an image: its text, its data, padded with zeros to a word, and a heap and a stack of zeros.
     ///
-    /// The text is decoded here, once for a run, which takes 20 bytes for a word of text beside the word's own 4.
+    /// The text is decoded here, once for a run, which takes 8 bytes for a word of text beside the word's own 4.
     /// All memory of a run is taken here. `Err` comes only for want of it.
     pub fn make(alloc: Global, image: &Image, limits: Limits) -> Result<Memory, AllocError>
         requires { IsLimits limits.heap limits.stack }
@@ -92,7 +91,7 @@ impl Memory {
     {
         Ok(Memory {
             text: Vec::from_slice(alloc, &image.text)?,
-            instructions: decoded_words(alloc, &image.text)?,
+            operations: operations_of(alloc, &image.text)?,
             static_bytes: padded(alloc, &image.bytes)?,
             heap: HeapBytes::zeros(alloc, limits.heap as usize)?,
             stack: StackBytes::zeros(alloc, limits.stack as usize)?,
@@ -156,11 +155,28 @@ impl Memory {
         if a % 4 != 0 {
             return Err(MemFault::Unaligned(a));
         }
-        let offset = a.wrapping_sub(TEXT_START) as usize;
-        match self.instructions.get(offset / 4) {
-            Some(found) => Ok(*found),
+        match self.text_word(a) {
+            Some(word) => Ok(decode(word)),
             None => Err(MemFault::BadAddress(a)),
         }
+    }
+
+    /// Takes out the operations of the first words, in their order: those of all words, unless they are taken out already. Let
+    /// them be put back.
+    pub fn take_operations(&mut self) -> Vec<Operation>
+        ensures operations { AreOf result.items self.old.text }
+        ensures kept { self.new ≡ self.old }
+    {
+        let alloc = *self.operations.allocator();
+        replace(&mut self.operations, Vec::new(alloc))
+    }
+
+    /// Puts operations of the first words back.
+    pub fn put_operations(&mut self, operations: Vec<Operation>)
+        requires { AreOf operations.items self.old.text }
+        ensures { self.new ≡ self.old }
+    {
+        self.operations = operations;
     }
 
     /// The byte at an address. `BadAddress` comes where no segment is.
