@@ -3,3 +3,4 @@ pub mod SignedDivision
 pub mod Registers
 pub mod Stepping
 pub mod Starting
+pub mod Advancing

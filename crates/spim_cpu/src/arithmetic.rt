@@ -4,7 +4,7 @@ ghost use Rattle.std.specs.Prelude.{◌≡◌, ◌<◌, ◌+◌, ◌*◌, ◌/�
 ghost use Rattle.mips_isa.specs.Words.{bits_of};
 ghost use Rattle.mips_isa.specs.Machine as machine;
 
-use mips_isa::{DATA_START, ImmOp, OneOp, ShiftOp, ShiftRegOp, ThreeOp, TwoOp};
+use mips_isa::{DATA_START, ImmOp, OneOp, ShiftOp, ThreeOp, TwoOp};
 
 /// What a product or a quotient leaves in HI and in LO.
 #[derive(Clone, Copy)]
@@ -71,17 +71,6 @@ pub fn shift_result(op: ShiftOp, a: u32, by: u32) -> u32
         ShiftOp::Sll => a << by,
         ShiftOp::Srl => a >> by,
         ShiftOp::Sra => (a.cast_signed() >> by).cast_unsigned(),
-    }
-}
-
-/// The shift by a number that a shift by a register makes.
-pub fn shift_of(op: ShiftRegOp) -> ShiftOp
-    ensures { result ≡ machine.shift_of op }
-{
-    match op {
-        ShiftRegOp::Sllv => ShiftOp::Sll,
-        ShiftRegOp::Srlv => ShiftOp::Srl,
-        ShiftRegOp::Srav => ShiftOp::Sra,
     }
 }
 

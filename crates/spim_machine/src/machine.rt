@@ -83,7 +83,10 @@ impl Machine {
         if let Some(halt) = self.halted {
             return halt;
         }
-        for _ in 0..budget {
+        let mut left = budget;
+        while left > 0 {
+            left -= 1;
+            left -= self.cpu.advance(left);
             match self.cycle(source, sink) {
                 Ok(()) => {}
                 Err(halt) => {

@@ -1,12 +1,13 @@
 //! Loads and stores.
 
-ghost use Rattle.std.specs.Prelude.{◌≡◌, ◌<◌, replicate, IfOk, IfSome, OnOk, OnErr};
+ghost use Rattle.std.specs.Prelude.{◌≡◌, ◌<◌, ◌≤◌, length, replicate, Ok, Err, IfOk, IfErr, IfSome, OnOk, OnErr};
+ghost use Rattle.mips_isa.specs.declared.address_map.TheConstants.{MOST_TEXT_WORDS};
 ghost use Rattle.mips_isa.specs.Words.{InRange};
 ghost use Rattle.mips_isa.specs.Decoding.{decoded};
 ghost use Rattle.mips_isa.specs.Bytes.{half, word, set_byte, set_half, set_word, readable, writable, lies, segments_of, bytes_of_image};
 ghost use Rattle.mips_isa.specs.Machine.{word_of_text};
 ghost use Rattle.spim_memory.specs.Memory.{segments, bytes_of, accessed, IsLimits};
-ghost use Rattle.spim_memory.specs.Operations.{AreOf};
+ghost use Rattle.spim_memory.specs.Operations.{instr_of, AreOf};
 ghost use Rattle.spim_memory.specs.Places.{IsPlace, IsTextWord, IsTextFrom, whole_words};
 
 mod strings;
@@ -161,10 +162,29 @@ impl Memory {
         }
     }
 
+    /// The operation at an address.
+    ///
+    /// `Unaligned` comes where the address is no multiple of 4, and `BadAddress` where no word of the text is.
+    pub fn operation(&self, a: u32) -> Result<Operation, MemFault>
+        ensures operation { IfOk result (λ found. accessed 4 (lies TEXT_START (segments self.now).text_end a 4) a (decoded (word_of_text self.now.text a)) ≡ Ok (instr_of found)) }
+        ensures fault { IfErr result (λ fault. accessed 4 (lies TEXT_START (segments self.now).text_end a 4) a (decoded (word_of_text self.now.text a)) ≡ Err fault) }
+        ensures range { IfOk result (λ found. IfSome (instr_of found) InRange) }
+        ensures below { OnOk result (a < DATA_START) }
+    {
+        if a % 4 != 0 {
+            return Err(MemFault::Unaligned(a));
+        }
+        match self.text_word(a) {
+            Some(word) => Ok(operation_of(word)),
+            None => Err(MemFault::BadAddress(a)),
+        }
+    }
+
     /// Takes out the operations of the first words, in their order: those of all words, unless they are taken out already. Let
     /// them be put back.
     pub fn take_operations(&mut self) -> Vec<Operation>
         ensures operations { AreOf result.items self.old.text }
+        ensures few { length result.items ≤ MOST_TEXT_WORDS }
         ensures kept { self.new ≡ self.old }
     {
         let alloc = *self.operations.allocator();

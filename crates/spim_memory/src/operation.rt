@@ -73,7 +73,8 @@ pub enum Operation {
 
 /// The operation of a word.
 pub(crate) fn operation_of(word: u32) -> Operation
-    ensures { instr_of result ≡ decoded word }
+    ensures value { instr_of result ≡ decoded word }
+    ensures range { IfSome (instr_of result) InRange }
 {
     match decode(word) {
         None => Operation::Unknown,

@@ -1,0 +1,40 @@
+use Rattle.std.proofs.Common.{◌≡◌, ◌∙◌, ◌≤◌, ap, sym, subst, List, length, arith}
+use Rattle.mips_isa.specs.Bytes.{Segments}
+use Rattle.mips_isa.specs.Machine.{act_or_none, On}
+use Rattle.spim_memory.specs.Memory.{segments}
+use Rattle.spim_memory.specs.Operations.{instr_of, AreOf}
+use Rattle.spim_memory.specs.declared.operation.Operation.{Operation}
+use Rattle.spim_cpu.specs.Cpu.{CpuParts, core_of}
+use Rattle.spim_cpu.specs.Advancing.{at}
+use Rattle.spim_cpu.proofs.Advancing.{goes_on}
+use Rattle.spim_cpu.proofs.Stepping.{steps_by, operation_in_range}
+use Rattle.spim_cpu.proofs.cpu.Cpu.advance.Goals as goal
+
+pub operate-requires-clause-range : goal.operate-requires-clause-range
+operate-requires-clause-range c =
+    let taken = c.take_operations-operations.ensures in
+    let found = c.in-Some.ensures.lookup.3 in
+    let same = sym c.deref.ensures.value in
+    let are = subst (λ (all : List Operation). AreOf all c.self.inside.memory.text) same taken.operations in
+    let few = subst (λ (all : List Operation). length all ≤ 66060288) same taken.few in
+    operation_in_range c.self.inside.memory.text c.deref.result.now c.loop-count.pc c.in-Some.operation.now are few (omega arith) found.0 found.1
+
+pub loop-count-preserved : goal.loop-count-preserved
+loop-count-preserved c =
+    let i = c.loop-count.invariant in
+    let taken = c.take_operations-operations.ensures in
+    let found = c.in-Some.ensures.lookup.3 in
+    let same = sym c.deref.ensures.value in
+    let are = subst (λ (all : List Operation). AreOf all c.self.inside.memory.text) same taken.operations in
+    let few = subst (λ (all : List Operation). length all ≤ 66060288) same taken.few in
+    let text = ap (λ (q : CpuParts). q.memory.text) c.self.view_is in
+    let pc = c.loop-count.pc in
+    let core = core_of c.loop-count.self in
+    let next = at c.in-Ok.next (core_of c.operate.new.self) in
+    let steps = steps_by c.args.self.now.memory c.self.inside.memory.text c.deref.result.now pc core c.in-Some.operation.now are text few (omega arith) (omega (arith, c.if-pc-ne0.false)) found.0 found.1 in
+    let acted = subst (λ (b : Segments). act_or_none b (instr_of c.in-Some.operation.now) (at pc core) ≡ On next) i.keeps.segments c.in-Ok.ensures.acted in
+    record {
+      goes = goes_on c.args.self.now.memory.text (segments c.args.self.now.memory) c.loop-count.count (core_of c.args.self.now) (at pc core) next i.goes (steps ∙ acted);
+      keeps = record { text = c.in-Ok.ensures.segments.text ∙ i.keeps.text; segments = c.in-Ok.ensures.segments.segments ∙ i.keeps.segments };
+      most = omega (arith, c.loop-count-test.true);
+    }
