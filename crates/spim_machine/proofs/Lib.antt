@@ -13,3 +13,4 @@ pub mod CallsByNumber
 pub mod Cycles
 pub mod RunsGoOn
 pub mod RunsByCycles
+pub mod AdvancesAreRuns

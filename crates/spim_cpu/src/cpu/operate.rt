@@ -10,12 +10,15 @@ ghost use Rattle.spim_cpu.specs.Cpu.{core_of, KeepsSegments, moved_to};
 ghost use Rattle.spim_cpu.specs.Advancing.{Acted, at};
 
 use crate::arithmetic::{
-    branch_target, division, imm_result, jump_target, one_result, place_of_access, product, shift_result, signed_division, signed_product,
-    three_result, two_result,
+    branch_target, division, imm_result, jump_target, one_result, place_of_access, product,
+    shift_result, signed_division, signed_product, three_result, two_result,
 };
 use crate::{Cpu, Step};
 use mips_isa::register::RA;
-use mips_isa::{DATA_START, FromOp, ImmOp, MemOp, MulDivOp, OneOp, ShiftOp, ThreeOp, ToOp, Trap, TrapKind, TwoOp};
+use mips_isa::{
+    DATA_START, FromOp, ImmOp, MemOp, MulDivOp, OneOp, ShiftOp, ThreeOp, ToOp, Trap, TrapKind,
+    TwoOp,
+};
 use spim_memory::Operation;
 
 impl Cpu {
@@ -35,22 +38,86 @@ impl Cpu {
                 address: pc,
                 pc,
             })),
-            Operation::Add { rd, rs, rt } => self.put_or_overflow(rd, three_result(ThreeOp::Add, self.read(rs), self.read(rt)), pc),
-            Operation::Addu { rd, rs, rt } => self.put_or_overflow(rd, three_result(ThreeOp::Addu, self.read(rs), self.read(rt)), pc),
-            Operation::Sub { rd, rs, rt } => self.put_or_overflow(rd, three_result(ThreeOp::Sub, self.read(rs), self.read(rt)), pc),
-            Operation::Subu { rd, rs, rt } => self.put_or_overflow(rd, three_result(ThreeOp::Subu, self.read(rs), self.read(rt)), pc),
-            Operation::And { rd, rs, rt } => self.put_or_overflow(rd, three_result(ThreeOp::And, self.read(rs), self.read(rt)), pc),
-            Operation::Or { rd, rs, rt } => self.put_or_overflow(rd, three_result(ThreeOp::Or, self.read(rs), self.read(rt)), pc),
-            Operation::Xor { rd, rs, rt } => self.put_or_overflow(rd, three_result(ThreeOp::Xor, self.read(rs), self.read(rt)), pc),
-            Operation::Nor { rd, rs, rt } => self.put_or_overflow(rd, three_result(ThreeOp::Nor, self.read(rs), self.read(rt)), pc),
-            Operation::Slt { rd, rs, rt } => self.put_or_overflow(rd, three_result(ThreeOp::Slt, self.read(rs), self.read(rt)), pc),
-            Operation::Sltu { rd, rs, rt } => self.put_or_overflow(rd, three_result(ThreeOp::Sltu, self.read(rs), self.read(rt)), pc),
-            Operation::Sll { rd, rt, sh } => self.put(rd, shift_result(ShiftOp::Sll, self.read(rt), u32::from(sh)), pc),
-            Operation::Srl { rd, rt, sh } => self.put(rd, shift_result(ShiftOp::Srl, self.read(rt), u32::from(sh)), pc),
-            Operation::Sra { rd, rt, sh } => self.put(rd, shift_result(ShiftOp::Sra, self.read(rt), u32::from(sh)), pc),
-            Operation::Sllv { rd, rt, rs } => self.put(rd, shift_result(ShiftOp::Sll, self.read(rt), self.read(rs) % 32), pc),
-            Operation::Srlv { rd, rt, rs } => self.put(rd, shift_result(ShiftOp::Srl, self.read(rt), self.read(rs) % 32), pc),
-            Operation::Srav { rd, rt, rs } => self.put(rd, shift_result(ShiftOp::Sra, self.read(rt), self.read(rs) % 32), pc),
+            Operation::Add { rd, rs, rt } => self.put_or_overflow(
+                rd,
+                three_result(ThreeOp::Add, self.read(rs), self.read(rt)),
+                pc,
+            ),
+            Operation::Addu { rd, rs, rt } => self.put_or_overflow(
+                rd,
+                three_result(ThreeOp::Addu, self.read(rs), self.read(rt)),
+                pc,
+            ),
+            Operation::Sub { rd, rs, rt } => self.put_or_overflow(
+                rd,
+                three_result(ThreeOp::Sub, self.read(rs), self.read(rt)),
+                pc,
+            ),
+            Operation::Subu { rd, rs, rt } => self.put_or_overflow(
+                rd,
+                three_result(ThreeOp::Subu, self.read(rs), self.read(rt)),
+                pc,
+            ),
+            Operation::And { rd, rs, rt } => self.put_or_overflow(
+                rd,
+                three_result(ThreeOp::And, self.read(rs), self.read(rt)),
+                pc,
+            ),
+            Operation::Or { rd, rs, rt } => self.put_or_overflow(
+                rd,
+                three_result(ThreeOp::Or, self.read(rs), self.read(rt)),
+                pc,
+            ),
+            Operation::Xor { rd, rs, rt } => self.put_or_overflow(
+                rd,
+                three_result(ThreeOp::Xor, self.read(rs), self.read(rt)),
+                pc,
+            ),
+            Operation::Nor { rd, rs, rt } => self.put_or_overflow(
+                rd,
+                three_result(ThreeOp::Nor, self.read(rs), self.read(rt)),
+                pc,
+            ),
+            Operation::Slt { rd, rs, rt } => self.put_or_overflow(
+                rd,
+                three_result(ThreeOp::Slt, self.read(rs), self.read(rt)),
+                pc,
+            ),
+            Operation::Sltu { rd, rs, rt } => self.put_or_overflow(
+                rd,
+                three_result(ThreeOp::Sltu, self.read(rs), self.read(rt)),
+                pc,
+            ),
+            Operation::Sll { rd, rt, sh } => self.put(
+                rd,
+                shift_result(ShiftOp::Sll, self.read(rt), u32::from(sh)),
+                pc,
+            ),
+            Operation::Srl { rd, rt, sh } => self.put(
+                rd,
+                shift_result(ShiftOp::Srl, self.read(rt), u32::from(sh)),
+                pc,
+            ),
+            Operation::Sra { rd, rt, sh } => self.put(
+                rd,
+                shift_result(ShiftOp::Sra, self.read(rt), u32::from(sh)),
+                pc,
+            ),
+            Operation::Sllv { rd, rt, rs } => self.put(
+                rd,
+                shift_result(ShiftOp::Sll, self.read(rt), self.read(rs) % 32),
+                pc,
+            ),
+            Operation::Srlv { rd, rt, rs } => self.put(
+                rd,
+                shift_result(ShiftOp::Srl, self.read(rt), self.read(rs) % 32),
+                pc,
+            ),
+            Operation::Srav { rd, rt, rs } => self.put(
+                rd,
+                shift_result(ShiftOp::Sra, self.read(rt), self.read(rs) % 32),
+                pc,
+            ),
             Operation::Jr { rs } => Ok(self.read(rs)),
             Operation::Jalr { rd, rs } => self.go_with_return(rd, self.read(rs), pc),
             Operation::Syscall => Err(Step::Call),
@@ -58,34 +125,146 @@ impl Cpu {
             Operation::Mflo { rd } => self.move_from(FromOp::Mflo, rd, pc),
             Operation::Mthi { rs } => self.move_to(ToOp::Mthi, self.read(rs), pc),
             Operation::Mtlo { rs } => self.move_to(ToOp::Mtlo, self.read(rs), pc),
-            Operation::Mult { rs, rt } => self.mul_div(MulDivOp::Mult, self.read(rs), self.read(rt), pc),
-            Operation::Multu { rs, rt } => self.mul_div(MulDivOp::Multu, self.read(rs), self.read(rt), pc),
-            Operation::Div { rs, rt } => self.mul_div(MulDivOp::Div, self.read(rs), self.read(rt), pc),
-            Operation::Divu { rs, rt } => self.mul_div(MulDivOp::Divu, self.read(rs), self.read(rt), pc),
-            Operation::Addi { rt, rs, imm } => self.put_or_overflow(rt, imm_result(ImmOp::Addi, self.read(rs), i32::from(imm).cast_unsigned()), pc),
-            Operation::Addiu { rt, rs, imm } => self.put_or_overflow(rt, imm_result(ImmOp::Addiu, self.read(rs), i32::from(imm).cast_unsigned()), pc),
-            Operation::Slti { rt, rs, imm } => self.put_or_overflow(rt, imm_result(ImmOp::Slti, self.read(rs), i32::from(imm).cast_unsigned()), pc),
-            Operation::Sltiu { rt, rs, imm } => self.put_or_overflow(rt, imm_result(ImmOp::Sltiu, self.read(rs), i32::from(imm).cast_unsigned()), pc),
-            Operation::Andi { rt, rs, imm } => self.put_or_overflow(rt, imm_result(ImmOp::Andi, self.read(rs), u32::from(imm)), pc),
-            Operation::Ori { rt, rs, imm } => self.put_or_overflow(rt, imm_result(ImmOp::Ori, self.read(rs), u32::from(imm)), pc),
-            Operation::Xori { rt, rs, imm } => self.put_or_overflow(rt, imm_result(ImmOp::Xori, self.read(rs), u32::from(imm)), pc),
+            Operation::Mult { rs, rt } => self.mul_div(
+                MulDivOp::Mult,
+                self.read(rs),
+                self.read(rt),
+                pc,
+            ),
+            Operation::Multu { rs, rt } => self.mul_div(
+                MulDivOp::Multu,
+                self.read(rs),
+                self.read(rt),
+                pc,
+            ),
+            Operation::Div { rs, rt } => self.mul_div(
+                MulDivOp::Div,
+                self.read(rs),
+                self.read(rt),
+                pc,
+            ),
+            Operation::Divu { rs, rt } => self.mul_div(
+                MulDivOp::Divu,
+                self.read(rs),
+                self.read(rt),
+                pc,
+            ),
+            Operation::Addi { rt, rs, imm } => self.put_or_overflow(
+                rt,
+                imm_result(ImmOp::Addi, self.read(rs), i32::from(imm).cast_unsigned()),
+                pc,
+            ),
+            Operation::Addiu { rt, rs, imm } => self.put_or_overflow(
+                rt,
+                imm_result(ImmOp::Addiu, self.read(rs), i32::from(imm).cast_unsigned()),
+                pc,
+            ),
+            Operation::Slti { rt, rs, imm } => self.put_or_overflow(
+                rt,
+                imm_result(ImmOp::Slti, self.read(rs), i32::from(imm).cast_unsigned()),
+                pc,
+            ),
+            Operation::Sltiu { rt, rs, imm } => self.put_or_overflow(
+                rt,
+                imm_result(ImmOp::Sltiu, self.read(rs), i32::from(imm).cast_unsigned()),
+                pc,
+            ),
+            Operation::Andi { rt, rs, imm } => self.put_or_overflow(
+                rt,
+                imm_result(ImmOp::Andi, self.read(rs), u32::from(imm)),
+                pc,
+            ),
+            Operation::Ori { rt, rs, imm } => self.put_or_overflow(
+                rt,
+                imm_result(ImmOp::Ori, self.read(rs), u32::from(imm)),
+                pc,
+            ),
+            Operation::Xori { rt, rs, imm } => self.put_or_overflow(
+                rt,
+                imm_result(ImmOp::Xori, self.read(rs), u32::from(imm)),
+                pc,
+            ),
             Operation::Lui { rt, imm } => self.put(rt, u32::from(imm) << 16, pc),
-            Operation::Beq { rs, rt, imm } => self.branch(two_result(TwoOp::Beq, self.read(rs), self.read(rt)), i32::from(imm), pc),
-            Operation::Bne { rs, rt, imm } => self.branch(two_result(TwoOp::Bne, self.read(rs), self.read(rt)), i32::from(imm), pc),
-            Operation::Blez { rs, imm } => self.branch(one_result(OneOp::Blez, self.read(rs)), i32::from(imm), pc),
-            Operation::Bgtz { rs, imm } => self.branch(one_result(OneOp::Bgtz, self.read(rs)), i32::from(imm), pc),
-            Operation::Bltz { rs, imm } => self.branch(one_result(OneOp::Bltz, self.read(rs)), i32::from(imm), pc),
-            Operation::Bgez { rs, imm } => self.branch(one_result(OneOp::Bgez, self.read(rs)), i32::from(imm), pc),
+            Operation::Beq { rs, rt, imm } => self.branch(
+                two_result(TwoOp::Beq, self.read(rs), self.read(rt)),
+                i32::from(imm),
+                pc,
+            ),
+            Operation::Bne { rs, rt, imm } => self.branch(
+                two_result(TwoOp::Bne, self.read(rs), self.read(rt)),
+                i32::from(imm),
+                pc,
+            ),
+            Operation::Blez { rs, imm } => self.branch(
+                one_result(OneOp::Blez, self.read(rs)),
+                i32::from(imm),
+                pc,
+            ),
+            Operation::Bgtz { rs, imm } => self.branch(
+                one_result(OneOp::Bgtz, self.read(rs)),
+                i32::from(imm),
+                pc,
+            ),
+            Operation::Bltz { rs, imm } => self.branch(
+                one_result(OneOp::Bltz, self.read(rs)),
+                i32::from(imm),
+                pc,
+            ),
+            Operation::Bgez { rs, imm } => self.branch(
+                one_result(OneOp::Bgez, self.read(rs)),
+                i32::from(imm),
+                pc,
+            ),
             Operation::J { index } => Ok(jump_target(pc, index)),
             Operation::Jal { index } => self.go_with_return(RA as u8, jump_target(pc, index), pc),
-            Operation::Lb { rt, rs, imm } => self.access(MemOp::Lb, rt, place_of_access(self.read(rs), i32::from(imm)), pc),
-            Operation::Lh { rt, rs, imm } => self.access(MemOp::Lh, rt, place_of_access(self.read(rs), i32::from(imm)), pc),
-            Operation::Lw { rt, rs, imm } => self.access(MemOp::Lw, rt, place_of_access(self.read(rs), i32::from(imm)), pc),
-            Operation::Lbu { rt, rs, imm } => self.access(MemOp::Lbu, rt, place_of_access(self.read(rs), i32::from(imm)), pc),
-            Operation::Lhu { rt, rs, imm } => self.access(MemOp::Lhu, rt, place_of_access(self.read(rs), i32::from(imm)), pc),
-            Operation::Sb { rt, rs, imm } => self.access(MemOp::Sb, rt, place_of_access(self.read(rs), i32::from(imm)), pc),
-            Operation::Sh { rt, rs, imm } => self.access(MemOp::Sh, rt, place_of_access(self.read(rs), i32::from(imm)), pc),
-            Operation::Sw { rt, rs, imm } => self.access(MemOp::Sw, rt, place_of_access(self.read(rs), i32::from(imm)), pc),
+            Operation::Lb { rt, rs, imm } => self.access(
+                MemOp::Lb,
+                rt,
+                place_of_access(self.read(rs), i32::from(imm)),
+                pc,
+            ),
+            Operation::Lh { rt, rs, imm } => self.access(
+                MemOp::Lh,
+                rt,
+                place_of_access(self.read(rs), i32::from(imm)),
+                pc,
+            ),
+            Operation::Lw { rt, rs, imm } => self.access(
+                MemOp::Lw,
+                rt,
+                place_of_access(self.read(rs), i32::from(imm)),
+                pc,
+            ),
+            Operation::Lbu { rt, rs, imm } => self.access(
+                MemOp::Lbu,
+                rt,
+                place_of_access(self.read(rs), i32::from(imm)),
+                pc,
+            ),
+            Operation::Lhu { rt, rs, imm } => self.access(
+                MemOp::Lhu,
+                rt,
+                place_of_access(self.read(rs), i32::from(imm)),
+                pc,
+            ),
+            Operation::Sb { rt, rs, imm } => self.access(
+                MemOp::Sb,
+                rt,
+                place_of_access(self.read(rs), i32::from(imm)),
+                pc,
+            ),
+            Operation::Sh { rt, rs, imm } => self.access(
+                MemOp::Sh,
+                rt,
+                place_of_access(self.read(rs), i32::from(imm)),
+                pc,
+            ),
+            Operation::Sw { rt, rs, imm } => self.access(
+                MemOp::Sw,
+                rt,
+                place_of_access(self.read(rs), i32::from(imm)),
+                pc,
+            ),
         }
     }
 
