@@ -2,7 +2,7 @@
 use Rattle.std.proofs.Common.{◌≡◌, ◌∙◌, refl, sym, ap, subst, ℕ, ◌+◌, ◌-◌, ◌*◌, ◌/◌, ◌%◌, ◌<◌, ◌≤◌, Bool, true, false, List, length, get_or, arith}
 use Rattle.std.specs.Prelude.{Option, Ok, Err, IfSome, ◌==◌, if◌then◌else◌, not}
 use Rattle.mips_isa.specs.declared.instr.Instr.{Instr}
-use Rattle.mips_isa.specs.declared.address_map.TheConstants.{TEXT_START}
+use Rattle.mips_isa.specs.declared.address_map.TheConstants.{TEXT_START, DATA_START}
 use Rattle.mips_isa.specs.Bytes.{Segments, lies}
 use Rattle.mips_isa.specs.declared.trap.TrapKind.TheVariants as kind
 use Rattle.mips_isa.specs.Words.{InRange}
@@ -15,7 +15,7 @@ use Rattle.spim_memory.specs.declared.fault.MemFault.{MemFault}
 use Rattle.spim_memory.specs.declared.fault.MemFault.TheVariants.{Unaligned, BadAddress}
 use Rattle.spim_memory.proofs.DecodedInRange.{in_range}
 use Rattle.spim_cpu.specs.Cpu.{CpuParts, core_of, Stepped}
-use Rattle.spim_cpu.specs.Advancing.{at}
+use Rattle.spim_cpu.specs.Advancing.{at, word_index}
 use Rattle.spim_cpu.specs.declared.step.Step.TheVariants as answer
 
 -- where an access answers a value, it is not refused
@@ -37,30 +37,33 @@ next_step now m o pc n same_memory same found acts =
     let here = subst (λ (q : MemoryParts). accessed 4 (lies TEXT_START (segments q).text_end pc 4) pc (decoded (word_of_text q.text pc)) ≡ Ok o) same_memory found in
     sym (ap (λ a. step now.memory.text (segments now.memory) (at a (core_of now))) same) ∙ fetched now.memory.text (segments now.memory) (at pc (core_of now)) o here ∙ acts
 
--- how far after the text's start an address is, as the machine's numbers wrap
-abbrev pub after_start : ℕ → ℕ
-after_start a = (a + 4290772992) % 4294967296
-
 -- the operation at the address of a word is that of the word
-operation_is : (text : List ℕ) (all : List Operation) (pc : ℕ) (op : Operation) → AreOf all text → length all ≤ 66060288 → pc < 4294967296
-    → after_start pc / 4 < length all → ((e : Operation) → op ≡ get_or all (after_start pc / 4) e) → (after_start pc / 4 < length text) × (instr_of op ≡ decoded (word_of_text text pc))
-operation_is text all pc op are few fits within found =
-    let here = are (after_start pc / 4) op within in
-    let index : after_start pc / 4 ≡ (pc - TEXT_START) / 4 = omega (arith, within, few, fits) in
-    (here.0, ap instr_of (found op) ∙ here.1 ∙ ap (λ i. decoded (get_or text i 0)) index)
+operation_is : (text : List ℕ) (all : List Operation) (pc i : ℕ) (op : Operation) → AreOf all text → length all ≤ 66060288 → pc < 4294967296 → i ≡ word_index pc
+    → i < length all → ((e : Operation) → op ≡ get_or all i e) → (i < length text) × (instr_of op ≡ decoded (word_of_text text pc))
+operation_is text all pc i op are few fits is within found =
+    let here = are i op within in
+    let index : i ≡ (pc - TEXT_START) / 4 = omega (arith, is, within, few, fits) in
+    (here.0, ap instr_of (found op) ∙ here.1 ∙ ap (λ k. decoded (get_or text k 0)) index)
 
 -- the step at the address of a word
-pub steps_by : (m : MemoryParts) (t : List ℕ) (all : List Operation) (pc : ℕ) (s : Core) (op : Operation) → AreOf all t → t ≡ m.text → length all ≤ 66060288 → pc < 4294967296 → pc % 4 ≡ 0
-    → after_start pc / 4 < length all → ((e : Operation) → op ≡ get_or all (after_start pc / 4) e) → step m.text (segments m) (at pc s) ≡ act_or_none (segments m) (instr_of op) (at pc s)
-steps_by m t all pc s op are same few fits even within found =
-    let here = operation_is m.text all pc op (subst (λ (words : List ℕ). AreOf all words) same are) few fits within found in
-    let may : lies TEXT_START (TEXT_START + 4 * length m.text) pc 4 ≡ true = grind (arith, here.0, within, few, fits, even) in
-    rw (even, may) (ap (λ i. act_or_none (segments m) i (at pc s)) (sym here.1))
+pub steps_by : (m : MemoryParts) (t : List ℕ) (all : List Operation) (pc i : ℕ) (s : Core) (op : Operation) → AreOf all t → t ≡ m.text → length all ≤ 66060288 → pc < 4294967296 → i ≡ word_index pc
+    → i < length all → ((e : Operation) → op ≡ get_or all i e) → step m.text (segments m) (at pc s) ≡ act_or_none (segments m) (instr_of op) (at pc s)
+steps_by m t all pc i s op are same few fits is within found =
+    let here = operation_is m.text all pc i op (subst (λ (words : List ℕ). AreOf all words) same are) few fits is within found in
+    let even : pc % 4 ≡ 0 = omega (arith, is, within, few, fits) in
+    let from : TEXT_START ≤ pc = omega (arith, is, within, few, fits) in
+    let to : pc + 4 ≤ TEXT_START + 4 * length m.text = omega (arith, here.0, is, within, few, fits) in
+    let may : lies TEXT_START (TEXT_START + 4 * length m.text) pc 4 ≡ true = grind (arith, from, to) in
+    rw (even, may) (ap (λ o. act_or_none (segments m) o (at pc s)) (sym here.1))
 
--- its operation is in range
-pub operation_in_range : (t : List ℕ) (all : List Operation) (pc : ℕ) (op : Operation) → AreOf all t → length all ≤ 66060288 → pc < 4294967296
-    → after_start pc / 4 < length all → ((e : Operation) → op ≡ get_or all (after_start pc / 4) e) → IfSome (instr_of op) InRange
-operation_in_range t all pc op are few fits within found = in_range (word_of_text t pc) (instr_of op) (operation_is t all pc op are few fits within found).1
+-- its operation is in range, and its address in the text
+pub operation_in_range : (t : List ℕ) (all : List Operation) (pc i : ℕ) (op : Operation) → AreOf all t → length all ≤ 66060288 → pc < 4294967296 → i ≡ word_index pc
+    → i < length all → ((e : Operation) → op ≡ get_or all i e) → IfSome (instr_of op) InRange
+operation_in_range t all pc i op are few fits is within found =
+    in_range (word_of_text t pc) (instr_of op) (operation_is t all pc i op are few fits is within found).1
+
+pub in_text : (all : List Operation) (pc i : ℕ) → length all ≤ 66060288 → pc < 4294967296 → i ≡ word_index pc → i < length all → pc < DATA_START
+in_text all pc i few fits is within = omega (arith, is, within, few, fits)
 
 -- what the definition does next, by a step that leads on, and by one that is a call
 led_on : (n : Next) (core : Core) (old new : CpuParts) → n ≡ On core → core_of new ≡ core → Stepped n answer.Next old new

@@ -1,5 +1,6 @@
 -- Operations one after another: what one leads to, and where so many lead.
-use Rattle.std.specs.Prelude.{◌≡◌, ℕ, zero, suc, ◌+◌, List, Result, Ok, Err}
+use Rattle.std.specs.Prelude.{◌≡◌, refl, ℕ, zero, suc, ◌+◌, ◌-◌, ◌*◌, ◌/◌, ◌%◌, List, Result, Ok, Err}
+use Rattle.mips_isa.specs.declared.address_map.TheConstants.{TEXT_START}
 use Rattle.mips_isa.specs.Bytes.{Segments}
 use Rattle.mips_isa.specs.Machine.{Core, Next, On, Call, Stop, step}
 use Rattle.spim_cpu.specs.Cpu.{CpuParts, core_of}
@@ -22,3 +23,13 @@ Acted pc next (Err (answer.Trap t)) old new = (next ≡ Stop t) × (new ≡ old)
 abbrev pub Goes : List ℕ → Segments → ℕ → Core → Core → Type 0
 Goes text b zero s t = t ≡ s
 Goes text b (suc n) s t = (before : Core) × Goes text b n s before × (step text b before ≡ On t)
+
+-- The index of the word at an address of the text: the offset from the text's start, in 32 bits, turned to the right by two.
+abbrev pub word_index : ℕ → ℕ
+word_index a = (a + 4294967296 - TEXT_START) % 4294967296 / 4 + (a + 4294967296 - TEXT_START) % 4294967296 % 4 * 1073741824
+
+second_word : word_index 0x00400004 ≡ 1
+second_word = refl
+
+no_word : word_index 0x00400006 ≡ 0x80000001
+no_word = refl

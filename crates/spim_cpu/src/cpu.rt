@@ -1,12 +1,12 @@
 //! The processor.
 
-ghost use Rattle.std.specs.Prelude.{◌≡◌, ◌≤◌};
+ghost use Rattle.std.specs.Prelude.{◌≡◌, ◌<◌, ◌≤◌};
 ghost use Rattle.mips_isa.specs.Bytes.{segments_of, bytes_of_image};
 ghost use Rattle.mips_isa.specs.Machine as machine;
 ghost use Rattle.mips_isa.specs.Run.{start_core};
 ghost use Rattle.spim_memory.specs.Memory.{segments, bytes_of, IsLimits};
 ghost use Rattle.spim_cpu.specs.Cpu.{core_of, KeepsSegments, Stepped};
-ghost use Rattle.spim_cpu.specs.Advancing.{Goes};
+ghost use Rattle.spim_cpu.specs.Advancing.{Goes, word_index};
 
 mod access;
 mod operate;
@@ -36,6 +36,16 @@ impl Model for Cpu {
     ghost view = { λ c. record { registers = c.registers; hi = c.hi; lo = c.lo; pc = c.pc; memory = c.memory } };
 
     ghost invariant = { λ c. IsCpu c.registers };
+}
+
+/// The index of the word of the text at an address; where no word is, so large a number that the text has no such word.
+#[inline(always)]
+fn word_index(a: u32) -> usize
+    ensures index { result ≡ word_index a }
+    ensures fits { a < 4294967296 }
+{
+    let offset = a.wrapping_sub(TEXT_START);
+    (offset / 4 + offset % 4 * 0x4000_0000) as usize
 }
 
 impl Cpu {
@@ -95,6 +105,7 @@ impl Cpu {
     /// Executes the instruction at pc.
     ///
     /// A trap comes exactly where the instruction's row has one, or where no instruction is at pc, and changes nothing.
+    #[inline(never)]
     pub fn step(&mut self) -> Step
         ensures stepped { Stepped (machine.step self.old.memory.text (segments self.old.memory) (core_of self.old)) result self.old self.new }
         ensures segments { KeepsSegments self.old.memory self.new.memory }
@@ -104,7 +115,7 @@ impl Cpu {
             Ok(operation) => operation,
             Err(fault) => return Step::Trap(trap_of(fault, pc)),
         };
-        match self.operate(operation, pc) {
+        match self.operate::<true>(&operation, pc) {
             Ok(next) => {
                 self.pc = next;
                 Step::Next
@@ -127,23 +138,19 @@ impl Cpu {
     {
         let operations = self.memory.take_operations();
         let mut pc = self.pc;
-        let mut count = 0;
-        while count < most {
-            if pc % 4 != 0 {
-                break;
-            }
-            let offset = pc.wrapping_sub(TEXT_START) as usize;
-            let Some(operation) = operations.get(offset / 4) else {
+        let mut left = most;
+        while left > 0 {
+            let Some(operation) = operations.get(word_index(pc)) else {
                 break;
             };
-            let Ok(next) = self.operate(*operation, pc) else {
+            let Ok(next) = self.operate::<false>(operation, pc) else {
                 break;
             };
             pc = next;
-            count += 1;
+            left -= 1;
         }
         self.pc = pc;
         self.memory.put_operations(operations);
-        count
+        most - left
     }
 }

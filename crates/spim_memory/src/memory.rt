@@ -107,6 +107,7 @@ impl Memory {
     }
 
     /// The segment of data, heap or stack that has the byte at an address.
+    #[inline(always)]
     fn place(&self, a: u32) -> Option<Place>
         ensures { IsPlace self.now a result }
     {
@@ -127,6 +128,7 @@ impl Memory {
     }
 
     /// The word of the text that has the byte at an address, moved to the right so that this byte comes first.
+    #[inline(always)]
     fn text_from(&self, a: u32) -> Result<u32, MemFault>
         ensures { IsTextFrom self.now a result }
     {
@@ -137,6 +139,7 @@ impl Memory {
     }
 
     /// The word of the text that has the byte at an address.
+    #[inline(always)]
     fn text_word(&self, a: u32) -> Option<u32>
         ensures word { IsTextWord self.now a result }
         ensures below { IfSome result (λ _. a < DATA_START) }
@@ -249,6 +252,7 @@ impl Memory {
     }
 
     /// Stores a byte. `BadAddress` comes where no data, heap or stack is. A refused store changes nothing.
+    #[inline(always)]
     pub fn store_byte(&mut self, a: u32, v: u8) -> Result<(), MemFault>
         ensures answer { result ≡ accessed 1 (writable (segments self.old) a 1) a tt }
         ensures stored { OnOk result (bytes_of self.new ≡ set_byte (bytes_of self.old) a v) }
@@ -269,6 +273,7 @@ impl Memory {
     ///
     /// `Unaligned` comes where the address is no multiple of 2, and `BadAddress` where no data, heap or stack is. A refused
     /// store changes nothing.
+    #[inline(always)]
     pub fn store_half(&mut self, a: u32, v: u16) -> Result<(), MemFault>
         ensures answer { result ≡ accessed 2 (writable (segments self.old) a 2) a tt }
         ensures stored { OnOk result (bytes_of self.new ≡ set_half (bytes_of self.old) a v) }
@@ -292,6 +297,7 @@ impl Memory {
     ///
     /// `Unaligned` comes where the address is no multiple of 4, and `BadAddress` where no data, heap or stack is. A refused
     /// store changes nothing.
+    #[inline(always)]
     pub fn store_word(&mut self, a: u32, v: u32) -> Result<(), MemFault>
         ensures answer { result ≡ accessed 4 (writable (segments self.old) a 4) a tt }
         ensures stored { OnOk result (bytes_of self.new ≡ set_word (bytes_of self.old) a v) }

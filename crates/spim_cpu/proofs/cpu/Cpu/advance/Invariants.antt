@@ -5,12 +5,12 @@ use Rattle.spim_cpu.specs.Advancing.{Goes, at}
 use Rattle.spim_cpu.proofs.cpu.Cpu.advance.Given as goal
 
 -- so many instructions lead to the state with this pc
-abbrev pub invariant-loop-count : goal.invariant-loop-count
-invariant-loop-count l = record {
-  goes : Goes l.fn.self.memory.text (segments l.fn.self.memory) l.count (core_of l.fn.self) (at l.pc (core_of l.self));
+abbrev pub invariant-loop-left : goal.invariant-loop-left
+invariant-loop-left l = record {
+  goes : Goes l.fn.self.memory.text (segments l.fn.self.memory) (l.most - l.left) (core_of l.fn.self) (at l.pc (core_of l.self));
   keeps : KeepsSegments l.fn.self.memory l.self.memory;
-  most : l.count ≤ l.most;
+  within : l.left ≤ l.most;
 }
 
-abbrev pub decreases-loop-count : goal.decreases-loop-count
-decreases-loop-count l = l.most - l.count
+abbrev pub decreases-loop-left : goal.decreases-loop-left
+decreases-loop-left l = l.left
