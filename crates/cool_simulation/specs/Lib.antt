@@ -1,0 +1,3 @@
+pub mod Loadings
+pub mod Pictures
+pub mod Simulation
