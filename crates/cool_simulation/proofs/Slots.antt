@@ -1,0 +1,35 @@
+-- A method's place in the dispatch tables: that of a class is that of each class below it.
+use Rattle.std.proofs.Common.{◌≡◌, ℕ, ◌<◌, List, length, Option, Some, None, is_some, true, refl, ap, ◌∙◌}
+use Rattle.cool_classes.specs.declared.class_id.ClassId.{ClassId}
+use Rattle.cool_classes.specs.declared.method.MethodRef.{MethodRef}
+use Rattle.cool_classes.specs.Chains.{Class, Below}
+use Rattle.cool_classes.specs.ClimbedChains.{chain}
+use Rattle.cool_classes.specs.Features.{implementation}
+use Rattle.cool_classes.specs.Tables.{IsWholeTable}
+use Rattle.cool_layout.specs.Roots.{IsRooted}
+use Rattle.cool_layout.specs.Members.{slots, slot, method}
+use Rattle.cool_layout.proofs.SlotNames.{position_is, slots_any, same_slot}
+
+there_by : {A : Type 0} (o : Option A) → is_some o ≡ true → (k : A) × (o ≡ Some k)
+there_by None h = absurd (cc)
+there_by (Some k) h = (k, refl)
+
+module _ (p : List Class) (whole : IsWholeTable p) where
+  rooted : IsRooted p
+  rooted = record {
+    table = whole.table;
+    above = λ c q within e. (whole.grounded.above c q within e).0;
+    top = λ c within e. (whole.grounded.top c within e).0;
+  }
+
+  -- a class that has a method of a name has a place for it
+  pub slot_there : (c : ClassId) (f : List ℕ) (n : MethodRef) → implementation p (chain p c) f ≡ Some n → (k : ℕ) × (slot p c f ≡ Some k)
+  slot_there c f n is = there_by (slot p c f) (position_is f (slots p c) ∙ slots_any p (chain p c) f ∙ ap (λ (o : Option MethodRef). is_some o) is)
+
+  -- which is the place in the classes below
+  pub slot_kept : (d c : ClassId) → d.0 < length p → Below p d c → (f : List ℕ) (k : ℕ) → slot p c f ≡ Some k → slot p d f ≡ Some k
+  slot_kept d c within (ds, h, there) f k e = same_slot p rooted f k d within ds h c there e
+
+  -- the method that stands there
+  pub method_is : (d : ClassId) (f : List ℕ) (m : MethodRef) → implementation p (chain p d) f ≡ Some m → method p d f ≡ m
+  method_is d f m is = rw is refl
