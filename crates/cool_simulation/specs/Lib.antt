@@ -1,3 +1,4 @@
 pub mod Loadings
 pub mod Pictures
 pub mod Simulation
+pub mod WrittenPrograms
