@@ -1,4 +1,7 @@
+pub mod Accord
+pub mod ByteStrings
 pub mod Loadings
+pub mod MainRun
 pub mod Pictures
 pub mod Simulation
 pub mod WrittenPrograms

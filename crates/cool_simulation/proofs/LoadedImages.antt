@@ -1,0 +1,181 @@
+-- The machine of sound lines: their image has segments within the limits, and it is an image of these lines.
+use Rattle.std.proofs.Common.{◌≡◌, ℕ, ◌+◌, ◌*◌, ◌/◌, ◌≤◌, List, [], ◌∷◌, ◌++◌, length, map, replicate, refl, sym, ap, ◌∙◌, subst, arith, Bool, true, not, ◌&&◌, Some, None, length-append}
+use Rattle.std.specs.Prelude.{if◌then◌else◌, Contains, is_some}
+use Rattle.std.proofs.lemmas.List.{length-map, length-replicate}
+use Rattle.mips_isa.specs.declared.place.Segment.{Segment}
+use Rattle.mips_isa.specs.declared.place.Segment.TheVariants.{Text, Data}
+use Rattle.mips_isa.specs.declared.address_map.TheConstants.{TEXT_START, DATA_START}
+use Rattle.mips_isa.specs.Words.{word_of}
+use Rattle.mips_isa.specs.Bytes.{segments_of}
+use Rattle.mips_isa.specs.Lines.{Name, Line, ToData}
+use Rattle.mips_isa.specs.Assembly.{Need, Nothing, Words, Item, Switch, Padding, need, Position, start_position, padded, padding, padding_to, after_need, after_line, place_of, address_or_zero, in_text, start_name, main_name, directive_line, added_lines, completed, fault_of_all, instructions, text_from, bytes_from, item_bytes, image_of, image_of_all}
+use Rattle.mips_asm.proofs.Assembled.{length_of_instructions, length_of_item, bytes_needed, HasUnit, unit_of, up_from}
+use Rattle.cool_runtime.specs.Reaches.{World, AreLaid}
+use Rattle.cool_runtime.specs.Standing.{words_of_need}
+use Rattle.cool_runtime.specs.Images.{IsImageOf, after_lines}
+use Rattle.cool_runtime.specs.Instructions.{label, la}
+use Rattle.cool_runtime.proofs.PlacesOfLabels.{words_after, after_append}
+use Rattle.cool_emit.specs.SoundLines.{AreText, AreData, labels_of, text_room, data_room, joined_lines, AreSound}
+use Rattle.cool_emit.proofs.RoomOfLines.{HasRoom, needs_text, needs_data, after_text, after_data, in_data}
+use Rattle.cool_emit.proofs.SoundLinesAssemble.{no_fault, in_range}
+use Rattle.cool_simulation.specs.Accord.{Limits, AreLimits}
+
+-- where text and data end
+
+text_over : (target known : Name → Type 0) (p : Position) (text : List Line) (more bytes : ℕ) → AreText target known text → HasRoom p Text (text_room text + more) bytes → HasRoom (after_lines p text) Text more bytes
+text_over target known p [] more bytes all room = let w = room.words_left in record { in_segment = room.in_segment; words_left = omega arith; bytes_left = room.bytes_left }
+text_over target known p (line ∷ text) more bytes all room =
+    text_over target known (after_line line p) text more bytes all.1
+    (after_text (need line.statement) p (text_room text + more) bytes (needs_text target known line.statement all.0)
+    (let w = room.words_left in record { in_segment = room.in_segment; words_left = omega arith; bytes_left = room.bytes_left }))
+
+-- after a part of data
+pub data_over : (known : Name → Type 0) (p : Position) (front back : List Line) (words : ℕ) → AreData known (front ++ back) → HasRoom p Data words (data_room (front ++ back)) → HasRoom (after_lines p front) Data words (data_room back)
+data_over known p [] back words all room = room
+data_over known p (line ∷ front) back words all room =
+    data_over known (after_line line p) front back words all.1 (after_data (need line.statement) p words (data_room (front ++ back)) (needs_data known line.statement all.0) room)
+
+-- the lengths of text and data
+
+text_length : (address : Name → ℕ) (p : Position) (lines : List Line) → p.words + length (text_from address p lines) ≡ (after_lines p lines).words
+text_length address p [] = omega arith
+text_length address p (line ∷ rest) =
+    let list = instructions address (TEXT_START + 4 * p.words) line.statement in
+    let a : length (text_from address p (line ∷ rest)) ≡ length (map word_of list) + length (text_from address (after_line line p) rest) = length-append (map word_of list) _ in
+    let b : length (map word_of list) ≡ words_of_need (need line.statement) = length-map list word_of ∙ length_of_instructions address (TEXT_START + 4 * p.words) line.statement in
+    let c : (after_line line p).words ≡ p.words + words_of_need (need line.statement) = words_after (need line.statement) p in
+    let d : (after_line line p).words + length (text_from address (after_line line p) rest) ≡ (after_lines p (line ∷ rest)).words = text_length address (after_line line p) rest in
+    omega arith
+
+bytes_after : (n : Need) (p : Position) → HasUnit n → p.bytes + (padding n p + bytes_needed n) ≡ (after_need n p).bytes
+bytes_after Nothing p unit = omega arith
+bytes_after (Words n) p unit = omega arith
+bytes_after (Item unit size) p some = let h = up_from unit p.bytes some in omega arith
+bytes_after (Switch segment) p unit = omega arith
+bytes_after (Padding unit) p some = by p.segment
+  where
+    by : (g : Segment) → p.bytes + (padding_to g unit p.bytes + 0) ≡ (padded g unit p).bytes
+    by Text = omega arith
+    by Data = let h = up_from unit p.bytes some in omega arith
+
+pub bytes_length : (address : Name → ℕ) (p : Position) (lines : List Line) → p.bytes + length (bytes_from address p lines) ≡ (after_lines p lines).bytes
+bytes_length address p [] = omega arith
+bytes_length address p (line ∷ rest) =
+    let n = need line.statement in
+    let zeros : List ℕ = replicate (padding n p) 0 in
+    let item : List ℕ = item_bytes address line.statement in
+    let more : List ℕ = bytes_from address (after_line line p) rest in
+    let a : length (bytes_from address p (line ∷ rest)) ≡ length zeros + length (item ++ more) = length-append zeros (item ++ more) in
+    let b : length zeros ≡ padding n p = length-replicate (padding n p) 0 in
+    let c : length (item ++ more) ≡ length item + length more = length-append item more in
+    let d : length item ≡ bytes_needed n = length_of_item address line.statement in
+    let e : p.bytes + (padding n p + bytes_needed n) ≡ (after_line line p).bytes = bytes_after n p (unit_of line.statement) in
+    let f : (after_line line p).bytes + length more ≡ (after_lines p (line ∷ rest)).bytes = bytes_length address (after_line line p) rest in
+    omega arith
+
+-- data only grow
+pub bytes_grow : (p : Position) (lines : List Line) → p.bytes ≤ (after_lines p lines).bytes
+bytes_grow p lines = let h = bytes_length (λ name. 0) p lines in omega arith
+
+-- the lines with which a run starts are complete
+
+start_found : (text items : List Line) (main : Name) (behind : List Line) → text ≡ label start_name ∷ la 4 main ∷ behind
+    → place_of (joined_lines text items) start_name ≡ Some (record { segment = Text; address = TEXT_START })
+start_found text items main behind e = ap (λ (lines : List Line). place_of (joined_lines lines items) start_name) e
+
+complete : (lines : List Line) → is_some (place_of lines start_name) ≡ true → completed lines ≡ lines
+complete lines h = ap (λ (b : Bool). if not b && in_text (place_of lines main_name) then lines ++ added_lines else lines) h
+
+module _ (text items : List Line) (sound : AreSound text items) where
+  abbrev pub all_lines : List Line
+  all_lines = joined_lines text items
+
+  pub are_complete : completed (joined_lines text items) ≡ joined_lines text items
+  are_complete = complete all_lines (ap is_some (start_found text items sound.main sound.behind sound.starts))
+
+  pub image_is : image_of (joined_lines text items) ≡ image_of_all (joined_lines text items)
+  image_is = ap image_of_all are_complete
+
+  -- the positions at the end of the text, at the first item, and at the end
+  abbrev pub data_position : Position
+  data_position = after_lines start_position (text ++ directive_line ToData ∷ [])
+
+  text_end : HasRoom (after_lines start_position text) Text 0 (data_room items)
+  text_end =
+      let words = sound.text_fits in
+      let bytes = sound.data_fits in
+      text_over (Contains (labels_of text)) (Contains (labels_of all_lines)) start_position text 0 (data_room items) sound.text_lines
+      (record { in_segment = refl; words_left = omega arith; bytes_left = omega arith })
+
+  pub data_begin : HasRoom data_position Data 0 (data_room items)
+  data_begin =
+      subst (λ (q : Position). HasRoom q Data 0 (data_room items)) (sym (after_append start_position text (directive_line ToData ∷ [])))
+      (in_data (after_lines start_position text) 0 (data_room items) text_end)
+
+  pub all_split : joined_lines text items ≡ (text ++ directive_line ToData ∷ []) ++ items
+  all_split = sym (by text)
+    where
+      by : (xs : List Line) → (xs ++ directive_line ToData ∷ []) ++ items ≡ xs ++ directive_line ToData ∷ items
+      by [] = refl
+      by (x ∷ xs) = ap (λ (l : List Line). x ∷ l) (by xs)
+
+  pub end_is : after_lines start_position (joined_lines text items) ≡ after_lines data_position items
+  end_is = ap (after_lines start_position) all_split ∙ after_append start_position (text ++ directive_line ToData ∷ []) items
+
+  all_nil : (xs : List Line) → xs ++ [] ≡ xs
+  all_nil [] = refl
+  all_nil (x ∷ xs) = ap (λ (l : List Line). x ∷ l) (all_nil xs)
+
+  data_end : HasRoom (after_lines start_position all_lines) Data 0 0
+  data_end =
+      let e : items ++ [] ≡ items = all_nil items in
+      subst (λ (q : Position). HasRoom q Data 0 0) (sym end_is)
+      (data_over (Contains (labels_of all_lines)) data_position items [] 0 (subst (AreData (Contains (labels_of all_lines))) (sym e) sound.data_lines)
+      (subst (λ (l : List Line). HasRoom data_position Data 0 (data_room l)) (sym e) data_begin))
+
+  pub text_words : length (image_of_all (joined_lines text items)).text ≤ 66000000
+  text_words =
+      let h = text_length (λ name. address_or_zero (place_of all_lines name)) start_position all_lines in
+      let room = data_end.words_left in
+      omega arith
+
+  pub data_bytes : length (image_of_all (joined_lines text items)).bytes ≡ (after_lines start_position (joined_lines text items)).bytes
+  data_bytes = let h = bytes_length (λ name. address_or_zero (place_of all_lines name)) start_position all_lines in omega arith
+
+  pub few_bytes : length (image_of_all (joined_lines text items)).bytes ≤ 268435456
+  few_bytes = let h = data_bytes in let room = data_end.bytes_left in omega arith
+
+  -- the segments of a machine with this image
+  pub are_laid : (limits : Limits) → AreLimits limits → AreLaid (segments_of (image_of_all (joined_lines text items)) limits.heap limits.stack)
+  are_laid limits h =
+      let words = text_words in
+      let bytes = few_bytes in
+      record {
+        text = omega (arith, h);
+        data_to = omega (arith, h);
+        heap_from = omega (arith, h);
+        heap_to = omega (arith, h);
+        stack_from = omega (arith, h);
+        stack_to = omega (arith, h);
+        heap_even = omega (arith, h);
+        stack_even = omega (arith, h);
+      }
+
+  pub faultless : fault_of_all (joined_lines text items) ≡ None
+  faultless = ap fault_of_all (sym are_complete) ∙ no_fault text items sound
+
+  -- a world of this image is an image of these lines
+  pub is_image : (w : World) → w.text ≡ (image_of_all (joined_lines text items)).text → w.place ≡ (λ name. address_or_zero (place_of (joined_lines text items) name))
+      → w.segments.text_end ≡ TEXT_START + 4 * length w.text → IsImageOf w (joined_lines text items)
+  is_image w text_is place_is end =
+      let few = text_words in
+      let same : length w.text ≡ length (image_of_all (joined_lines text items)).text = ap length text_is in
+      record { faultless = faultless; ranges = in_range text items sound; text_is = text_is; place_is = place_is; end_is = end; room = omega arith }
+
+-- a world has the image of sound lines
+pub record HasImage (text items : List Line) (w : World) : Type 0 where
+  pub sound : AreSound text items
+  pub text_is : w.text ≡ (image_of_all (joined_lines text items)).text
+  pub place_is : w.place ≡ (λ name. address_or_zero (place_of (joined_lines text items) name))
+  pub text_end : w.segments.text_end ≡ TEXT_START + 4 * length w.text
+  pub data_end : w.segments.data_end ≡ DATA_START + (length (image_of_all (joined_lines text items)).bytes + 3) / 4 * 4
