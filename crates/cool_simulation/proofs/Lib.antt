@@ -50,6 +50,7 @@ pub mod FlagWalks
 pub mod Formals
 pub mod Forms
 pub mod Frames
+pub mod Headline
 pub mod Homes
 pub mod InitialParts
 pub mod InitialValues
@@ -73,6 +74,9 @@ pub mod LoadedText
 pub mod Loops
 pub mod MadeObjects
 pub mod MadePictures
+pub mod MainCall
+pub mod MainLines
+pub mod MainNames
 pub mod Methods
 pub mod MovedContents
 pub mod Names
@@ -102,6 +106,7 @@ pub mod RoutinesDone
 pub mod RunsAccord
 pub mod ScenesLater
 pub mod SecondParts
+pub mod Simulated
 pub mod Slots
 pub mod StartState
 pub mod StaticDispatches

@@ -4,4 +4,5 @@ pub mod Loadings
 pub mod MainRun
 pub mod Pictures
 pub mod Simulation
+pub mod Theorem
 pub mod WrittenPrograms

@@ -4,3 +4,7 @@
 //! `cool_meaning`. `specs/Accord.antt` says how a run of the machine accords with the runs of the source, `specs/Theorem.antt` has the
 //! theorem.
 #![tactic(auto)]
+
+mod laws;
+
+pub use laws::law_means;
