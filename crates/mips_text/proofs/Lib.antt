@@ -16,6 +16,7 @@ pub mod PrintedInstructions
 pub mod PrintedLines
 pub mod PrintedParts
 pub mod ReadLines
+pub mod ReadLinesArePrintable
 pub mod ReadingTables
 pub mod SpelledNumbers
 pub mod SpelledRegisters

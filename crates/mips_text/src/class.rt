@@ -1,7 +1,7 @@
 //! The classes of bytes: what a byte of a line begins.
 
 ghost use Rattle.std.specs.Prelude.{◌≡◌};
-ghost use Rattle.mips_text.specs.Letters.{blank, class_of, start_of};
+ghost use Rattle.mips_text.specs.Letters.{class_of, start_of};
 
 use crate::letters::{begins_name, is_blank};
 

@@ -1,7 +1,6 @@
 //! The word at a place of a line.
 
 ghost use Rattle.std.specs.Prelude.{◌≡◌, ◌∷◌, ◌≤◌, ◌<◌, Some, false, IfSome, length, option_map};
-ghost use Rattle.std.specs.List.{prefix_len};
 ghost use Rattle.mips_text.specs.declared.class.Start.TheVariants as start;
 ghost use Rattle.mips_text.specs.Fronts.{closing_quote, front_found, sign_front};
 ghost use Rattle.mips_text.specs.Words.{front};

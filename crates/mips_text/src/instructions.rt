@@ -1,16 +1,14 @@
 //! Instructions, of the words behind their mnemonics.
 
-ghost use Rattle.std.specs.Prelude.{◌≡◌, ◌∷◌, [], IfOk, map};
+ghost use Rattle.std.specs.Prelude.{◌≡◌, IfOk, map};
 ghost use Rattle.mips_isa.specs.Lines.{Plain, instruction_of};
 ghost use Rattle.mips_text.specs.declared.mnemonics.Mnemonic.TheVariants.{Jalr, Mem, BranchTwo, BranchOne, Jump};
-ghost use Rattle.mips_text.specs.declared.wanted.Wanted.TheVariants.{Number};
-ghost use Rattle.mips_text.specs.Statements.{has_open, imm_range, instruction_made, instruction_operands, kept, memory_operands, register_at, two_registers};
+ghost use Rattle.mips_text.specs.Statements.{imm_range, instruction_made, kept, register_at};
 ghost use Rattle.mips_text.specs.Views.{word_seen};
 
 use crate::mnemonics::Mnemonic;
 use crate::operands::{has_open, label_at, name_at, number_at, register_at};
 use crate::ranges::{jump_index, shift_count, signed, unsigned, word_number};
-use crate::wanted::{Range, Wanted};
 use crate::words::Word;
 use mips_isa::register::RA;
 use mips_isa::{AsmInstr, ImmOp, Instr, JumpOp, Label, MemOp, OneOp, Reg, TwoOp};

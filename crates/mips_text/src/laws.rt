@@ -45,3 +45,8 @@ pub fn law_longest_words()
 pub fn law_printed_is_read()
     ensures { (lines : List Line) → ArePrintable lines → Reads (printed lines) lines }
 {}
+
+/// The lines that a text is read as can be printed and read again.
+pub fn law_read_is_printable()
+    ensures { (bytes : List ℕ) (lines : List Line) → Reads bytes lines → ArePrintable lines }
+{}
