@@ -1,4 +1,5 @@
 pub mod CappedNumbers
+pub mod CutTexts
 pub mod FrontsAreLongest
 pub mod KindsOfReading
 pub mod LabelsOfLines

@@ -1,5 +1,5 @@
 -- The lines that a text is read as can be printed and read again.
-use Rattle.std.proofs.Common.{◌≡◌, ◌∙◌, sym, ap, subst, refl, arith, ℕ, ℤ, zero, suc, ◌+◌, ◌≤◌, ◌<◌, Bool, true, false, List, [], ◌∷◌, length, map, take, nat_lt, if◌then◌else◌, Result, Ok, Err}
+use Rattle.std.proofs.Common.{◌≡◌, ◌∙◌, sym, ap, subst, refl, arith, ℕ, ℤ, zero, suc, ◌<◌, Bool, true, false, List, [], ◌∷◌, length, map, take, nat_lt, if◌then◌else◌, Result, Ok, Err}
 use Rattle.std.specs.Prelude.{Option, Some, None, option_map, ◌&&◌}
 use Rattle.std.specs.Option.{option_or}
 use Rattle.std.specs.List.{AllByRecursion, list_all, prefix_len, slice_get}
@@ -26,12 +26,12 @@ use Rattle.mips_text.specs.declared.wanted.Range.TheVariants as range
 use Rattle.mips_text.specs.declared.wanted.Wanted.{Wanted}
 use Rattle.mips_text.specs.declared.wanted.Wanted.TheVariants as wanted
 use Rattle.mips_text.specs.Letters.{class_of, name_rest, name_start}
-use Rattle.mips_text.specs.Names.{directive_named, is_name, mnemonic_named}
+use Rattle.mips_text.specs.Names.{directive_named, mnemonic_named}
 use Rattle.mips_text.specs.Operands.{many_fault, row_fault, word_fault}
-use Rattle.mips_text.specs.Printable.{ArePrintable, IsName, IsPrintable, IsPrintableStatement}
-use Rattle.mips_text.specs.Reading.{Reads, begins_with_dot, directive_read, instruction_read, judged, line_read, lines_in, readings, rest_read, statement_read, with_label, without_label}
+use Rattle.mips_text.specs.Printable.{ArePrintable, IsName, IsPrintableStatement}
+use Rattle.mips_text.specs.Reading.{Reads, begins_with_dot, directive_read, instruction_read, judged, line_read, lines_in, rest_read, statement_read, with_label, without_label}
 use Rattle.mips_text.specs.Statements.{byte_made, directive_fault, directive_made, name_or_empty, has_open, instruction_made, instruction_operands, item_made, item_or, jalr_made, label_at, memory_made, name_at, name_of, number_at, number_of, register_at, to_jump, to_one, to_two}
-use Rattle.mips_text.specs.Words.{Word, Name, Number, Register, Text, Colon, Open, Close, Stray, Front, front, with_class, with_front, words_behind, words_of}
+use Rattle.mips_text.specs.Words.{Word, Name, Colon, Front, front, with_class, with_front, words_behind, words_of}
 use Rattle.mips_text.specs.Fronts.{Magnitude, closing_quote, front_found, magnitude_found, takes}
 use Rattle.mips_text.proofs.FrontsAreLongest.{front_is}
 use Rattle.mips_text.proofs.Prefixes.{passes}

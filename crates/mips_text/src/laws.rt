@@ -5,10 +5,10 @@ ghost use Rattle.std.specs.Prelude.{◌≡◌, ℕ, List};
 ghost use Rattle.mips_isa.specs.declared.asm_fault.AsmFault.{AsmFault};
 ghost use Rattle.mips_isa.specs.Lines.{Line};
 ghost use Rattle.mips_text.specs.declared.class.Start.{Start};
-ghost use Rattle.mips_text.specs.Laws.{HasReading, IsReadingKind};
+ghost use Rattle.mips_text.specs.Laws.{AreLinesOf, HasReading, IsReadingKind};
 ghost use Rattle.mips_text.specs.Printable.{ArePrintable};
 ghost use Rattle.mips_text.specs.Printing.{printed};
-ghost use Rattle.mips_text.specs.Reading.{FirstFault, Reads};
+ghost use Rattle.mips_text.specs.Reading.{FirstFault, Reads, lines_in};
 ghost use Rattle.mips_text.specs.Words.{IsWordThere, front};
 
 /// A text has one list of lines at most.
@@ -49,4 +49,9 @@ pub fn law_printed_is_read()
 /// The lines that a text is read as can be printed and read again.
 pub fn law_read_is_printable()
     ensures { (bytes : List ℕ) (lines : List Line) → Reads bytes lines → ArePrintable lines }
+{}
+
+/// The lines of a text are the text, cut at its newlines.
+pub fn law_text_is_cut()
+    ensures { (bytes : List ℕ) → AreLinesOf bytes (lines_in bytes) }
 {}

@@ -30,7 +30,7 @@ mod words;
 
 pub use laws::{
     law_always_one, law_kinds_of_reading, law_longest_words, law_never_both, law_one_first_fault,
-    law_one_reading, law_printed_is_read, law_read_is_printable,
+    law_one_reading, law_printed_is_read, law_read_is_printable, law_text_is_cut,
 };
 pub use printing::print_asm;
 pub use reading::read_asm;
