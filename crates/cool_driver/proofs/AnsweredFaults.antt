@@ -11,7 +11,7 @@ use Rattle.cool_driver.specs.CommandLine.{plan_of}
 use Rattle.cool_driver.specs.Notes.{refused_note}
 use Rattle.cool_driver.specs.Ends.{Request, Due, IsRead, IsRunOf, IsEvaluationOf, MayRefuse, built_bytes, Told}
 use Rattle.cool_driver.specs.Ends.IsRunOf.{of_file, of_program}
-use Rattle.cool_driver.specs.Ends.Due.{checked, built, refused, ran, executed, unread_input, evaluated, unread_source, unfit, misread, summed, usage, too_many, missing, unread, too_large}
+use Rattle.cool_driver.specs.Ends.Due.{checked, built, refused, executed, unread_input, evaluated, unread_source, unfit, misread, summed, usage, too_many, missing, unread, too_large}
 use Rattle.cool_driver.specs.declared.command_line.Command.{Command}
 use Rattle.cool_driver.specs.declared.command_line.Command.TheVariants.{Check, Build, Run, Eval, Exec}
 use Rattle.cool_driver.specs.declared.command_line.Form.{Form}
@@ -48,10 +48,10 @@ same_form a b e = cc
 
 -- the run of an image answers the empty list of `run`
 answered_by_run : (r : Request) (files : FileMap) (limits : RunLimits) (found : ImageParts) (command : Command) (names contents : List (List ℕ)) (faults : List Fault) (status : ℕ) (output note : List ℕ) → IsRunOf r limits found
-    → Told r files → IsRead r command names contents → MayRefuse command contents → IsFaultList contents faults → Answers command names contents faults status output note
+    → Told r files → IsRead r command names contents → MayRefuse command → IsFaultList contents faults → Answers command names contents faults status output note
 answered_by_run r files limits found command names contents faults status output note (of_file name bytes read' is) told read may list =
     absurd (may_refuse r files command (Exec limits) names (name ∷ []) contents (bytes ∷ []) told read read' may)
-answered_by_run r files limits found command names contents faults status output note (of_program names' contents' p read' other is made) told read may list =
+answered_by_run r files limits found command names contents faults status output note (of_program names' contents' p read' is made) told read may list =
     let same = same_read r files (Run limits) command names' names contents' contents told read' read in
     let none : faults ≡ [] = one_list contents faults [] list (subst (λ (cs : List (List ℕ)). IsFaultList cs []) same is.list) in
     let asked = (same_plan (plan_of r.words) (Run limits) command names' names read'.plan read.plan).0 in
@@ -76,7 +76,7 @@ answered_by_evaluation r files steps p command others names contents faults stat
 
 -- what is due answers the fault list
 pub answered : (r : Request) (status : ℕ) (output note left : List ℕ) (files : FileMap) (command : Command) (names contents : List (List ℕ)) (faults : List Fault) → Due r status output note left
-    → Told r files → IsRead r command names contents → MayRefuse command contents → IsFaultList contents faults → Answers command names contents faults status output note
+    → Told r files → IsRead r command names contents → MayRefuse command → IsFaultList contents faults → Answers command names contents faults status output note
 answered r _ _ _ _ files command names contents faults (checked names' contents' p read' is) told read may list =
     let same = same_read r files Check command names' names contents' contents told read' read in
     let none : faults ≡ [] = one_list contents faults [] list (subst (λ (cs : List (List ℕ)). IsFaultList cs []) same is.list) in
@@ -111,8 +111,6 @@ answered r _ _ _ _ files command names contents faults (refused command' names' 
       checked = λ _ none. absurd (is.some (one ∙ none));
       built = λ form q _ accepted. absurd (is.some (one ∙ one_list contents faults [] list accepted.list));
     }
-answered r _ _ _ _ files command names contents faults (ran limits names' contents' strings' read' is) told read may list =
-    absurd (may_refuse r files command (Run limits) names names' contents contents' told read read' may strings' is)
 answered r _ _ _ _ files command names contents faults (executed limits found run) told read may list = answered_by_run r files _ _ command names contents faults _ _ _ run told read may list
 answered r _ _ _ _ files command names contents faults (unread_input limits found at output left run comes fails) told read may list = answered_by_run r files _ _ command names contents faults _ _ _ run told read may list
 answered r _ _ _ _ files command names contents faults (evaluated steps names' p status is e) told read may list = answered_by_evaluation r files steps p command names' names contents faults _ _ _ is told read list

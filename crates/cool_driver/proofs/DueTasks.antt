@@ -21,7 +21,7 @@ use Rattle.cool_driver.specs.declared.command_line.Command.TheVariants as comman
 use Rattle.cool_driver.specs.declared.command_line.Form.{Form}
 use Rattle.cool_driver.specs.declared.status.Status.TheVariants as statuses
 use Rattle.cool_driver.specs.declared.task.Task.{Task}
-use Rattle.cool_driver.specs.declared.task.Task.TheVariants.{Tell, Write, Run, Execute, Evaluate}
+use Rattle.cool_driver.specs.declared.task.Task.TheVariants.{Tell, Write, Execute, Evaluate}
 use Rattle.cool_driver.proofs.NoteLines.{line_due}
 
 -- for files that `check` names
@@ -29,7 +29,6 @@ checked_due : (r : Request) (names contents : List (List ℕ)) (task : Task) →
 checked_due r names contents (Tell status lines) read (are, inl h) = rw (h.0, h.1) (checked names contents h.2.0 read h.2.1, are, λ e. omega (arith, e))
 checked_due r names contents (Tell status lines) read (are, inr h) = rw (h.0, h.1.2) (refused command.Check names contents h.1.0 read tt h.1.1, are, λ e. omega (arith, e))
 checked_due r names contents (Write made) read h = absurd h
-checked_due r names contents (Run within image) read h = absurd h
 checked_due r names contents (Execute within image) read h = absurd h
 checked_due r names contents (Evaluate steps p files) read h = absurd h
 
@@ -39,20 +38,17 @@ built_due : (r : Request) (form : Form) (names contents : List (List ℕ)) (task
 built_due r form names contents (Tell status lines) read (are, one, h) =
     rw (one, h.2) (refused (command.Build form) names contents h.0 read tt h.1, are, λ e. omega (arith, e))
 built_due r form names contents (Write made) read h = rw h.2 (built form names contents h.0 read h.1, by_build form names contents h.0 read h.1)
-built_due r form names contents (Run within image) read h = absurd h
 built_due r form names contents (Execute within image) read h = absurd h
 built_due r form names contents (Evaluate steps p files) read h = absurd h
 
 -- for files that `run` names
 run_due : (r : Request) (limits : RunLimits) (names contents : List (List ℕ)) (task : Task) → IsBounded limits → IsRead r (command.Run limits) names contents
     → IsTaskOfRun limits names contents task → IsDue r task
-run_due r limits names contents (Tell status lines) bounded read (are, other, one, h) =
-    rw (one, h.2) (refused (command.Run limits) names contents h.0 read other h.1, are, λ e. omega (arith, e))
+run_due r limits names contents (Tell status lines) bounded read (are, one, h) =
+    rw (one, h.2) (refused (command.Run limits) names contents h.0 read tt h.1, are, λ e. omega (arith, e))
 run_due r limits names contents (Write made) bounded read h = absurd h
-run_due r limits names contents (Run within image) bounded read (same, h) =
-    rw same (bounded, (names, contents, h.0, read, h.1, h.2))
 run_due r limits names contents (Execute within image) bounded read (same, h) =
-    rw same (bounded, of_program names contents h.0 read h.1 h.2 h.3)
+    rw same (bounded, of_program names contents h.0 read h.1 h.2)
 run_due r limits names contents (Evaluate steps p files) bounded read h = absurd h
 
 -- for files that `eval` names
@@ -61,7 +57,6 @@ eval_due : (r : Request) (steps : ℕ) (names contents : List (List ℕ)) (task 
 eval_due r steps names contents (Tell status lines) read (are, one, h) =
     rw (one, h.2) (refused (command.Eval steps) names contents h.0 read tt h.1, are, λ e. omega (arith, e))
 eval_due r steps names contents (Write made) read h = absurd h
-eval_due r steps names contents (Run within image) read h = absurd h
 eval_due r steps names contents (Execute within image) read h = absurd h
 eval_due r steps names contents (Evaluate most p files) read (same, named, is) = rw (same, named) (record { contents = contents; read = read; accepted = is })
 
@@ -73,7 +68,6 @@ file_due r limits name bytes (Tell status lines) bounded read (twelve, are, inl 
 file_due r limits name bytes (Tell status lines) bounded read (twelve, are, inr h) =
     rw (twelve, h.1) (misread limits name bytes h.0 read h.2 h.3, are, λ e. omega (arith, e))
 file_due r limits name bytes (Write made) bounded read h = absurd h
-file_due r limits name bytes (Run within image) bounded read h = absurd h
 file_due r limits name bytes (Execute within image) bounded read (same, h) = rw same (bounded, of_file name bytes read h)
 file_due r limits name bytes (Evaluate steps p files) bounded read h = absurd h
 

@@ -8,7 +8,7 @@ use Rattle.cool_ports.specs.ShelfFiles.{FileMap}
 use Rattle.cool_driver.specs.declared.command_line.Command.{Command}
 use Rattle.cool_driver.specs.declared.command_line.Command.TheVariants.{Check, Build}
 use Rattle.cool_driver.specs.Ends.{Request, Due, Writing, Call, NoLess, Ends, FailedOutput, FailedNote, DidNothing, RanShort, Got, Told, IsRead, MayRefuse}
-use Rattle.cool_driver.specs.Ends.Writing.{by_build, by_run, by_big, by_image, by_eval}
+use Rattle.cool_driver.specs.Ends.Writing.{by_build, by_big, by_image, by_eval}
 use Rattle.cool_driver.proofs.NotesOfTexts.{misread_note}
 use Rattle.cool_driver.proofs.AnsweredFaults.{answered}
 use Rattle.cool_driver.proofs.Findings as findings
@@ -54,7 +54,7 @@ ends_found : (c : Call) (status : ℕ) → Finding c.request status → Calm c s
 ends_found c status found calm written =
     let r = c.request in
     let bounds = finding_below r status found in
-    let answer = λ (command : Command) (names contents : List (List ℕ)) (faults : List Fault) (files : FileMap) (told : Told r files) (read : IsRead r command names contents) (may : MayRefuse command contents) (list : IsFaultList contents faults).
+    let answer = λ (command : Command) (names contents : List (List ℕ)) (faults : List Fault) (files : FileMap) (told : Told r files) (read : IsRead r command names contents) (may : MayRefuse command) (list : IsFaultList contents faults).
     answered r status written.0 written.1 c.left files command names contents faults written.2 told read may list in
     record {
       statuses = bounds.0;
@@ -77,8 +77,7 @@ ends_found c status found calm written =
       refused_exactly = λ files command names contents faults told read may list some _ _.
           let a = answer command names contents faults files told read may list in
           ((a.refused some).0, subst (Got c.notes) (a.refused some).1 written.4);
-      ran_exactly = λ files limits names contents strings told read simple _ _. findings.ran_exactly r status files limits names contents strings found told read simple;
-      compiled_exactly = λ files limits names contents p told read other is _ _. findings.compiled_exactly r status files limits names contents p found told read other is;
+      compiled_exactly = λ files limits names contents p told read is _ _. findings.compiled_exactly r status files limits names contents p found told read is;
       evaluated_exactly = λ files steps names contents p told read is _ _.
           evaluated_ends c status written.0 written.1 files steps names contents p written.2 written.3 written.4 told read is;
       evaluated_prefix = λ files steps names contents p told read is. prefix_of_due c status written.0 written.1 files steps names contents p written.2 written.3 told read is;
@@ -113,7 +112,6 @@ ends_written c status output note due out notes calm rose =
 -- what was read before a write failed
 read_of : (r : Request) (bytes more left : List ℕ) → Writing r bytes more left → r.faults_after ≡ r.faults_before
 read_of r _ _ _ (by_build form names contents p read is) = read.calm
-read_of r _ _ _ (by_run limits names contents strings read is) = read.calm
 read_of r _ _ _ (by_big n line asked calm is) = calm
 read_of r _ _ _ (by_image limits image at printed is comes prints) = (read_for_run r limits image is).3.calm
 read_of r _ _ _ (by_eval steps names p kept is) = is.read.calm
@@ -152,8 +150,7 @@ ends_write_fault c rose part input = record {
   checked_exactly = λ files names contents faults told read list other _. absurd (other refl);
   built_exactly = λ files form names contents p told read is other _. absurd (other refl);
   refused_exactly = λ files command names contents faults told read may list some other _. absurd (other refl);
-  ran_exactly = λ files limits names contents strings told read form other _. absurd (other refl);
-  compiled_exactly = λ files limits names contents p told read form is other _. absurd (other refl);
+  compiled_exactly = λ files limits names contents p told read is other _. absurd (other refl);
   evaluated_exactly = λ files steps names contents p told read is other _. absurd (other refl);
   evaluated_prefix = λ files steps names contents p told read is. prefix_of_failed c files steps names contents p part told read is;
   unfit_exactly = λ files limits name bytes told read none other _. absurd (other refl);
@@ -185,8 +182,7 @@ ends_short c files out notes calm short = record {
   checked_exactly = λ files names contents faults told read list _ other. absurd (other refl);
   built_exactly = λ files form names contents p told read is _ other. absurd (other refl);
   refused_exactly = λ files command names contents faults told read may list some _ other. absurd (other refl);
-  ran_exactly = λ files limits names contents strings told read form _ other. absurd (other refl);
-  compiled_exactly = λ files limits names contents p told read form is _ other. absurd (other refl);
+  compiled_exactly = λ files limits names contents p told read is _ other. absurd (other refl);
   evaluated_exactly = λ files steps names contents p told read is _ other. absurd (other refl);
   evaluated_prefix = λ files steps names contents p told read is. prefix_of_short c files steps names contents p short told read is;
   unfit_exactly = λ files limits name bytes told read none _ other. absurd (other refl);

@@ -1,16 +1,9 @@
 -- A task that was done ends a call as it should.
 use Rattle.std.proofs.Common.{◌≡◌, ◌≢◌, ℕ, inl, inr, List, [], ◌++◌, sym, subst, arith}
-use Rattle.std.specs.List.{concat}
-use Rattle.cool_driver.specs.Notes.{end_text}
-use Rattle.cool_words.specs.declared.plan.RunLimits.{RunLimits}
-use Rattle.cool_driver.specs.SimpleFiles.{RunSimply}
-use Rattle.cool_driver.specs.Ends.{Due, IsRead, Call, Ends, Got, Writing}
-use Rattle.cool_driver.specs.Ends.Due.{ran}
-use Rattle.cool_driver.specs.Ends.Writing.{by_run}
-use Rattle.cool_driver.specs.Tasks.{code_of, Noted, RunsSimple}
+use Rattle.cool_driver.specs.Ends.{Due, Call, Ends, Got, Writing}
+use Rattle.cool_driver.specs.Tasks.{code_of, Noted}
 use Rattle.cool_driver.specs.declared.status.Status.{Status}
 use Rattle.cool_driver.specs.declared.status.Status.TheVariants as statuses
-use Rattle.cool_driver.specs.declared.command_line.Command.TheVariants.{Run}
 use Rattle.cool_driver.proofs.EndsOfDue.{ends_written, ends_write_fault, ends_without_memory}
 
 -- the input was left alone
@@ -42,16 +35,3 @@ written_ends c bytes answered due writing notes alone (inr failed) =
     subst (λ (s : Status). Ends c (code_of s)) (sym failed.0)
     (ends_write_fault c (inl failed.1.1)
     (inl ([], bytes, subst (λ left. Writing c.request [] bytes left) (sym alone.left) writing, failed.1, notes)) (omega (arith, alone.calm)))
-
--- a program of the simple form ran, or a write failed, or memory ran out
-pub simple_ends : (c : Call) (limits : RunLimits) (names contents strings : List (List ℕ)) (answered : Status) → IsRead c.request (Run limits) names contents → RunSimply limits contents strings
-    → Got c.notes [] → Untouched c → RunsSimple c.out (concat strings ++ end_text) answered → Ends c (code_of answered)
-simple_ends c limits names contents strings answered read is notes alone (inl done) =
-    subst (λ (s : Status). Ends c (code_of s)) (sym done.0)
-    (ends_written c 0 (concat strings ++ end_text) [] (due_left c 0 (concat strings ++ end_text) [] alone (ran limits names contents strings read is)) done.1 notes (λ _. alone.calm) (λ e. absurd (omega (arith, e))))
-simple_ends c limits names contents strings answered read is notes alone (inr (inl failed)) =
-    subst (λ (s : Status). Ends c (code_of s)) (sym failed.0)
-    (ends_write_fault c (inl failed.1.1)
-    (inl ([], concat strings ++ end_text, subst (λ left. Writing c.request [] (concat strings ++ end_text) left) (sym alone.left) (by_run limits names contents strings read is), failed.1, notes)) (omega (arith, alone.calm)))
-simple_ends c limits names contents strings answered read is notes alone (inr (inr memory)) =
-    subst (λ (s : Status). Ends c (code_of s)) (sym memory.0) (ends_without_memory c (omega (arith, read.calm)) memory.1 notes alone.left alone.calm)

@@ -14,8 +14,8 @@ use Rattle.cool_driver.specs.CommandLine.{plan_of, TakesNoInput}
 use Rattle.cool_driver.specs.Evaluation.{status_of_end, note_of_end, IsPartOf}
 use Rattle.cool_driver.specs.Ends.{Request, Due, Writing, IsRead, IsRunOf, IsEvaluationOf, SinkUse, Got, Call, FailedOutput, FailedNote, DidNothing, RanShort, EndsAs, Told}
 use Rattle.cool_driver.specs.Ends.IsRunOf.{of_file, of_program}
-use Rattle.cool_driver.specs.Ends.Due.{checked, built, refused, ran, executed, unread_input, evaluated, unread_source, unfit, misread, summed, usage, too_many, missing, unread, too_large}
-use Rattle.cool_driver.specs.Ends.Writing.{by_build, by_run, by_big, by_image, by_eval}
+use Rattle.cool_driver.specs.Ends.Due.{checked, built, refused, executed, unread_input, evaluated, unread_source, unfit, misread, summed, usage, too_many, missing, unread, too_large}
+use Rattle.cool_driver.specs.Ends.Writing.{by_build, by_big, by_image, by_eval}
 use Rattle.cool_driver.specs.declared.command_line.Command.{Command}
 use Rattle.cool_driver.specs.declared.command_line.Command.TheVariants.{Check, Build, Run, Eval, Exec}
 use Rattle.cool_driver.proofs.Plans.{no_files_for_big, no_files_for_nothing}
@@ -42,7 +42,7 @@ no_eval plan a steps names others nothing p q = subst EvaluatesNothing (same_pla
 -- where `eval` is asked for, no image runs
 no_image : (r : Request) (limits : RunLimits) (found : ImageParts) (steps : ℕ) (names : List (List ℕ)) → IsRunOf r limits found → plan_of r.words ≡ Some (Eval steps, names) → ⊥
 no_image r limits found steps names (of_file name bytes read is) plan = no_eval _ (Exec limits) steps _ _ tt read.plan plan
-no_image r limits found steps names (of_program names' contents' p' read other is made) plan = no_eval _ (Run limits) steps _ _ tt read.plan plan
+no_image r limits found steps names (of_program names' contents' p' read is made) plan = no_eval _ (Run limits) steps _ _ tt read.plan plan
 
 -- a command has one number of steps
 same_steps : (a b : ℕ) → Eval a ≡ Eval b → a ≡ b
@@ -71,7 +71,6 @@ due_by r _ _ _ _ files steps names contents p (checked names' contents' p' read'
 due_by r _ _ _ _ files steps names contents p (built shape names' contents' p' read' is) told read form = absurd (no_eval _ (Build shape) steps _ _ tt read'.plan read.plan)
 due_by r _ _ _ _ files steps names contents p (refused command' names' contents' faults' read' may is) told read form =
     absurd (never_both_verdicts contents p faults' form (subst (λ (cs : List (List ℕ)). IsRefused cs faults') (same_read r files _ _ _ _ _ _ told read' read) is))
-due_by r _ _ _ _ files steps names contents p (ran limits names' contents' strings read' is) told read form = absurd (no_eval _ (Run limits) steps _ _ tt read'.plan read.plan)
 due_by r _ _ _ _ files steps names contents p (executed limits found run) told read form = absurd (no_image r limits found steps names run read.plan)
 due_by r _ _ _ _ files steps names contents p (unread_input limits found at output left run comes fails) told read form = absurd (no_image r limits found steps names run read.plan)
 due_by r status _ _ _ files steps names contents p (evaluated most names' p' _ is e) told read form =
@@ -121,7 +120,6 @@ prefix_of_due c status output note files steps names contents p due out told rea
 writing_by : (r : Request) (bytes more left : List ℕ) (files : FileMap) (steps : ℕ) (names contents : List (List ℕ)) (p : List Class) → Writing r bytes more left
     → Told r files → IsRead r (Eval steps) names contents → IsAccepted contents p → (bytes ≡ []) × (more ≡ (source.run p names r.input steps).output)
 writing_by r _ _ _ files steps names contents p (by_build shape names' contents' p' read' is) told read form = absurd (no_eval _ (Build shape) steps _ _ tt read'.plan read.plan)
-writing_by r _ _ _ files steps names contents p (by_run limits names' contents' strings read' is) told read form = absurd (no_eval _ (Run limits) steps _ _ tt read'.plan read.plan)
 writing_by r _ _ _ files steps names contents p (by_big n line asked calm is) told read form = absurd (no_plan_and_plan _ _ _ (no_files_for_big r.words n asked) read.plan)
 writing_by r _ _ _ files steps names contents p (by_image limits found at printed is comes prints) told read form = absurd (no_image r limits found steps names is read.plan)
 writing_by r _ _ _ files steps names contents p (by_eval most names' p' kept is) told read form =

@@ -24,15 +24,14 @@ use Rattle.cool_driver.specs.CommandLine.{asked_for, plan_of, most_bytes}
 use Rattle.cool_driver.specs.Execution.{IsRunnable, IsTextFault, is_text_file, run_of, status_of}
 use Rattle.cool_driver.specs.Evaluation.{status_of_end}
 use Rattle.cool_words.specs.declared.plan.RunLimits.{RunLimits}
-use Rattle.cool_driver.specs.SimpleFiles.{RunSimply, RunOtherwise}
 use Rattle.cool_driver.specs.Ends.{Request, Due, IsRead, IsRunOf, AreHeld, MayRefuse, Told}
-use Rattle.cool_driver.specs.Ends.Due.{checked, built, refused, ran, executed, unread_input, evaluated, unread_source, unfit, misread, summed, usage, too_many, missing, unread, too_large}
+use Rattle.cool_driver.specs.Ends.Due.{checked, built, refused, executed, unread_input, evaluated, unread_source, unfit, misread, summed, usage, too_many, missing, unread, too_large}
 use Rattle.cool_driver.specs.declared.command_line.Command.{Command}
 use Rattle.cool_driver.specs.declared.command_line.Command.TheVariants.{Check, Build, Run, Eval, Exec}
 use Rattle.cool_driver.proofs.HeldFiles.{held_same, held_later, none_missing}
 use Rattle.cool_driver.proofs.Plans.{same_number, no_files_for_big, no_files_for_nothing}
 use Rattle.cool_driver.proofs.ReadTwice.{same_plan, no_run_exec, RunsNothing, runs_nothing, no_plan_and_plan, held_told, files_read, same_read, same_file, may_refuse}
-use Rattle.cool_driver.proofs.ImagesOfCalls.{fault_or_runs, one_runnable, simple_again, unfit_or_runs, read_for_run, run_of_file, run_of_program, simple_not_run}
+use Rattle.cool_driver.proofs.ImagesOfCalls.{fault_or_runs, one_runnable, unfit_or_runs, read_for_run, run_of_file, run_of_program}
 
 -- a file that is missing or too large, after those that were read
 pub record IsRefusedFile (r : Request) (command : Command) (names : List (List ℕ)) : Type 0 where
@@ -66,8 +65,7 @@ IsOneOf status = (status ≡ 0) ⊎ (status ≡ 3) ⊎ (status ≡ 4) ⊎ (statu
 -- what was found, with the status that it leaves
 pub data Finding (r : Request) (status : ℕ) : Type 0 where
   accepted : (command : Command) (names contents : List (List ℕ)) → RunsNothing command → IsRead r command names contents → IsOneOf status → Finding r status
-  faulty : (command : Command) (names contents : List (List ℕ)) (faults : List Fault) → IsRead r command names contents → MayRefuse command contents → IsRefused contents faults → status ≡ 1 → Finding r status
-  simple : (limits : RunLimits) (names contents strings : List (List ℕ)) → IsRead r (Run limits) names contents → RunSimply limits contents strings → status ≡ 0 → Finding r status
+  faulty : (command : Command) (names contents : List (List ℕ)) (faults : List Fault) → IsRead r command names contents → MayRefuse command → IsRefused contents faults → status ≡ 1 → Finding r status
   image : (limits : RunLimits) (found : ImageParts) → IsRunOf r limits found → IsRunStatus status → (status ≡ 7) ⊎ (status ≡ status_of (run_of limits found r.input)) → Finding r status
   no_image : (limits : RunLimits) (name bytes : List ℕ) (fault : ImageError) → IsRead r (Exec limits) (name ∷ []) (bytes ∷ []) → is_text_file bytes ≡ false → first_fault bytes ≡ Some fault → status ≡ 12 → Finding r status
   bad_text : (limits : RunLimits) (name bytes : List ℕ) (fault : AsmFault) → IsRead r (Exec limits) (name ∷ []) (bytes ∷ []) → is_text_file bytes ≡ true → IsTextFault bytes fault → status ≡ 12 → Finding r status
@@ -91,7 +89,6 @@ pub finding_of_due : (r : Request) (status : ℕ) (output note left : List ℕ) 
 finding_of_due r _ _ _ _ (checked names contents p read is) = accepted Check names contents tt read (inl refl)
 finding_of_due r _ _ _ _ (built form names contents p read is) = accepted (Build form) names contents tt read (inl refl)
 finding_of_due r _ _ _ _ (refused command names contents faults read may is) = faulty command names contents faults read may is refl
-finding_of_due r _ _ _ _ (ran limits names contents strings read is) = simple limits names contents strings read is refl
 finding_of_due r _ _ _ _ (executed limits found run) = image limits found run (inl (run_of limits found r.input, refl)) (inr refl)
 finding_of_due r _ _ _ _ (unread_input limits found at output left run comes fails) = image limits found run (inr refl) (inl refl)
 finding_of_due r status _ _ _ (evaluated steps names p _ is e) = accepted (Eval steps) names is.contents tt is.read (status_of_source _ status e)
@@ -137,7 +134,6 @@ below status is = omega (arith, is)
 pub finding_below : (r : Request) (status : ℕ) → Finding r status → (status ≤ 12) × (status ≢ 8) × (status ≢ 9)
 finding_below r status (accepted command names contents quiet read e) = (below status e, λ q. not_of_run status 8 e q (inr (inr (inl refl))), λ q. not_of_run status 9 e q (inr (inr (inr (inl refl)))))
 finding_below r status (faulty command names contents faults read may is e) = (omega (arith, e), λ q. omega (arith, e, q), λ q. omega (arith, e, q))
-finding_below r status (simple limits names contents strings read is e) = (omega (arith, e), λ q. omega (arith, e, q), λ q. omega (arith, e, q))
 finding_below r status (image limits' found run ends e) =
     let one = run_status status ends in
     (below status one, λ q. not_of_run status 8 one q (inr (inr (inl refl))), λ q. not_of_run status 9 one q (inr (inr (inr (inl refl)))))
@@ -195,7 +191,6 @@ asks_twice asked n p q = cc
 pub usage_only : (r : Request) (status : ℕ) → Finding r status → status ≡ 2 → asked_for r.words ≡ None
 usage_only r status (accepted command' names' contents' quiet read' e) q = absurd (not_of_run status 2 e q (inr (inl refl)))
 usage_only r status (faulty command' names' contents' faults' read' may is e) q = absurd (omega (arith, e, q))
-usage_only r status (simple limits' names' contents' strings' read' is e) q = absurd (omega (arith, e, q))
 usage_only r status (image limits' found run ends e) q = absurd (not_of_run status 2 (run_status status ends) q (inr (inl refl)))
 usage_only r status (no_image limits' name' bytes' fault read' binary is e) q = absurd (omega (arith, e, q))
 usage_only r status (bad_text limits' name' bytes' fault' read' text wrong e) q = absurd (omega (arith, e, q))
@@ -207,7 +202,6 @@ usage_only r status (no_file command' names' plan' fault e) q = absurd (omega (a
 pub usage_exactly : (r : Request) (status : ℕ) → Finding r status → asked_for r.words ≡ None → status ≡ 2
 usage_exactly r status (accepted command' names' contents' quiet read' e) gone = absurd (no_plan_and_plan _ _ _ (no_files_for_nothing r.words gone) read'.plan)
 usage_exactly r status (faulty command' names' contents' faults' read' may is e) gone = absurd (no_plan_and_plan _ _ _ (no_files_for_nothing r.words gone) read'.plan)
-usage_exactly r status (simple limits' names' contents' strings' read' is e) gone = absurd (no_plan_and_plan _ _ _ (no_files_for_nothing r.words gone) read'.plan)
 usage_exactly r status (image limits' found run ends e) gone = absurd (no_plan_and_plan _ _ _ (no_files_for_nothing r.words gone) (read_for_run r limits' found run).3.plan)
 usage_exactly r status (no_image limits' name' bytes' fault read' binary is e) gone = absurd (no_plan_and_plan _ _ _ (no_files_for_nothing r.words gone) read'.plan)
 usage_exactly r status (bad_text limits' name' bytes' fault' read' text wrong e) gone = absurd (no_plan_and_plan _ _ _ (no_files_for_nothing r.words gone) read'.plan)
@@ -225,7 +219,6 @@ read_are_few r a b names others contents read plan many =
 pub too_many_exactly : (r : Request) (status : ℕ) (command : Command) (names : List (List ℕ)) → Finding r status → plan_of r.words ≡ Some (command, names) → MOST_FILES < length names → status ≡ 10
 too_many_exactly r status command names (accepted command' names' contents' quiet read' e) plan many = absurd (read_are_few r _ _ _ _ _ read' plan many)
 too_many_exactly r status command names (faulty command' names' contents' faults' read' may is e) plan many = absurd (read_are_few r _ _ _ _ _ read' plan many)
-too_many_exactly r status command names (simple limits' names' contents' strings' read' is e) plan many = absurd (read_are_few r _ _ _ _ _ read' plan many)
 too_many_exactly r status command names (image limits' found run ends e) plan many = absurd (read_are_few r _ _ _ _ _ (read_for_run r limits' found run).3 plan many)
 too_many_exactly r status command names (no_image limits' name' bytes' fault read' binary is e) plan many = absurd (read_are_few r _ _ _ _ _ read' plan many)
 too_many_exactly r status command names (bad_text limits' name' bytes' fault' read' text wrong e) plan many = absurd (read_are_few r _ _ _ _ _ read' plan many)
@@ -240,7 +233,6 @@ read_are_there r files a b names others contents name told read plan named gone 
 pub missing_exactly : (r : Request) (status : ℕ) (files : FileMap) (command : Command) (names : List (List ℕ)) (name : List ℕ) → Finding r status → Told r files → plan_of r.words ≡ Some (command, names) → Contains names name → files name ≡ None → status ≡ 10
 missing_exactly r status files command names name (accepted command' names' contents' quiet read' e) told plan named gone = absurd (read_are_there r files _ _ _ _ _ _ told read' plan named gone)
 missing_exactly r status files command names name (faulty command' names' contents' faults' read' may is e) told plan named gone = absurd (read_are_there r files _ _ _ _ _ _ told read' plan named gone)
-missing_exactly r status files command names name (simple limits' names' contents' strings' read' is e) told plan named gone = absurd (read_are_there r files _ _ _ _ _ _ told read' plan named gone)
 missing_exactly r status files command names name (image limits' found run ends e) told plan named gone = absurd (read_are_there r files _ _ _ _ _ _ told (read_for_run r limits' found run).3 plan named gone)
 missing_exactly r status files command names name (no_image limits' name' bytes' fault read' binary is e) told plan named gone = absurd (read_are_there r files _ _ _ _ _ _ told read' plan named gone)
 missing_exactly r status files command names name (bad_text limits' name' bytes' fault' read' text wrong e) told plan named gone = absurd (read_are_there r files _ _ _ _ _ _ told read' plan named gone)
@@ -258,48 +250,32 @@ read_are_small r files a b names others contents large told read plan held more 
 pub too_large_exactly : (r : Request) (status : ℕ) (files : FileMap) (command : Command) (names large : List (List ℕ)) → Finding r status → Told r files → plan_of r.words ≡ Some (command, names) → AreHeld (Some files) names large → most_bytes command < total large → status ≡ 10
 too_large_exactly r status files command names large (accepted command' names' contents' quiet read' e) told plan held more = absurd (read_are_small r files _ _ _ _ _ _ told read' plan held more)
 too_large_exactly r status files command names large (faulty command' names' contents' faults' read' may is e) told plan held more = absurd (read_are_small r files _ _ _ _ _ _ told read' plan held more)
-too_large_exactly r status files command names large (simple limits' names' contents' strings' read' is e) told plan held more = absurd (read_are_small r files _ _ _ _ _ _ told read' plan held more)
 too_large_exactly r status files command names large (image limits' found run ends e) told plan held more = absurd (read_are_small r files _ _ _ _ _ _ told (read_for_run r limits' found run).3 plan held more)
 too_large_exactly r status files command names large (no_image limits' name' bytes' fault read' binary is e) told plan held more = absurd (read_are_small r files _ _ _ _ _ _ told read' plan held more)
 too_large_exactly r status files command names large (bad_text limits' name' bytes' fault' read' text wrong e) told plan held more = absurd (read_are_small r files _ _ _ _ _ _ told read' plan held more)
 too_large_exactly r status files command names large (no_plan none calm e) told plan held more = absurd (no_plan_and_plan _ _ _ none plan)
 too_large_exactly r status files command names large (no_file command' names' plan' fault e) told plan held more = e
 
--- status 0 is left where `run` read files that are a program of the simple form
-pub ran_exactly : (r : Request) (status : ℕ) (files : FileMap) (limits : RunLimits) (names contents strings : List (List ℕ)) → Finding r status → Told r files
-    → IsRead r (Run limits) names contents → RunSimply limits contents strings → status ≡ 0
-ran_exactly r status files limits names contents strings (accepted command' names' contents' quiet read' e) told read form = absurd (runs_nothing _ _ (Run limits) _ _ quiet read'.plan read.plan)
-ran_exactly r status files limits names contents strings (faulty command' names' contents' faults' read' may is e) told read form = absurd (may_refuse r files command' (Run limits) names' names contents' contents told read' read may strings form)
-ran_exactly r status files limits names contents strings (simple limits' names' contents' strings' read' is e) told read form = e
-ran_exactly r status files limits names contents strings (image limits' found run ends e) told read form = absurd (simple_not_run r files limits' limits found names contents strings run told read form)
-ran_exactly r status files limits names contents strings (no_image limits' name' bytes' fault read' binary is e) told read form = absurd (no_run_exec _ _ _ _ _ read.plan read'.plan)
-ran_exactly r status files limits names contents strings (bad_text limits' name' bytes' fault' read' text wrong e) told read form = absurd (no_run_exec _ _ _ _ _ read.plan read'.plan)
-ran_exactly r status files limits names contents strings (no_plan none calm e) told read form = absurd (no_plan_and_plan _ _ _ none read.plan)
-ran_exactly r status files limits names contents strings (no_file command' names' plan' fault e) told read form = absurd (no_file_fault r files _ _ _ _ _ told read plan' fault)
-
--- and the status of the run's end, or 7, where they are another program
+-- the status of the run's end, or 7, is left where `run` read files that are accepted
 pub compiled_exactly : (r : Request) (status : ℕ) (files : FileMap) (limits : RunLimits) (names contents : List (List ℕ)) (p : List Class) → Finding r status → Told r files
-    → IsRead r (Run limits) names contents → RunOtherwise limits contents → IsAccepted contents p
+    → IsRead r (Run limits) names contents → IsAccepted contents p
     → (status ≡ 7) ⊎ (status ≡ status_of (run_of limits (image_of (program_lines p names)) r.input))
-compiled_exactly r status files limits names contents p (accepted command' names' contents' quiet read' e) told read other form = absurd (runs_nothing _ _ (Run limits) _ _ quiet read'.plan read.plan)
-compiled_exactly r status files limits names contents p (faulty command' names' contents' faults' read' may is e) told read other form =
+compiled_exactly r status files limits names contents p (accepted command' names' contents' quiet read' e) told read form = absurd (runs_nothing _ _ (Run limits) _ _ quiet read'.plan read.plan)
+compiled_exactly r status files limits names contents p (faulty command' names' contents' faults' read' may is e) told read form =
     absurd (never_both_verdicts contents p faults' form (subst (λ (cs : List (List ℕ)). IsRefused cs faults') (same_read r files _ _ _ _ _ _ told read' read) is))
-compiled_exactly r status files limits names contents p (simple limits' names' contents' strings' read' is e) told read other form =
-    absurd (other strings' (simple_again r files limits' limits names' names contents' contents strings' told read' read is))
-compiled_exactly r status files limits names contents p (image limits' found run ends e) told read other form =
+compiled_exactly r status files limits names contents p (image limits' found run ends e) told read form =
     let (within, same) = run_of_program r files limits' limits found names contents p run told read form in
     subst (λ w. (status ≡ 7) ⊎ (status ≡ status_of (run_of w (image_of (program_lines p names)) r.input))) within
     (subst (λ i. (status ≡ 7) ⊎ (status ≡ status_of (run_of limits' i r.input))) same e)
-compiled_exactly r status files limits names contents p (no_image limits' name' bytes' fault read' binary is e) told read other form = absurd (no_run_exec _ _ _ _ _ read.plan read'.plan)
-compiled_exactly r status files limits names contents p (bad_text limits' name' bytes' fault' read' text wrong e) told read other form = absurd (no_run_exec _ _ _ _ _ read.plan read'.plan)
-compiled_exactly r status files limits names contents p (no_plan none calm e) told read other form = absurd (no_plan_and_plan _ _ _ none read.plan)
-compiled_exactly r status files limits names contents p (no_file command' names' plan' fault e) told read other form = absurd (no_file_fault r files _ _ _ _ _ told read plan' fault)
+compiled_exactly r status files limits names contents p (no_image limits' name' bytes' fault read' binary is e) told read form = absurd (no_run_exec _ _ _ _ _ read.plan read'.plan)
+compiled_exactly r status files limits names contents p (bad_text limits' name' bytes' fault' read' text wrong e) told read form = absurd (no_run_exec _ _ _ _ _ read.plan read'.plan)
+compiled_exactly r status files limits names contents p (no_plan none calm e) told read form = absurd (no_plan_and_plan _ _ _ none read.plan)
+compiled_exactly r status files limits names contents p (no_file command' names' plan' fault e) told read form = absurd (no_file_fault r files _ _ _ _ _ told read plan' fault)
 
 -- status 12 is left where `exec` read a file that stands for no image
 pub unfit_exactly : (r : Request) (status : ℕ) (files : FileMap) (limits : RunLimits) (name bytes : List ℕ) → Finding r status → Told r files → IsRead r (Exec limits) (name ∷ []) (bytes ∷ []) → ((found : ImageParts) → IsRunnable found bytes → ⊥) → status ≡ 12
 unfit_exactly r status files limits name bytes (accepted command' names' contents' quiet read' e) told read other = absurd (runs_nothing _ _ (Exec limits) _ _ quiet read'.plan read.plan)
 unfit_exactly r status files limits name bytes (faulty command' names' contents' faults' read' may is e) told read other = absurd (may_refuse r files command' (Exec limits) names' (name ∷ []) contents' (bytes ∷ []) told read' read may)
-unfit_exactly r status files limits name bytes (simple limits' names' contents' strings' read' is e) told read other = absurd (no_run_exec _ _ _ _ _ read'.plan read.plan)
 unfit_exactly r status files limits name bytes (image limits' found run ends e) told read other = absurd (other found (run_of_file r files limits' limits found name bytes run told read).1)
 unfit_exactly r status files limits name bytes (no_image limits' name' bytes' fault read' binary is e) told read other = e
 unfit_exactly r status files limits name bytes (bad_text limits' name' bytes' fault' read' text wrong e) told read other = e
@@ -316,7 +292,6 @@ pub executed_exactly : (r : Request) (status : ℕ) (files : FileMap) (limits : 
     → IsRead r (Exec limits) (name ∷ []) (bytes ∷ []) → IsRunnable image' bytes → (status ≡ 7) ⊎ (status ≡ status_of (run_of limits image' r.input))
 executed_exactly r status files limits name bytes image' (accepted command' names' contents' quiet read' e) told read form = absurd (runs_nothing _ _ (Exec limits) _ _ quiet read'.plan read.plan)
 executed_exactly r status files limits name bytes image' (faulty command' names' contents' faults' read' may is e) told read form = absurd (may_refuse r files command' (Exec limits) names' (name ∷ []) contents' (bytes ∷ []) told read' read may)
-executed_exactly r status files limits name bytes image' (simple limits' names' contents' strings' read' is e) told read form = absurd (no_run_exec _ _ _ _ _ read'.plan read.plan)
 executed_exactly r status files limits name bytes image' (image limits' found run ends e) told read form =
     let (within, runnable) = run_of_file r files limits' limits found name bytes run told read in
     let same = one_runnable found image' bytes runnable form in
@@ -332,7 +307,6 @@ executed_exactly r status files limits name bytes image' (no_file command' names
 pub shelf_fault : (r : Request) (status : ℕ) → Finding r status → r.faults_before < r.faults_after → status ≡ 10
 shelf_fault r status (accepted command' names' contents' quiet read' e) more = absurd (omega (arith, read'.calm, more))
 shelf_fault r status (faulty command' names' contents' faults' read' may is e) more = absurd (omega (arith, read'.calm, more))
-shelf_fault r status (simple limits' names' contents' strings' read' is e) more = absurd (omega (arith, read'.calm, more))
 shelf_fault r status (image limits' found run ends e) more = absurd (omega (arith, (read_for_run r limits' found run).3.calm, more))
 shelf_fault r status (no_image limits' name' bytes' fault read' binary is e) more = absurd (omega (arith, read'.calm, more))
 shelf_fault r status (bad_text limits' name' bytes' fault' read' text wrong e) more = absurd (omega (arith, read'.calm, more))
@@ -350,7 +324,6 @@ cause_no_less (Some files) name most before after (inr long) = omega (arith, lon
 pub shelf_no_less : (r : Request) (status : ℕ) → Finding r status → r.faults_before ≤ r.faults_after
 shelf_no_less r status (accepted command' names' contents' quiet read' e) = omega (arith, read'.calm)
 shelf_no_less r status (faulty command' names' contents' faults' read' may is e) = omega (arith, read'.calm)
-shelf_no_less r status (simple limits' names' contents' strings' read' is e) = omega (arith, read'.calm)
 shelf_no_less r status (image limits' found run ends e) = omega (arith, (read_for_run r limits' found run).3.calm)
 shelf_no_less r status (no_image limits' name' bytes' fault read' binary is e) = omega (arith, read'.calm)
 shelf_no_less r status (bad_text limits' name' bytes' fault' read' text wrong e) = omega (arith, read'.calm)
@@ -365,7 +338,6 @@ pub big_due : (r : Request) (status : ℕ) (output note left : List ℕ) (n : �
 big_due r _ _ _ _ n (checked names contents p read is) asked = absurd (no_plan_and_plan _ _ _ (no_files_for_big r.words n asked) read.plan)
 big_due r _ _ _ _ n (built form names contents p read is) asked = absurd (no_plan_and_plan _ _ _ (no_files_for_big r.words n asked) read.plan)
 big_due r _ _ _ _ n (refused command names contents faults read may is) asked = absurd (no_plan_and_plan _ _ _ (no_files_for_big r.words n asked) read.plan)
-big_due r _ _ _ _ n (ran limits names contents strings read is) asked = absurd (no_plan_and_plan _ _ _ (no_files_for_big r.words n asked) read.plan)
 big_due r _ _ _ _ n (executed limits found run) asked = absurd (no_plan_and_plan _ _ _ (no_files_for_big r.words n asked) (read_for_run r limits found run).3.plan)
 big_due r _ _ _ _ n (unread_input limits found at output left run comes fails) asked = absurd (no_plan_and_plan _ _ _ (no_files_for_big r.words n asked) (read_for_run r limits found run).3.plan)
 big_due r _ _ _ _ n (evaluated steps names p status is e) asked = absurd (no_plan_and_plan _ _ _ (no_files_for_big r.words n asked) is.read.plan)

@@ -11,15 +11,14 @@ use Rattle.cool_faults.specs.Texts.{fault_words, fault_line}
 use Rattle.cool_faults.specs.Verdicts.{place_of, IsRefused}
 use Rattle.cool_driver.specs.Notes.{image_fault, image_note, asm_words, asm_note}
 use Rattle.cool_words.specs.declared.plan.RunLimits.{RunLimits}
-use Rattle.cool_driver.specs.SimpleFiles.{RunOtherwise}
-use Rattle.cool_driver.specs.SimpleReading.{texts}
+use Rattle.cool_driver.specs.Contents.{texts}
 use Rattle.cool_driver.specs.Ends.{Request, Due}
 use Rattle.cool_driver.specs.Tasks.{code_of, AreLines, note_of, IsUnfit, IsMisread, IsTaskOfFile, IsTaskOfChecked, IsTaskOfBuilt, IsTaskOfRun, IsTaskOfEval, IsLine, AreLinesOf, IsDue}
 use Rattle.cool_driver.specs.declared.command_line.Form.{Form}
 use Rattle.cool_driver.specs.declared.status.Status.{Status}
 use Rattle.cool_driver.specs.declared.status.Status.TheVariants as statuses
 use Rattle.cool_driver.specs.declared.task.Task.{Task}
-use Rattle.cool_driver.specs.declared.task.Task.TheVariants.{Tell, Write, Run, Execute, Evaluate}
+use Rattle.cool_driver.specs.declared.task.Task.TheVariants.{Tell, Write, Execute, Evaluate}
 use Rattle.mips_isa.specs.declared.asm_fault.AsmFault.{AsmFault}
 use Rattle.mips_image.specs.declared.image_error.ImageError.{ImageError}
 
@@ -58,7 +57,6 @@ one_line lines line e = ap concat e ∙ append-nil line
 pub line_due : (r : Request) (status : Status) (line : List ℕ) (task : Task) → IsLine status line task → 0 < length line → code_of status ≢ 7 → Due r (code_of status) [] line r.input → IsDue r task
 line_due r status line (Tell told lines) h some other due = rw (h.0, one_line lines.items line h.1) (due, are_lines lines.items (line ∷ []) h.1 (some, tt), other)
 line_due r status line (Write made) h some other due = absurd h
-line_due r status line (Run within image) h some other due = absurd h
 line_due r status line (Execute within image) h some other due = absurd h
 line_due r status line (Evaluate steps p files) h some other due = absurd h
 
@@ -66,7 +64,6 @@ line_due r status line (Evaluate steps p files) h some other due = absurd h
 pub checked_lines : (names contents : List (List ℕ)) (faults : List Fault) (task : Task) → IsRefused contents faults → AreLinesOf names faults task → IsTaskOfChecked names contents task
 checked_lines names contents faults (Tell status lines) is h = (are_lines lines.items _ h.1 (some_lines names faults), inr (h.0, (faults, is, ap concat h.1)))
 checked_lines names contents faults (Write made) is h = absurd h
-checked_lines names contents faults (Run within image) is h = absurd h
 checked_lines names contents faults (Execute within image) is h = absurd h
 checked_lines names contents faults (Evaluate steps p files) is h = absurd h
 
@@ -76,25 +73,22 @@ pub built_lines : (form : Form) (names contents : List (List ℕ)) (faults : Lis
 built_lines form names contents faults (Tell status lines) is h =
     (are_lines lines.items _ h.1 (some_lines names faults), h.0, (faults, is, ap concat h.1))
 built_lines form names contents faults (Write made) is h = absurd h
-built_lines form names contents faults (Run within image) is h = absurd h
 built_lines form names contents faults (Execute within image) is h = absurd h
 built_lines form names contents faults (Evaluate steps p files) is h = absurd h
 
 -- the faults of files that `run` names
-pub run_lines : (limits : RunLimits) (names contents : List (List ℕ)) (faults : List Fault) (task : Task) → RunOtherwise limits contents → IsRefused contents faults → AreLinesOf names faults task
+pub run_lines : (limits : RunLimits) (names contents : List (List ℕ)) (faults : List Fault) (task : Task) → IsRefused contents faults → AreLinesOf names faults task
     → IsTaskOfRun limits names contents task
-run_lines limits names contents faults (Tell status lines) other is h = (are_lines lines.items _ h.1 (some_lines names faults), other, h.0, (faults, is, ap concat h.1))
-run_lines limits names contents faults (Write made) other is h = absurd h
-run_lines limits names contents faults (Run within image) other is h = absurd h
-run_lines limits names contents faults (Execute within image) other is h = absurd h
-run_lines limits names contents faults (Evaluate steps p files) other is h = absurd h
+run_lines limits names contents faults (Tell status lines) is h = (are_lines lines.items _ h.1 (some_lines names faults), h.0, (faults, is, ap concat h.1))
+run_lines limits names contents faults (Write made) is h = absurd h
+run_lines limits names contents faults (Execute within image) is h = absurd h
+run_lines limits names contents faults (Evaluate steps p files) is h = absurd h
 
 -- the faults of files that `eval` names
 pub eval_lines : (steps : ℕ) (names contents : List (List ℕ)) (faults : List Fault) (task : Task)
     → IsRefused contents faults → AreLinesOf names faults task → IsTaskOfEval steps names contents task
 eval_lines steps names contents faults (Tell status lines) is h = (are_lines lines.items _ h.1 (some_lines names faults), h.0, (faults, is, ap concat h.1))
 eval_lines steps names contents faults (Write made) is h = absurd h
-eval_lines steps names contents faults (Run within image) is h = absurd h
 eval_lines steps names contents faults (Execute within image) is h = absurd h
 eval_lines steps names contents faults (Evaluate most p files) is h = absurd h
 
@@ -105,7 +99,6 @@ unfit_line limits name bytes line (Tell status lines) is h =
     let same : note_of lines.items ≡ image_note name is.0 = one_line lines.items line h.1 ∙ is.1 in
     (ap code_of h.0, are_lines lines.items (line ∷ []) h.1 (some, tt), inl (is.0, same, is.2, is.3))
 unfit_line limits name bytes line (Write made) is h = absurd h
-unfit_line limits name bytes line (Run within image) is h = absurd h
 unfit_line limits name bytes line (Execute within image) is h = absurd h
 unfit_line limits name bytes line (Evaluate steps p files) is h = absurd h
 
@@ -116,7 +109,6 @@ misread_line limits name bytes line (Tell status lines) is h =
     let same : note_of lines.items ≡ asm_note name is.0 = one_line lines.items line h.1 ∙ is.1 in
     (ap code_of h.0, are_lines lines.items (line ∷ []) h.1 (some, tt), inr (is.0, same, is.2, is.3))
 misread_line limits name bytes line (Write made) is h = absurd h
-misread_line limits name bytes line (Run within image) is h = absurd h
 misread_line limits name bytes line (Execute within image) is h = absurd h
 misread_line limits name bytes line (Evaluate steps p files) is h = absurd h
 

@@ -10,7 +10,7 @@ use Rattle.cool_driver.specs.CommandLine.{plan_of}
 use Rattle.cool_driver.specs.Execution.{IsTextFault, is_text_file}
 use Rattle.cool_driver.specs.Notes.{asm_note}
 use Rattle.cool_driver.specs.Ends.{Request, Due, IsRead, Told}
-use Rattle.cool_driver.specs.Ends.Due.{checked, built, refused, ran, executed, unread_input, evaluated, unread_source, unfit, misread, summed, usage, too_many, missing, unread, too_large}
+use Rattle.cool_driver.specs.Ends.Due.{checked, built, refused, executed, unread_input, evaluated, unread_source, unfit, misread, summed, usage, too_many, missing, unread, too_large}
 use Rattle.cool_driver.specs.declared.command_line.Command.TheVariants.{Check, Build, Eval, Exec}
 use Rattle.cool_driver.proofs.Findings.{no_file_fault}
 use Rattle.cool_driver.proofs.ImagesOfCalls.{fault_or_runs, run_of_file}
@@ -36,7 +36,6 @@ misread_note r _ _ _ _ files limits name bytes fault (checked names' contents' p
 misread_note r _ _ _ _ files limits name bytes fault (built form names' contents' p read' is) told read text wrong = absurd (runs_nothing _ (Build form) (Exec limits) _ _ tt read'.plan read.plan)
 misread_note r _ _ _ _ files limits name bytes fault (refused command' names' contents' faults' read' may is) told read text wrong =
     absurd (may_refuse r files command' (Exec limits) names' (name ∷ []) contents' (bytes ∷ []) told read' read may)
-misread_note r _ _ _ _ files limits name bytes fault (ran limits' names' contents' strings' read' is) told read text wrong = absurd (no_run_exec _ _ _ _ _ read'.plan read.plan)
 misread_note r _ _ _ _ files limits name bytes fault (executed limits' found run) told read text wrong =
     absurd (fault_or_runs found bytes fault text wrong (run_of_file r files limits' limits found name bytes run told read).1)
 misread_note r _ _ _ _ files limits name bytes fault (unread_input limits' found at output left run comes fails) told read text wrong =

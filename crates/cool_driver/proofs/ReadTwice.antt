@@ -70,7 +70,7 @@ same_file r files a b names others bytes more told read again =
     cc
 
 -- files that were read for a command that has another name
-pub may_refuse : (r : Request) (files : FileMap) (a b : Command) (names others contents more : List (List ℕ)) → Told r files → IsRead r a names contents → IsRead r b others more → MayRefuse a contents → MayRefuse b more
+pub may_refuse : (r : Request) (files : FileMap) (a b : Command) (names others contents more : List (List ℕ)) → Told r files → IsRead r a names contents → IsRead r b others more → MayRefuse a → MayRefuse b
 may_refuse r files a b names others contents more told read again may =
     let command = (same_plan (plan_of r.words) a b names others read.plan again.plan).0 in
-    subst (λ (c : Command). MayRefuse c more) command (subst (λ (cs : List (List ℕ)). MayRefuse a cs) (same_read r files a b names others contents more told read again) may)
+    subst MayRefuse command may

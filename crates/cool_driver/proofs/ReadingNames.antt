@@ -11,7 +11,7 @@ use Rattle.cool_faults.specs.Files.{total}
 use Rattle.cool_driver.specs.CommandLine.{words_of}
 use Rattle.cool_driver.specs.Ends.{AreHeld}
 use Rattle.cool_driver.specs.Reading.{IsCause, IsStopAt}
-use Rattle.cool_driver.specs.SimpleReading.{texts}
+use Rattle.cool_driver.specs.Contents.{texts}
 use Rattle.cool_driver.proofs.HeldFiles.{held_more, total-push}
 
 -- the name at a number after those before it

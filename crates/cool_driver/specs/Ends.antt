@@ -26,7 +26,6 @@ use Rattle.cool_words.specs.Plans.Asked.{big}
 use Rattle.cool_driver.specs.Big.{IsBigLine}
 use Rattle.cool_driver.specs.CommandLine.{asked_for, plan_of, most_bytes}
 use Rattle.cool_driver.specs.Notes.{end_text, refused_note, usage_note, missing_note, unread_note, too_many_note, too_large_note, read_fault_note, image_note, asm_note}
-use Rattle.cool_driver.specs.SimpleFiles.{RunSimply, RunOtherwise}
 use Rattle.cool_driver.specs.Execution.{IsRunnable, IsTextFault, is_text_file, segments_within, run_of, ComesTo, left_by, status_of, note_of}
 use Rattle.cool_driver.specs.Evaluation.{status_of_end, note_of_end, IsPartOf}
 use Rattle.cool_driver.specs.declared.command_line.Command.{Command}
@@ -68,20 +67,18 @@ pub record IsReadUpTo (r : Request) (command : Command) (name : List ℕ) (conte
   pub held : AreHeld r.files front contents
   pub within : total contents ≤ most_bytes command
 
--- the command refuses such files for their faults: `run` looks first whether they are run as the simple form, and `exec` never does
-abbrev pub MayRefuse : Command → List (List ℕ) → Type 0
-MayRefuse Check contents = Unit {0}
-MayRefuse (Build form) contents = Unit {0}
-MayRefuse (Run limits) contents = RunOtherwise limits contents
-MayRefuse (Eval steps) contents = Unit {0}
-MayRefuse (Exec limits) contents = ⊥
+-- the command refuses files for their faults: `exec` never does
+abbrev pub MayRefuse : Command → Type 0
+MayRefuse Check = Unit {0}
+MayRefuse (Build form) = Unit {0}
+MayRefuse (Run limits) = Unit {0}
+MayRefuse (Eval steps) = Unit {0}
+MayRefuse (Exec limits) = ⊥
 
--- The image that a call runs over its input: that of the file of `exec`, or the one of the lines of the program that the files of `run` are,
--- unless they are one of the simple form.
+-- The image that a call runs over its input: that of the file of `exec`, or the one of the lines of the program that the files of `run` are.
 pub data IsRunOf (r : Request) (limits : RunLimits) (image : ImageParts) : Type 0 where
   of_file : (name bytes : List ℕ) → IsRead r (Exec limits) (name ∷ []) (bytes ∷ []) → IsRunnable image bytes → IsRunOf r limits image
-  of_program : (names contents : List (List ℕ)) (p : List Class) → IsRead r (Run limits) names contents → RunOtherwise limits contents
-      → IsAccepted contents p
+  of_program : (names contents : List (List ℕ)) (p : List Class) → IsRead r (Run limits) names contents → IsAccepted contents p
       → image ≡ image_of (program_lines p names) → IsRunOf r limits image
 
 -- The program that a call evaluates with so many steps: that of the files of `eval`, which have these names.
@@ -105,11 +102,8 @@ pub data Due (r : Request) : ℕ → List ℕ → List ℕ → List ℕ → Type
       → Due r 0 (built_bytes form p names) [] r.input
   -- `check`, `asm`, `build`, `run` and `eval`: a line for each fault
   refused : (command : Command) (names contents : List (List ℕ)) (faults : List Fault) → IsRead r command names contents
-      → MayRefuse command contents → IsRefused contents faults
+      → MayRefuse command → IsRefused contents faults
       → Due r 1 [] (refused_note names faults) r.input
-  -- `run` of a program of the simple form: its strings in order, and the end text
-  ran : (limits : RunLimits) (names contents strings : List (List ℕ)) → IsRead r (Run limits) names contents
-      → RunSimply limits contents strings → Due r 0 (concat strings ++ end_text) [] r.input
   -- `run` and `exec`: as the run of the image ends
   executed : (limits : RunLimits) (image : ImageParts) → IsRunOf r limits image
       → Due r (status_of (run_of limits image r.input)) (left_by (run_of limits image r.input)).output (note_of (run_of limits image r.input))
@@ -150,8 +144,6 @@ pub data Writing (r : Request) : List ℕ → List ℕ → List ℕ → Type 0 w
   -- what `asm` and `build` write
   by_build : (form : Form) (names contents : List (List ℕ)) (p : List Class) → IsRead r (Build form) names contents → IsAccepted contents p
       → Writing r [] (built_bytes form p names) r.input
-  by_run : (limits : RunLimits) (names contents strings : List (List ℕ)) → IsRead r (Run limits) names contents
-      → RunSimply limits contents strings → Writing r [] (concat strings ++ end_text) r.input
   -- the line of `big`
   by_big : (n : ℕ) (line : List ℕ) → asked_for r.words ≡ Some (big n) → r.faults_after ≡ r.faults_before → IsBigLine n line
       → Writing r [] line r.input
@@ -259,14 +251,11 @@ pub record Ends (c : Call) (status : ℕ) : Type 0 where
   -- `check`, `asm`, `build`, `run` and `eval`: status 1 comes where the files were read and their fault list is not empty, with a line for each fault
   -- of it
   pub refused_exactly : (files : FileMap) (command : Command) (names contents : List (List ℕ)) (faults : List Fault) → Told c.request files
-      → IsRead c.request command names contents → MayRefuse command contents
+      → IsRead c.request command names contents → MayRefuse command
       → IsFaultList contents faults → faults ≢ [] → Unless status ((status ≡ 1) × Got c.notes (refused_note names faults))
-  -- `run`: status 0 comes where the files were read and are a program of the simple form, and the status of its run's end where they are
-  -- another program
-  pub ran_exactly : (files : FileMap) (limits : RunLimits) (names contents strings : List (List ℕ)) → Told c.request files
-      → IsRead c.request (Run limits) names contents → RunSimply limits contents strings → Unless status (status ≡ 0)
+  -- `run`: the status of its run's end comes where the files were read and are accepted, unless a read failed
   pub compiled_exactly : (files : FileMap) (limits : RunLimits) (names contents : List (List ℕ)) (p : List Class) → Told c.request files
-      → IsRead c.request (Run limits) names contents → RunOtherwise limits contents → IsAccepted contents p
+      → IsRead c.request (Run limits) names contents → IsAccepted contents p
       → Unless status ((status ≡ 7) ⊎ (status ≡ status_of (run_of limits (image_of (program_lines p names)) c.request.input)))
   -- `eval`: the status, the output and the note of the run's end come where the files were read and are accepted, and what it leaves of the
   -- input is left, unless a read failed; whatever the status, a prefix of the run's output came

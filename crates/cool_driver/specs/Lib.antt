@@ -1,8 +1,5 @@
+pub mod Contents
 pub mod Reading
-pub mod SimpleForm
-pub mod SimpleFiles
-pub mod SimpleReading
-pub mod Emitted
 pub mod Limits
 pub mod CommandLine
 pub mod Notes

@@ -28,15 +28,14 @@ use Rattle.cool_driver.specs.CommandLine.{words_of, plan_of}
 use Rattle.cool_driver.specs.Notes.{end_text, refused_note, missing_note, unread_note, too_large_note, image_note, asm_note}
 use Rattle.cool_driver.specs.Execution.{IsRunnable, IsTextFault, is_text_file, run_of}
 use Rattle.cool_driver.specs.Ends.{Request, Due, Writing, IsRead, IsRunOf, IsEvaluationOf, built_bytes, SinkUse, Got, GotPart}
-use Rattle.cool_driver.specs.SimpleFiles.{RunSimply, RunOtherwise}
-use Rattle.cool_driver.specs.SimpleReading.{texts}
+use Rattle.cool_driver.specs.Contents.{texts}
 use Rattle.cool_driver.specs.declared.command_line.Command.{Command}
 use Rattle.cool_driver.specs.declared.command_line.Command.TheVariants as command
 use Rattle.cool_driver.specs.declared.command_line.Form.{Form}
 use Rattle.cool_driver.specs.declared.status.Status.{Status}
 use Rattle.cool_driver.specs.declared.status.Status.TheVariants as statuses
 use Rattle.cool_driver.specs.declared.task.Task.{Task}
-use Rattle.cool_driver.specs.declared.task.Task.TheVariants.{Tell, Write, Run, Execute, Evaluate}
+use Rattle.cool_driver.specs.declared.task.Task.TheVariants.{Tell, Write, Execute, Evaluate}
 
 abbrev pub code_of : Status → ℕ
 code_of statuses.Done = 0
@@ -75,11 +74,6 @@ fault_note name faults.Failed = Some (unread_note name)
 fault_note name faults.TooLarge = Some too_large_note
 fault_note name faults.Memory = None
 
--- within the limits the image prints this and exits, and takes nothing of any input
-abbrev pub Prints : RunLimits → ImageParts → List ℕ → Type 0
-Prints limits image output =
-    (input : List ℕ) → (end : State) × (run_of limits image input ≡ Exited 0 end) × (end.output ≡ output) × (end.input ≡ input)
-
 -- this note is due for an image with a fault, and for a text with one
 abbrev pub IsUnfit : List ℕ → List ℕ → List ℕ → Type 0
 IsUnfit name bytes note = (fault : ImageError) × (note ≡ image_note name fault) × (is_text_file bytes ≡ false) × (first_fault bytes ≡ Some fault)
@@ -98,7 +92,6 @@ abbrev pub IsTaskOfFile : RunLimits → List ℕ → List ℕ → Task → Type 
 IsTaskOfFile limits name bytes (Tell status lines) = (code_of status ≡ 12) × AreLines lines.items
     × (IsUnfit name bytes (note_of lines.items) ⊎ IsMisread name bytes (note_of lines.items))
 IsTaskOfFile limits name bytes (Write made) = ⊥
-IsTaskOfFile limits name bytes (Run within image) = ⊥
 IsTaskOfFile limits name bytes (Execute within image) = (within ≡ limits) × IsRunnable image bytes
 IsTaskOfFile limits name bytes (Evaluate steps p files) = ⊥
 
@@ -109,7 +102,6 @@ IsTaskOfChecked names contents (Tell status lines) =
     × (((code_of status ≡ 0) × (note_of lines.items ≡ []) × ((p : List Class) × IsAccepted contents p))
     ⊎ ((code_of status ≡ 1) × ((faults : List Fault) × IsRefused contents faults × (note_of lines.items ≡ refused_note names faults))))
 IsTaskOfChecked names contents (Write made) = ⊥
-IsTaskOfChecked names contents (Run within image) = ⊥
 IsTaskOfChecked names contents (Execute within image) = ⊥
 IsTaskOfChecked names contents (Evaluate steps p files) = ⊥
 
@@ -119,20 +111,17 @@ IsTaskOfBuilt form names contents (Tell status lines) =
     AreLines lines.items × (code_of status ≡ 1)
     × ((faults : List Fault) × IsRefused contents faults × (note_of lines.items ≡ refused_note names faults))
 IsTaskOfBuilt form names contents (Write made) = (p : List Class) × IsAccepted contents p × (made.items ≡ built_bytes form p names)
-IsTaskOfBuilt form names contents (Run within image) = ⊥
 IsTaskOfBuilt form names contents (Execute within image) = ⊥
 IsTaskOfBuilt form names contents (Evaluate steps p files) = ⊥
 
 -- what is left to do for files of these names that `run` names, within these limits, and that have these bytes
 abbrev pub IsTaskOfRun : RunLimits → List (List ℕ) → List (List ℕ) → Task → Type 0
 IsTaskOfRun limits names contents (Tell status lines) =
-    AreLines lines.items × RunOtherwise limits contents × (code_of status ≡ 1)
+    AreLines lines.items × (code_of status ≡ 1)
     × ((faults : List Fault) × IsRefused contents faults × (note_of lines.items ≡ refused_note names faults))
 IsTaskOfRun limits names contents (Write made) = ⊥
-IsTaskOfRun limits names contents (Run within image) =
-    (within ≡ limits) × ((strings : List (List ℕ)) × RunSimply limits contents strings × Prints limits image (concat strings ++ end_text))
 IsTaskOfRun limits names contents (Execute within image) =
-    (within ≡ limits) × ((p : List Class) × RunOtherwise limits contents × IsAccepted contents p × (image ≡ image_of (program_lines p names)))
+    (within ≡ limits) × ((p : List Class) × IsAccepted contents p × (image ≡ image_of (program_lines p names)))
 IsTaskOfRun limits names contents (Evaluate steps p files) = ⊥
 
 -- what is left to do for files of these names that `eval` names, with so many steps, and that have these bytes
@@ -141,7 +130,6 @@ IsTaskOfEval steps names contents (Tell status lines) =
     AreLines lines.items × (code_of status ≡ 1)
     × ((faults : List Fault) × IsRefused contents faults × (note_of lines.items ≡ refused_note names faults))
 IsTaskOfEval steps names contents (Write made) = ⊥
-IsTaskOfEval steps names contents (Run within image) = ⊥
 IsTaskOfEval steps names contents (Execute within image) = ⊥
 IsTaskOfEval steps names contents (Evaluate most p files) = (most ≡ steps) × (words_of files.items ≡ names) × IsAccepted contents p
 
@@ -156,7 +144,6 @@ IsTaskOf (command.Exec limits) names contents task = IsTaskOfFile limits (get_or
 abbrev pub IsLine : Status → List ℕ → Task → Type 0
 IsLine status line (Tell told lines) = (told ≡ status) × (texts lines.items ≡ line ∷ [])
 IsLine status line (Write made) = ⊥
-IsLine status line (Run within image) = ⊥
 IsLine status line (Execute within image) = ⊥
 IsLine status line (Evaluate steps p files) = ⊥
 
@@ -164,7 +151,6 @@ IsLine status line (Evaluate steps p files) = ⊥
 abbrev pub AreLinesOf : List (List ℕ) → List Fault → Task → Type 0
 AreLinesOf names faults (Tell status lines) = (code_of status ≡ 1) × (texts lines.items ≡ map (fault_line names) faults)
 AreLinesOf names faults (Write made) = ⊥
-AreLinesOf names faults (Run within image) = ⊥
 AreLinesOf names faults (Execute within image) = ⊥
 AreLinesOf names faults (Evaluate steps p files) = ⊥
 
@@ -180,10 +166,6 @@ HasLimits (command.Exec limits) = IsBounded limits
 abbrev pub IsDue : Request → Task → Type 0
 IsDue r (Tell status lines) = Due r (code_of status) [] (note_of lines.items) r.input × AreLines lines.items × (code_of status ≢ 7)
 IsDue r (Write made) = Due r 0 made.items [] r.input × Writing r [] made.items r.input
-IsDue r (Run limits image) =
-    IsBounded limits
-    × ((names : List (List ℕ)) × (contents : List (List ℕ)) × (strings : List (List ℕ)) × IsRead r (command.Run limits) names contents
-    × RunSimply limits contents strings × Prints limits image (concat strings ++ end_text))
 IsDue r (Execute limits image) = IsBounded limits × IsRunOf r limits image
 IsDue r (Evaluate steps p files) = IsEvaluationOf r steps (words_of files.items) p
 
@@ -196,8 +178,3 @@ IsFileTask files before after command names task =
 -- Bytes were written, a note or an image, and this status answered, or the write failed.
 abbrev pub Noted : SinkUse → List ℕ → Status → Status → Type 0
 Noted s bytes status answered = ((answered ≡ status) × Got s bytes) ⊎ ((answered ≡ statuses.WriteFault) × GotPart s [] bytes)
-
--- A program of the simple form wrote its output, or a write failed, or there was no memory for the run.
-abbrev pub RunsSimple : SinkUse → List ℕ → Status → Type 0
-RunsSimple s output answered =
-    ((answered ≡ statuses.Done) × Got s output) ⊎ ((answered ≡ statuses.WriteFault) × GotPart s [] output) ⊎ ((answered ≡ statuses.Memory) × Got s [])

@@ -7,7 +7,7 @@ ghost use Rattle.cool_words.specs.Numbers.{IsWithin};
 ghost use Rattle.cool_words.specs.Plans.{usual_limits};
 ghost use Rattle.cool_driver.specs.Big.{ComesOut, RunsTo, IsBigLine};
 ghost use Rattle.cool_driver.specs.Execution.{run_of};
-ghost use Rattle.cool_driver.specs.SimpleReading.{texts};
+ghost use Rattle.cool_driver.specs.Contents.{texts};
 ghost use Rattle.cool_driver.specs.Tasks.{code_of};
 
 use crate::MOST_BIG_OUTPUT;

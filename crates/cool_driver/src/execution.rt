@@ -7,11 +7,11 @@ ghost use Rattle.cool_driver.specs.Ends.{Request, IsRunOf, Ends};
 ghost use Rattle.cool_driver.specs.Execution.{heap_of, stack_of};
 ghost use Rattle.cool_words.specs.Plans.{IsBounded};
 ghost use Rattle.spim_memory.specs.Memory.{IsLimits};
-ghost use Rattle.cool_driver.specs.Tasks.{code_of, Prints, RunsSimple};
+ghost use Rattle.cool_driver.specs.Tasks.{code_of};
 
 use crate::notes::{HEAP_LIMIT, READ_FAULT, STACK_LIMIT, STEP_LIMIT, tell, trap_note};
 use crate::status::Status;
-use cool_ports::{Sink, Source, SureSource};
+use cool_ports::{Sink, Source};
 use cool_words::RunLimits;
 use mips_isa::Image;
 use spim_machine::{Halt, Machine};
@@ -28,28 +28,6 @@ pub fn machine_limits(limits: RunLimits) -> Limits
     Limits {
         heap: limits.heap_kib * 1_024,
         stack: limits.stack_kib * 1_024,
-    }
-}
-
-/// Runs the image of a program of the simple form, which takes no input.
-pub fn run_simple<O: Sink>(alloc: Global, limits: RunLimits, image: &Image, out: &mut O) -> Status
-    requires limits { IsBounded limits }
-    requires prints { (output : List ℕ) × Prints limits image.now output }
-    ensures { (output : List ℕ) → Prints limits image.now output → RunsSimple (record {
-      held_before = O.held out.old;
-      held_after = O.held out.new;
-      faults_before = O.faults out.old;
-      faults_after = O.faults out.new;
-    }) output result }
-{
-    let Ok(mut machine) = Machine::load(alloc, image, machine_limits(limits)) else {
-        return Status::Memory;
-    };
-    let mut nothing = SureSource::new(Vec::new(alloc));
-    match machine.run(limits.steps, &mut nothing, out) {
-        Halt::Exit(_) => Status::Done,
-        Halt::WriteFault => Status::WriteFault,
-        _ => unreachable!(),
     }
 }
 

@@ -19,16 +19,14 @@ mod evaluation;
 mod execution;
 mod growing_sink;
 mod notes;
-mod program;
 mod reading;
-mod simple_form;
 mod status;
 mod task;
 mod writing;
 
 use cool_ports::{Failed, Shelf, Sink, Source};
 use evaluation::evaluate_program;
-use execution::{execute, run_simple};
+use execution::execute;
 use notes::{BAD_COMMAND_LINE, tell_lines};
 pub use status::Status;
 use std::alloc::{AllocError, Global};
@@ -37,9 +35,6 @@ use writing::write_pieces;
 
 /// The most bytes of a file for `exec`: those of the greatest image.
 pub const MOST_IMAGE_BYTES: u64 = 532_676_628;
-
-/// The instructions with which each program of the simple form ends: five for each of 800 strings and for the end text, and three.
-pub const SIMPLE_STEPS: u64 = 4_008;
 
 /// The most bytes of output that `big` counts.
 pub const MOST_BIG_OUTPUT: u64 = 65_536;
@@ -96,7 +91,6 @@ pub fn cool<F: Shelf, I: Source, O: Sink, E: Sink>(
         Err(AllocError) => Status::Memory,
         Ok(Task::Tell(status, lines)) => tell_lines(notes, status, &lines),
         Ok(Task::Write(bytes)) => write_pieces(out, &bytes),
-        Ok(Task::Run(limits, image)) => run_simple(alloc, limits, &image, out),
         Ok(Task::Execute(limits, image)) => execute(alloc, limits, &image, input, out, notes),
         Ok(Task::Evaluate(steps, program, names)) => {
             evaluate_program(alloc, steps, &program, &names, input, out, notes)

@@ -5,7 +5,7 @@ ghost use Rattle.cool_faults.specs.Files.{total};
 ghost use Rattle.cool_driver.specs.CommandLine.{words_of};
 ghost use Rattle.cool_driver.specs.Ends.{AreHeld};
 ghost use Rattle.cool_driver.specs.Reading.{IsStop};
-ghost use Rattle.cool_driver.specs.SimpleReading.{texts};
+ghost use Rattle.cool_driver.specs.Contents.{texts};
 
 use cool_ports::{Shelf, ShelfFault};
 use std::alloc::{AllocError, AllocFailed, Global};

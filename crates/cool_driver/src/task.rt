@@ -4,28 +4,22 @@ ghost use Rattle.std.specs.Prelude.{◌≡◌, ◌≢◌, ◌+◌, ◌<◌, ◌�
 ghost use Rattle.std.specs.List.{concat, list_all, AllByRecursion};
 ghost use Rattle.cool_words.specs.Plans.{is_file_name};
 ghost use Rattle.cool_driver.specs.CommandLine.{words_of};
-ghost use Rattle.cool_driver.specs.SimpleFiles.{RunOtherwise};
-ghost use Rattle.cool_driver.specs.SimpleReading.{texts};
-ghost use Rattle.cool_driver.specs.Emitted.{HasNoZero, data_of};
+ghost use Rattle.cool_driver.specs.Contents.{texts};
 ghost use Rattle.cool_syntax.specs.declared.TheConstants.{MOST_FILES, MOST_SOURCE_BYTES};
-ghost use Rattle.cool_driver.specs.declared.simple_form.TheConstants.{MOST_CALLS};
-ghost use Rattle.cool_driver.specs.declared.TheConstants.{MOST_IMAGE_BYTES, SIMPLE_STEPS};
-ghost use Rattle.cool_driver.specs.Notes.{end_text, usage_note};
+ghost use Rattle.cool_driver.specs.declared.TheConstants.{MOST_IMAGE_BYTES};
+ghost use Rattle.cool_driver.specs.Notes.{usage_note};
 ghost use Rattle.cool_driver.specs.Execution.{is_text_file};
 ghost use Rattle.cool_rules.specs.Fits.{Fits};
 ghost use Rattle.cool_faults.specs.Files.{total};
 ghost use Rattle.cool_driver.specs.Ends.{built_bytes};
 ghost use Rattle.cool_faults.specs.Verdicts.{place_of};
 ghost use Rattle.cool_driver.specs.CommandLine.{is_number_of_files, most_bytes};
-ghost use Rattle.cool_driver.specs.Tasks.{AreSources, AssemblesText, Prints, IsLine, AreLinesOf, IsTaskOf, IsTaskOfFile, IsTaskOfChecked, IsTaskOfBuilt, IsTaskOfRun, IsTaskOfEval, IsDue, IsFileTask, HasLimits};
+ghost use Rattle.cool_driver.specs.Tasks.{AreSources, AssemblesText, IsLine, AreLinesOf, IsTaskOf, IsTaskOfFile, IsTaskOfChecked, IsTaskOfBuilt, IsTaskOfRun, IsTaskOfEval, IsDue, IsFileTask, HasLimits};
 
-use crate::SIMPLE_STEPS;
 use crate::big::big_line;
 use crate::command_line::{Command, Form};
 use crate::notes::{BAD_COMMAND_LINE, TOO_MANY_FILES, asm_note, file_note, image_note};
-use crate::program::compile;
 use crate::reading::{ReadError, read_files};
-use crate::simple_form::{SimpleError, read_programs};
 use crate::status::Status;
 use cool_emit::{build, lines};
 use cool_faults::{Fault, Verdict, accept, fault_text};
@@ -49,8 +43,6 @@ pub enum Task {
     Tell(Status, Vec<Vec<u8>>),
     /// To write these bytes, which are assembly or an image, to the output.
     Write(Vec<u8>),
-    /// To run the image of a program of the simple form within these limits.
-    Run(RunLimits, Image),
     /// To run this image over the input within these limits.
     Execute(RunLimits, Image),
     /// To evaluate this program over the input with so many steps. Its files have these names.
@@ -237,27 +229,6 @@ fn compile_files(
     requires sources { AreSources names.now contents.now }
     ensures { IfOk result (IsTaskOfRun limits (words_of names.now) (texts contents.now)) }
 {
-    if limits.steps < SIMPLE_STEPS {
-        return compile_program(alloc, limits, names, contents);
-    }
-    match read_programs(alloc, contents) {
-        Ok(strings) => Ok(Task::Run(limits, compile_with_end(alloc, strings)?)),
-        Err(SimpleError::NotSimple) => compile_program(alloc, limits, names, contents),
-        Err(SimpleError::Memory) => Err(AllocError),
-    }
-}
-
-/// The same, for files that are not run as a program of the simple form.
-fn compile_program(
-    alloc: Global,
-    limits: RunLimits,
-    names: &[String],
-    contents: &[Vec<u8>],
-) -> Result<Task, AllocError>
-    requires sources { AreSources names.now contents.now }
-    requires other { RunOtherwise limits (texts contents.now) }
-    ensures { IfOk result (IsTaskOfRun limits (words_of names.now) (texts contents.now)) }
-{
     match accept(alloc, contents)? {
         Verdict::Accepted(program) => Ok(Task::Execute(limits, build(alloc, &program, names)?)),
         Verdict::Refused(faults) => refuse(alloc, names, faults.as_slice()),
@@ -347,17 +318,4 @@ fn assemble_text(alloc: Global, bytes: &[u8]) -> Result<Image, AsmError>
         Ok(lines) => assemble(alloc, &lines),
         Err(error) => Err(error),
     }
-}
-
-/// The image of a program that prints the strings and then the end text.
-fn compile_with_end(alloc: Global, strings: Vec<Vec<u8>>) -> Result<Image, AllocError>
-    requires few { length strings.items ≤ MOST_CALLS }
-    requires plain { AllByRecursion HasNoZero (texts strings.items) }
-    requires small { length (data_of (texts strings.items)) + 36 < 2 ^ 28 }
-    ensures { IfOk result (λ image. (limits : RunLimits) → SIMPLE_STEPS ≤ limits.steps → Prints limits image (concat (texts strings.items) ++ end_text)) }
-{
-    let mut strings = strings;
-    let end = Vec::from_slice(alloc, b"COOL program successfully executed\n")?;
-    strings.push(end)?;
-    compile(alloc, &strings)
 }

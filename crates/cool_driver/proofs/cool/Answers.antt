@@ -1,26 +1,18 @@
-use Rattle.std.proofs.Common.{false, [], ◌++◌, refl, sym}
-use Rattle.std.specs.List.{concat}
+use Rattle.std.proofs.Common.{false, [], refl, sym}
 use Rattle.cool_ports.proofs.GettingBytes.{appended-nil}
 use Rattle.cool_ports.proofs.InputsInParts.{took_nothing, leaves_same}
-use Rattle.cool_driver.specs.Notes.{end_text}
 use Rattle.cool_driver.proofs.EndsOfDue.{ends_without_memory}
-use Rattle.cool_driver.proofs.EndsOfTasks.{note_ends, written_ends, simple_ends}
+use Rattle.cool_driver.proofs.EndsOfTasks.{note_ends, written_ends}
 use Rattle.cool_driver.proofs.EvaluationsOfCalls.{evaluation_takes_input}
 use Rattle.cool_driver.proofs.ImagesOfCalls.{run_takes_input}
 use Rattle.cool_driver.proofs.cool.Goals as goal
-use Rattle.cool_driver.proofs.cool.Goals.{in-Err, in-Ok-Tell, in-Ok-Write, in-Ok-Run, in-Ok-Execute, in-Ok-Evaluate}
+use Rattle.cool_driver.proofs.cool.Goals.{in-Err, in-Ok-Tell, in-Ok-Write, in-Ok-Execute, in-Ok-Evaluate}
 
 -- no line is empty
 pub tell_lines-status-requires : goal.tell_lines-status-requires
 tell_lines-status-requires g c =
     let due = rw c.in-Ok-Tell.field-0-is at (c.in-Ok-Tell.ensures.due []) in
     rw c.deref.ensures.value due.1
-
--- an image of the simple form prints
-pub run_simple-status-requires : goal.run_simple-status-requires
-run_simple-status-requires g c =
-    let due = rw c.in-Ok-Run.field-0-is at (c.in-Ok-Run.ensures.due []) in
-    record { limits = due.0; prints = (concat due.1.2 ++ end_text, due.1.5) }
 
 -- the limits of a run are in bounds
 pub execute-status-requires : goal.execute-status-requires
@@ -34,7 +26,6 @@ returns-clause-input g c none =
       | in-Err w ↦ w.input-is
       | in-Ok-Tell w ↦ w.input-is
       | in-Ok-Write w ↦ w.input-is
-      | in-Ok-Run w ↦ w.input-is
       | in-Ok-Execute w ↦
           let due = rw w.in-Ok-Execute.field-0-is at (w.in-Ok-Execute.ensures.due []) in
           absurd (run_takes_input _ _ _ due.1 none)
@@ -60,10 +51,6 @@ returns-clause-ends g c given rest leaves =
           let wrote = rw w.deref-in-Ok-Write.ensures.value at w.write_pieces-status.ensures in
           rw (c.code.ensures, w.status-is, w.out-is, w.notes-is, w.input-is)
           (written_ends _ _ _ due.0 due.1 (sym (appended-nil _), refl) (record { left = leaves_same _ given rest here; calm = refl }) wrote)
-      | in-Ok-Run w ↦
-          let here = rw w.input-is at leaves in
-          let due = rw w.in-Ok-Run.field-0-is at (w.in-Ok-Run.ensures.due given) in
-          rw (c.code.ensures, w.status-is, w.out-is, w.notes-is, w.input-is) (simple_ends _ _ due.1.0 due.1.1 due.1.2 _ due.1.3 due.1.4 (sym (appended-nil _), refl) (record { left = leaves_same _ given rest here; calm = refl }) (w.run_simple-status.ensures _ due.1.5))
       | in-Ok-Execute w ↦
           let here = rw w.input-is at leaves in
           let due = rw w.in-Ok-Execute.field-0-is at (w.in-Ok-Execute.ensures.due given) in
@@ -80,10 +67,9 @@ returns-clause-taken g c =
       | in-Err w ↦ rw w.input-is (false, took_nothing _ _ _)
       | in-Ok-Tell w ↦ rw w.input-is (false, took_nothing _ _ _)
       | in-Ok-Write w ↦ rw w.input-is (false, took_nothing _ _ _)
-      | in-Ok-Run w ↦ rw w.input-is (false, took_nothing _ _ _)
       | in-Ok-Execute w ↦ rw w.input-is w.execute-status.ensures.taken
       | in-Ok-Evaluate w ↦ rw w.input-is w.evaluate_program-status.ensures.taken
     ]
 
 pub returns-clause-limits : goal.returns-clause-limits
-returns-clause-limits g c = record { image_bytes = refl; calls = refl; simple_steps = refl; big_output = refl }
+returns-clause-limits g c = record { image_bytes = refl; big_output = refl }

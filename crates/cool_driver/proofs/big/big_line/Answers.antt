@@ -1,7 +1,7 @@
 use Rattle.std.proofs.Common.{◌≡◌, ◌∷◌, [], ◌+◌, ℕ, List, length, ◌∙◌, ap, subst, arith}
 use Rattle.cool_big.specs.BigPrograms.{big_text}
 use Rattle.cool_driver.specs.Big.{big_files, ComesOut, summary}
-use Rattle.cool_driver.specs.SimpleReading.{texts}
+use Rattle.cool_driver.specs.Contents.{texts}
 use Rattle.cool_driver.specs.Tasks.{code_of}
 use Rattle.cool_driver.proofs.DueTasks.{for_ok}
 use Rattle.cool_driver.proofs.big.big_line.Goals as goal

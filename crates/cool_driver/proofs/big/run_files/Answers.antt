@@ -8,7 +8,7 @@ use Rattle.cool_words.specs.Plans.{usual_limits}
 use Rattle.cool_driver.specs.Big.{big_names, RunsTo}
 use Rattle.cool_driver.specs.Big.ComesOut.{refused, ran}
 use Rattle.cool_driver.specs.Execution.{run_of}
-use Rattle.cool_driver.specs.SimpleReading.{texts}
+use Rattle.cool_driver.specs.Contents.{texts}
 use Rattle.cool_driver.specs.Tasks.{code_of}
 use Rattle.cool_driver.proofs.DueTasks.{for_ok}
 use Rattle.cool_driver.proofs.big.run_files.Goals as goal

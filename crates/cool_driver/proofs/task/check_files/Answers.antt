@@ -1,5 +1,5 @@
 use Rattle.cool_faults.specs.Verdicts.{IsRefused}
-use Rattle.cool_driver.specs.SimpleReading.{texts}
+use Rattle.cool_driver.specs.Contents.{texts}
 use Rattle.cool_driver.proofs.NoteLines.{checked_lines}
 use Rattle.cool_driver.proofs.DueTasks.{for_ok}
 use Rattle.cool_driver.proofs.task.check_files.Goals as goal

@@ -3,7 +3,7 @@ use Rattle.std.proofs.lemmas.List.{length-map}
 use Rattle.cool_faults.specs.declared.fault.Fault.{Fault}
 use Rattle.cool_faults.specs.Verdicts.{IsAccepted, IsRefused}
 use Rattle.cool_driver.specs.CommandLine.{words_of}
-use Rattle.cool_driver.specs.SimpleReading.{texts}
+use Rattle.cool_driver.specs.Contents.{texts}
 use Rattle.cool_driver.specs.Tasks.{AreLinesOf}
 use Rattle.cool_driver.proofs.NoteLines.{have_names, eval_lines}
 use Rattle.cool_driver.proofs.DueTasks.{for_ok}

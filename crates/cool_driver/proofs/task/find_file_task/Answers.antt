@@ -4,7 +4,7 @@ use Rattle.std.proofs.lemmas.List.{length-map}
 use Rattle.cool_syntax.specs.declared.TheConstants.{MOST_FILES}
 use Rattle.cool_faults.specs.Files.{total}
 use Rattle.cool_driver.specs.CommandLine.{words_of, is_number_of_files, most_bytes}
-use Rattle.cool_driver.specs.SimpleReading.{texts}
+use Rattle.cool_driver.specs.Contents.{texts}
 use Rattle.cool_driver.specs.Reading.{IsStopAt}
 use Rattle.cool_driver.specs.Tasks.{IsTaskOf, fault_note}
 use Rattle.std.specs.Global.{Vec}
