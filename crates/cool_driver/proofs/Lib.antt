@@ -18,3 +18,8 @@ pub mod EndsOfRuns
 pub mod EndsOfEvaluations
 pub mod HexDigits
 pub mod LoadingImages
+pub mod Accords
+pub mod AcceptedTexts
+pub mod AcceptedWritable
+pub mod AcceptedPrograms
+pub mod AccordsOfCalls

@@ -1,6 +1,6 @@
 -- How a call of `cool` ends: what is due for the words over the shelf's files and the input, and what came of it.
 use Rattle.std.specs.Prelude.{◌≡◌, ◌≢◌, ℕ, ◌<◌, ◌≤◌, ◌⊎◌, ◌-◌, true, false, List, [], ◌∷◌, ◌++◌, length, Contains, Option, Some, None}
-use Rattle.std.specs.List.{concat}
+use Rattle.std.specs.List.{AllByRecursion}
 use Rattle.cool_syntax.specs.declared.TheConstants.{MOST_FILES}
 use Rattle.cool_classes.specs.Chains.{Class}
 use Rattle.cool_faults.specs.declared.fault.Fault.{Fault}
@@ -21,12 +21,15 @@ use Rattle.mips_image.specs.declared.stored_image.TheConstants.{CHECKED_VERSION}
 use Rattle.spim_machine.specs.Ends.{FailsReading, call_with}
 use Rattle.cool_emit.specs.Programs.{program_lines}
 use Rattle.cool_meaning.specs.SourceRun as source
+use Rattle.cool_runtime.specs.Contents.{AreBytes, IsText}
+use Rattle.cool_simulation.specs.Accord.{Limits, Accord}
 use Rattle.cool_words.specs.declared.plan.RunLimits.{RunLimits}
 use Rattle.cool_words.specs.Plans.Asked.{big}
+use Rattle.cool_words.specs.Plans.{IsBounded}
 use Rattle.cool_driver.specs.Big.{IsBigLine}
 use Rattle.cool_driver.specs.CommandLine.{asked_for, plan_of, most_bytes}
 use Rattle.cool_driver.specs.Notes.{end_text, refused_note, usage_note, missing_note, unread_note, too_many_note, too_large_note, read_fault_note, image_note, asm_note}
-use Rattle.cool_driver.specs.Execution.{IsRunnable, IsTextFault, is_text_file, segments_within, run_of, ComesTo, left_by, status_of, note_of}
+use Rattle.cool_driver.specs.Execution.{heap_of, stack_of, IsRunnable, IsTextFault, is_text_file, segments_within, run_of, ComesTo, left_by, status_of, note_of}
 use Rattle.cool_driver.specs.Evaluation.{status_of_end, note_of_end, IsPartOf}
 use Rattle.cool_driver.specs.declared.command_line.Command.{Command}
 use Rattle.cool_driver.specs.declared.command_line.Command.TheVariants.{Check, Build, Run, Eval, Exec}
@@ -216,6 +219,14 @@ Told r files = (r.files ≡ Some files) × (r.faults_before < last_count) × (r.
 abbrev pub Unless : ℕ → Type 0 → Type 0
 Unless status fact = status ≢ 8 → status ≢ 9 → fact
 
+-- the limits of a run, in bytes and instructions
+abbrev pub limits_of : RunLimits → Limits
+limits_of limits = record { heap = heap_of limits; stack = stack_of limits; budget = limits.steps }
+
+-- names of files: texts of at most 4,096 bytes
+abbrev pub AreNames : List (List ℕ) → Type 0
+AreNames names = AllByRecursion IsText names × AllByRecursion (λ name. length name ≤ 4096) names
+
 -- How a call ends with a status.
 pub record Ends (c : Call) (status : ℕ) : Type 0 where
   -- no other status comes
@@ -257,6 +268,12 @@ pub record Ends (c : Call) (status : ℕ) : Type 0 where
   pub compiled_exactly : (files : FileMap) (limits : RunLimits) (names contents : List (List ℕ)) (p : List Class) → Told c.request files
       → IsRead c.request (Run limits) names contents → IsAccepted contents p
       → Unless status ((status ≡ 7) ⊎ (status ≡ status_of (run_of limits (image_of (program_lines p names)) c.request.input)))
+  -- `run`: what was written and what is left accord with the runs of the source within the limits of the command line, unless a read failed,
+  -- where the files were read and are accepted, names, files and input are bytes, and the limits are in their bounds
+  pub accords : (files : FileMap) (limits : RunLimits) (names contents : List (List ℕ)) (p : List Class) → Told c.request files
+      → IsRead c.request (Run limits) names contents → IsAccepted contents p → AreNames names → AllByRecursion AreBytes contents
+      → AreBytes c.request.input → IsBounded limits
+      → Unless status ((status ≡ 7) ⊎ ((output : List ℕ) × Got c.out output × Accord (source.run p names c.request.input) (limits_of limits) status output c.left))
   -- `eval`: the status, the output and the note of the run's end come where the files were read and are accepted, and what it leaves of the
   -- input is left, unless a read failed; whatever the status, a prefix of the run's output came
   pub evaluated_exactly : (files : FileMap) (steps : ℕ) (names contents : List (List ℕ)) (p : List Class) → Told c.request files
