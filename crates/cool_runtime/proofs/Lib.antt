@@ -25,6 +25,5 @@ pub mod Calling
 pub mod Measuring
 pub mod MeaningsMet
 pub mod Starting
-pub mod Pictures
 pub mod Naming
 pub mod WritingFive

@@ -9,7 +9,6 @@ pub mod Routines
 pub mod Images
 pub mod CodeOfCalls
 pub mod Meanings
-pub mod Marks
 pub mod Premises
 pub mod Comparison
 pub mod Drafts

@@ -12,7 +12,6 @@ use Rattle.cool_classes.specs.Chains.{class_number, name_of}
 use Rattle.cool_runtime.specs.Contents.{IntAt, BoolAt, StringAt, ObjectAt, NameAt, TextAt, Prototypes}
 use Rattle.cool_runtime.specs.Labels.{false_constant, name_table, int_prototype, bool_prototype, string_prototype, int_table, bool_table, string_table}
 use Rattle.cool_runtime.specs.RoutineLabels.{class_objects, default_int, default_string}
-use Rattle.cool_runtime.specs.Marks.{Unmarked}
 use Rattle.cool_layout.specs.Preorder.{tag}
 use Rattle.cool_layout.proofs.TagRanges.{are_tags}
 use Rattle.cool_emit.proofs.RootedTables.{rooted}
@@ -27,7 +26,7 @@ use Rattle.cool_meaning.specs.Values.{Value, Void, Int, Bool, Str, State, defaul
 use Rattle.cool_meaning.specs.Lookups.{default_values}
 use Rattle.cool_meaning.specs.Numbers.{fits}
 use Rattle.cool_simulation.specs.Loadings.{Loading, IsLoaded, constants, item_word}
-use Rattle.cool_simulation.specs.Pictures.{Map, Pic, Pictures, bit}
+use Rattle.cool_simulation.specs.Pictures.{Map, Pic, Pictures, bit, Unmarked}
 use Rattle.cool_simulation.proofs.MovedContents.{lies_less, data_word, int_moved, bool_moved, string_moved, object_moved, zero_byte}
 
 low_fits : (n : ℕ) → n < 2147483648 → fits (pos n) ≡ true

@@ -8,7 +8,6 @@ use Rattle.cool_runtime.specs.Reaches.{World}
 use Rattle.cool_runtime.specs.Contents.{IntAt, BoolAt, StringAt, ObjectAt, IsText, Same, words_of_bytes}
 use Rattle.cool_runtime.specs.Labels.{int_table, bool_table, int_prototype, string_prototype}
 use Rattle.cool_runtime.specs.Machines.{with_head, with_int, with_string_head, with_string, with_text, with_joined, with_cut, with_copy, copied_bytes}
-use Rattle.cool_runtime.specs.Marks.{Unmarked}
 use Rattle.cool_runtime.proofs.Words.{byte_other, word_same, word_other, word_equal}
 use Rattle.cool_runtime.proofs.Objects.{made_int, made_int_same}
 use Rattle.cool_runtime.proofs.MadeStrings.{bytes_other}
@@ -18,7 +17,7 @@ use Rattle.cool_runtime.proofs.ReadingStrings.{read_string}
 use Rattle.cool_runtime.proofs.CopiedObjects.{copied_word, copied_object, copied_int, copied_string, copy_same}
 use Rattle.cool_meaning.specs.Values.{Value, Int, Bool, Str, State}
 use Rattle.cool_meaning.specs.Numbers.{fits}
-use Rattle.cool_simulation.specs.Pictures.{Map, Pic, Pictures, word_of, bit}
+use Rattle.cool_simulation.specs.Pictures.{Map, Pic, Pictures, word_of, bit, Unmarked}
 
 -- a number that fits has a word of 32 bits
 pub fits_word : (n : ℤ) → fits n ≡ true → word_of n < 4294967296

@@ -8,13 +8,12 @@ use Rattle.cool_classes.specs.Chains.{Class}
 use Rattle.cool_classes.specs.LawfulTables.{MayInherit}
 use Rattle.cool_runtime.specs.Reaches.{World}
 use Rattle.cool_runtime.specs.Contents.{HeadAt}
-use Rattle.cool_runtime.specs.Marks.{Unmarked}
 use Rattle.cool_runtime.proofs.MadeStrings.{head_moved}
 use Rattle.cool_layout.specs.Preorder.{tag}
 use Rattle.cool_layout.specs.Labels.{dispatch_table}
 use Rattle.cool_meaning.specs.Values.{State}
 use Rattle.cool_meaning.specs.Lookups.{attributes}
-use Rattle.cool_simulation.specs.Pictures.{Map, Pic, ObjectStands, HomeStands}
+use Rattle.cool_simulation.specs.Pictures.{Map, Pic, ObjectStands, HomeStands, Unmarked}
 use Rattle.cool_simulation.proofs.PicturesStay.{Staying, pic_stays, unmarked_stays}
 
 -- Numbers that differ

@@ -6,11 +6,10 @@ use Rattle.mips_isa.specs.Bytes.{Bytes, word}
 use Rattle.cool_classes.specs.Chains.{Class}
 use Rattle.cool_runtime.specs.Reaches.{World}
 use Rattle.cool_runtime.specs.Contents.{IntAt, BoolAt, StringAt, Same, words_of_bytes}
-use Rattle.cool_runtime.specs.Marks.{Unmarked}
 use Rattle.cool_runtime.proofs.Words.{word_equal}
 use Rattle.cool_runtime.proofs.MadeStrings.{head_moved}
 use Rattle.cool_meaning.specs.Values.{Value, Void, Int, Bool, Str, Obj, State}
-use Rattle.cool_simulation.specs.Pictures.{Map, Pic, ObjectStands, Pictures, Kept, Grown}
+use Rattle.cool_simulation.specs.Pictures.{Map, Pic, ObjectStands, Pictures, Kept, Grown, Unmarked}
 
 -- what is as it was below gp: unmarked bytes, marks, and what is known of the identities that were drawn
 pub record Staying (m m' : Bytes) (map map' : Map) (drawn gp : ℕ) : Type 0 where

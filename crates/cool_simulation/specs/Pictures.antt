@@ -8,7 +8,6 @@ use Rattle.cool_classes.specs.LawfulTables.{MayInherit}
 use Rattle.cool_runtime.specs.Reaches.{World}
 use Rattle.cool_runtime.specs.Contents.{HeadAt, IntAt, BoolAt, StringAt, AreBytes, words_of_bytes}
 use Rattle.cool_runtime.specs.Machines.{Console}
-use Rattle.cool_runtime.specs.Marks.{Unmarked}
 use Rattle.cool_layout.specs.Preorder.{tag}
 use Rattle.cool_layout.specs.Labels.{dispatch_table}
 use Rattle.cool_meaning.specs.Values.{Value, Void, Int, Bool, Str, Obj, State}
@@ -32,6 +31,10 @@ word_of (negsuc n) = 4294967295 - n
 abbrev pub bit : Truth → ℕ
 bit true = 1
 bit false = 0
+
+-- no word of an object of this size is a home
+abbrev pub Unmarked : (ℕ → Truth) → ℕ → ℕ → Type 0
+Unmarked marked a size = (q : ℕ) → a ≤ q + 4 → q < a + size → marked (q / 4) ≡ false
 
 -- a word pictures a value, where so many identities were drawn and the heap is used up to gp
 abbrev pub Pic : World → Bytes → Map → ℕ → ℕ → Value → ℕ → Type 0
