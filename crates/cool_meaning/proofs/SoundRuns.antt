@@ -39,7 +39,7 @@ use Rattle.cool_meaning.proofs.SoundParts.{wider_sound, AllCallsSound, CallsSoun
 use Rattle.cool_meaning.proofs.SoundEvaluation.{eval_sound}
 
 -- formals at locations made for their types, in front of other names
-holds_formals : (p : List Class) (w : World) (k : ClassId) (fs : List Formal) (ls : List ℕ) (scope : List Binding) (env : Environment) → AreMade w ls (map (meant p k) (map (λ (f : Formal). f.declared.name) fs))
+pub holds_formals : (p : List Class) (w : World) (k : ClassId) (fs : List Formal) (ls : List ℕ) (scope : List Binding) (env : Environment) → AreMade w ls (map (meant p k) (map (λ (f : Formal). f.declared.name) fs))
     → Holds w k scope env → Holds w k (formals_in_scope p fs ++ scope) (located (formal_names fs) ls ++ env)
 holds_formals p w k [] ls scope env made h = h
 holds_formals p w k (f ∷ fs) [] scope env made h = absurd made
@@ -54,7 +54,7 @@ holds_attributes p w k (r ∷ rs) more (l ∷ ls) made = (refl, made.0, holds_at
 
 module _ (p : List Class) (typed : IsTypedTable p) where
   -- an object has locations made for its attributes
-  own_locations : (w : World) (self : Value) (k : ClassId) → class_of self ≡ Some k → MayInherit k → Fits p w self k → AreMade w (locations_of self) (attribute_classes p k (attributes p k))
+  pub own_locations : (w : World) (self : Value) (k : ClassId) → class_of self ≡ Some k → MayInherit k → Fits p w self k → AreMade w (locations_of self) (attribute_classes p k (attributes p k))
   own_locations w Void k is may h = absurd (cc)
   own_locations w (Int n) k is may h = absurd (may.no_int (ap (λ (c : ClassId). c.0) (some_is (class_number 2) k is)))
     where
@@ -71,7 +71,7 @@ module _ (p : List Class) (typed : IsTypedTable p) where
   own_locations w (Obj c i ls) k is may h = let same : c ≡ k = cc in subst (λ (x : ClassId). AreMade w ls (attribute_classes p x (attributes p x))) same h.0.made
 
   -- the attributes of a class above are in the environment of an object
-  attributes_hold : (w : World) (c k : ClassId) (self : Value) (chain : List ClassId) → IsChain p (Some c) chain → class_of self ≡ Some k → k.0 < length p → MayInherit k → Below p k c → Fits p w self k
+  pub attributes_hold : (w : World) (c k : ClassId) (self : Value) (chain : List ClassId) → IsChain p (Some c) chain → class_of self ≡ Some k → k.0 < length p → MayInherit k → Below p k c → Fits p w self k
       → Holds w k (attributes_in_scope p (attributes_of p chain)) (environment_of p self)
   attributes_hold w c k self chain is_chain is within may below h =
       let (more, split) = attributes_above p k c (chain_of p k) chain below (chain_is p k typed.whole.table within) is_chain in
@@ -82,7 +82,7 @@ module _ (p : List Class) (typed : IsTypedTable p) where
 
   module _ (calls : Calls) (b : ℕ) (calls_sound : AllCallsSound p calls b) where
     -- what a feature's expression gives fits what the feature declares
-    declared_sound : (w : World) (c k : ClassId) (self : Value) (inner : List Binding) (env : Environment) (e : Tree) (declared : List ℕ) → c.0 < length p → k.0 < length p → MayInherit k → Below p k c
+    pub declared_sound : (w : World) (c k : ClassId) (self : Value) (inner : List Binding) (env : Environment) (e : Tree) (declared : List ℕ) → c.0 < length p → k.0 < length p → MayInherit k → Below p k c
         → class_of self ≡ Some k → Fits p w self k → (f : FitsDeclared p c inner e declared) → Holds w k (inner ++ attributes_in_scope p (attributes_of p f.chain)) env
         → Sound p b w (λ w' v. Fits p w' v (meant p k declared)) (eval p calls self env e)
     declared_sound w c k self inner env e declared c_within within may below is fit f holds =
@@ -103,7 +103,7 @@ module _ (p : List Class) (typed : IsTypedTable p) where
 
     -- Initial values
 
-    init_sound : (w : World) (r : AttributeRef) (self : Value) (k : ClassId) (l : ℕ) → HasAttribute p r → class_of self ≡ Some k → k.0 < length p → MayInherit k → Below p k r.owner → Fits p w self k
+    pub init_sound : (w : World) (r : AttributeRef) (self : Value) (k : ClassId) (l : ℕ) → HasAttribute p r → class_of self ≡ Some k → k.0 < length p → MayInherit k → Below p k r.owner → Fits p w self k
         → slice_get w l ≡ Some (meant p k (attribute_type p r)) → Sound p b w (Any {A = Unit {0}}) (run_initial p calls self l (init_of p r))
     init_sound w r self k l has is within may below fit made =
         let (a, there) = defined_attribute (slice_get (features_of p r.owner) r.index) has.1 in
@@ -116,7 +116,7 @@ module _ (p : List Class) (typed : IsTypedTable p) where
             working_sound 1 (bind_sound (declared_sound w r.owner k self [] (environment_of p self) e name has.0 within may below is fit f (attributes_hold w r.owner k self f.chain f.is_chain is within may below fit)) (λ w1 v g1 fits.
             store_sound l v (meant p k name) (still_made w w1 g1 l (meant p k name) made) fits))
 
-    all_init_sound : (w : World) (rs more : List AttributeRef) (ls : List ℕ) (self : Value) (k : ClassId) → AllByRecursion (HasAttribute p) rs → AllByRecursion (λ (r : AttributeRef). Below p k r.owner) rs
+    pub all_init_sound : (w : World) (rs more : List AttributeRef) (ls : List ℕ) (self : Value) (k : ClassId) → AllByRecursion (HasAttribute p) rs → AllByRecursion (λ (r : AttributeRef). Below p k r.owner) rs
         → class_of self ≡ Some k → k.0 < length p → MayInherit k → Fits p w self k → AreMade w ls (attribute_classes p k (rs ++ more)) → Sound p b w (Any {A = Value}) (run_initials p calls self rs ls)
     all_init_sound w [] more ls self k has owned is within may fit made = give_sound self tt
     all_init_sound w (r ∷ rs) more [] self k has owned is within may fit made = absurd made
@@ -124,7 +124,7 @@ module _ (p : List Class) (typed : IsTypedTable p) where
         then_sound (init_sound w r self k l has.0 is within may owned.0 fit made.0) (λ w1 g1.
         all_init_sound w1 rs more ls self k has.1 owned.1 is within may (still_fits p w w1 g1 self k fit) (still_all_made w w1 g1 ls (attribute_classes p k (rs ++ more)) made.1))
 
-    initials_sound : (w : World) (c : ClassId) (self : Value) (k : ClassId) → c.0 < length p → class_of self ≡ Some k → k.0 < length p → MayInherit k → Below p k c → Fits p w self k
+    pub initials_sound : (w : World) (c : ClassId) (self : Value) (k : ClassId) → c.0 < length p → class_of self ≡ Some k → k.0 < length p → MayInherit k → Below p k c → Fits p w self k
         → Sound p b w (Any {A = Value}) (run_call p calls (Initials c self))
     initials_sound w c self k c_within is within may below fit =
         let (more, split) = attributes_above p k c (chain_of p k) (chain_of p c) below (chain_is p k typed.whole.table within) (chain_is p c typed.whole.table c_within) in

@@ -39,6 +39,7 @@ use Rattle.cool_meaning.proofs.FittingValues as fitting
 use Rattle.cool_meaning.proofs.SoundMethods.{Any}
 use Rattle.cool_meaning.proofs.SoundComputations.{NotStuck, IsFine}
 use Rattle.cool_meaning.proofs.SoundParts.{AllCallsSound}
+use Rattle.cool_meaning.proofs.SoundRuns.{initials_sound}
 use Rattle.cool_meaning.proofs.Later.{After}
 use Rattle.cool_simulation.specs.Loadings.{Loading, IsLoaded, constants}
 use Rattle.cool_simulation.specs.Pictures.{Map, Pic, Pictures, Shows}
@@ -50,7 +51,6 @@ use Rattle.cool_simulation.proofs.Walks.{takes_self}
 use Rattle.cool_simulation.proofs.BodyScenes.{own_object}
 use Rattle.cool_simulation.proofs.Entries.{entry_of, located_in, entry_map, entered_pictures, entered_self, entered_frame, frame_unmarked, frame_stays, returned}
 use Rattle.cool_simulation.proofs.InitialsSplit.{split, initials_later, wide_runs}
-use Rattle.cool_simulation.proofs.InitialsSound.{initials_sound}
 use Rattle.cool_simulation.proofs.InsideFrames.{Inside}
 use Rattle.cool_simulation.proofs.InitialParts.{parts_run}
 use Rattle.cool_simulation.proofs.BasicAttributes.{no_attributes}

@@ -55,7 +55,6 @@ pub mod Homes
 pub mod InitialParts
 pub mod InitialValues
 pub mod Initializers
-pub mod InitialsSound
 pub mod InitialsSplit
 pub mod InputShrinks
 pub mod InsideFrames
