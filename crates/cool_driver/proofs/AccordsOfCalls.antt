@@ -30,7 +30,7 @@ use Rattle.cool_simulation.specs.Accord.{Limits, Accord, AreLimits, Means}
 use Rattle.cool_driver.specs.Execution.{run_of, status_of, left_by}
 use Rattle.cool_driver.specs.Ends.{limits_of, AreNames}
 use Rattle.std.specs.List.{AllByRecursion}
-use Rattle.cool_driver.proofs.AcceptedPrograms.{accepted_means}
+use Rattle.cool_simulation.proofs.AcceptedPrograms.{images_mean}
 use Rattle.cool_driver.proofs.HeldFiles.{held_length}
 use Rattle.cool_driver.proofs.Accords.{accord_of}
 use Rattle.cool_driver.proofs.ImagesOfCalls.{run_of_program}
@@ -86,4 +86,4 @@ pub accorded : (r : Request) (status : ℕ) (output note left : List ℕ) (files
     → (status ≡ 7) ⊎ Accord (source.run p names r.input) (limits_of limits) status output left
 accorded r status output note left files limits names contents p due told read is good bytes input bounded =
     accords_by r status output note left files limits names contents p due told read is
-    (promised limits (image_of (program_lines p names)) p names r.input (accepted_means contents names p bytes good.0 good.1 (held_length r.files names contents read.held) is) input bounded)
+    (promised limits (image_of (program_lines p names)) p names r.input (images_mean contents names p bytes good (held_length r.files names contents read.held) is) input bounded)

@@ -19,7 +19,4 @@ pub mod EndsOfEvaluations
 pub mod HexDigits
 pub mod LoadingImages
 pub mod Accords
-pub mod AcceptedTexts
-pub mod AcceptedWritable
-pub mod AcceptedPrograms
 pub mod AccordsOfCalls

@@ -118,3 +118,6 @@ pub mod Verdicts
 pub mod Walks
 pub mod WordsOfNumbers
 pub mod WritablePrograms
+pub mod AcceptedTexts
+pub mod AcceptedWritable
+pub mod AcceptedPrograms

@@ -1,13 +1,19 @@
--- The theorem on compiled programs.
-use Rattle.std.specs.Prelude.{ℕ, List}
+-- The theorem on compiled programs: the image of files that are accepted means their program.
+use Rattle.std.specs.Prelude.{◌≡◌, ℕ, ◌≤◌, List, length}
 use Rattle.std.specs.List.{AllByRecursion}
 use Rattle.mips_isa.specs.Assembly.{image_of}
 use Rattle.cool_classes.specs.Chains.{Class}
-use Rattle.cool_runtime.specs.Contents.{IsText}
-use Rattle.cool_emit.specs.Programs.{IsBuildable, program_constants, program_lines}
+use Rattle.cool_faults.specs.Verdicts.{IsAccepted}
+use Rattle.cool_runtime.specs.Contents.{AreBytes, IsText}
+use Rattle.cool_emit.specs.Programs.{program_lines}
 use Rattle.cool_simulation.specs.Accord.{Means}
-use Rattle.cool_simulation.specs.WrittenPrograms.{IsWritten}
 
--- The image of a typed program within the limits means the program, if no block and no case of it is empty, and its strings are texts.
+-- names of files: texts of at most 4,096 bytes
+abbrev pub AreFileNames : List (List ℕ) → Type 0
+AreFileNames names = AllByRecursion IsText names × AllByRecursion (λ (name : List ℕ). length name ≤ 4096) names
+
+-- The image of the program that files of bytes are, under these names, means it.
 abbrev pub ImagesMean : Type 0
-ImagesMean = (p : List Class) (files : List (List ℕ)) → IsBuildable p files → IsWritten p → AllByRecursion IsText (program_constants p files).strings → Means (image_of (program_lines p files)) p files
+ImagesMean =
+    (files names : List (List ℕ)) (p : List Class) → AllByRecursion AreBytes files → AreFileNames names → length names ≡ length files → IsAccepted files p
+    → Means (image_of (program_lines p names)) p names

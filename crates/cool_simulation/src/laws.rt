@@ -2,8 +2,8 @@
 
 ghost use Rattle.cool_simulation.specs.Theorem.{ImagesMean};
 
-/// The image of a typed program within the limits means the program, if no block and no case of it is empty and its strings are texts:
-/// whatever the input and the limits of heap, stack and instructions, what its run wrote and left accords with the runs of the source.
+/// The image of the program that files of bytes are, under names that are texts of at most 4,096 bytes, means the program: whatever the
+/// input and the limits of heap, stack and instructions, what its run wrote and left accords with the runs of the source.
 pub fn law_means()
     ensures { ImagesMean }
 {}
