@@ -30,7 +30,7 @@ use Rattle.cool_simulation.specs.Accord.{Limits, Accord, AreLimits, Means}
 use Rattle.cool_driver.specs.Execution.{run_of, status_of, left_by}
 use Rattle.cool_driver.specs.Ends.{limits_of, AreNames}
 use Rattle.std.specs.List.{AllByRecursion}
-use Rattle.cool_simulation.proofs.AcceptedPrograms.{images_mean}
+use Rattle.cool_simulation.proofs.theorem.AcceptedPrograms.{images_mean}
 use Rattle.cool_driver.proofs.HeldFiles.{held_length}
 use Rattle.cool_driver.proofs.Accords.{accord_of}
 use Rattle.cool_driver.proofs.ImagesOfCalls.{run_of_program}

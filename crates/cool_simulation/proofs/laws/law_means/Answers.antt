@@ -1,4 +1,4 @@
-use Rattle.cool_simulation.proofs.AcceptedPrograms.{images_mean}
+use Rattle.cool_simulation.proofs.theorem.AcceptedPrograms.{images_mean}
 use Rattle.cool_simulation.proofs.laws.law_means.Goals as goal
 
 pub returns : goal.returns

@@ -1,0 +1,168 @@
+-- The code of the initial values of a class's own attributes, one after another.
+use Rattle.std.proofs.Common.{◌≡◌, ℕ, suc, ◌+◌, ◌*◌, ◌<◌, ◌≤◌, List, [], ◌∷◌, ◌++◌, flat_map, length, get_or, Option, Some, None, sym, ◌∙◌, refl, subst, arith, append_assoc}
+use Rattle.std.specs.Prelude.{slice_get}
+use Rattle.mips_isa.specs.Bytes.{Bytes}
+use Rattle.mips_isa.specs.Calls.{State as Machine}
+use Rattle.mips_isa.specs.Lines.{Line}
+use Rattle.cool_syntax.specs.declared.file_tree.Feature.{Feature}
+use Rattle.cool_syntax.specs.declared.file_tree.Feature.TheVariants.{Method, Attribute}
+use Rattle.cool_syntax.specs.declared.file_tree.AttributeDef.{AttributeDef}
+use Rattle.cool_syntax.specs.Tree.{Tree}
+use Rattle.cool_classes.specs.declared.class_id.ClassId.{ClassId}
+use Rattle.cool_classes.specs.declared.method.AttributeRef.{AttributeRef}
+use Rattle.cool_classes.specs.Chains.{Below, features_of}
+use Rattle.cool_classes.specs.Features.{own_attributes, result_in}
+use Rattle.cool_classes.specs.LawfulTables.{MayInherit}
+use Rattle.cool_runtime.specs.Standing.{HasLines, sizes}
+use Rattle.cool_runtime.specs.Machines.{Pointers, Console}
+use Rattle.cool_runtime.proofs.Pieces.{has_front, has_back, sizes_append, done}
+use Rattle.cool_codegen.specs.Features.{initial_value_code}
+use Rattle.cool_emit.specs.Programs.{attributes_from, placed_code}
+use Rattle.cool_meaning.specs.Values.{Value, State, class_of}
+use Rattle.cool_meaning.specs.Meters.{Outcome, Val, seq}
+use Rattle.cool_meaning.specs.Lookups.{attributes, init_in}
+use Rattle.cool_meaning.specs.Evaluation.{Calls, run_initial, run_initials}
+use Rattle.cool_meaning.proofs.FittingValues.{AreMade, meant, attribute_classes, still_all_made}
+use Rattle.cool_meaning.proofs.FittingValues as fitting
+use Rattle.cool_meaning.proofs.SoundMethods.{Any}
+use Rattle.cool_meaning.proofs.SoundComputations.{NotStuck, IsFine, give_sound}
+use Rattle.cool_meaning.proofs.SoundParts.{AllCallsSound}
+use Rattle.cool_simulation.specs.Loadings.{Loading, IsLoaded, constants, context}
+use Rattle.cool_simulation.specs.Pictures.{Map}
+use Rattle.cool_simulation.specs.Simulation.{Done, Runs, Room, Correct}
+use Rattle.cool_simulation.proofs.ground.EvaluationLater.{CallsLater}
+use Rattle.cool_simulation.proofs.ground.PartsOfRuns.{Rest, run_wider, run_as, run_gives, bind_runs}
+use Rattle.cool_simulation.proofs.ground.PartsBehind.{done_here, done_both}
+use Rattle.cool_simulation.proofs.calls.InitialsSplit.{initials_later}
+use Rattle.cool_simulation.proofs.calls.InsideFrames.{Inside, Passed, next_inside, within_store}
+use Rattle.cool_simulation.proofs.calls.InitialValues.{initial_sound, initial_runs}
+
+module _ (l : Loading) (loaded : IsLoaded l) (calls : Calls) (b : ℕ) (later : CallsLater calls) (sound : AllCallsSound l.table calls b) (IsGood : Tree → Type 0) (forms : (t : Tree) → IsGood t → Correct l calls b t)
+    (c k : ClassId) (self : Value) (within : c.0 < length l.table) (below : Below l.table k c) (k_within : k.0 < length l.table) (plain : MayInherit k) (is : class_of self ≡ Some k)
+    (goods : (j : ℕ) (a : AttributeDef) (t : Tree) → slice_get (features_of l.table c) j ≡ Some (Attribute a) → a.init ≡ Some t → IsGood t) where
+  abbrev own_code : ℕ → List Feature → List Line
+  own_code j fs = flat_map (placed_code l.table l.files (constants l) c) (attributes_from j fs)
+
+  abbrev init_code : ℕ → Option Tree → List Line
+  init_code j o = initial_value_code (context l c j) (constants l) o
+
+  -- what these features' initial values do, from any machine inside the frame
+  abbrev pub PartsRun : ℕ → List Feature → List AttributeRef → List AttributeRef → List ℕ → Type 0
+  PartsRun j fs front more ls =
+      (made : fitting.World) (q : Pointers) (m : Bytes) (map : Map) (console : Console) (st : State) (s : Machine) (n : ℕ) → n ≤ b → Inside l k self made q m map console st s
+      → AreMade made ls (attribute_classes l.table k (own_attributes c j fs ++ more)) → ((i : ℕ) → i < length ls → map.home (get_or ls i 0) ≡ q.self + 12 + 4 * (length front + i))
+      → HasLines l.world q.pc (own_code j fs) → Room l q 0 (run_initials l.table calls self (own_attributes c j fs) ls st n)
+      → Runs l s n (64 * (run_initials l.table calls self (own_attributes c j fs) ls st n).work)
+      (λ v. Passed l k self q (q.pc + sizes (own_code j fs)) m map st (run_initials l.table calls self (own_attributes c j fs) ls st n).words) (run_initials l.table calls self (own_attributes c j fs) ls st n).outcome
+
+  -- nothing was done
+  here_passed : (made : fitting.World) (q : Pointers) (m : Bytes) (map : Map) (console : Console) (st : State) (s : Machine) (pc words : ℕ) → Inside l k self made q m map console st s → q.pc ≡ pc → Passed l k self q pc m map st words st s
+  here_passed made q m map console st s pc words inside same =
+      let at = inside.at in (
+        inside.held,
+        done_here l (record q { pc = pc }) m map st words inside.held s q.acc q.ra console
+            (record { numbers = let numbers = at.numbers in omega arith; memory_is = at.memory_is; input_is = at.input_is; ended_is = at.ended_is; output_is = at.output_is }) inside.shows inside.pictures inside.held_is,
+      )
+
+  done_at : (q : Pointers) (m : Bytes) (map : Map) (st : State) (words pc pc' : ℕ) (x : Value) (t : State) (u : Machine) → pc ≡ pc' → Done l (record q { pc = pc }) m map st words x t u → Done l (record q { pc = pc' }) m map st words x t u
+  done_at q m map st words pc pc' x t u same d = subst (λ (y : ℕ). Done l (record q { pc = y }) m map st words x t u) same d
+
+  -- one attribute, and those after it
+  part_then : (j : ℕ) (a : AttributeDef) (fs : List Feature) (front more : List AttributeRef) (i : ℕ) (ls : List ℕ) → slice_get (features_of l.table c) j ≡ Some (Attribute a)
+      → attributes l.table c ≡ front ++ (record { owner = c; index = j }) ∷ own_attributes c (j + 1) fs → PartsRun (j + 1) fs (front ++ (record { owner = c; index = j }) ∷ []) more ls → (o : Option Tree) → a.init ≡ o
+      → (made : fitting.World) (q : Pointers) (m : Bytes) (map : Map) (console : Console) (st : State) (s : Machine) (n : ℕ) → n ≤ b → Inside l k self made q m map console st s
+      → slice_get made i ≡ Some (meant l.table k a.declared.name) → AreMade made ls (attribute_classes l.table k (own_attributes c (j + 1) fs ++ more))
+      → ((x : ℕ) → x < length (i ∷ ls) → map.home (get_or (i ∷ ls) x 0) ≡ q.self + 12 + 4 * (length front + x)) → HasLines l.world q.pc (init_code j o ++ own_code (j + 1) fs)
+      → Room l q 0 (seq (run_initial l.table calls self i o st n) (λ _. run_initials l.table calls self (own_attributes c (j + 1) fs) ls))
+      → Runs l s n (64 * (seq (run_initial l.table calls self i o st n) (λ _. run_initials l.table calls self (own_attributes c (j + 1) fs) ls)).work)
+      (λ v. Passed l k self q (q.pc + sizes (init_code j o ++ own_code (j + 1) fs)) m map st (seq (run_initial l.table calls self i o st n) (λ _. run_initials l.table calls self (own_attributes c (j + 1) fs) ls)).words)
+      (seq (run_initial l.table calls self i o st n) (λ _. run_initials l.table calls self (own_attributes c (j + 1) fs) ls)).outcome
+  part_then j a fs front more i ls there parts rest_run o init made q m map console st s n le inside made_i made_ls homes has room =
+      let r = run_initial l.table calls self i o st n in
+      let whole = seq r (λ _. run_initials l.table calls self (own_attributes c (j + 1) fs) ls) in
+      run_wider l whole.outcome s n (64 * whole.work + 0) (64 * whole.work) _ (omega arith)
+      (bind_runs l r (λ _. run_initials l.table calls self (own_attributes c (j + 1) fs) ls) s n 0 q 0 (λ x. Passed l k self q (q.pc + sizes (init_code j o)) m map st r.words)
+      (λ v. Passed l k self q (q.pc + sizes (init_code j o ++ own_code (j + 1) fs)) m map st whole.words)
+      (λ v t left. (initials_later l.table calls later self (own_attributes c (j + 1) fs) ls).later t left) room (first o init has)
+      (λ v t left u e passed same_words rest. onward v t left u e passed same_words rest (sound_by o init)))
+    where
+      home_first : map.home i ≡ q.self + 12 + 4 * length front
+      home_first = homes 0 (omega arith) ∙ omega arith
+
+      first : (o : Option Tree) → a.init ≡ o → HasLines l.world q.pc (init_code j o ++ own_code (j + 1) fs) → Room l q 0 (run_initial l.table calls self i o st n)
+          → Runs l s n (64 * (run_initial l.table calls self i o st n).work) (λ x. Passed l k self q (q.pc + sizes (init_code j o)) m map st (run_initial l.table calls self i o st n).words) (run_initial l.table calls self i o st n).outcome
+      first None init has room' =
+          run_gives l {A = Unit {0}} tt st s n 0 (64 * 0) (λ x. Passed l k self q (q.pc + 0) m map st 0) (omega arith) (done l.world 0 s (Passed l k self q (q.pc + 0) m map st 0 st) (here_passed made q m map console st s (q.pc + 0) 0 inside (omega arith)))
+      first (Some t) init has room' =
+          initial_runs l loaded calls b later sound IsGood forms c k self within below k_within plain is j a t there init (goods j a t there init) front (own_attributes c (j + 1) fs) parts made q m map console st s n i le inside home_first
+          (has_front l.world (init_code j (Some t)) (own_code (j + 1) fs) q.pc has) room'
+
+      sound_by : (o : Option Tree) → a.init ≡ o → NotStuck l.table made n (Any {A = Unit {0}}) (run_initial l.table calls self i o st n).outcome
+      sound_by None init = (give_sound {p = l.table} {b = b} {w = made} {Q = Any} tt tt).sound st n le inside.fits
+      sound_by (Some t) init =
+          (initial_sound l loaded calls b later sound IsGood forms c k self within below k_within plain is j a t there init (goods j a t there init) front (own_attributes c (j + 1) fs) parts made q m map console st s i inside made_i).sound st n le inside.fits
+
+      onward : (v : Unit {0}) (t : State) (left : ℕ) (u : Machine) → (run_initial l.table calls self i o st n).outcome ≡ Val v t left → Passed l k self q (q.pc + sizes (init_code j o)) m map st (run_initial l.table calls self i o st n).words t u
+          → (seq (run_initial l.table calls self i o st n) (λ _. run_initials l.table calls self (own_attributes c (j + 1) fs) ls)).words
+          ≡ (run_initial l.table calls self i o st n).words + (run_initials l.table calls self (own_attributes c (j + 1) fs) ls t left).words
+          → Rest l q 0 (run_initial l.table calls self i o st n).words (run_initials l.table calls self (own_attributes c (j + 1) fs) ls t left)
+          → NotStuck l.table made n (Any {A = Unit {0}}) (run_initial l.table calls self i o st n).outcome
+          → Runs l u left (64 * (run_initials l.table calls self (own_attributes c (j + 1) fs) ls t left).work + 0)
+          (λ w. Passed l k self q (q.pc + sizes (init_code j o ++ own_code (j + 1) fs)) m map st (seq (run_initial l.table calls self i o st n) (λ _. run_initials l.table calls self (own_attributes c (j + 1) fs) ls)).words)
+          (run_initials l.table calls self (own_attributes c (j + 1) fs) ls t left).outcome
+      onward v t left u e (x, d) same_words rest not_stuck =
+          let fine : IsFine {A = Unit {0}} l.table made n Any v t left = subst (λ (y : Outcome (Unit {0})). NotStuck l.table made n (Any {A = Unit {0}}) y) e not_stuck in
+          let fewer = fine.fewer in
+          let inside' = next_inside l k self made q m map console st t s u n left (run_initial l.table calls self i o st n).words (q.pc + sizes (init_code j o)) x inside d fine in
+          let numbers = d.at.numbers in
+          let to = d.gp_to in
+          let heap = rest.heap in
+          let stack = rest.stack in
+          let append = sizes_append l.world (init_code j o) (own_code (j + 1) fs) in
+          let next_words = (run_initials l.table calls self (own_attributes c (j + 1) fs) ls t left).words in
+          let q' : Pointers = record q { pc = q.pc + sizes (init_code j o); gp = d.gp; acc = d.acc; ra = d.ra } in
+          run_wider l (run_initials l.table calls self (own_attributes c (j + 1) fs) ls t left).outcome u left (64 * (run_initials l.table calls self (own_attributes c (j + 1) fs) ls t left).work) _ _ (omega arith)
+          (run_as l (run_initials l.table calls self (own_attributes c (j + 1) fs) ls t left).outcome u left (64 * (run_initials l.table calls self (own_attributes c (j + 1) fs) ls t left).work) _ _
+          (λ w t2 u2 passed. (
+            passed.0,
+            done_at q m map st _ (q.pc + sizes (init_code j o) + sizes (own_code (j + 1) fs)) _ passed.0 t2 u2 (omega arith)
+                (done_both l q m map st (run_initial l.table calls self i o st n).words next_words _ x passed.0 t t2 u u2 (q.pc + sizes (init_code j o)) (q.pc + sizes (init_code j o) + sizes (own_code (j + 1) fs)) d.acc d.ra numbers.sp_even d passed.1 (omega arith)),
+          ))
+          (rest_run fine.world q' d.memory d.map' d.console t u left (omega arith) inside' (still_all_made made fine.world fine.grown ls _ made_ls)
+          (λ y less. home_next y less d) (has_back l.world (init_code j o) (own_code (j + 1) fs) q.pc (q.pc + sizes (init_code j o)) refl has)
+          (record { heap = omega arith; stack = omega arith; way = rest.way })))
+        where
+          one_more : (xs : List AttributeRef) (y : AttributeRef) → length (xs ++ y ∷ []) ≡ length xs + 1
+          one_more [] y = omega arith
+          one_more (z ∷ xs) y = let h = one_more xs y in omega arith
+
+          home_next : (y : ℕ) → y < length ls → (d : Done l (record q { pc = q.pc + sizes (init_code j o) }) m map st (run_initial l.table calls self i o st n).words x t u)
+              → d.map'.home (get_or ls y 0) ≡ q.self + 12 + 4 * (length (front ++ (record { owner = c; index = j }) ∷ []) + y)
+          home_next y less d =
+              let h : map.home (get_or ls y 0) ≡ q.self + 12 + 4 * (length front + suc y) = homes (suc y) (omega arith) in
+              let long = one_more front (record { owner = c; index = j }) in
+              d.grown.home (get_or ls y 0) (within_store l k self map.home (length st.store) (get_or ls y 0) inside.pictures.fresh (omega arith)) ∙ h ∙ omega arith
+
+  pub parts_run : (fs : List Feature) (j : ℕ) (front more : List AttributeRef) (ls : List ℕ) → ((i : ℕ) (x : Feature) → slice_get fs i ≡ Some x → slice_get (features_of l.table c) (j + i) ≡ Some x)
+      → attributes l.table c ≡ front ++ own_attributes c j fs → PartsRun j fs front more ls
+  parts_run [] j front more ls there parts made q m map console st s n le inside made_for homes has room =
+      run_gives l self st s n 0 (64 * 0) (λ v. Passed l k self q (q.pc + 0) m map st 0) (omega arith) (done l.world 0 s (Passed l k self q (q.pc + 0) m map st 0 st) (here_passed made q m map console st s (q.pc + 0) 0 inside (omega arith)))
+  parts_run (Method d ∷ fs) j front more ls there parts made q m map console st s n le inside made_for homes has room =
+      parts_run fs (j + 1) front more ls (λ i x e. moved i x (there (suc i) x e)) parts made q m map console st s n le inside made_for homes has room
+    where
+      moved : (i : ℕ) (x : Feature) → slice_get (features_of l.table c) (j + suc i) ≡ Some x → slice_get (features_of l.table c) (j + 1 + i) ≡ Some x
+      moved i x e = let same : j + suc i ≡ j + 1 + i = omega arith in subst (λ (y : ℕ). slice_get (features_of l.table c) y ≡ Some x) same e
+  parts_run (Attribute a ∷ fs) j front more [] there parts made q m map console st s n le inside made_for homes has room = absurd made_for
+  parts_run (Attribute a ∷ fs) j front more (i ∷ ls) there parts made q m map console st s n le inside made_for homes has room =
+      let here : slice_get (features_of l.table c) j ≡ Some (Attribute a) = let same : j + 0 ≡ j = omega arith in subst (λ (y : ℕ). slice_get (features_of l.table c) y ≡ Some (Attribute a)) same (there 0 (Attribute a) refl) in
+      let made_i : slice_get made i ≡ Some (meant l.table k a.declared.name) = subst (λ (o : Option Feature). slice_get made i ≡ Some (meant l.table k (result_in o))) here made_for.0 in
+      subst (λ (o : Option Feature). Room l q 0 (seq (run_initial l.table calls self i (init_in o) st n) (λ _. run_initials l.table calls self (own_attributes c (j + 1) fs) ls))
+      → Runs l s n (64 * (seq (run_initial l.table calls self i (init_in o) st n) (λ _. run_initials l.table calls self (own_attributes c (j + 1) fs) ls)).work)
+      (λ v. Passed l k self q (q.pc + sizes (init_code j a.init ++ own_code (j + 1) fs)) m map st (seq (run_initial l.table calls self i (init_in o) st n) (λ _. run_initials l.table calls self (own_attributes c (j + 1) fs) ls)).words)
+      (seq (run_initial l.table calls self i (init_in o) st n) (λ _. run_initials l.table calls self (own_attributes c (j + 1) fs) ls)).outcome) (sym here)
+      (part_then j a fs front more i ls here parts
+      (parts_run fs (j + 1) (front ++ (record { owner = c; index = j }) ∷ []) more ls (λ y x e. moved y x (there (suc y) x e)) (parts ∙ sym (append_assoc front ((record { owner = c; index = j }) ∷ []) (own_attributes c (j + 1) fs))))
+      a.init refl made q m map console st s n le inside made_i made_for.1 homes has) room
+    where
+      moved : (y : ℕ) (x : Feature) → slice_get (features_of l.table c) (j + suc y) ≡ Some x → slice_get (features_of l.table c) (j + 1 + y) ≡ Some x
+      moved y x e = let same : j + suc y ≡ j + 1 + y = omega arith in subst (λ (z : ℕ). slice_get (features_of l.table c) z ≡ Some x) same e

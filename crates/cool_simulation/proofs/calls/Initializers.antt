@@ -1,0 +1,361 @@
+-- The code of an initializer does what the initial values of its class mean: those of the class above first, and then its own.
+use Rattle.std.proofs.Common.{◌≡◌, ◌⊎◌, inl, inr, ℕ, zero, suc, ◌+◌, ◌-◌, ◌*◌, ◌<◌, ◌≤◌, List, [], ◌∷◌, ◌++◌, flat_map, length, Option, Some, None, Bool as Truth, true, false, ap, sym, ◌∙◌, refl, subst, arith, append_assoc, append-nil}
+use Rattle.std.specs.Prelude.{pos, drop, slice_get, nat_lt, if◌then◌else◌}
+use Rattle.std.proofs.lemmas.List.{get_or-drop}
+use Rattle.mips_isa.specs.Bytes.{Bytes}
+use Rattle.mips_isa.specs.Calls.{State as Machine}
+use Rattle.mips_isa.specs.Lines.{Line}
+use Rattle.cool_syntax.specs.declared.file_tree.Feature.TheVariants.{Attribute}
+use Rattle.cool_syntax.specs.declared.file_tree.AttributeDef.{AttributeDef}
+use Rattle.cool_syntax.specs.Tree.{Tree}
+use Rattle.cool_classes.specs.declared.class_id.ClassId.{ClassId}
+use Rattle.cool_classes.specs.declared.method.AttributeRef.{AttributeRef}
+use Rattle.cool_classes.specs.Chains.{Class, parent_of, features_of, IsChain, Below}
+use Rattle.cool_classes.specs.ClimbedChains.{chain}
+use Rattle.cool_classes.specs.Features.{own_attributes}
+use Rattle.cool_classes.proofs.ChainsOfTables.{chain_is, chain_of}
+use Rattle.cool_rules.proofs.ChainsOfTables.{attributes_above, below_trans, below_itself}
+use Rattle.cool_runtime.specs.Reaches.{Reaches, stands, OnTheWay}
+use Rattle.cool_runtime.specs.Standing.{HasLines, sizes}
+use Rattle.cool_runtime.specs.Instructions.{jal, jr}
+use Rattle.cool_runtime.specs.Machines.{At, Pointers, Console}
+use Rattle.cool_runtime.specs.Premises.{Limits}
+use Rattle.cool_runtime.specs.CodeOfCalls.{enter_lines}
+use Rattle.cool_runtime.specs.declared.catalogue.Routine.TheVariants as routines
+use Rattle.cool_runtime.proofs.Calling.{enters, leaves, with_frame}
+use Rattle.cool_runtime.proofs.Starting as starting
+use Rattle.cool_runtime.proofs.Pieces.{has_front, has_back, has_at, done, next, return}
+use Rattle.cool_layout.specs.Labels.{initializer}
+use Rattle.cool_layout.proofs.AttributePlaces.{attributes_step}
+use Rattle.cool_codegen.specs.Pieces.{begin_init_lines, call_init_lines, leave_lines, return_basic_lines, take_self_lines}
+use Rattle.cool_emit.specs.Programs.{parent_code, placed_code, attributes_from}
+use Rattle.cool_emit.proofs.RootedTables.{rooted}
+use Rattle.cool_meaning.specs.Values.{Value, State}
+use Rattle.cool_meaning.specs.Meters.{Outcome, Val, Metered, seq}
+use Rattle.cool_meaning.specs.Lookups.{attributes, locations_of}
+use Rattle.cool_meaning.specs.Evaluation.{Calls, Initials, run_initials, run_call}
+use Rattle.cool_meaning.proofs.FittingValues.{AreMade, Fits, attribute_classes, meant, still_fits}
+use Rattle.cool_meaning.proofs.FittingValues as fitting
+use Rattle.cool_meaning.proofs.SoundMethods.{Any}
+use Rattle.cool_meaning.proofs.SoundComputations.{NotStuck, IsFine}
+use Rattle.cool_meaning.proofs.SoundParts.{AllCallsSound}
+use Rattle.cool_meaning.proofs.SoundRuns.{initials_sound}
+use Rattle.cool_meaning.proofs.Later.{After}
+use Rattle.cool_simulation.specs.Loadings.{Loading, IsLoaded, constants}
+use Rattle.cool_simulation.specs.Pictures.{Map, Pic, Pictures, Shows}
+use Rattle.cool_simulation.specs.Simulation.{Called, Done, Runs, Room, Correct}
+use Rattle.cool_simulation.proofs.ground.EvaluationLater.{CallsLater}
+use Rattle.cool_simulation.proofs.ground.PartsOfRuns.{Rest, run_after, run_on, run_gives, unless_stuck, way_of}
+use Rattle.cool_simulation.proofs.ground.PartsBehind.{gone_of, pic_gone, done_here, done_both}
+use Rattle.cool_simulation.proofs.ground.Walks.{takes_self}
+use Rattle.cool_simulation.proofs.calls.BodyScenes.{own_object}
+use Rattle.cool_simulation.proofs.calls.Entries.{entry_of, located_in, entry_map, entered_pictures, entered_self, entered_frame, frame_unmarked, frame_stays, returned}
+use Rattle.cool_simulation.proofs.calls.InitialsSplit.{split, initials_later, wide_runs}
+use Rattle.cool_simulation.proofs.calls.InsideFrames.{Inside}
+use Rattle.cool_simulation.proofs.calls.InitialParts.{parts_run}
+use Rattle.cool_simulation.proofs.calls.BasicAttributes.{no_attributes}
+
+low_number : (x : ℕ) → x < 5 → nat_lt x 5 ≡ true
+low_number x h = grind arith
+
+high_number : (x : ℕ) → 5 ≤ x → nat_lt x 5 ≡ false
+high_number x h = grind arith
+
+-- locations behind those of other attributes
+made_drop : (p : List Class) (w : fitting.World) (k : ClassId) (xs ys : List AttributeRef) (ls : List ℕ) → AreMade w ls (attribute_classes p k (xs ++ ys)) → AreMade w (drop (length xs) ls) (attribute_classes p k ys)
+made_drop p w k [] ys ls h = h
+made_drop p w k (x ∷ xs) ys [] h = absurd h
+made_drop p w k (x ∷ xs) ys (l ∷ ls) h = made_drop p w k xs ys ls h.1
+
+few_drop : (n : ℕ) (ls : List ℕ) (i : ℕ) → i < length (drop n ls) → n + i < length ls
+few_drop zero ls i less = let h : i < length ls = less in omega arith
+few_drop (suc n) [] i less = absurd (omega arith)
+few_drop (suc n) (l ∷ ls) i less = let h = few_drop n ls i less in omega arith
+
+module _ (l : Loading) (loaded : IsLoaded l) (calls : Calls) (b : ℕ) (later : CallsLater calls) (sound : AllCallsSound l.table calls b) (IsGood : Tree → Type 0) (forms : (t : Tree) → IsGood t → Correct l calls b t)
+    (goods : (c : ClassId) (j : ℕ) (a : AttributeDef) (t : Tree) → c.0 < length l.table → slice_get (features_of l.table c) j ≡ Some (Attribute a) → a.init ≡ Some t → IsGood t) where
+  limits : Limits l.world
+  limits = record { heap = loaded.routines routines.HeapLimit; stack = loaded.routines routines.StackLimit }
+
+  way_here : (st : State) (c : Console) → Shows st c → OnTheWay l.world st.output st.input → OnTheWay l.world c.output c.input
+  way_here st c shows way = subst (λ (o : List ℕ). OnTheWay l.world o c.input) (sym shows.output) (subst (λ (i : List ℕ). OnTheWay l.world st.output i) (sym shows.input) way)
+
+  -- the code of an initializer whose parent's code is given
+  abbrev own_lines : ClassId → List Line
+  own_lines c = flat_map (placed_code l.table l.files (constants l) c) (attributes_from 0 (features_of l.table c))
+
+  abbrev end_lines : List Line
+  end_lines = take_self_lines ++ leave_lines (pos 12)
+
+  abbrev high_lines : ClassId → List Line → List Line
+  high_lines c above = begin_init_lines (initializer l.table c) ++ (enter_lines ++ (above ++ (own_lines c ++ end_lines)))
+
+  -- what the initializer of a class does
+  abbrev pub InitializerRuns : ClassId → Type 0
+  InitializerRuns c =
+      (self : Value) (k : ClassId) (made : fitting.World) (q : Pointers) (m : Bytes) (map : Map) (console : Console) (st : State) (s : Machine) (n : ℕ) → n ≤ b → Below l.table k c → Called l k self [] made q m map console st s
+      → q.pc ≡ l.world.place (initializer l.table c) → Room l q (12 * length (chain l.table c)) (run_initials l.table calls self (attributes l.table c) (locations_of self) st n)
+      → Runs l s n (64 * (run_initials l.table calls self (attributes l.table c) (locations_of self) st n).work + 20 * length (chain l.table c))
+      (λ v. Done l (record q { pc = q.ra }) m map st (run_initials l.table calls self (attributes l.table c) (locations_of self) st n).words self) (run_initials l.table calls self (attributes l.table c) (locations_of self) st n).outcome
+
+  -- a basic class's returns at once
+  basic_runs : (c : ClassId) → c.0 < length l.table → c.0 < 5 → InitializerRuns c
+  unfolding return_basic_lines chain
+  basic_runs c within less self k made q m map console st s n le below called begins room =
+      let low : nat_lt c.0 5 ≡ true = low_number c.0 less in
+      let lines0 : HasLines l.world (l.world.place (initializer l.table c)) (return_basic_lines (initializer l.table c)) =
+      subst (λ (t : Truth). HasLines l.world (l.world.place (initializer l.table c)) (if t then return_basic_lines (initializer l.table c) else high_lines c (parent_code l.table (parent_of l.table c)))) low (loaded.initializers c within) in
+      let lines = has_at l.world (return_basic_lines (initializer l.table c)) _ q.pc (sym begins) lines0 in
+      let back = has_at l.world (jr 31 ∷ []) (q.pc + 0) q.pc (omega arith) lines.1 in
+      subst (λ (rs : List AttributeRef). Runs l s n (64 * (run_initials l.table calls self rs (locations_of self) st n).work + 20 * length (chain l.table c))
+      (λ v. Done l (record q { pc = q.ra }) m map st (run_initials l.table calls self rs (locations_of self) st n).words self) (run_initials l.table calls self rs (locations_of self) st n).outcome)
+      (sym (no_attributes l.table loaded.buildable.typed c within less))
+      (run_gives l self st s n 1 (64 * 0 + 20 * length (chain l.table c)) (λ v. Done l (record q { pc = q.ra }) m map st 0 self) (omega arith)
+      (next l.world s 1 0 1 _ _ (return l.world q m console s back called.at) (omega arith)
+      (λ u at. done l.world 0 u _ (done_here l (record q { pc = q.ra }) m map st 0 self u q.acc q.ra console at called.shows called.pictures called.self_is))))
+
+  -- The initializer of a class of the program, where that of its parent does what it means.
+  module _ (c parent : ClassId) (within : c.0 < length l.table) (high : 5 ≤ c.0) (above : parent_of l.table c ≡ Some parent) (parent_runs : InitializerRuns parent) (self : Value) (k : ClassId) (made : fitting.World) (q : Pointers) (m : Bytes)
+      (map : Map) (console : Console) (st : State) (s : Machine) (n : ℕ) (le : n ≤ b) (below : Below l.table k c) (called : Called l k self [] made q m map console st s) (begins : q.pc ≡ l.world.place (initializer l.table c)) where
+    parent_within : parent.0 < length l.table
+    parent_within = (loaded.buildable.typed.whole.grounded.above c parent within above).0
+
+    lines : HasLines l.world q.pc (high_lines c (call_init_lines (initializer l.table parent)))
+    lines =
+        subst (λ (o : Option ClassId). HasLines l.world q.pc (high_lines c (parent_code l.table o))) above
+        (has_at l.world (high_lines c (parent_code l.table (parent_of l.table c))) _ q.pc (sym begins)
+        (subst (λ (t : Truth). HasLines l.world (l.world.place (initializer l.table c)) (if t then return_basic_lines (initializer l.table c) else high_lines c (parent_code l.table (parent_of l.table c)))) (high_number c.0 high)
+        (loaded.initializers c within)))
+
+    behind_label : HasLines l.world q.pc (enter_lines ++ (call_init_lines (initializer l.table parent) ++ (own_lines c ++ end_lines)))
+    unfolding begin_init_lines
+    behind_label = has_back l.world (begin_init_lines (initializer l.table c)) (enter_lines ++ (call_init_lines (initializer l.table parent) ++ (own_lines c ++ end_lines))) q.pc q.pc (omega arith) lines
+
+    behind_enter : HasLines l.world (q.pc + 36) (call_init_lines (initializer l.table parent) ++ (own_lines c ++ end_lines))
+    behind_enter = has_back l.world enter_lines (call_init_lines (initializer l.table parent) ++ (own_lines c ++ end_lines)) q.pc (q.pc + 36) refl behind_label
+
+    jump : HasLines l.world (q.pc + 36) (jal (initializer l.table parent) ∷ [])
+    unfolding call_init_lines
+    jump = has_front l.world (jal (initializer l.table parent) ∷ []) (own_lines c ++ end_lines) (q.pc + 36) behind_enter
+
+    behind_call : HasLines l.world (q.pc + 36 + 4) (own_lines c ++ end_lines)
+    unfolding call_init_lines
+    behind_call = has_back l.world (jal (initializer l.table parent) ∷ []) (own_lines c ++ end_lines) (q.pc + 36) (q.pc + 36 + 4) refl behind_enter
+
+    -- where the parent's initializer is called
+    abbrev q2 : Pointers
+    q2 = record (entry_of q) { pc = l.world.place (initializer l.table parent); ra = q.pc + 36 + 4 }
+
+    abbrev m1 : Bytes
+    m1 = with_frame m q
+
+    abbrev map1 : Map
+    map1 = entry_map map st [] q
+
+    same_state : located_in st [] ≡ st
+    same_state = ap (λ (xs : List Value). record st { store = xs }) (append-nil st.store)
+
+    pictures1 : Pictures l.table l.world l.memory m1 map1 st q.gp (q.sp - 12)
+    pictures1 = subst (λ (x : State). Pictures l.table l.world l.memory m1 map1 x q.gp (q.sp - 12)) same_state (entered_pictures l k self [] made q m map console st s called)
+
+    self1 : Pic l.world m1 map1 st.drawn q.gp self q.acc
+    self1 = entered_self l k self [] made q m map console st s called
+
+    called_parent : (s2 : Machine) → At l.world q2 m1 console s2 → Called l k self [] made q2 m1 map1 console st s2
+    called_parent s2 at2 =
+        let numbers = called.at.numbers in
+        let room = called.room in
+        let low = jump.0.words.0.low in
+        record {
+          at = at2;
+          shows = called.shows;
+          pictures = pictures1;
+          self_is = self1;
+          room = omega arith;
+          saved = (omega arith, omega arith, numbers.acc_fits);
+          values = λ j v e. nothing_at j v e _;
+          unmarked = λ i a b. absurd (omega arith);
+          class = called.class;
+          within = called.within;
+          plain = called.plain;
+          self_fits = called.self_fits;
+          fits = called.fits;
+        }
+      where
+        nothing_at : (j : ℕ) (v : Value) → slice_get {X = Value} [] j ≡ Some v → (a : ℕ) → Pic l.world m1 map1 st.drawn q.gp v a
+        nothing_at j v e a = absurd cc
+
+    chain_same : chain l.table c ≡ c ∷ chain l.table parent
+    chain_same =
+        chain_of l.table c (c ∷ chain l.table parent) (refl, subst (λ (o : Option ClassId). IsChain l.table o (chain l.table parent)) (sym above) (chain_is l.table parent loaded.buildable.typed.whole.table parent_within))
+
+    below_parent : Below l.table k parent
+    below_parent =
+        let (ds, is, (i, less, e)) = below_itself l.table loaded.buildable.typed.whole parent parent_within in
+        below_trans l.table k c parent below (c ∷ ds, (refl, subst (λ (o : Option ClassId). IsChain l.table o ds) (sym above) is), (suc i, omega arith, e))
+
+    -- what both parts come to
+    abbrev first : Metered Value
+    first = run_initials l.table calls self (attributes l.table parent) (locations_of self) st n
+
+    abbrev rest_locations : List ℕ
+    rest_locations = drop (length (attributes l.table parent)) (locations_of self)
+
+    abbrev whole : Metered Value
+    whole = seq first (λ v. run_initials l.table calls self (own_attributes c 0 (features_of l.table c)) rest_locations)
+
+    whole_is : run_initials l.table calls self (attributes l.table c) (locations_of self) st n ≡ whole
+    whole_is =
+        ap (λ (rs : List AttributeRef). run_initials l.table calls self rs (locations_of self) st n) (attributes_step l.table (rooted l.table loaded.buildable.typed.whole) c parent within above)
+        ∙ split l.table calls self (attributes l.table parent) (own_attributes c 0 (features_of l.table c)) (locations_of self) st n
+
+    -- the end: self to $a0, and the return
+    leaving : (words : ℕ) (x : Value) (t : State) (u : Machine) → Done l (record q2 { pc = q.pc + 36 + 4 + sizes (own_lines c) }) m1 map1 st words x t u → Reaches l.world u 0 6 (stands (Done l (record q { pc = q.ra }) m map st words self t))
+    unfolding leave_lines take_self_lines
+    leaving words x t u d =
+        let laid = l.world.laid in
+        let numbers = called.at.numbers in
+        let limit = d.at.numbers in
+        let room = called.room in
+        let last = has_back l.world (own_lines c) end_lines (q.pc + 36 + 4) (q.pc + 36 + 4 + sizes (own_lines c)) refl behind_call in
+        let frame = frame_stays l.world m1 d.memory map1.marked q.gp (q.sp - 12) q.ra q.fp q.self d.kept (omega arith) (frame_unmarked l k self [] made q m map console st s called) (entered_frame l k self [] made q m map console st s called) in
+        let self2 : Pic l.world d.memory d.map' t.drawn d.gp self q.acc = pic_gone l.world m1 d.memory map1 d.map' st t q.gp d.gp (q.sp - 12) words self q.acc (gone_of l _ m1 map1 st words x t u d) self1 in
+        next l.world u 1 5 6 _ _ (takes_self l.world _ d.memory d.console u (has_front l.world take_self_lines (leave_lines (pos 12)) _ last) d.at numbers.acc_fits) (omega arith) (λ u1 at1.
+        next l.world u1 5 0 5 _ _ (leaves l.world 0 _ d.memory d.console u1 q.ra q.fp q.self (has_back l.world take_self_lines (leave_lines (pos 12)) _ _ refl last) at1 frame (omega arith) (omega arith) (omega arith)) (omega arith)
+        (λ u2 at2. done l.world 0 u2 _ (finish words x t u d u1 at1 self2 u2 at2)))
+      where
+        finish : (words : ℕ) (x : Value) (t : State) (u : Machine) → (d : Done l (record q2 { pc = q.pc + 36 + 4 + sizes (own_lines c) }) m1 map1 st words x t u) → (u1 : Machine)
+            → At l.world (record q2 { pc = q.pc + 36 + 4 + sizes (own_lines c) + 4; gp = d.gp; acc = q.acc; ra = d.ra }) d.memory d.console u1 → Pic l.world d.memory d.map' t.drawn d.gp self q.acc → (u2 : Machine)
+            → At l.world (record q { pc = q.ra; gp = d.gp; sp = q.sp - 12 + 12 + 4 * 0; acc = q.acc }) d.memory d.console u2 → Done l (record q { pc = q.ra }) m map st words self t u2
+        finish words x t u d u1 at1 self2 u2 at2 =
+            let laid = l.world.laid in
+            let numbers = called.at.numbers in
+            let inner : Done l (record (entry_of q) { pc = q.pc + 36 + 4 + sizes (own_lines c) + 4 }) m1 map1 st words self t u1 = record {
+              gp = d.gp;
+              acc = q.acc;
+              ra = d.ra;
+              memory = d.memory;
+              map' = d.map';
+              console = d.console;
+              at = at1;
+              shows = d.shows;
+              pictures = d.pictures;
+              value = self2;
+              kept = d.kept;
+              grown = d.grown;
+              drawn = d.drawn;
+              located = d.located;
+              gp_from = d.gp_from;
+              gp_to = d.gp_to;
+            } in
+            let back = subst (λ (y : State). (e : Done l (record (entry_of q) { pc = q.pc + 36 + 4 + sizes (own_lines c) + 4 }) m1 map1 y words self t u1)
+            → At l.world (record q { pc = q.ra; gp = e.gp; sp = q.sp + 4 * 0; acc = e.acc }) e.memory e.console u2 → Done l (record q { pc = q.ra; sp = q.sp + 4 * 0 }) m map st words self t u2) same_state
+            (returned l k self [] made q m map console st s called words (q.pc + 36 + 4 + sizes (own_lines c) + 4) self t u1 u2) in
+            let same : q.sp + 4 * 0 ≡ q.sp = omega arith in
+            subst (λ (y : ℕ). Done l (record q { pc = q.ra; sp = y }) m map st words self t u2) same
+            (back inner (record { numbers = let end = at2.numbers in omega arith; memory_is = at2.memory_is; input_is = at2.input_is; ended_is = at2.ended_is; output_is = at2.output_is }))
+
+    -- behind the parent's initializer
+    own_runs : (t : State) (left : ℕ) (u : Machine) (v : Value) → first.outcome ≡ Val v t left → (d : Done l (record q2 { pc = q.pc + 36 + 4 }) m1 map1 st first.words self t u) → whole.words ≡ first.words + (run_initials l.table calls self (own_attributes c 0 (features_of l.table c)) rest_locations t left).words
+        → Rest l q2 (12 * length (chain l.table parent)) first.words (run_initials l.table calls self (own_attributes c 0 (features_of l.table c)) rest_locations t left)
+        → Runs l u left (64 * (run_initials l.table calls self (own_attributes c 0 (features_of l.table c)) rest_locations t left).work + 6) (λ v. Done l (record q { pc = q.ra }) m map st whole.words self)
+        (run_initials l.table calls self (own_attributes c 0 (features_of l.table c)) rest_locations t left).outcome
+    own_runs t left u v e d same_words rest =
+        let p = l.table in
+        let typed = loaded.buildable.typed in
+        let laid = l.world.laid in
+        let numbers = called.at.numbers in
+        let limit = d.at.numbers in
+        let room = called.room in
+        let fine : IsFine {A = Value} p made n Any v t left = subst (λ (y : Outcome Value). NotStuck p made n (Any {A = Value}) y) e
+        ((initials_sound p typed calls b sound made parent self k parent_within called.class called.within called.plain below_parent called.self_fits).sound st n le called.fits) in
+        let fewer = fine.fewer in
+        let fit = still_fits p made fine.world fine.grown self k called.self_fits in
+        let self2 : Pic l.world d.memory d.map' t.drawn d.gp self q.acc = pic_gone l.world m1 d.memory map1 d.map' st t q.gp d.gp (q.sp - 12) first.words self q.acc (gone_of l _ m1 map1 st first.words self t u d) self1 in
+        let inside : Inside l k self fine.world (record q2 { pc = q.pc + 36 + 4; gp = d.gp; acc = d.acc; ra = d.ra }) d.memory d.map' d.console t u = record {
+          at = d.at;
+          shows = d.shows;
+          pictures = d.pictures;
+          self_is = self2;
+          frame_is = refl;
+          frame = omega arith;
+          fit = fit;
+          fits = fine.store;
+          held = self;
+          held_is = d.value;
+        } in
+        let own = own_object p l.world l.memory d.memory d.map' t d.gp (q.sp - 12) fine.world self k q.acc d.pictures self2 called.class called.plain fit in
+        let (more, split_k) = attributes_above p k c (chain p k) (chain p c) below (chain_is p k typed.whole.table called.within) (chain_is p c typed.whole.table within) in
+        let step = attributes_step p (rooted p typed.whole) c parent within above in
+        let parted : attributes p k ≡ attributes p parent ++ (own_attributes c 0 (features_of p c) ++ more) =
+        split_k ∙ ap (λ (rs : List AttributeRef). rs ++ more) step ∙ append_assoc (attributes p parent) (own_attributes c 0 (features_of p c)) more in
+        let made_rest = made_drop p fine.world k (attributes p parent) (own_attributes c 0 (features_of p c) ++ more) (locations_of self)
+        (subst (λ (rs : List AttributeRef). AreMade fine.world (locations_of self) (attribute_classes p k rs)) parted own.made_for) in
+        let o = run_initials p calls self (own_attributes c 0 (features_of p c)) rest_locations t left in
+        let to = d.gp_to in
+        let heap = rest.heap in
+        let stack = rest.stack in
+        run_on l o.outcome u left (64 * o.work) 6 (64 * o.work + 6) _ _ (omega arith)
+        (parts_run l loaded calls b later sound IsGood forms c k self within below called.within called.plain called.class (λ j a x there init. goods c j a x within there init) (features_of p c) 0 (attributes p parent) more rest_locations
+        (λ i x there. let same : i ≡ 0 + i = omega arith in subst (λ (y : ℕ). slice_get (features_of p c) y ≡ Some x) same there) step
+        fine.world (record q2 { pc = q.pc + 36 + 4; gp = d.gp; acc = d.acc; ra = d.ra }) d.memory d.map' d.console t u left (omega arith) inside made_rest
+        (λ i less. ap d.map'.home (get_or-drop (length (attributes p parent)) (locations_of self) i 0) ∙ own.homes (length (attributes p parent) + i) (few_drop (length (attributes p parent)) (locations_of self) i less) ∙ omega arith)
+        (has_front l.world (own_lines c) end_lines (q.pc + 36 + 4) behind_call) (record { heap = omega arith; stack = omega arith; way = rest.way }))
+        (λ w t2 u2 passed. leaving whole.words passed.0 t2 u2
+        (done_both l q2 m1 map1 st first.words o.words whole.words self passed.0 t t2 u u2 (q.pc + 36 + 4) (q.pc + 36 + 4 + sizes (own_lines c)) d.acc d.ra limit.sp_even d passed.1 (omega arith)))
+
+    pub high_runs : Room l q (12 * length (chain l.table c)) (run_initials l.table calls self (attributes l.table c) (locations_of self) st n)
+        → Runs l s n (64 * (run_initials l.table calls self (attributes l.table c) (locations_of self) st n).work + 20 * length (chain l.table c))
+        (λ v. Done l (record q { pc = q.ra }) m map st (run_initials l.table calls self (attributes l.table c) (locations_of self) st n).words self) (run_initials l.table calls self (attributes l.table c) (locations_of self) st n).outcome
+    high_runs room =
+        subst (λ (x : Metered Value). Runs l s n (64 * x.work + 20 * length (chain l.table c)) (λ v. Done l (record q { pc = q.ra }) m map st x.words self) x.outcome) (sym whole_is)
+        (by (subst (λ (x : Metered Value). Room l q (12 * length (chain l.table c)) x) whole_is room))
+      where
+        by : Room l q (12 * length (chain l.table c)) whole → Runs l s n (64 * whole.work + 20 * length (chain l.table c)) (λ v. Done l (record q { pc = q.ra }) m map st whole.words self) whole.outcome
+        by room =
+            let laid = l.world.laid in
+            let numbers = called.at.numbers in
+            let long : length (chain l.table c) ≡ 1 + length (chain l.table parent) = let h = ap length chain_same in omega arith in
+            let heap = room.heap in
+            let stack = room.stack in
+            let after : After st whole.outcome = subst (λ (x : Metered Value). After st x.outcome) whole_is ((initials_later l.table calls later self (attributes l.table c) (locations_of self)).later st n) in
+            unless_stuck l whole.outcome s n (64 * whole.work + 20 * length (chain l.table c)) _ (λ some.
+            run_after l whole.outcome s n 12 (1 + (64 * whole.work + (20 * length (chain l.table parent) + 6))) (64 * whole.work + 20 * length (chain l.table c)) _ _ (omega arith)
+            (enters l.world q m console s limits (has_front l.world enter_lines (call_init_lines (initializer l.table parent) ++ (own_lines c ++ end_lines)) q.pc behind_label) called.at (omega arith)
+            (way_here st console called.shows (way_of l st whole.outcome after some room.way))) (λ s1 at1.
+            run_after l whole.outcome s1 n 1 (64 * whole.work + (20 * length (chain l.table parent) + 6)) (1 + (64 * whole.work + (20 * length (chain l.table parent) + 6))) _ _ (omega arith)
+            (starting.calls l.world (initializer l.table parent) (entry_of q) m1 console s1 jump at1) (λ s2 at2.
+            wide_runs l first (λ v. run_initials l.table calls self (own_attributes c 0 (features_of l.table c)) rest_locations) s2 n (20 * length (chain l.table parent)) 6 q2 (12 * length (chain l.table parent))
+            (λ v. Done l (record q2 { pc = q.pc + 36 + 4 }) m1 map1 st first.words self) (λ v. Done l (record q { pc = q.ra }) m map st whole.words self)
+            (λ v t left. (initials_later l.table calls later self (own_attributes c 0 (features_of l.table c)) rest_locations).later t left)
+            (record { heap = omega arith; stack = omega arith; way = room.way })
+            (λ room'. parent_runs self k made q2 m1 map1 console st s2 n le below_parent (called_parent s2 at2) refl room')
+            (λ v t left u e d same_words rest. own_runs t left u v e d same_words rest))))
+
+  depth_step : (c : ClassId) → c.0 < length l.table → ((parent : ClassId) → parent_of l.table c ≡ Some parent → InitializerRuns parent) → InitializerRuns c
+  depth_step c within parents = by order
+    where
+      order : (c.0 < 5) ⊎ (5 ≤ c.0)
+      order = grind arith
+
+      high_by : 5 ≤ c.0 → (o : Option ClassId) → parent_of l.table c ≡ o → InitializerRuns c
+      high_by high None above = let top = ap (λ (x : ClassId). x.0) (loaded.buildable.typed.whole.grounded.top c within above).0 in absurd (omega arith)
+      high_by high (Some parent) above = λ self k made q m map console st s n le below called begins room.
+          high_runs c parent within high above (parents parent above) self k made q m map console st s n le below called begins room
+
+      by : (c.0 < 5) ⊎ (5 ≤ c.0) → InitializerRuns c
+      by (inl low) = basic_runs c within low
+      by (inr high) = high_by high (parent_of l.table c) refl
+
+  by_depth : (d : ℕ) (c : ClassId) → c.0 < length l.table → loaded.buildable.typed.whole.depth c ≡ d → InitializerRuns c
+  by_depth zero c within e = depth_step c within (λ parent above. let up = (loaded.buildable.typed.whole.grounded.above c parent within above).1 in absurd (omega arith))
+  by_depth (suc d) c within e = depth_step c within (λ parent above. let up = loaded.buildable.typed.whole.grounded.above c parent within above in by_depth d parent up.0 (omega arith))
+
+  -- a call of initial values
+  pub initials_correct : (c : ClassId) (self : Value) (k : ClassId) (made : fitting.World) (q : Pointers) (m : Bytes) (map : Map) (console : Console) (st : State) (s : Machine) (n : ℕ) → n ≤ b
+      → c.0 < length l.table → Below l.table k c → Called l k self [] made q m map console st s → q.pc ≡ l.world.place (initializer l.table c)
+      → Room l q (12 * length (chain l.table c)) (run_call l.table calls (Initials c self) st n)
+      → Runs l s n (64 * (run_call l.table calls (Initials c self) st n).work + 20 * length (chain l.table c))
+      (λ v. Done l (record q { pc = q.ra }) m map st (run_call l.table calls (Initials c self) st n).words self) (run_call l.table calls (Initials c self) st n).outcome
+  initials_correct c self k made q m map console st s n le within below called begins room =
+      by_depth (loaded.buildable.typed.whole.depth c) c within refl self k made q m map console st s n le below called begins room
