@@ -6,11 +6,17 @@ pub mod BytesOfPrograms
 pub mod BytesOfReadings
 pub mod BytesOfTokens
 pub mod EndsAccord
+pub mod FilledWords
 pub mod Headline
 pub mod InputShrinks
 pub mod MainCall
 pub mod MainLines
 pub mod MainNames
+pub mod NamedCode
+pub mod NamedData
+pub mod NamesOfFeatures
+pub mod NamesOfLabels
+pub mod PrintedPrograms
 pub mod RunsAccord
 pub mod Simulated
 pub mod TextsOfTrees
