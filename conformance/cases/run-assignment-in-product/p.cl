@@ -1,0 +1,1 @@
+class Main inherits IO { main() : Object { let x : Int in out_int(2 * x <- 1 + 3) }; };

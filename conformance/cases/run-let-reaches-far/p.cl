@@ -1,0 +1,1 @@
+class Main inherits IO { main() : Object { out_int(let x : Int <- 1 in x + 1 * 2) }; };
