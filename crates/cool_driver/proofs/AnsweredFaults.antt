@@ -9,7 +9,8 @@ use Rattle.mips_isa.specs.ImageBounds.{ImageParts}
 use Rattle.cool_words.specs.declared.plan.RunLimits.{RunLimits}
 use Rattle.cool_driver.specs.CommandLine.{plan_of}
 use Rattle.cool_driver.specs.Notes.{refused_note}
-use Rattle.cool_driver.specs.Ends.{Request, Due, IsRead, IsRunOf, IsEvaluationOf, MayRefuse, built_bytes, Told}
+use Rattle.cool_driver.specs.Calls.{Request, IsRead, MayRefuse, Told}
+use Rattle.cool_driver.specs.Ends.{Due, IsRunOf, IsEvaluationOf, IsCompiled, built_bytes}
 use Rattle.cool_driver.specs.Ends.IsRunOf.{of_file, of_program}
 use Rattle.cool_driver.specs.Ends.Due.{checked, built, refused, executed, unread_input, evaluated, unread_source, unfit, misread, summed, usage, too_many, missing, unread, too_large}
 use Rattle.cool_driver.specs.declared.command_line.Command.{Command}
@@ -24,6 +25,7 @@ pub record Answers (command : Command) (names contents : List (List ℕ)) (fault
   pub refused : faults ≢ [] → (status ≡ 1) × (note ≡ refused_note names faults)
   pub checked : command ≡ Check → faults ≡ [] → status ≡ 0
   pub built : (form : Form) (p : List Class) → command ≡ Build form → IsAccepted contents p → (status ≡ 0) × (output ≡ built_bytes form p names)
+  pub compiled : (form : Form) (p : List Class) → command ≡ Build form → IsAccepted contents p → IsCompiled p names
 
 -- `run` is not `check`
 run_or_check : (limits : RunLimits) (command : Command) → Run limits ≡ command → command ≡ Check → ⊥
@@ -51,7 +53,7 @@ answered_by_run : (r : Request) (files : FileMap) (limits : RunLimits) (found : 
     → Told r files → IsRead r command names contents → MayRefuse command → IsFaultList contents faults → Answers command names contents faults status output note
 answered_by_run r files limits found command names contents faults status output note (of_file name bytes read' is) told read may list =
     absurd (may_refuse r files command (Exec limits) names (name ∷ []) contents (bytes ∷ []) told read read' may)
-answered_by_run r files limits found command names contents faults status output note (of_program names' contents' p read' is made) told read may list =
+answered_by_run r files limits found command names contents faults status output note (of_program names' contents' p read' is made means bounded) told read may list =
     let same = same_read r files (Run limits) command names' names contents' contents told read' read in
     let none : faults ≡ [] = one_list contents faults [] list (subst (λ (cs : List (List ℕ)). IsFaultList cs []) same is.list) in
     let asked = (same_plan (plan_of r.words) (Run limits) command names' names read'.plan read.plan).0 in
@@ -59,6 +61,7 @@ answered_by_run r files limits found command names contents faults status output
       refused = λ some. absurd (some none);
       checked = λ check _. absurd (run_or_check limits command asked check);
       built = λ form q build _. absurd (run_or_build limits form command asked build);
+      compiled = λ form q build _. absurd (run_or_build limits form command asked build);
     }
 
 -- an evaluation answers the empty list of `eval`
@@ -72,6 +75,7 @@ answered_by_evaluation r files steps p command others names contents faults stat
       refused = λ some. absurd (some none);
       checked = λ check _. absurd (eval_or_check steps command asked check);
       built = λ form q build _. absurd (eval_or_build steps form command asked build);
+      compiled = λ form q build _. absurd (eval_or_build steps form command asked build);
     }
 
 -- what is due answers the fault list
@@ -85,8 +89,9 @@ answered r _ _ _ _ files command names contents faults (checked names' contents'
       refused = λ some. absurd (some none);
       checked = λ _ _. refl;
       built = λ form q build _. absurd (check_or_build form command asked build);
+      compiled = λ form q build _. absurd (check_or_build form command asked build);
     }
-answered r _ _ _ _ files command names contents faults (built form names' contents' p read' is) told read may list =
+answered r _ _ _ _ files command names contents faults (built form names' contents' p read' is means) told read may list =
     let same = same_read r files (Build form) command names' names contents' contents told read' read in
     let here : IsAccepted contents p = subst (λ (cs : List (List ℕ)). IsAccepted cs p) same is in
     let none : faults ≡ [] = one_list contents faults [] list here.list in
@@ -101,6 +106,8 @@ answered r _ _ _ _ files command names contents faults (built form names' conten
             ap (λ (f : Form). built_bytes f p names') formed ∙ ap (λ (x : List Class). built_bytes other x names') one
                 ∙ ap (λ (ns : List (List ℕ)). built_bytes other q ns) asked.1,
           );
+      compiled = λ other q build accepted.
+          subst (λ (ns : List (List ℕ)). IsCompiled q ns) asked.1 (subst (λ (x : List Class). IsCompiled x names') (one_program contents p q here accepted) means);
     }
 answered r _ _ _ _ files command names contents faults (refused command' names' contents' faults' read' may' is) told read may list =
     let same = same_read r files command' command names' names contents' contents told read' read in
@@ -110,6 +117,7 @@ answered r _ _ _ _ files command names contents faults (refused command' names' 
       refused = λ _. (refl, ap (λ (ns : List (List ℕ)). refused_note ns faults') named ∙ ap (λ (fs : List Fault). refused_note names fs) one);
       checked = λ _ none. absurd (is.some (one ∙ none));
       built = λ form q _ accepted. absurd (is.some (one ∙ one_list contents faults [] list accepted.list));
+      compiled = λ form q _ accepted. absurd (is.some (one ∙ one_list contents faults [] list accepted.list));
     }
 answered r _ _ _ _ files command names contents faults (executed limits found run) told read may list = answered_by_run r files _ _ command names contents faults _ _ _ run told read may list
 answered r _ _ _ _ files command names contents faults (unread_input limits found at output left run comes fails) told read may list = answered_by_run r files _ _ command names contents faults _ _ _ run told read may list

@@ -1,6 +1,7 @@
 -- What is left to do is what is due.
-use Rattle.std.proofs.Common.{◌≡◌, ℕ, ◌<◌, ◌≤◌, true, List, [], ◌∷◌, length, Some, refl, ◌∙◌, ap, inl, inr, eqb-true, arith}
-use Rattle.std.specs.Prelude.{Option, Result, Ok, Err, IfOk}
+use Rattle.std.proofs.Common.{◌≡◌, ℕ, ◌<◌, ◌≤◌, true, List, [], ◌∷◌, length, get_or, Some, refl, sym, ◌∙◌, ap, subst, inl, inr, eqb-true, arith}
+use Rattle.std.specs.Prelude.{Option, Result, Ok, Err, IfOk, String, string_bytes}
+use Rattle.std.specs.Global.{Global, Vec}
 use Rattle.cool_syntax.specs.declared.TheConstants.{MOST_FILES}
 use Rattle.cool_faults.specs.Files.{total}
 use Rattle.cool_ports.specs.ShelfFiles.{FileMap}
@@ -8,9 +9,11 @@ use Rattle.cool_ports.specs.declared.shelf.ShelfFault.{ShelfFault}
 use Rattle.cool_ports.specs.declared.shelf.ShelfFault.TheVariants as faults
 use Rattle.cool_words.specs.declared.plan.RunLimits.{RunLimits}
 use Rattle.cool_words.specs.Plans.{IsBounded}
-use Rattle.cool_driver.specs.CommandLine.{is_number_of_files, plan_of, most_bytes}
+use Rattle.cool_driver.specs.CommandLine.{words_of, is_number_of_files, plan_of, most_bytes}
+use Rattle.cool_driver.specs.Contents.{texts}
 use Rattle.cool_driver.specs.Notes.{missing_note, unread_note, too_large_note, too_many_note}
-use Rattle.cool_driver.specs.Ends.{Request, Due, IsRead, IsReadUpTo, AreHeld}
+use Rattle.cool_driver.specs.Calls.{Request, IsRead, IsReadUpTo, AreHeld}
+use Rattle.cool_driver.specs.Ends.{Due}
 use Rattle.cool_driver.specs.Ends.Due.{checked, built, refused, unfit, misread, too_many, missing, unread, too_large}
 use Rattle.cool_driver.specs.Ends.IsRunOf.{of_file, of_program}
 use Rattle.cool_driver.specs.Ends.Writing.{by_build}
@@ -37,7 +40,7 @@ built_due : (r : Request) (form : Form) (names contents : List (List ℕ)) (task
     → IsTaskOfBuilt form names contents task → IsDue r task
 built_due r form names contents (Tell status lines) read (are, one, h) =
     rw (one, h.2) (refused (command.Build form) names contents h.0 read tt h.1, are, λ e. omega (arith, e))
-built_due r form names contents (Write made) read h = rw h.2 (built form names contents h.0 read h.1, by_build form names contents h.0 read h.1)
+built_due r form names contents (Write made) read h = rw h.3 (built form names contents h.0 read h.1 h.2, by_build form names contents h.0 read h.1)
 built_due r form names contents (Execute within image) read h = absurd h
 built_due r form names contents (Evaluate steps p files) read h = absurd h
 
@@ -48,7 +51,7 @@ run_due r limits names contents (Tell status lines) bounded read (are, one, h) =
     rw (one, h.2) (refused (command.Run limits) names contents h.0 read tt h.1, are, λ e. omega (arith, e))
 run_due r limits names contents (Write made) bounded read h = absurd h
 run_due r limits names contents (Execute within image) bounded read (same, h) =
-    rw same (bounded, of_program names contents h.0 read h.1 h.2)
+    rw same (bounded, of_program names contents h.0 read h.1 h.2 h.3 bounded)
 run_due r limits names contents (Evaluate steps p files) bounded read h = absurd h
 
 -- for files that `eval` names
@@ -79,6 +82,22 @@ exec_due r limits (name ∷ []) [] task bounded read one held h = absurd held
 exec_due r limits (name ∷ []) (bytes ∷ []) task bounded read one held h = file_due r limits name bytes task bounded read h
 exec_due r limits (name ∷ []) (bytes ∷ more ∷ contents) task bounded read one held h = absurd held.1
 exec_due r limits (name ∷ more ∷ names) contents task bounded read one held h = absurd (omega arith)
+
+-- the one file of `exec`, by its name and its bytes
+pub task_of_file : (limits : RunLimits) (asked : Command) (names : List (String Global)) (contents : List (Vec ℕ)) (name : String Global) (bytes : Vec ℕ) (task : Task) → asked ≡ command.Exec limits
+    → is_number_of_files asked (length names) ≡ true → length names ≡ length contents → name ≡ get_or names 0 name → bytes ≡ get_or contents 0 bytes
+    → IsTaskOfFile limits (string_bytes name) bytes.items task → IsTaskOf asked (words_of names) (texts contents) task
+task_of_file limits asked names contents name bytes task is number each named held h =
+    subst (λ (x : Command). IsTaskOf x (words_of names) (texts contents) task) (sym is)
+    (by names contents (subst (λ (x : Command). is_number_of_files x (length names) ≡ true) is number) each named held)
+  where
+    by : (names : List (String Global)) (contents : List (Vec ℕ)) → is_number_of_files (command.Exec limits) (length names) ≡ true → length names ≡ length contents
+        → name ≡ get_or names 0 name → bytes ≡ get_or contents 0 bytes → IsTaskOf (command.Exec limits) (words_of names) (texts contents) task
+    by [] contents number each named held = absurd (let one = eqb-true 0 1 number in omega arith)
+    by (n ∷ names) [] number each named held = absurd (omega arith)
+    by (n ∷ names) (b ∷ contents) number each named held =
+        subst (λ (x : String Global). IsTaskOfFile limits (string_bytes x) b.items task) named
+        (subst (λ (x : Vec ℕ). IsTaskOfFile limits (string_bytes name) x.items task) held h)
 
 -- for files that were read
 task_due : (r : Request) (asked : Command) (names contents : List (List ℕ)) (task : Task) → HasLimits asked → IsRead r asked names contents

@@ -7,14 +7,10 @@ use Rattle.cool_faults.specs.Verdicts.{IsFaultList}
 use Rattle.cool_ports.specs.ShelfFiles.{FileMap}
 use Rattle.cool_driver.specs.declared.command_line.Command.{Command}
 use Rattle.cool_driver.specs.declared.command_line.Command.TheVariants.{Check, Build}
-use Rattle.cool_driver.specs.Ends.{Request, Due, Writing, Call, NoLess, Ends, FailedOutput, FailedNote, DidNothing, RanShort, Got, Told, IsRead, MayRefuse}
+use Rattle.cool_driver.specs.Calls.{Request, Call, NoLess, DidNothing, Got, Told, IsRead, MayRefuse}
+use Rattle.cool_driver.specs.Ends.{Due, Writing, Ends, FailedOutput, FailedNote, RanShort}
 use Rattle.cool_driver.specs.Ends.Writing.{by_build, by_big, by_image, by_eval}
-use Rattle.cool_classes.specs.Chains.{Class}
-use Rattle.cool_meaning.specs.SourceRun as source
-use Rattle.cool_simulation.specs.Accord.{Accord}
-use Rattle.cool_words.specs.declared.plan.RunLimits.{RunLimits}
-use Rattle.cool_driver.specs.Ends.{limits_of}
-use Rattle.cool_driver.proofs.AccordsOfCalls.{accorded}
+use Rattle.cool_driver.proofs.HeadlineOfCalls.{headline_written, headline_failed, not_run}
 use Rattle.cool_driver.proofs.NotesOfTexts.{misread_note}
 use Rattle.cool_driver.proofs.AnsweredFaults.{answered}
 use Rattle.cool_driver.proofs.Findings as findings
@@ -53,13 +49,6 @@ no_less_at status before after calm rose false e =
 pub input_no_less : (status before after : ℕ) → (status ≢ 7 → after ≡ before) → (status ≡ 7 → Rose before after) → before ≤ after
 input_no_less status before after calm rose = no_less_at status before after calm rose (status == 7) refl
 
--- what accords was written
-shown : (c : Call) (status : ℕ) (output : List ℕ) (files : FileMap) (limits : RunLimits) (names contents : List (List ℕ)) (p : List Class) → Got c.out output
-    → (status ≡ 7) ⊎ Accord (source.run p names c.request.input) (limits_of limits) status output c.left
-    → (status ≡ 7) ⊎ ((written : List ℕ) × Got c.out written × Accord (source.run p names c.request.input) (limits_of limits) status written c.left)
-shown c status output files limits names contents p got (inl seven) = inl seven
-shown c status output files limits names contents p got (inr accord) = inr (output, got, accord)
-
 -- a status with a finding, without a write fault
 ends_found : (c : Call) (status : ℕ) → Finding c.request status → Calm c status
     → (output : List ℕ) × (note : List ℕ) × Due c.request status output note c.left × Got c.out output × Got c.notes note
@@ -87,12 +76,13 @@ ends_found c status found calm written =
       built_exactly = λ files form names contents p told read is _ _.
           let made = (answer (Build form) names contents [] files told read tt is.list).built form p refl is in
           (made.0, subst (Got c.out) made.1 written.3);
+      built_means = λ files form names contents p told read is _ _. (answer (Build form) names contents [] files told read tt is.list).compiled form p refl is;
       refused_exactly = λ files command names contents faults told read may list some _ _.
           let a = answer command names contents faults files told read may list in
           ((a.refused some).0, subst (Got c.notes) (a.refused some).1 written.4);
       compiled_exactly = λ files limits names contents p told read is _ _. findings.compiled_exactly r status files limits names contents p found told read is;
-      accords = λ files limits names contents p told read is good bytes input bounded _ _.
-          shown c status written.0 files limits names contents p written.3 (accorded r status written.0 written.1 c.left files limits names contents p written.2 told read is good bytes input bounded);
+      headline = λ files limits names contents p told read is bytes _. headline_written c status written.0 written.1 files limits names contents p written.2 written.3 told read is bytes;
+      not_run = λ limits names plan e. absurd (bounds.2 e);
       evaluated_exactly = λ files steps names contents p told read is _ _.
           evaluated_ends c status written.0 written.1 files steps names contents p written.2 written.3 written.4 told read is;
       evaluated_prefix = λ files steps names contents p told read is. prefix_of_due c status written.0 written.1 files steps names contents p written.2 written.3 told read is;
@@ -164,9 +154,11 @@ ends_write_fault c rose part input = record {
   too_large_exactly = λ files command names contents told plan held large other _. absurd (other refl);
   checked_exactly = λ files names contents faults told read list other _. absurd (other refl);
   built_exactly = λ files form names contents p told read is other _. absurd (other refl);
+  built_means = λ files form names contents p told read is other _. absurd (other refl);
   refused_exactly = λ files command names contents faults told read may list some other _. absurd (other refl);
   compiled_exactly = λ files limits names contents p told read is other _. absurd (other refl);
-  accords = λ files limits names contents p told read is good bytes input bounded other _. absurd (other refl);
+  headline = λ files limits names contents p told read is bytes _. headline_failed c files limits names contents p part told read is bytes;
+  not_run = λ limits names plan e. absurd (omega arith);
   evaluated_exactly = λ files steps names contents p told read is other _. absurd (other refl);
   evaluated_prefix = λ files steps names contents p told read is. prefix_of_failed c files steps names contents p part told read is;
   unfit_exactly = λ files limits name bytes told read none other _. absurd (other refl);
@@ -197,9 +189,11 @@ ends_short c files out notes calm short = record {
   too_large_exactly = λ files command names contents told plan held large _ other. absurd (other refl);
   checked_exactly = λ files names contents faults told read list _ other. absurd (other refl);
   built_exactly = λ files form names contents p told read is _ other. absurd (other refl);
+  built_means = λ files form names contents p told read is _ other. absurd (other refl);
   refused_exactly = λ files command names contents faults told read may list some _ other. absurd (other refl);
   compiled_exactly = λ files limits names contents p told read is _ other. absurd (other refl);
-  accords = λ files limits names contents p told read is good bytes input bounded _ other. absurd (other refl);
+  headline = λ files limits names contents p told read is bytes other. absurd (other refl);
+  not_run = λ limits names plan _. not_run c limits names plan short;
   evaluated_exactly = λ files steps names contents p told read is _ other. absurd (other refl);
   evaluated_prefix = λ files steps names contents p told read is. prefix_of_short c files steps names contents p short told read is;
   unfit_exactly = λ files limits name bytes told read none _ other. absurd (other refl);

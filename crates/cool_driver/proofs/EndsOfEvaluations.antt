@@ -11,7 +11,8 @@ use Rattle.cool_eval.specs.declared.evaluation.EvalEnd.{EvalEnd}
 use Rattle.cool_eval.specs.declared.evaluation.EvalEnd.TheVariants as ends
 use Rattle.cool_driver.specs.Notes.{read_fault_note, step_limit_note}
 use Rattle.cool_driver.specs.Evaluation.{status_of_end, note_of_end}
-use Rattle.cool_driver.specs.Ends.{Due, IsEvaluationOf, Writing, Got, Call, Ends}
+use Rattle.cool_driver.specs.Calls.{Got, Call}
+use Rattle.cool_driver.specs.Ends.{Due, IsEvaluationOf, Writing, Ends}
 use Rattle.cool_driver.specs.Ends.Due.{evaluated, unread_source}
 use Rattle.cool_driver.specs.Ends.Writing.{by_eval}
 use Rattle.cool_driver.proofs.EndsOfDue.{ends_write_fault, ends_short}

@@ -20,7 +20,8 @@ use Rattle.cool_words.specs.declared.plan.RunLimits.{RunLimits}
 use Rattle.cool_driver.specs.declared.status.Status.{Status}
 use Rattle.cool_driver.specs.Notes.{read_fault_note, step_limit_note, heap_limit_note, stack_limit_note, trap_note}
 use Rattle.cool_driver.specs.Execution.{heap_of, segments_within, stack_of, run_of, left_by, status_of, note_of}
-use Rattle.cool_driver.specs.Ends.{Request, Due, IsRunOf, Writing, Got, GotPart, Call, Ends}
+use Rattle.cool_driver.specs.Calls.{Request, Got, GotPart, Call}
+use Rattle.cool_driver.specs.Ends.{Due, IsRunOf, Writing, Ends}
 use Rattle.cool_driver.specs.Ends.Due.{executed, unread_input}
 use Rattle.cool_driver.specs.Ends.Writing.{by_image}
 use Rattle.cool_driver.specs.Tasks.{code_of, Noted}

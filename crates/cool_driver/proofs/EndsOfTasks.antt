@@ -1,10 +1,11 @@
 -- A task that was done ends a call as it should.
-use Rattle.std.proofs.Common.{◌≡◌, ◌≢◌, ℕ, inl, inr, List, [], ◌++◌, sym, subst, arith}
-use Rattle.cool_driver.specs.Ends.{Due, Call, Ends, Got, Writing}
+use Rattle.std.proofs.Common.{◌≡◌, ◌≢◌, ℕ, inl, inr, List, [], sym, subst, arith}
+use Rattle.cool_driver.specs.Calls.{Call, Got}
+use Rattle.cool_driver.specs.Ends.{Due, Ends, Writing}
 use Rattle.cool_driver.specs.Tasks.{code_of, Noted}
 use Rattle.cool_driver.specs.declared.status.Status.{Status}
 use Rattle.cool_driver.specs.declared.status.Status.TheVariants as statuses
-use Rattle.cool_driver.proofs.EndsOfDue.{ends_written, ends_write_fault, ends_without_memory}
+use Rattle.cool_driver.proofs.EndsOfDue.{ends_written, ends_write_fault}
 
 -- the input was left alone
 pub record Untouched (c : Call) : Type 0 where

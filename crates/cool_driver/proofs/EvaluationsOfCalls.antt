@@ -12,7 +12,8 @@ use Rattle.cool_meaning.specs.SourceRun as source
 use Rattle.cool_words.specs.declared.plan.RunLimits.{RunLimits}
 use Rattle.cool_driver.specs.CommandLine.{plan_of, TakesNoInput}
 use Rattle.cool_driver.specs.Evaluation.{status_of_end, note_of_end, IsPartOf}
-use Rattle.cool_driver.specs.Ends.{Request, Due, Writing, IsRead, IsRunOf, IsEvaluationOf, SinkUse, Got, Call, FailedOutput, FailedNote, DidNothing, RanShort, EndsAs, Told}
+use Rattle.cool_driver.specs.Calls.{Request, IsRead, SinkUse, Got, Call, DidNothing, Told}
+use Rattle.cool_driver.specs.Ends.{Due, Writing, IsRunOf, IsEvaluationOf, FailedOutput, FailedNote, RanShort, EndsAs}
 use Rattle.cool_driver.specs.Ends.IsRunOf.{of_file, of_program}
 use Rattle.cool_driver.specs.Ends.Due.{checked, built, refused, executed, unread_input, evaluated, unread_source, unfit, misread, summed, usage, too_many, missing, unread, too_large}
 use Rattle.cool_driver.specs.Ends.Writing.{by_build, by_big, by_image, by_eval}
@@ -35,14 +36,14 @@ EvaluatesNothing (Eval steps) = ⊥
 EvaluatesNothing (Exec limits) = Unit {0}
 
 -- a plan is not both one of such a command and one of `eval`
-no_eval : (plan : Option (Command × List (List ℕ))) (a : Command) (steps : ℕ) (names others : List (List ℕ)) → EvaluatesNothing a
+pub no_eval : (plan : Option (Command × List (List ℕ))) (a : Command) (steps : ℕ) (names others : List (List ℕ)) → EvaluatesNothing a
     → plan ≡ Some (a, names) → plan ≡ Some (Eval steps, others) → ⊥
 no_eval plan a steps names others nothing p q = subst EvaluatesNothing (same_plan plan a (Eval steps) names others p q).0 nothing
 
 -- where `eval` is asked for, no image runs
 no_image : (r : Request) (limits : RunLimits) (found : ImageParts) (steps : ℕ) (names : List (List ℕ)) → IsRunOf r limits found → plan_of r.words ≡ Some (Eval steps, names) → ⊥
 no_image r limits found steps names (of_file name bytes read is) plan = no_eval _ (Exec limits) steps _ _ tt read.plan plan
-no_image r limits found steps names (of_program names' contents' p' read is made) plan = no_eval _ (Run limits) steps _ _ tt read.plan plan
+no_image r limits found steps names (of_program names' contents' p' read is made means bounded) plan = no_eval _ (Run limits) steps _ _ tt read.plan plan
 
 -- a command has one number of steps
 same_steps : (a b : ℕ) → Eval a ≡ Eval b → a ≡ b
@@ -68,7 +69,7 @@ IsDueBy run status output note left =
 due_by : (r : Request) (status : ℕ) (output note left : List ℕ) (files : FileMap) (steps : ℕ) (names contents : List (List ℕ)) (p : List Class) → Due r status output note left
     → Told r files → IsRead r (Eval steps) names contents → IsAccepted contents p → IsDueBy (source.run p names r.input steps) status output note left
 due_by r _ _ _ _ files steps names contents p (checked names' contents' p' read' is) told read form = absurd (no_eval _ Check steps _ _ tt read'.plan read.plan)
-due_by r _ _ _ _ files steps names contents p (built shape names' contents' p' read' is) told read form = absurd (no_eval _ (Build shape) steps _ _ tt read'.plan read.plan)
+due_by r _ _ _ _ files steps names contents p (built shape names' contents' p' read' is means) told read form = absurd (no_eval _ (Build shape) steps _ _ tt read'.plan read.plan)
 due_by r _ _ _ _ files steps names contents p (refused command' names' contents' faults' read' may is) told read form =
     absurd (never_both_verdicts contents p faults' form (subst (λ (cs : List (List ℕ)). IsRefused cs faults') (same_read r files _ _ _ _ _ _ told read' read) is))
 due_by r _ _ _ _ files steps names contents p (executed limits found run) told read form = absurd (no_image r limits found steps names run read.plan)

@@ -24,7 +24,8 @@ use Rattle.cool_driver.specs.CommandLine.{asked_for, plan_of, most_bytes}
 use Rattle.cool_driver.specs.Execution.{IsRunnable, IsTextFault, is_text_file, run_of, status_of}
 use Rattle.cool_driver.specs.Evaluation.{status_of_end}
 use Rattle.cool_words.specs.declared.plan.RunLimits.{RunLimits}
-use Rattle.cool_driver.specs.Ends.{Request, Due, IsRead, IsRunOf, AreHeld, MayRefuse, Told}
+use Rattle.cool_driver.specs.Calls.{Request, IsRead, AreHeld, MayRefuse, Told}
+use Rattle.cool_driver.specs.Ends.{Due, IsRunOf}
 use Rattle.cool_driver.specs.Ends.Due.{checked, built, refused, executed, unread_input, evaluated, unread_source, unfit, misread, summed, usage, too_many, missing, unread, too_large}
 use Rattle.cool_driver.specs.declared.command_line.Command.{Command}
 use Rattle.cool_driver.specs.declared.command_line.Command.TheVariants.{Check, Build, Run, Eval, Exec}
@@ -87,7 +88,7 @@ status_of_source source.IsStuck status e = absurd cc
 -- what is due is a finding
 pub finding_of_due : (r : Request) (status : ℕ) (output note left : List ℕ) → Due r status output note left → Finding r status
 finding_of_due r _ _ _ _ (checked names contents p read is) = accepted Check names contents tt read (inl refl)
-finding_of_due r _ _ _ _ (built form names contents p read is) = accepted (Build form) names contents tt read (inl refl)
+finding_of_due r _ _ _ _ (built form names contents p read is means) = accepted (Build form) names contents tt read (inl refl)
 finding_of_due r _ _ _ _ (refused command names contents faults read may is) = faulty command names contents faults read may is refl
 finding_of_due r _ _ _ _ (executed limits found run) = image limits found run (inl (run_of limits found r.input, refl)) (inr refl)
 finding_of_due r _ _ _ _ (unread_input limits found at output left run comes fails) = image limits found run (inr refl) (inl refl)
@@ -336,7 +337,7 @@ shelf_no_less r status (no_file command' names' plan' (inr (inr refusal)) e) = c
 pub big_due : (r : Request) (status : ℕ) (output note left : List ℕ) (n : ℕ) → Due r status output note left → asked_for r.words ≡ Some (big n)
     → (status ≡ 0) × IsBigLine n output
 big_due r _ _ _ _ n (checked names contents p read is) asked = absurd (no_plan_and_plan _ _ _ (no_files_for_big r.words n asked) read.plan)
-big_due r _ _ _ _ n (built form names contents p read is) asked = absurd (no_plan_and_plan _ _ _ (no_files_for_big r.words n asked) read.plan)
+big_due r _ _ _ _ n (built form names contents p read is means) asked = absurd (no_plan_and_plan _ _ _ (no_files_for_big r.words n asked) read.plan)
 big_due r _ _ _ _ n (refused command names contents faults read may is) asked = absurd (no_plan_and_plan _ _ _ (no_files_for_big r.words n asked) read.plan)
 big_due r _ _ _ _ n (executed limits found run) asked = absurd (no_plan_and_plan _ _ _ (no_files_for_big r.words n asked) (read_for_run r limits found run).3.plan)
 big_due r _ _ _ _ n (unread_input limits found at output left run comes fails) asked = absurd (no_plan_and_plan _ _ _ (no_files_for_big r.words n asked) (read_for_run r limits found run).3.plan)

@@ -3,7 +3,7 @@ use Rattle.std.proofs.Common.{◌≡◌, ℕ, zero, suc, ◌+◌, ◌<◌, ◌�
 use Rattle.std.specs.Prelude.{Option, Contains}
 use Rattle.cool_ports.specs.ShelfFiles.{FileMap, MayHold}
 use Rattle.cool_faults.specs.Files.{total}
-use Rattle.cool_driver.specs.Ends.{AreHeld}
+use Rattle.cool_driver.specs.Calls.{AreHeld}
 
 -- there are as many files as names
 pub held_length : (told : Option FileMap) (names contents : List (List ℕ)) → AreHeld told names contents → length names ≡ length contents

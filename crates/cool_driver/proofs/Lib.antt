@@ -19,4 +19,7 @@ pub mod EndsOfEvaluations
 pub mod HexDigits
 pub mod LoadingImages
 pub mod Accords
-pub mod AccordsOfCalls
+pub mod NamesAreTexts
+pub mod MeantPrograms
+pub mod StoppedRuns
+pub mod HeadlineOfCalls

@@ -12,7 +12,8 @@ use Rattle.cool_faults.specs.Verdicts.{place_of, IsRefused}
 use Rattle.cool_driver.specs.Notes.{image_fault, image_note, asm_words, asm_note}
 use Rattle.cool_words.specs.declared.plan.RunLimits.{RunLimits}
 use Rattle.cool_driver.specs.Contents.{texts}
-use Rattle.cool_driver.specs.Ends.{Request, Due}
+use Rattle.cool_driver.specs.Calls.{Request}
+use Rattle.cool_driver.specs.Ends.{Due}
 use Rattle.cool_driver.specs.Tasks.{code_of, AreLines, note_of, IsUnfit, IsMisread, IsTaskOfFile, IsTaskOfChecked, IsTaskOfBuilt, IsTaskOfRun, IsTaskOfEval, IsLine, AreLinesOf, IsDue}
 use Rattle.cool_driver.specs.declared.command_line.Form.{Form}
 use Rattle.cool_driver.specs.declared.status.Status.{Status}

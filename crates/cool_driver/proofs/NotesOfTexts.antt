@@ -9,13 +9,14 @@ use Rattle.mips_text.proofs.OneReading.{never_both, one_first_fault, one_reading
 use Rattle.cool_driver.specs.CommandLine.{plan_of}
 use Rattle.cool_driver.specs.Execution.{IsTextFault, is_text_file}
 use Rattle.cool_driver.specs.Notes.{asm_note}
-use Rattle.cool_driver.specs.Ends.{Request, Due, IsRead, Told}
+use Rattle.cool_driver.specs.Calls.{Request, IsRead, Told}
+use Rattle.cool_driver.specs.Ends.{Due}
 use Rattle.cool_driver.specs.Ends.Due.{checked, built, refused, executed, unread_input, evaluated, unread_source, unfit, misread, summed, usage, too_many, missing, unread, too_large}
 use Rattle.cool_driver.specs.declared.command_line.Command.TheVariants.{Check, Build, Eval, Exec}
 use Rattle.cool_driver.proofs.Findings.{no_file_fault}
 use Rattle.cool_driver.proofs.ImagesOfCalls.{fault_or_runs, run_of_file}
 use Rattle.cool_driver.proofs.Plans.{no_files_for_big, no_files_for_nothing}
-use Rattle.cool_driver.proofs.ReadTwice.{may_refuse, no_plan_and_plan, no_run_exec, runs_nothing, same_file, same_plan}
+use Rattle.cool_driver.proofs.ReadTwice.{may_refuse, no_plan_and_plan, runs_nothing, same_file, same_plan}
 
 -- a text has one fault
 one_text_fault : (bytes : List ℕ) (a b : AsmFault) → IsTextFault bytes a → IsTextFault bytes b → a ≡ b
@@ -33,7 +34,7 @@ one_name a b e = cc
 pub misread_note : (r : Request) (status : ℕ) (output note left : List ℕ) (files : FileMap) (limits : RunLimits) (name bytes : List ℕ) (fault : AsmFault) → Due r status output note left → Told r files
     → IsRead r (Exec limits) (name ∷ []) (bytes ∷ []) → is_text_file bytes ≡ true → IsTextFault bytes fault → note ≡ asm_note name fault
 misread_note r _ _ _ _ files limits name bytes fault (checked names' contents' p read' is) told read text wrong = absurd (runs_nothing _ Check (Exec limits) _ _ tt read'.plan read.plan)
-misread_note r _ _ _ _ files limits name bytes fault (built form names' contents' p read' is) told read text wrong = absurd (runs_nothing _ (Build form) (Exec limits) _ _ tt read'.plan read.plan)
+misread_note r _ _ _ _ files limits name bytes fault (built form names' contents' p read' is means) told read text wrong = absurd (runs_nothing _ (Build form) (Exec limits) _ _ tt read'.plan read.plan)
 misread_note r _ _ _ _ files limits name bytes fault (refused command' names' contents' faults' read' may is) told read text wrong =
     absurd (may_refuse r files command' (Exec limits) names' (name ∷ []) contents' (bytes ∷ []) told read' read may)
 misread_note r _ _ _ _ files limits name bytes fault (executed limits' found run) told read text wrong =

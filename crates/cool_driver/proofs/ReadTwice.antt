@@ -4,7 +4,7 @@ use Rattle.std.specs.Prelude.{Option}
 use Rattle.cool_ports.specs.ShelfFiles.{FileMap}
 use Rattle.cool_words.specs.declared.plan.RunLimits.{RunLimits}
 use Rattle.cool_driver.specs.CommandLine.{plan_of}
-use Rattle.cool_driver.specs.Ends.{Request, IsRead, AreHeld, MayRefuse, Told}
+use Rattle.cool_driver.specs.Calls.{Request, IsRead, AreHeld, MayRefuse, Told}
 use Rattle.cool_driver.specs.declared.command_line.Command.{Command}
 use Rattle.cool_driver.specs.declared.command_line.Command.TheVariants.{Check, Build, Run, Eval, Exec}
 use Rattle.cool_driver.proofs.HeldFiles.{held_same}

@@ -1,6 +1,7 @@
 -- The files of names are read one after another, until one is refused.
-use Rattle.std.proofs.Common.{◌≡◌, ◌≢◌, ℕ, ◌+◌, ◌-◌, ◌<◌, List, [], ◌∷◌, ◌++◌, length, get_or, take, drop, refl, sym, ◌∙◌, ap, subst, take-append-drop, arith}
+use Rattle.std.proofs.Common.{◌≡◌, ◌≢◌, ℕ, suc, ◌+◌, ◌-◌, ◌<◌, List, [], ◌∷◌, ◌++◌, length, get_or, take, drop, refl, sym, ◌∙◌, ap, subst, take-append-drop, arith}
 use Rattle.std.specs.Prelude.{Option, string_bytes, String}
+use Rattle.std.specs.List.{AllByRecursion}
 use Rattle.std.specs.Global.{Global, Vec}
 use Rattle.std.proofs.lemmas.List.{at_drop_more, map_more, map_push, map-append}
 use Rattle.cool_ports.specs.Counts.{Rose}
@@ -8,8 +9,9 @@ use Rattle.cool_ports.specs.ShelfFiles.{FileMap, MayHold, IsMissing, IsLonger}
 use Rattle.cool_ports.specs.declared.shelf.ShelfFault.{ShelfFault}
 use Rattle.cool_ports.specs.declared.shelf.ShelfFault.TheVariants as faults
 use Rattle.cool_faults.specs.Files.{total}
+use Rattle.cool_runtime.specs.Contents.{AreBytes}
 use Rattle.cool_driver.specs.CommandLine.{words_of}
-use Rattle.cool_driver.specs.Ends.{AreHeld}
+use Rattle.cool_driver.specs.Calls.{AreHeld}
 use Rattle.cool_driver.specs.Reading.{IsCause, IsStopAt}
 use Rattle.cool_driver.specs.Contents.{texts}
 use Rattle.cool_driver.proofs.HeldFiles.{held_more, total-push}
@@ -32,6 +34,21 @@ held_turn told now names i name given contents more file same h is called held g
     let all : texts more ≡ texts contents ++ file.items ∷ [] = ap texts pushed ∙ map_push _ _ _ in
     subst (λ (ns : List (List ℕ)). AreHeld told ns (texts more)) (sym (names_more names i name h is))
     (subst (λ (cs : List (List ℕ)). AreHeld told (words_of (take i names) ++ string_bytes name ∷ []) cs) (sym all) (held_more told (words_of (take i names)) (texts contents) (string_bytes name) file.items held here))
+
+-- numbers of 8 bits are bytes
+pub all_bytes : (bytes : List ℕ) → ((i : ℕ) → get_or bytes i 0 < 256) → AreBytes bytes
+all_bytes [] small = tt
+all_bytes (b ∷ bytes) small = (small 0, all_bytes bytes (λ i. small (suc i)))
+
+bytes_more : (files : List (List ℕ)) (file : List ℕ) → AllByRecursion AreBytes files → AreBytes file → AllByRecursion AreBytes (files ++ file ∷ [])
+bytes_more [] file h k = (k, tt)
+bytes_more (f ∷ files) file h k = (h.0, bytes_more files file h.1 k)
+
+-- so one more file is
+pub bytes_turn : (contents more : List (Vec ℕ)) (file : Vec ℕ) → more ≡ contents ++ file ∷ [] → AllByRecursion AreBytes (texts contents) → AreBytes file.items → AllByRecursion AreBytes (texts more)
+bytes_turn contents more file pushed so_far are =
+    let all : texts more ≡ texts contents ++ file.items ∷ [] = ap texts pushed ∙ map_push _ _ _ in
+    subst (λ (fs : List (List ℕ)). AllByRecursion AreBytes fs) (sym all) (bytes_more (texts contents) file.items so_far are)
 
 -- what the files so far have together
 pub total_turn : (contents more : List (Vec ℕ)) (file : Vec ℕ) → more ≡ contents ++ file ∷ [] → total (texts more) ≡ total (texts contents) + length file.items

@@ -8,8 +8,11 @@ use Rattle.cool_faults.specs.Verdicts.{IsAccepted, IsRefused}
 use Rattle.mips_isa.specs.Assembly.{image_of}
 use Rattle.mips_isa.specs.Calls.{Outcome}
 use Rattle.cool_emit.specs.Programs.{program_lines}
+use Rattle.cool_meaning.specs.SourceRun as source
+use Rattle.cool_simulation.specs.Accord.{Accord}
 use Rattle.cool_words.specs.Plans.{usual_limits}
 use Rattle.cool_driver.specs.Execution.{run_of, left_by, status_of}
+use Rattle.cool_driver.specs.Headline.{limits_of}
 use Rattle.cool_driver.specs.declared.TheConstants.{MOST_BIG_OUTPUT}
 
 -- its one file, and the file's name
@@ -23,15 +26,21 @@ big_names = codes "big.cl" ∷ []
 abbrev pub big_run : List Class → Outcome
 big_run p = run_of usual_limits (image_of (program_lines p big_names)) []
 
+-- its status, its output and what it left of no input accord with the runs of the source within the usual limits
+abbrev pub AccordsWithSource : List Class → Type 0
+AccordsWithSource p =
+    Accord (source.run p big_names []) (limits_of usual_limits) (status_of (big_run p)) (left_by (big_run p)).output (left_by (big_run p)).input
+
 -- How a run comes out: the number of bytes of its output, and its status. Where they are more than are counted, the status is 8.
 pub data RunsTo (o : Outcome) : ℕ → ℕ → Type 0 where
   counted : length (left_by o).output ≤ MOST_BIG_OUTPUT → RunsTo o (length (left_by o).output) (status_of o)
   too_long : MOST_BIG_OUTPUT < length (left_by o).output → RunsTo o MOST_BIG_OUTPUT 8
 
--- How files of these bytes come out: status 1 without output where they are refused, and else as their program's run does.
+-- How files of these bytes come out: status 1 without output where they are refused, and else as their program's run does, in accord with
+-- the runs of the source.
 pub data ComesOut (contents : List (List ℕ)) (output status : ℕ) : Type 0 where
   refused : (faults : List Fault) → IsRefused contents faults → output ≡ 0 → status ≡ 1 → ComesOut contents output status
-  ran : (p : List Class) → IsAccepted contents p → RunsTo (big_run p) output status → ComesOut contents output status
+  ran : (p : List Class) → IsAccepted contents p → AccordsWithSource p → RunsTo (big_run p) output status → ComesOut contents output status
 
 -- the line for a program of so many bytes and classes
 abbrev pub summary : ℕ → ℕ → ℕ → ℕ → ℕ → List ℕ

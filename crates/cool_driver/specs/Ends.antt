@@ -1,14 +1,13 @@
 -- How a call of `cool` ends: what is due for the words over the shelf's files and the input, and what came of it.
-use Rattle.std.specs.Prelude.{◌≡◌, ◌≢◌, ℕ, ◌<◌, ◌≤◌, ◌⊎◌, ◌-◌, true, false, List, [], ◌∷◌, ◌++◌, length, Contains, Option, Some, None}
-use Rattle.std.specs.List.{AllByRecursion}
+use Rattle.std.specs.Prelude.{◌≡◌, ◌≢◌, ℕ, ◌<◌, ◌≤◌, ◌⊎◌, ◌-◌, true, false, List, [], ◌∷◌, ◌++◌, length, Contains, Some, None}
 use Rattle.cool_syntax.specs.declared.TheConstants.{MOST_FILES}
 use Rattle.cool_classes.specs.Chains.{Class}
 use Rattle.cool_faults.specs.declared.fault.Fault.{Fault}
 use Rattle.cool_faults.specs.Files.{total}
 use Rattle.cool_faults.specs.Verdicts.{IsAccepted, IsFaultList, IsRefused}
-use Rattle.cool_ports.specs.Counts.{last_count, Rose}
-use Rattle.cool_ports.specs.ShelfFiles.{FileMap, MayHold, IsMissing, IsLonger}
-use Rattle.cool_ports.specs.SinkBytes.{appended, GotPrefix}
+use Rattle.cool_ports.specs.Counts.{Rose}
+use Rattle.cool_ports.specs.ShelfFiles.{FileMap, IsMissing, IsLonger}
+use Rattle.cool_ports.specs.SinkBytes.{GotPrefix}
 use Rattle.mips_isa.specs.Assembly.{image_of}
 use Rattle.mips_isa.specs.ImageBounds.{ImageParts}
 use Rattle.mips_isa.specs.Calls.{State, call, print}
@@ -21,68 +20,29 @@ use Rattle.mips_image.specs.declared.stored_image.TheConstants.{CHECKED_VERSION}
 use Rattle.spim_machine.specs.Ends.{FailsReading, call_with}
 use Rattle.cool_emit.specs.Programs.{program_lines}
 use Rattle.cool_meaning.specs.SourceRun as source
-use Rattle.cool_runtime.specs.Contents.{AreBytes, IsText}
-use Rattle.cool_simulation.specs.Accord.{Limits, Accord}
+use Rattle.cool_runtime.specs.Contents.{AreBytes}
+use Rattle.cool_simulation.specs.Accord.{Means}
 use Rattle.cool_words.specs.declared.plan.RunLimits.{RunLimits}
 use Rattle.cool_words.specs.Plans.Asked.{big}
 use Rattle.cool_words.specs.Plans.{IsBounded}
 use Rattle.cool_driver.specs.Big.{IsBigLine}
 use Rattle.cool_driver.specs.CommandLine.{asked_for, plan_of, most_bytes}
-use Rattle.cool_driver.specs.Notes.{end_text, refused_note, usage_note, missing_note, unread_note, too_many_note, too_large_note, read_fault_note, image_note, asm_note}
-use Rattle.cool_driver.specs.Execution.{heap_of, stack_of, IsRunnable, IsTextFault, is_text_file, segments_within, run_of, ComesTo, left_by, status_of, note_of}
+use Rattle.cool_driver.specs.Notes.{refused_note, usage_note, missing_note, unread_note, too_many_note, too_large_note, read_fault_note, image_note, asm_note}
+use Rattle.cool_driver.specs.Execution.{IsAssembled, IsRunnable, IsTextFault, is_text_file, segments_within, run_of, ComesTo, left_by, status_of, note_of}
 use Rattle.cool_driver.specs.Evaluation.{status_of_end, note_of_end, IsPartOf}
+use Rattle.cool_driver.specs.Calls.{Request, AreHeld, IsRead, IsReadUpTo, MayRefuse, Got, GotPart, Call, NoLess, DidNothing, Told, Unless}
+use Rattle.cool_driver.specs.Headline.{Headline}
 use Rattle.cool_driver.specs.declared.command_line.Command.{Command}
 use Rattle.cool_driver.specs.declared.command_line.Command.TheVariants.{Check, Build, Run, Eval, Exec}
 use Rattle.cool_driver.specs.declared.command_line.Form.{Form}
 use Rattle.cool_driver.specs.declared.command_line.Form.TheVariants.{Text, Image}
 
--- What a call was asked: its words, the files that the shelf tells, the shelf's count of faults before and after, and an input
--- that the source may have had left at first.
-pub record Request : Type 0 where
-  pub words : List (List ℕ)
-  pub files : Option FileMap
-  pub faults_before : ℕ
-  pub faults_after : ℕ
-  pub input : List ℕ
-
--- the files of these names have these bytes, as far as the shelf tells
-abbrev pub AreHeld : Option FileMap → List (List ℕ) → List (List ℕ) → Type 0
-AreHeld files [] [] = Unit {0}
-AreHeld files [] (bytes ∷ contents) = ⊥
-AreHeld files (name ∷ names) [] = ⊥
-AreHeld files (name ∷ names) (bytes ∷ contents) = MayHold files name bytes × AreHeld files names contents
-
--- The files that the words name for this command have these bytes, as far as the shelf tells, and are not too many and not too large;
--- no fault came.
-pub record IsRead (r : Request) (command : Command) (names contents : List (List ℕ)) : Type 0 where
-  pub plan : plan_of r.words ≡ Some (command, names)
-  pub few : length names ≤ MOST_FILES
-  pub held : AreHeld r.files names contents
-  pub within : total contents ≤ most_bytes command
-  pub calm : r.faults_after ≡ r.faults_before
-
--- The files before the one of this name have these bytes, as far as the shelf tells, and are not too large.
-pub record IsReadUpTo (r : Request) (command : Command) (name : List ℕ) (contents : List (List ℕ)) : Type 0 where
-  pub front : List (List ℕ)
-  pub rest : List (List ℕ)
-  pub plan : plan_of r.words ≡ Some (command, front ++ name ∷ rest)
-  pub few : length (front ++ name ∷ rest) ≤ MOST_FILES
-  pub held : AreHeld r.files front contents
-  pub within : total contents ≤ most_bytes command
-
--- the command refuses files for their faults: `exec` never does
-abbrev pub MayRefuse : Command → Type 0
-MayRefuse Check = Unit {0}
-MayRefuse (Build form) = Unit {0}
-MayRefuse (Run limits) = Unit {0}
-MayRefuse (Eval steps) = Unit {0}
-MayRefuse (Exec limits) = ⊥
-
--- The image that a call runs over its input: that of the file of `exec`, or the one of the lines of the program that the files of `run` are.
+-- The image that a call runs over its input: that of the file of `exec`, or the one of the lines of the program that the files of `run` are,
+-- which means the program, within limits in their bounds.
 pub data IsRunOf (r : Request) (limits : RunLimits) (image : ImageParts) : Type 0 where
   of_file : (name bytes : List ℕ) → IsRead r (Exec limits) (name ∷ []) (bytes ∷ []) → IsRunnable image bytes → IsRunOf r limits image
   of_program : (names contents : List (List ℕ)) (p : List Class) → IsRead r (Run limits) names contents → IsAccepted contents p
-      → image ≡ image_of (program_lines p names) → IsRunOf r limits image
+      → image ≡ image_of (program_lines p names) → Means image p names → IsBounded limits → IsRunOf r limits image
 
 -- The program that a call evaluates with so many steps: that of the files of `eval`, which have these names.
 pub record IsEvaluationOf (r : Request) (steps : ℕ) (names : List (List ℕ)) (p : List Class) : Type 0 where
@@ -96,13 +56,18 @@ abbrev pub built_bytes : Form → List Class → List (List ℕ) → List ℕ
 built_bytes Text p names = printed (program_lines p names)
 built_bytes Image p names = image_bytes CHECKED_VERSION (image_of (program_lines p names))
 
+-- What a program is compiled to means it: the image of its lines, for which the text of its lines stands, too.
+pub record IsCompiled (p : List Class) (names : List (List ℕ)) : Type 0 where
+  pub means : Means (image_of (program_lines p names)) p names
+  pub assembled : IsAssembled (image_of (program_lines p names)) (printed (program_lines p names))
+
 -- What is due: the status, the output, the note, and what is left of the input.
 pub data Due (r : Request) : ℕ → List ℕ → List ℕ → List ℕ → Type 0 where
   -- `check`: nothing, where the files are accepted
   checked : (names contents : List (List ℕ)) (p : List Class) → IsRead r Check names contents → IsAccepted contents p → Due r 0 [] [] r.input
-  -- `asm` and `build`: the lines or the image, where the files are accepted
+  -- `asm` and `build`: the lines or the image, where the files are accepted, and compiled to what means the program
   built : (form : Form) (names contents : List (List ℕ)) (p : List Class) → IsRead r (Build form) names contents → IsAccepted contents p
-      → Due r 0 (built_bytes form p names) [] r.input
+      → IsCompiled p names → Due r 0 (built_bytes form p names) [] r.input
   -- `check`, `asm`, `build`, `run` and `eval`: a line for each fault
   refused : (command : Command) (names contents : List (List ℕ)) (faults : List Fault) → IsRead r command names contents
       → MayRefuse command → IsRefused contents faults
@@ -157,38 +122,6 @@ pub data Writing (r : Request) : List ℕ → List ℕ → List ℕ → Type 0 w
   by_eval : (steps : ℕ) (names : List (List ℕ)) (p : List Class) (kept : List ℕ) → IsEvaluationOf r steps names p
       → Writing r [] (source.run p names r.input steps).output (kept ++ (source.run p names r.input steps).left)
 
--- What a sink held, and its count of faults, before a call and after it.
-pub record SinkUse : Type 0 where
-  pub held_before : Option (List ℕ)
-  pub held_after : Option (List ℕ)
-  pub faults_before : ℕ
-  pub faults_after : ℕ
-
--- these bytes and no others came, without a fault
-abbrev pub Got : SinkUse → List ℕ → Type 0
-Got s bytes = (s.held_after ≡ appended s.held_before bytes) × (s.faults_after ≡ s.faults_before)
-
--- a write failed: these bytes came, and of these a prefix
-abbrev pub GotPart : SinkUse → List ℕ → List ℕ → Type 0
-GotPart s bytes more = GotPrefix (appended s.held_before bytes) more s.held_after × Rose s.faults_before s.faults_after
-
--- A call of `cool`: what it was asked, how its output and its notes fared, what is left of the input, and the input's count of
--- faults.
-pub record Call : Type 0 where
-  pub request : Request
-  pub out : SinkUse
-  pub notes : SinkUse
-  pub left : List ℕ
-  pub input_before : ℕ
-  pub input_after : ℕ
-
--- no count of faults falls
-pub record NoLess (c : Call) : Type 0 where
-  pub files : c.request.faults_before ≤ c.request.faults_after
-  pub input : c.input_before ≤ c.input_after
-  pub out : c.out.faults_before ≤ c.out.faults_after
-  pub notes : c.notes.faults_before ≤ c.notes.faults_after
-
 -- a write of the output failed: the bytes before it came, and of its own a prefix
 abbrev pub FailedOutput : Call → Type 0
 FailedOutput c = (bytes : List ℕ) × (more : List ℕ) × Writing c.request bytes more c.left × GotPart c.out bytes more × Got c.notes []
@@ -196,10 +129,6 @@ FailedOutput c = (bytes : List ℕ) × (more : List ℕ) × Writing c.request by
 -- the write of the note failed: all else is as what is due
 abbrev pub FailedNote : Call → Type 0
 FailedNote c = (due : ℕ) × (output : List ℕ) × (note : List ℕ) × Due c.request due output note c.left × Got c.out output × GotPart c.notes [] note
-
--- nothing was written or taken
-abbrev pub DidNothing : Call → Type 0
-DidNothing c = Got c.out [] × Got c.notes [] × (c.left ≡ c.request.input) × (c.input_after ≡ c.input_before)
 
 -- memory ran out while a program was evaluated: a prefix of what its run writes came, and no fault
 abbrev pub RanShort : Call → Type 0
@@ -210,22 +139,6 @@ RanShort c = (steps : ℕ) × (names : List (List ℕ)) × (p : List Class) × I
 -- a call ended as this run did, with this status
 abbrev pub EndsAs : Call → ℕ → source.Run → Type 0
 EndsAs c status run = (status_of_end run.end ≡ Some status) × Got c.out run.output × Got c.notes (note_of_end run.end) × (c.left ≡ run.left)
-
--- the shelf tells these files, and no fault of it can have come
-abbrev pub Told : Request → FileMap → Type 0
-Told r files = (r.files ≡ Some files) × (r.faults_before < last_count) × (r.faults_after ≡ r.faults_before)
-
--- so it is, unless a write failed or memory ran out
-abbrev pub Unless : ℕ → Type 0 → Type 0
-Unless status fact = status ≢ 8 → status ≢ 9 → fact
-
--- the limits of a run, in bytes and instructions
-abbrev pub limits_of : RunLimits → Limits
-limits_of limits = record { heap = heap_of limits; stack = stack_of limits; budget = limits.steps }
-
--- names of files: texts of at most 4,096 bytes
-abbrev pub AreNames : List (List ℕ) → Type 0
-AreNames names = AllByRecursion IsText names × AllByRecursion (λ name. length name ≤ 4096) names
 
 -- How a call ends with a status.
 pub record Ends (c : Call) (status : ℕ) : Type 0 where
@@ -259,6 +172,9 @@ pub record Ends (c : Call) (status : ℕ) : Type 0 where
   -- `asm` and `build`: status 0, and the lines or the image, come where the files were read and are accepted
   pub built_exactly : (files : FileMap) (form : Form) (names contents : List (List ℕ)) (p : List Class) → Told c.request files
       → IsRead c.request (Build form) names contents → IsAccepted contents p → Unless status ((status ≡ 0) × Got c.out (built_bytes form p names))
+  -- the image, for which the text stands, too, means the program
+  pub built_means : (files : FileMap) (form : Form) (names contents : List (List ℕ)) (p : List Class) → Told c.request files
+      → IsRead c.request (Build form) names contents → IsAccepted contents p → Unless status (IsCompiled p names)
   -- `check`, `asm`, `build`, `run` and `eval`: status 1 comes where the files were read and their fault list is not empty, with a line for each fault
   -- of it
   pub refused_exactly : (files : FileMap) (command : Command) (names contents : List (List ℕ)) (faults : List Fault) → Told c.request files
@@ -268,12 +184,12 @@ pub record Ends (c : Call) (status : ℕ) : Type 0 where
   pub compiled_exactly : (files : FileMap) (limits : RunLimits) (names contents : List (List ℕ)) (p : List Class) → Told c.request files
       → IsRead c.request (Run limits) names contents → IsAccepted contents p
       → Unless status ((status ≡ 7) ⊎ (status ≡ status_of (run_of limits (image_of (program_lines p names)) c.request.input)))
-  -- `run`: what was written and what is left accord with the runs of the source within the limits of the command line, unless a read failed,
-  -- where the files were read and are accepted, names, files and input are bytes, and the limits are in their bounds
-  pub accords : (files : FileMap) (limits : RunLimits) (names contents : List (List ℕ)) (p : List Class) → Told c.request files
-      → IsRead c.request (Run limits) names contents → IsAccepted contents p → AreNames names → AllByRecursion AreBytes contents
-      → AreBytes c.request.input → IsBounded limits
-      → Unless status ((status ≡ 7) ⊎ ((output : List ℕ) × Got c.out output × Accord (source.run p names c.request.input) (limits_of limits) status output c.left))
+  -- `run`: where the files were read and are accepted, the run of an image that means the program, and by it the runs of the source, unless
+  -- memory ran out; and then nothing was written or taken
+  pub headline : (files : FileMap) (limits : RunLimits) (names contents : List (List ℕ)) (p : List Class) → Told c.request files
+      → IsRead c.request (Run limits) names contents → IsAccepted contents p → AreBytes c.request.input
+      → status ≢ 9 → Headline c status limits names p
+  pub not_run : (limits : RunLimits) (names : List (List ℕ)) → plan_of c.request.words ≡ Some (Run limits, names) → status ≡ 9 → DidNothing c
   -- `eval`: the status, the output and the note of the run's end come where the files were read and are accepted, and what it leaves of the
   -- input is left, unless a read failed; whatever the status, a prefix of the run's output came
   pub evaluated_exactly : (files : FileMap) (steps : ℕ) (names contents : List (List ℕ)) (p : List Class) → Told c.request files

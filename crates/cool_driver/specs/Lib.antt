@@ -6,5 +6,7 @@ pub mod Notes
 pub mod Execution
 pub mod Evaluation
 pub mod Big
+pub mod Calls
+pub mod Headline
 pub mod Ends
 pub mod Tasks

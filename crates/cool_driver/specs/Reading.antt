@@ -5,7 +5,7 @@ use Rattle.cool_ports.specs.ShelfFiles.{FileMap, IsMissing, IsLonger}
 use Rattle.cool_ports.specs.declared.shelf.ShelfFault.{ShelfFault}
 use Rattle.cool_ports.specs.declared.shelf.ShelfFault.TheVariants as faults
 use Rattle.cool_faults.specs.Files.{total}
-use Rattle.cool_driver.specs.Ends.{AreHeld}
+use Rattle.cool_driver.specs.Calls.{AreHeld}
 use Rattle.cool_driver.specs.declared.reading.ReadError.{ReadError}
 use Rattle.cool_driver.specs.declared.reading.ReadError.TheVariants.{Memory, Refused}
 

@@ -1,5 +1,5 @@
 -- What is left to do once the words and the files were read: a note, lines or an image to write, an image to run, or a program to evaluate.
-use Rattle.std.specs.Prelude.{◌≡◌, ◌≢◌, ℕ, ◌<◌, ◌≤◌, ◌⊎◌, true, false, List, [], ◌∷◌, ◌++◌, Option, Some, None, get_or, map, length, String, Result, Ok, Err}
+use Rattle.std.specs.Prelude.{◌≡◌, ◌≢◌, ℕ, ◌<◌, ◌≤◌, ◌⊎◌, true, false, List, [], ◌∷◌, Option, Some, None, get_or, map, length, String, Result, Ok, Err}
 use Rattle.std.specs.List.{concat, list_all, AllByRecursion}
 use Rattle.std.specs.Global.{Global, Vec}
 use Rattle.cool_syntax.specs.declared.TheConstants.{MOST_FILES, MOST_SOURCE_BYTES}
@@ -17,17 +17,19 @@ use Rattle.mips_isa.specs.declared.asm_fault.AsmError.{AsmError}
 use Rattle.mips_isa.specs.declared.asm_fault.AsmError.TheVariants as error
 use Rattle.mips_text.specs.Reading.{Reads}
 use Rattle.mips_isa.specs.ImageBounds.{ImageParts}
-use Rattle.mips_isa.specs.Calls.{State, Exited}
 use Rattle.mips_isa.specs.declared.asm_fault.AsmFault.{AsmFault}
 use Rattle.mips_image.specs.ImageReading.{first_fault}
 use Rattle.mips_image.specs.declared.image_error.ImageError.{ImageError}
 use Rattle.cool_emit.specs.Programs.{program_lines}
+use Rattle.cool_runtime.specs.Contents.{AreBytes}
+use Rattle.cool_simulation.specs.Accord.{Means}
 use Rattle.cool_words.specs.declared.plan.RunLimits.{RunLimits}
 use Rattle.cool_words.specs.Plans.{IsBounded, is_file_name}
 use Rattle.cool_driver.specs.CommandLine.{words_of, plan_of}
-use Rattle.cool_driver.specs.Notes.{end_text, refused_note, missing_note, unread_note, too_large_note, image_note, asm_note}
-use Rattle.cool_driver.specs.Execution.{IsRunnable, IsTextFault, is_text_file, run_of}
-use Rattle.cool_driver.specs.Ends.{Request, Due, Writing, IsRead, IsRunOf, IsEvaluationOf, built_bytes, SinkUse, Got, GotPart}
+use Rattle.cool_driver.specs.Notes.{refused_note, missing_note, unread_note, too_large_note, image_note, asm_note}
+use Rattle.cool_driver.specs.Execution.{IsRunnable, IsTextFault, is_text_file}
+use Rattle.cool_driver.specs.Calls.{Request, SinkUse, Got, GotPart}
+use Rattle.cool_driver.specs.Ends.{Due, Writing, IsRunOf, IsEvaluationOf, IsCompiled, built_bytes}
 use Rattle.cool_driver.specs.Contents.{texts}
 use Rattle.cool_driver.specs.declared.command_line.Command.{Command}
 use Rattle.cool_driver.specs.declared.command_line.Command.TheVariants as command
@@ -57,6 +59,7 @@ pub record AreSources (names : List (String Global)) (contents : List (Vec ℕ))
   pub each : length names ≡ length contents
   pub named : list_all is_file_name (words_of names) ≡ true
   pub some : 0 < length names
+  pub bytes : AllByRecursion AreBytes (texts contents)
   pub few : length contents ≤ MOST_FILES
   pub small : total (texts contents) ≤ MOST_SOURCE_BYTES
 
@@ -110,7 +113,8 @@ abbrev pub IsTaskOfBuilt : Form → List (List ℕ) → List (List ℕ) → Task
 IsTaskOfBuilt form names contents (Tell status lines) =
     AreLines lines.items × (code_of status ≡ 1)
     × ((faults : List Fault) × IsRefused contents faults × (note_of lines.items ≡ refused_note names faults))
-IsTaskOfBuilt form names contents (Write made) = (p : List Class) × IsAccepted contents p × (made.items ≡ built_bytes form p names)
+IsTaskOfBuilt form names contents (Write made) =
+    (p : List Class) × IsAccepted contents p × IsCompiled p names × (made.items ≡ built_bytes form p names)
 IsTaskOfBuilt form names contents (Execute within image) = ⊥
 IsTaskOfBuilt form names contents (Evaluate steps p files) = ⊥
 
@@ -121,7 +125,7 @@ IsTaskOfRun limits names contents (Tell status lines) =
     × ((faults : List Fault) × IsRefused contents faults × (note_of lines.items ≡ refused_note names faults))
 IsTaskOfRun limits names contents (Write made) = ⊥
 IsTaskOfRun limits names contents (Execute within image) =
-    (within ≡ limits) × ((p : List Class) × IsAccepted contents p × (image ≡ image_of (program_lines p names)))
+    (within ≡ limits) × ((p : List Class) × IsAccepted contents p × (image ≡ image_of (program_lines p names)) × Means image p names)
 IsTaskOfRun limits names contents (Evaluate steps p files) = ⊥
 
 -- what is left to do for files of these names that `eval` names, with so many steps, and that have these bytes

@@ -1,7 +1,9 @@
 //! The command `big`: a large program, compiled and run, and one line about it.
 
 ghost use Rattle.std.specs.Prelude.{◌≡◌, ◌≤◌, ℕ, [], ◌∷◌, length, IfOk, map, string_bytes};
+ghost use Rattle.std.specs.List.{AllByRecursion};
 ghost use Rattle.cool_faults.specs.Files.{total};
+ghost use Rattle.cool_runtime.specs.Contents.{AreBytes};
 ghost use Rattle.cool_syntax.specs.declared.TheConstants.{MOST_FILES, MOST_SOURCE_BYTES};
 ghost use Rattle.cool_words.specs.Numbers.{IsWithin};
 ghost use Rattle.cool_words.specs.Plans.{usual_limits};
@@ -13,6 +15,7 @@ ghost use Rattle.cool_driver.specs.Tasks.{code_of};
 use crate::MOST_BIG_OUTPUT;
 use crate::execution::machine_limits;
 use crate::growing_sink::GrowingSink;
+use crate::reading::byte_count;
 use crate::status::Status;
 use cool_big::big_program;
 use cool_emit::build;
@@ -38,7 +41,7 @@ pub fn big_line(alloc: Global, n: u32) -> Result<String, AllocError>
     ensures { IfOk result (λ line. IsBigLine n (string_bytes line)) }
 {
     let text = big_program(alloc, n)?;
-    let source = text.len();
+    let source = byte_count(&text);
     let files = vec![in alloc; text]?;
     let outcome = run_files(alloc, &files)?;
     let (classes, output, status) = (n + 2, outcome.output, outcome.status.code());
@@ -50,6 +53,7 @@ pub fn big_line(alloc: Global, n: u32) -> Result<String, AllocError>
 /// How files of these bytes come out. `Err` comes only for want of memory.
 fn run_files(alloc: Global, files: &[Vec<u8>]) -> Result<Outcome, AllocError>
     requires one { length files.now ≡ 1 }
+    requires bytes { AllByRecursion AreBytes (texts files.now) }
     requires small { total (texts files.now) ≤ MOST_SOURCE_BYTES }
     ensures { IfOk result (λ outcome. ComesOut (texts files.now) outcome.output (code_of outcome.status)) }
 {

@@ -4,7 +4,8 @@ ghost use Rattle.std.specs.Prelude.{◌≡◌, List, ℕ, Bool, false};
 ghost use Rattle.cool_ports.specs.Answers.{Leaves};
 ghost use Rattle.cool_ports.specs.Taking.{Took};
 ghost use Rattle.cool_driver.specs.CommandLine.{words_of};
-ghost use Rattle.cool_driver.specs.Ends.{Request, IsEvaluationOf, Ends};
+ghost use Rattle.cool_driver.specs.Calls.{Request};
+ghost use Rattle.cool_driver.specs.Ends.{IsEvaluationOf, Ends};
 ghost use Rattle.cool_driver.specs.Tasks.{code_of};
 
 use crate::notes::{READ_FAULT, STEP_LIMIT, tell};

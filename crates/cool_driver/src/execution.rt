@@ -3,7 +3,8 @@
 ghost use Rattle.std.specs.Prelude.{◌≡◌, List, ℕ, Bool, false};
 ghost use Rattle.cool_ports.specs.Answers.{Leaves};
 ghost use Rattle.cool_ports.specs.Taking.{Took};
-ghost use Rattle.cool_driver.specs.Ends.{Request, IsRunOf, Ends};
+ghost use Rattle.cool_driver.specs.Calls.{Request};
+ghost use Rattle.cool_driver.specs.Ends.{IsRunOf, Ends};
 ghost use Rattle.cool_driver.specs.Execution.{heap_of, stack_of};
 ghost use Rattle.cool_words.specs.Plans.{IsBounded};
 ghost use Rattle.spim_memory.specs.Memory.{IsLimits};

@@ -1,9 +1,11 @@
 //! Reading the files of a command.
 
-ghost use Rattle.std.specs.Prelude.{◌≡◌, ◌<◌, ◌≤◌, ◌^◌, IfOk, IfErr, OnOk};
+ghost use Rattle.std.specs.Prelude.{◌≡◌, ◌<◌, ◌≤◌, ◌^◌, length, IfOk, IfErr, OnOk};
+ghost use Rattle.std.specs.List.{AllByRecursion};
 ghost use Rattle.cool_faults.specs.Files.{total};
+ghost use Rattle.cool_runtime.specs.Contents.{AreBytes};
 ghost use Rattle.cool_driver.specs.CommandLine.{words_of};
-ghost use Rattle.cool_driver.specs.Ends.{AreHeld};
+ghost use Rattle.cool_driver.specs.Calls.{AreHeld};
 ghost use Rattle.cool_driver.specs.Reading.{IsStop};
 ghost use Rattle.cool_driver.specs.Contents.{texts};
 
@@ -50,6 +52,7 @@ pub fn read_files<'a, F: Shelf>(
 ) -> Result<Vec<Vec<u8>>, ReadError<'a>>
     requires { most < 2 ^ 40 }
     ensures held { IfOk result (λ contents. AreHeld (F.files files.old) (words_of names.now) (texts contents.items)) }
+    ensures bytes { IfOk result (λ contents. AllByRecursion AreBytes (texts contents.items)) }
     ensures within { IfOk result (λ contents. total (texts contents.items) ≤ most) }
     ensures calm { OnOk result (F.faults files.new ≡ F.faults files.old) }
     ensures kept { F.files files.new ≡ F.files files.old }
@@ -62,7 +65,7 @@ pub fn read_files<'a, F: Shelf>(
         let name = names[index].as_str();
         match files.read(alloc, name, left) {
             Ok(bytes) => {
-                left -= bytes.len() as u64;
+                left -= byte_count(&bytes);
                 contents.push(bytes)?;
             }
             Err(fault) => match fault {
@@ -72,4 +75,12 @@ pub fn read_files<'a, F: Shelf>(
         }
     }
     Ok(contents)
+}
+
+/// The number of bytes, each of them below 256.
+pub fn byte_count(bytes: &[u8]) -> u64
+    ensures count { result ≡ length bytes.now }
+    ensures bytes { AreBytes bytes.now }
+{
+    bytes.len() as u64
 }

@@ -10,6 +10,7 @@ ghost use Rattle.cool_driver.specs.declared.TheConstants.{MOST_IMAGE_BYTES};
 ghost use Rattle.cool_driver.specs.Notes.{usage_note};
 ghost use Rattle.cool_driver.specs.Execution.{is_text_file};
 ghost use Rattle.cool_rules.specs.Fits.{Fits};
+ghost use Rattle.cool_runtime.specs.Contents.{AreBytes};
 ghost use Rattle.cool_faults.specs.Files.{total};
 ghost use Rattle.cool_driver.specs.Ends.{built_bytes};
 ghost use Rattle.cool_faults.specs.Verdicts.{place_of};
@@ -148,6 +149,7 @@ fn find_content_task(
     requires each { length names.now ≡ length contents.now }
     requires names { list_all is_file_name (words_of names.now) ≡ true }
     requires number { is_number_of_files command (length names.now) ≡ true }
+    requires bytes { AllByRecursion AreBytes (texts contents.now) }
     requires few { length contents.now ≤ MOST_FILES }
     requires small { total (texts contents.now) ≤ most_bytes command }
     ensures { IfOk result (IsTaskOf command (words_of names.now) (texts contents.now)) }

@@ -1,5 +1,6 @@
 use Rattle.std.proofs.Common.{◌≡◌, refl, ◌∷◌, [], ℕ, List, ◌∙◌, ap, subst}
 use Rattle.std.specs.Prelude.{map, string_bytes}
+use Rattle.std.proofs.lemmas.List.{length-map}
 use Rattle.cool_faults.specs.Verdicts.{IsAccepted, IsRefused}
 use Rattle.mips_isa.specs.Assembly.{image_of}
 use Rattle.mips_isa.specs.ImageBounds.{ImageParts}
@@ -11,6 +12,7 @@ use Rattle.cool_driver.specs.Execution.{run_of}
 use Rattle.cool_driver.specs.Contents.{texts}
 use Rattle.cool_driver.specs.Tasks.{code_of}
 use Rattle.cool_driver.proofs.DueTasks.{for_ok}
+use Rattle.cool_driver.proofs.MeantPrograms.{big_accords}
 use Rattle.cool_driver.proofs.big.run_files.Goals as goal
 
 -- the program's run comes out so
@@ -22,7 +24,7 @@ returns-in-Accepted c =
     ap (map string_bytes) (c.deref.ensures.value ∙ c.in_ok-names-in-Accepted.ensures.items) ∙ ap (λ (name : List ℕ). name ∷ []) c.in_ok-from_str-in-Accepted.ensures.ok in
     let image = c.in_ok-build-in-Accepted.ensures.image ∙ ap (λ (ns : List (List ℕ)). image_of (program_lines p ns)) names in
     for_ok _ _ c.run_to_end-in-Accepted.result
-    (λ outcome h. ran p accepted (subst (λ (i : ImageParts). RunsTo (run_of usual_limits i []) outcome.output (code_of outcome.status)) image h))
+    (λ outcome h. ran p accepted (big_accords (texts c.args.files.now) p c.requires.bytes (length-map c.args.files.now (λ file. file.items) ∙ c.requires.one) accepted) (subst (λ (i : ImageParts). RunsTo (run_of usual_limits i []) outcome.output (code_of outcome.status)) image h))
     c.run_to_end-in-Accepted.ensures
 
 -- files with faults

@@ -1,6 +1,6 @@
-use Rattle.std.proofs.Common.{ap, ◌∙◌, arith}
+use Rattle.std.proofs.Common.{ap, length, ◌∙◌, arith}
 use Rattle.std.specs.Prelude.{Err}
-use Rattle.cool_driver.proofs.ReadingNames.{held_turn, total_turn, cause_of, stop_at}
+use Rattle.cool_driver.proofs.ReadingNames.{held_turn, bytes_turn, total_turn, cause_of, stop_at}
 use Rattle.cool_driver.proofs.reading.read_files.Goals as goal
 
 -- a file was refused
@@ -10,6 +10,7 @@ returns-in_default g c =
     let read = c.in-Err.ensures in
     record {
       held = tt;
+      bytes = tt;
       within = tt;
       calm = tt;
       kept = c.read.ensures.kept ∙ so_far.kept;
@@ -28,7 +29,8 @@ loop-index-preserved g c =
     record {
       held = held_turn _ _ c.args.names.now c.loop-index.index c.index-names-index.result c.as_str-name.result.now c.loop-index.contents.items c.push.new.self.items c.in-Ok.bytes so_far.kept c.loop-index-test.true c.index-names-index.is c.as_str-name.ensures.value
           so_far.held read.read pushed;
-      rest = omega (arith, total_turn c.loop-index.contents.items c.push.new.self.items c.in-Ok.bytes pushed, so_far.rest, read.within, c.len.ensures);
+      bytes = bytes_turn c.loop-index.contents.items c.push.new.self.items c.in-Ok.bytes pushed so_far.bytes (rw c.deref.ensures.value at c.byte_count-left.ensures.bytes);
+      rest = omega (arith, total_turn c.loop-index.contents.items c.push.new.self.items c.in-Ok.bytes pushed, so_far.rest, read.within, c.byte_count-left.ensures.count, ap length c.deref.ensures.value);
       calm = read.no_fault ∙ so_far.calm;
       kept = c.read.ensures.kept ∙ so_far.kept;
     }

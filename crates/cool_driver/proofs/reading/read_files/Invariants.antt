@@ -1,7 +1,9 @@
 use Rattle.std.proofs.Common.{◌≡◌, ◌+◌, take}
+use Rattle.std.specs.List.{AllByRecursion}
 use Rattle.cool_faults.specs.Files.{total}
+use Rattle.cool_runtime.specs.Contents.{AreBytes}
 use Rattle.cool_driver.specs.CommandLine.{words_of}
-use Rattle.cool_driver.specs.Ends.{AreHeld}
+use Rattle.cool_driver.specs.Calls.{AreHeld}
 use Rattle.cool_driver.specs.Contents.{texts}
 use Rattle.cool_driver.proofs.reading.read_files.Given as goal
 
@@ -9,6 +11,7 @@ use Rattle.cool_driver.proofs.reading.read_files.Given as goal
 abbrev pub invariant-loop-index : goal.invariant-loop-index
 invariant-loop-index g l = record {
   held : AreHeld (g.F.Shelf.files l.fn.files) (words_of (take l.index l.names)) (texts l.contents.items);
+  bytes : AllByRecursion AreBytes (texts l.contents.items);
   rest : total (texts l.contents.items) + l.left ≡ l.most;
   calm : g.F.Shelf.faults l.files ≡ g.F.Shelf.faults l.fn.files;
   kept : g.F.Shelf.files l.files ≡ g.F.Shelf.files l.fn.files;

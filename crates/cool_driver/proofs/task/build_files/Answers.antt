@@ -5,6 +5,7 @@ use Rattle.cool_faults.specs.Verdicts.{IsAccepted, IsRefused}
 use Rattle.cool_driver.specs.CommandLine.{words_of}
 use Rattle.cool_driver.specs.Contents.{texts}
 use Rattle.cool_driver.specs.Tasks.{AreLinesOf}
+use Rattle.cool_driver.proofs.MeantPrograms.{sources_compiled}
 use Rattle.cool_driver.proofs.NoteLines.{have_names, built_lines}
 use Rattle.cool_driver.proofs.DueTasks.{for_ok}
 use Rattle.cool_driver.proofs.task.build_files.Goals as goal
@@ -13,7 +14,7 @@ use Rattle.cool_driver.proofs.task.build_files.Goals as goal
 pub returns-in_ok-written_program-in-Accepted : goal.returns-in_ok-written_program-in-Accepted
 returns-in_ok-written_program-in-Accepted c =
     let accepted : IsAccepted (texts c.args.contents.now) c.in-Accepted.program = rw c.in-Accepted.is at c.in_ok-program.ensures.verdict in
-    (c.in-Accepted.program, accepted, c.in_ok-written_program-in-Accepted.ensures)
+    (c.in-Accepted.program, accepted, sources_compiled c.args.names.now c.args.contents.now c.in-Accepted.program c.requires.sources accepted, c.in_ok-written_program-in-Accepted.ensures)
 
 -- each fault stands in a file that has a name
 pub refuse-requires : goal.refuse-requires

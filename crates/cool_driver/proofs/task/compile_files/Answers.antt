@@ -7,6 +7,9 @@ use Rattle.cool_driver.specs.CommandLine.{words_of}
 use Rattle.cool_driver.specs.Contents.{texts}
 use Rattle.cool_driver.specs.Tasks.{AreLinesOf}
 use Rattle.cool_driver.proofs.NoteLines.{have_names, run_lines}
+use Rattle.cool_simulation.specs.Accord.{Means}
+use Rattle.mips_isa.specs.ImageBounds.{ImageParts}
+use Rattle.cool_driver.proofs.MeantPrograms.{sources_meant}
 use Rattle.cool_driver.proofs.Plans.{short_names}
 use Rattle.cool_driver.proofs.DueTasks.{for_ok}
 use Rattle.cool_driver.proofs.task.compile_files.Goals as goal
@@ -25,7 +28,9 @@ build-requires-clause-names c = short_names (words_of c.args.names.now) c.requir
 pub returns-in_ok-build-in-Accepted : goal.returns-in_ok-build-in-Accepted
 returns-in_ok-build-in-Accepted c =
     let accepted : IsAccepted (texts c.args.contents.now) c.in-Accepted.program = rw c.in-Accepted.is at c.in_ok-program.ensures.verdict in
-    (refl, (c.in-Accepted.program, accepted, c.in_ok-build-in-Accepted.ensures.image))
+    let image = c.in_ok-build-in-Accepted.ensures.image in
+    let names = words_of c.args.names.now in
+    (refl, (c.in-Accepted.program, accepted, image, subst (λ (i : ImageParts). Means i c.in-Accepted.program names) (sym image) (sources_meant c.args.names.now c.args.contents.now c.in-Accepted.program c.requires.sources accepted)))
 
 -- each fault stands in a file that has a name
 pub refuse-requires : goal.refuse-requires

@@ -1,0 +1,60 @@
+-- What `run` promises for files that are accepted: it goes as the run of an image that means the program, so that within its limits what it
+-- writes and leaves and how it ends are those of the runs of the source.
+use Rattle.std.specs.Prelude.{◌≡◌, ◌≢◌, ℕ, ◌+◌, ◌⊎◌, List, [], Some}
+use Rattle.cool_classes.specs.Chains.{Class}
+use Rattle.cool_meaning.specs.SourceRun as source
+use Rattle.cool_ports.specs.SinkBytes.{appended}
+use Rattle.cool_simulation.specs.Accord.{Limits, Accord, Means}
+use Rattle.cool_words.specs.declared.plan.RunLimits.{RunLimits}
+use Rattle.mips_isa.specs.ImageBounds.{ImageParts}
+use Rattle.mips_isa.specs.Calls.{State, call, print}
+use Rattle.spim_machine.specs.Ends.{FailsReading, call_with}
+use Rattle.cool_driver.specs.Calls.{Call, Got, GotPart}
+use Rattle.cool_driver.specs.Evaluation.{IsPartOf}
+use Rattle.cool_driver.specs.Execution.{heap_of, stack_of, segments_within, run_of, ComesTo, left_by, status_of}
+
+-- the limits of a run, in bytes and instructions
+abbrev pub limits_of : RunLimits → Limits
+limits_of limits = record { heap = heap_of limits; stack = stack_of limits; budget = limits.steps }
+
+-- The call ended as the run of an image within the limits: with its status, its output and what it left of the input.
+pub record EndsAsImage (c : Call) (status : ℕ) (limits : RunLimits) (image : ImageParts) : Type 0 where
+  pub status_is : status ≡ status_of (run_of limits image c.request.input)
+  pub wrote : Got c.out (left_by (run_of limits image c.request.input)).output
+  pub leaves : c.left ≡ (left_by (run_of limits image c.request.input)).input
+
+-- The run comes to a system call that reads, and the read failed: the output up to there came, and the call took a part of what it takes.
+pub record StopsReading (c : Call) (limits : RunLimits) (image : ImageParts) : Type 0 where
+  pub at : State
+  pub comes : ComesTo limits image c.request.input at
+  pub fails : FailsReading (call_with (segments_within limits image) at) at (Some []) (Some c.left) (Some at.output)
+  pub wrote : Got c.out at.output
+
+-- The run comes to a system call that prints, and the write failed: the output up to there came, and a prefix of the call's bytes.
+pub record StopsWriting (c : Call) (limits : RunLimits) (image : ImageParts) : Type 0 where
+  pub at : State
+  pub bytes : List ℕ
+  pub comes : ComesTo limits image c.request.input at
+  pub prints : call (segments_within limits image) at ≡ print at bytes
+  pub wrote : GotPart c.out at.output bytes
+  pub leaves : c.left ≡ at.input
+
+-- what the call wrote and left accords with the runs of the source
+abbrev pub AccordsWith : (ℕ → source.Run) → Call → ℕ → RunLimits → Type 0
+AccordsWith runs c status limits = (output : List ℕ) × Got c.out output × Accord runs (limits_of limits) status output c.left
+
+-- How a call of `run` for a program ends with a status other than 9.
+pub record Headline (c : Call) (status : ℕ) (limits : RunLimits) (names : List (List ℕ)) (p : List Class) : Type 0 where
+  -- there is an image that means the program
+  pub image : ImageParts
+  pub means : Means image p names
+  -- where no read and no write failed, the call ended as its run, and in accord with the runs of the source
+  pub ended : status ≢ 7 → status ≢ 8 → EndsAsImage c status limits image
+  pub accords : status ≢ 7 → status ≢ 8 → AccordsWith (source.run p names c.request.input) c status limits
+  -- status 7: a read of its run failed
+  pub unread : status ≡ 7 → StopsReading c limits image
+  -- status 8: a write of its run failed, or that of the note, and then all else is as it would have been
+  pub unwritten : status ≡ 8
+      → StopsWriting c limits image ⊎ (StopsReading c limits image ⊎ ((due : ℕ) × EndsAsImage c due limits image × AccordsWith (source.run p names c.request.input) c due limits))
+  -- whatever failed, what came and was taken is a part of what the run of the source with a step more than instructions writes and takes
+  pub part : (output : List ℕ) × (c.out.held_after ≡ appended c.out.held_before output) × IsPartOf (source.run p names c.request.input (limits.steps + 1)) output c.left
