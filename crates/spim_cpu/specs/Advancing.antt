@@ -1,5 +1,5 @@
 -- Operations one after another: what one leads to, and where so many lead.
-use Rattle.std.specs.Prelude.{◌≡◌, refl, ℕ, zero, suc, ◌+◌, ◌-◌, ◌*◌, ◌/◌, ◌%◌, List, Result, Ok, Err}
+use Rattle.std.specs.Prelude.{◌≡◌, refl, ℕ, zero, suc, ◌+◌, ◌-◌, ◌*◌, ◌/◌, ◌%◌, Bool, false, List, Result, Ok, Err}
 use Rattle.mips_isa.specs.declared.address_map.TheConstants.{TEXT_START}
 use Rattle.mips_isa.specs.Bytes.{Segments}
 use Rattle.mips_isa.specs.Machine.{Core, Next, On, Call, Stop, step}
@@ -19,10 +19,10 @@ Acted pc next (Err answer.Next) old new = ⊥
 Acted pc next (Err answer.Call) old new = (next ≡ Call (at (pc + 4) (core_of old))) × (new ≡ old)
 Acted pc next (Err (answer.Trap t)) old new = (next ≡ Stop t) × (new ≡ old)
 
--- So many instructions lead from a state to a state, and none of them is a system call or traps.
-abbrev pub Goes : List ℕ → Segments → ℕ → Core → Core → Type 0
-Goes text b zero s t = t ≡ s
-Goes text b (suc n) s t = (before : Core) × Goes text b n s before × (step text b before ≡ On t)
+-- So many instructions lead from a state to a state; none of them is a system call or traps, and none stands at a break address.
+abbrev pub Goes : (ℕ → Bool) → List ℕ → Segments → ℕ → Core → Core → Type 0
+Goes breaks text b zero s t = t ≡ s
+Goes breaks text b (suc n) s t = (before : Core) × Goes breaks text b n s before × (breaks before.pc ≡ false) × (step text b before ≡ On t)
 
 -- The index of the word at an address of the text: the offset from the text's start, in 32 bits, turned to the right by two.
 abbrev pub word_index : ℕ → ℕ

@@ -11,7 +11,7 @@ ghost use Rattle.spim_cpu.specs.Advancing.{Goes, word_index};
 mod access;
 mod operate;
 
-use crate::Step;
+use crate::{Breaks, Step};
 use access::trap_of;
 use mips_isa::register::{GP, S6, S7, SP, ZERO};
 use mips_isa::{HEAP_START, Image, Reg, STACK_END, TEXT_START};
@@ -40,7 +40,7 @@ impl Model for Cpu {
 
 /// The index of the word of the text at an address; where no word is, so large a number that the text has no such word.
 #[inline(always)]
-fn word_index(a: u32) -> usize
+pub fn word_index(a: u32) -> usize
     ensures index { result ≡ word_index a }
     ensures fits { a < 4294967296 }
 {
@@ -128,18 +128,19 @@ impl Cpu {
         }
     }
 
-    /// Executes at most so many instructions, up to the first one that is a system call or traps, and answers how many.
+    /// Executes at most so many instructions, up to the first one that is a system call, traps or stands at a break address, and
+    /// answers how many.
     ///
     /// It may stop earlier.
-    pub fn advance(&mut self, most: u64) -> u64
+    pub fn advance<B: Breaks>(&mut self, most: u64, breaks: &B) -> u64
         ensures most { result ≤ most }
-        ensures goes { Goes self.old.memory.text (segments self.old.memory) result (core_of self.old) (core_of self.new) }
+        ensures goes { Goes (B.holds breaks.now) self.old.memory.text (segments self.old.memory) result (core_of self.old) (core_of self.new) }
         ensures segments { KeepsSegments self.old.memory self.new.memory }
     {
         let operations = self.memory.take_operations();
         let mut pc = self.pc;
         let mut left = most;
-        while left > 0 {
+        while left > 0 && !breaks.contains(pc) {
             let Some(operation) = operations.get(word_index(pc)) else {
                 break;
             };

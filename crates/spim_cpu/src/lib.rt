@@ -5,8 +5,10 @@
 #![tactic(auto)]
 
 mod arithmetic;
+mod breaks;
 mod cpu;
 mod step;
 
-pub use cpu::Cpu;
+pub use breaks::{Breaks, NoBreaks};
+pub use cpu::{Cpu, word_index};
 pub use step::Step;

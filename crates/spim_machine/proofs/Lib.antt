@@ -14,3 +14,6 @@ pub mod Cycles
 pub mod RunsGoOn
 pub mod RunsByCycles
 pub mod AdvancesAreRuns
+pub mod CountsOfRuns
+pub mod RunsUpToBreaks
+pub mod RunsWithoutBreaks

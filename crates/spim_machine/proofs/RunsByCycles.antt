@@ -1,6 +1,6 @@
--- A run, instruction by instruction, of a machine that keeps its text and its segments.
-use Rattle.std.proofs.Common.{◌≡◌, ◌∙◌, refl, subst, ℕ, ◌+◌, ◌<◌, List, Option, Some}
-use Rattle.std.specs.Prelude.{Result, Ok, Err}
+-- What an instruction and an end leave of a run, for a machine that keeps its text and its segments.
+use Rattle.std.proofs.Common.{◌≡◌, ◌∙◌, refl, subst, ℕ, List, Option, Some}
+use Rattle.std.specs.Prelude.{Result, Err}
 use Rattle.mips_isa.specs.Bytes.{Segments}
 use Rattle.mips_isa.specs.Calls.{State}
 use Rattle.spim_memory.specs.Memory.{MemoryParts, segments}
@@ -9,7 +9,6 @@ use Rattle.spim_machine.specs.declared.halt.Halt.{Halt}
 use Rattle.spim_machine.specs.declared.halt.Halt.TheVariants as halts
 use Rattle.spim_machine.specs.Machine.{MachineParts, IsIn, Keeps, halted_by}
 use Rattle.spim_machine.specs.Ends.{Counted, CountedIf, Cycled, Ran}
-use Rattle.spim_machine.proofs.RunsGoOn.{run_next, ran_ends}
 
 -- what a machine keeps over two steps
 pub kept_on : (old mid new : MachineParts) → Keeps old mid → Keeps mid new → Keeps old new
@@ -22,27 +21,10 @@ kept_on old mid new before behind = record {
 }
 
 -- what came of an instruction, by the text and the segments at the run's start
-cycled_as : (old now : MemoryParts) (t : State) (first : Option (List ℕ)) (result : Result Unit Halt) (m : MachineParts) (left held : Option (List ℕ)) → KeepsSegments old now → Cycled now.text (segments now) t first result m left held → Cycled old.text (segments old) t first result m left held
+pub cycled_as : (old now : MemoryParts) (t : State) (first : Option (List ℕ)) (result : Result Unit Halt) (m : MachineParts) (left held : Option (List ℕ)) → KeepsSegments old now → Cycled now.text (segments now) t first result m left held → Cycled old.text (segments old) t first result m left held
 cycled_as old now t first result m left held kept cycled =
     subst (λ (b : Segments). Cycled old.text b t first result m left held) kept.segments
     (subst (λ (text : List ℕ). Cycled text (segments now) t first result m left held) kept.text cycled)
-
--- one more instruction
-pub ran_next : (old now : MemoryParts) (k : ℕ) (s : State) (first : Option (List ℕ)) (mid m : MachineParts) (left held left' held' : Option (List ℕ)) → KeepsSegments old now
-    → Ran old.text (segments old) k s first halts.StepLimit mid left held
-    → ((t : State) → IsIn first t mid left held → Cycled now.text (segments now) t first (Ok tt) m left' held')
-    → Ran old.text (segments old) (k + 1) s first halts.StepLimit m left' held'
-ran_next old now k s first mid m left held left' held' kept (t, runs, is) cycled =
-    let turn = cycled_as old now t first (Ok tt) m left' held' kept (cycled t is) in
-    (turn.0, run_next old.text (segments old) k s t turn.0 runs turn.1, turn.2)
-
--- the last instruction
-pub ran_to_end : (old now : MemoryParts) (k n : ℕ) (s : State) (first : Option (List ℕ)) (halt : Halt) (mid m : MachineParts) (left held left' held' : Option (List ℕ)) → KeepsSegments old now → k < n
-    → Ran old.text (segments old) k s first halts.StepLimit mid left held
-    → ((t : State) → IsIn first t mid left held → Cycled now.text (segments now) t first (Err halt) m left' held')
-    → Ran old.text (segments old) n s first halt m left' held'
-ran_to_end old now k n s first halt mid m left held left' held' kept below (t, runs, is) cycled =
-    ran_ends old.text (segments old) k n s t first halt m left' held' runs below (cycled_as old now t first (Err halt) m left' held' kept (cycled t is))
 
 -- a machine that notes how its run ended is in the same state, and its run ended the same
 noted : (first : Option (List ℕ)) (s : State) (m : MachineParts) (left held : Option (List ℕ)) (halted : Option Halt) → IsIn first s m left held → IsIn first s (record m { halted = halted }) left held

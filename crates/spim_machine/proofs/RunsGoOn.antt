@@ -40,12 +40,8 @@ ran_ends text b k n s t first halts.ReadFault m left held runs below (core, call
 ran_ends text b k n s t first halts.WriteFault m left held runs below (core, calls, fails) =
     (record t { core = core }, record { count = k; below = below; before = t; runs = runs; core = core; calls = calls; at_is = refl }, fails)
 
--- the budget is spent
-pub ran_all : (text : List ℕ) (b : Segments) (k n : ℕ) (s t : State) (first : Option (List ℕ)) (m : MachineParts) (left held : Option (List ℕ)) → run text b k s ≡ Running t → k ≡ n → IsIn first t m left held → Ran text b n s first halts.StepLimit m left held
-ran_all text b k n s t first m left held runs all is = (t, ap (λ i. run text b i s) (sym all) ∙ runs, is)
-
 -- a run after a run, as one run
-run_both : (text : List ℕ) (b : Segments) (m n : ℕ) (s t : State) → run text b m s ≡ Running t → run text b (m + n) s ≡ run text b n t
+pub run_both : (text : List ℕ) (b : Segments) (m n : ℕ) (s t : State) → run text b m s ≡ Running t → run text b (m + n) s ≡ run text b n t
 run_both text b m n s t runs = run_sum text b m n s ∙ rw runs refl
 
 -- the system call to which the second run comes
@@ -61,7 +57,7 @@ comes_on text b m n s t at runs h = record {
 }
 
 -- the second run from the state in which the first one stands
-ran_on_from : (text : List ℕ) (b : Segments) (m n : ℕ) (s t : State) (first : Option (List ℕ)) (halt : Halt) (last : MachineParts) (left held : Option (List ℕ)) → run text b m s ≡ Running t → Ran text b n t first halt last left held → Ran text b (m + n) s first halt last left held
+pub ran_on_from : (text : List ℕ) (b : Segments) (m n : ℕ) (s t : State) (first : Option (List ℕ)) (halt : Halt) (last : MachineParts) (left held : Option (List ℕ)) → run text b m s ≡ Running t → Ran text b n t first halt last left held → Ran text b (m + n) s first halt last left held
 ran_on_from text b m n s t first (halts.Exit code) last left held runs (end, ends, is) = (end, run_both text b m n s t runs ∙ ends, is)
 ran_on_from text b m n s t first (halts.Trap trap) last left held runs (end, ends, is) = (end, run_both text b m n s t runs ∙ ends, is)
 ran_on_from text b m n s t first halts.StepLimit last left held runs (end, ends, is) = (end, run_both text b m n s t runs ∙ ends, is)

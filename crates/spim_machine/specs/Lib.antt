@@ -2,3 +2,4 @@ pub mod Input
 pub mod Numbers
 pub mod Machine
 pub mod Ends
+pub mod Counting

@@ -1,4 +1,4 @@
-//! How a run ends.
+//! How a run ends, and how far it came.
 
 use mips_isa::Trap;
 
@@ -15,4 +15,13 @@ pub enum Halt {
     ReadFault,
     /// A `put` failed.
     WriteFault,
+}
+
+/// How a run up to a break address stopped.
+#[derive(Clone, Copy, Debug, PartialEq, Eq)]
+pub struct Stopped {
+    /// How it ended. `StepLimit` is that of a run that may go on: its budget was spent, or it came to a break address.
+    pub halt: Halt,
+    /// How many instructions were executed, the one that exits or traps included.
+    pub executed: u64,
 }

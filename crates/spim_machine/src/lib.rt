@@ -11,6 +11,6 @@ mod machine;
 mod number;
 mod output;
 
-pub use halt::Halt;
+pub use halt::{Halt, Stopped};
 pub use laws::{law_possible_inputs, law_two_budgets};
 pub use machine::Machine;

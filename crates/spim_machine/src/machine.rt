@@ -1,6 +1,6 @@
 //! The machine, and its runs.
 
-ghost use Rattle.std.specs.Prelude.{◌≡◌, List, ℕ, Option, Some, None, [], IfOk};
+ghost use Rattle.std.specs.Prelude.{◌≡◌, ◌≤◌, List, ℕ, Option, Some, None, [], IfOk};
 ghost use Rattle.mips_isa.specs.Bytes.{segments_of};
 ghost use Rattle.mips_isa.specs.Calls.{State};
 ghost use Rattle.mips_isa.specs.Run.{start};
@@ -8,14 +8,15 @@ ghost use Rattle.spim_memory.specs.Memory.{segments, IsLimits};
 ghost use Rattle.cool_ports.specs.Taking.{Took, OfAnyInput};
 ghost use Rattle.spim_machine.specs.Machine.{state_of, IsIn, Keeps, halted_by};
 ghost use Rattle.spim_machine.specs.Ends.{Counted, CountedIf, Cycled, Ran};
+ghost use Rattle.spim_machine.specs.Counting.{RanTo};
 ghost use Rattle.spim_cpu.specs.Cpu.{KeepsSegments};
 
 mod calls;
 
-use crate::Halt;
+use crate::{Halt, Stopped};
 use cool_ports::{Sink, Source};
 use mips_isa::{HEAP_START, Image};
-use spim_cpu::{Cpu, Step};
+use spim_cpu::{Breaks, Cpu, NoBreaks, Step};
 use spim_memory::{Limits, Memory};
 use std::alloc::{AllocError, Global};
 use std::marker::Model;
@@ -59,6 +60,13 @@ impl Machine {
         })
     }
 
+    /// The processor and its memory, in the state of the run.
+    pub fn cpu(&self) -> &Cpu
+        ensures { result.now ≡ self.now.cpu }
+    {
+        &self.cpu
+    }
+
     /// Executes at most `budget` instructions, with the system calls that they are. It takes no memory.
     ///
     /// `Exit` and `Trap` come exactly as the definition of the machine ends, and `StepLimit` exactly where it has not ended
@@ -80,22 +88,58 @@ impl Machine {
         ensures source { (halt : Halt) → self.old.halted ≡ Some halt → source.new ≡ source.old }
         ensures sink { (halt : Halt) → self.old.halted ≡ Some halt → sink.new ≡ sink.old }
     {
+        self.run_to(budget, &NoBreaks, source, sink).halt
+    }
+
+    /// Executes an instruction, where the budget has one, and goes on until pc is a break address, as `run` does. It takes no memory.
+    ///
+    /// It answers how many instructions were executed, too, the one that exits or traps included; after an end of an earlier run
+    /// there is none.
+    pub fn run_to<B: Breaks, S: Source, K: Sink>(
+        &mut self,
+        budget: u64,
+        breaks: &B,
+        source: &mut S,
+        sink: &mut K,
+    ) -> Stopped
+        // What it takes of the source, how it stops, and after how many instructions, from any state that the machine is in, for any
+        // input that begins with what was taken, and is no more than that where the end was answered.
+        ensures took { self.old.halted ≡ None → Took self.old.ended self.new.ended (S.past source.old) (S.past source.new) (S.left source.old) (S.left source.new) }
+        ensures ran { (first : Option (List ℕ)) (s : State) → self.old.halted ≡ None → OfAnyInput (S.past source.old) (S.past source.new) (λ input rest. IsIn first s self.old input (K.held sink.old)
+            → RanTo (B.holds breaks.now) self.old.cpu.memory.text (segments self.old.cpu.memory) budget s first result self.new rest (K.held sink.new)) }
+        ensures counts { self.old.halted ≡ None → Counted result.halt (S.faults source.old) (S.faults source.new) (K.faults sink.old) (K.faults sink.new) }
+        ensures halted { self.old.halted ≡ None → self.new.halted ≡ halted_by result.halt }
+        ensures memory { KeepsSegments self.old.cpu.memory self.new.cpu.memory }
+        ensures most { result.executed ≤ budget }
+
+        // After an end.
+        ensures again { (halt : Halt) → self.old.halted ≡ Some halt → result ≡ record { halt = halt; executed = 0 } }
+        ensures machine { (halt : Halt) → self.old.halted ≡ Some halt → self.new ≡ self.old }
+        ensures source { (halt : Halt) → self.old.halted ≡ Some halt → source.new ≡ source.old }
+        ensures sink { (halt : Halt) → self.old.halted ≡ Some halt → sink.new ≡ sink.old }
+    {
         if let Some(halt) = self.halted {
-            return halt;
+            return Stopped { halt, executed: 0 };
         }
         let mut left = budget;
         while left > 0 {
             left -= 1;
-            left -= self.cpu.advance(left);
-            match self.cycle(source, sink) {
-                Ok(()) => {}
-                Err(halt) => {
-                    self.halted = Some(halt);
-                    return halt;
-                }
+            if let Err(halt) = self.cycle(source, sink) {
+                self.halted = Some(halt);
+                return Stopped {
+                    halt,
+                    executed: budget - left,
+                };
+            }
+            left -= self.cpu.advance(left, breaks);
+            if breaks.contains(self.cpu.pc()) {
+                break;
             }
         }
-        Halt::StepLimit
+        Stopped {
+            halt: Halt::StepLimit,
+            executed: budget - left,
+        }
     }
 
     /// Executes an instruction, and the system call that it may be. `Err` comes where the run ends.

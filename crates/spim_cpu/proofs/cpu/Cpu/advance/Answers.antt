@@ -11,7 +11,7 @@ use Rattle.spim_cpu.proofs.Stepping.{steps_by, operation_in_range, in_text}
 use Rattle.spim_cpu.proofs.cpu.Cpu.advance.Goals as goal
 
 pub operate-requires-clause-range : goal.operate-requires-clause-range
-operate-requires-clause-range c =
+operate-requires-clause-range g c =
     let taken = c.take_operations-operations.ensures in
     let found = c.in-Some.ensures.lookup.3 in
     let same = sym c.deref.ensures.value in
@@ -20,13 +20,13 @@ operate-requires-clause-range c =
     operation_in_range c.self.inside.memory.text c.deref.result.now c.loop-left.pc c.word_index.result c.in-Some.operation.now are few c.word_index.ensures.fits c.word_index.ensures.index found.0 found.1
 
 pub operate-requires-clause-pc : goal.operate-requires-clause-pc
-operate-requires-clause-pc c =
+operate-requires-clause-pc g c =
     let taken = c.take_operations-operations.ensures in
     let few = subst (λ (all : List Operation). length all ≤ 66060288) (sym c.deref.ensures.value) taken.few in
     in_text c.deref.result.now c.loop-left.pc c.word_index.result few c.word_index.ensures.fits c.word_index.ensures.index c.in-Some.ensures.lookup.3.0
 
 pub loop-left-preserved : goal.loop-left-preserved
-loop-left-preserved c =
+loop-left-preserved g c =
     let i = c.loop-left.invariant in
     let taken = c.take_operations-operations.ensures in
     let found = c.in-Some.ensures.lookup.3 in
@@ -40,7 +40,7 @@ loop-left-preserved c =
     let steps = steps_by c.args.self.now.memory c.self.inside.memory.text c.deref.result.now pc c.word_index.result core c.in-Some.operation.now are text few c.word_index.ensures.fits c.word_index.ensures.index found.0 found.1 in
     let acted = subst (λ (b : Segments). act_or_none b (instr_of c.in-Some.operation.now) (at pc core) ≡ On next) i.keeps.segments c.in-Ok.ensures.acted in
     record {
-      goes = goes_on c.args.self.now.memory.text (segments c.args.self.now.memory) c.args.most c.loop-left.left (core_of c.args.self.now) (at pc core) next i.within c.loop-left-test.true i.goes (steps ∙ acted);
+      goes = goes_on (g.B.Breaks.holds c.args.breaks.now) c.args.self.now.memory.text (segments c.args.self.now.memory) c.args.most c.loop-left.left (core_of c.args.self.now) (at pc core) next i.within c.loop-left-test.true i.goes (sym c.contains.ensures ∙ c.if-not-contains.true) (steps ∙ acted);
       keeps = record { text = c.in-Ok.ensures.segments.text ∙ i.keeps.text; segments = c.in-Ok.ensures.segments.segments ∙ i.keeps.segments };
       within = omega (arith, i.within);
     }

@@ -6,11 +6,11 @@ use Rattle.spim_cpu.proofs.cpu.Cpu.advance.Given as goal
 
 -- so many instructions lead to the state with this pc
 abbrev pub invariant-loop-left : goal.invariant-loop-left
-invariant-loop-left l = record {
-  goes : Goes l.fn.self.memory.text (segments l.fn.self.memory) (l.most - l.left) (core_of l.fn.self) (at l.pc (core_of l.self));
+invariant-loop-left g l = record {
+  goes : Goes (g.B.Breaks.holds l.breaks) l.fn.self.memory.text (segments l.fn.self.memory) (l.most - l.left) (core_of l.fn.self) (at l.pc (core_of l.self));
   keeps : KeepsSegments l.fn.self.memory l.self.memory;
   within : l.left ≤ l.most;
 }
 
 abbrev pub decreases-loop-left : goal.decreases-loop-left
-decreases-loop-left l = l.left
+decreases-loop-left g l = l.left
