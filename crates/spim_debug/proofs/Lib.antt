@@ -1,0 +1,9 @@
+pub mod Disassembled
+pub mod HexDigits
+pub mod GoingOn
+pub mod RegistersInOrder
+pub mod ListedWords
+pub mod LinesOfWords
+pub mod ObeyedCommands
+pub mod ChangedBreaks
+pub mod DoneScripts

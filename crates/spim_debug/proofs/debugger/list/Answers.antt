@@ -1,0 +1,38 @@
+use Rattle.std.proofs.Common.{◌≡◌, ◌+◌, ◌-◌, refl, List, ℕ, length, take, drop, get_or, ◌∙◌, subst, arith}
+use Rattle.std.specs.Prelude.{Err}
+use Rattle.std.specs.List.{concat}
+use Rattle.std.proofs.lemmas.List.{length-take, length-drop}
+use Rattle.cool_ports.specs.SinkBytes.{GotUpTo}
+use Rattle.cool_ports.proofs.GettingBytes.{got_none, got_more}
+use Rattle.spim_debug.specs.Notes.{listed, listed_from, words_from}
+use Rattle.spim_debug.specs.Obeying.{ArePut}
+use Rattle.spim_debug.proofs.ListedWords.{words_are, listed_at}
+use Rattle.spim_debug.proofs.ObeyedCommands.{puts_failed}
+use Rattle.spim_debug.proofs.debugger.list.Goals as goal
+
+pub loop-word-init : goal.loop-word-init
+loop-word-init g c = record { at = omega arith; got = got_none _ _; calm = refl }
+
+-- a note was not put
+pub returns-in-Err-clause-put : goal.returns-in-Err-clause-put
+returns-in-Err-clause-put g c =
+    let i = c.word_index.result in
+    let text = c.args.text.now in
+    let words : List ℕ = take c.min.result (take (length text - i) (drop i text)) in
+    let due = words_are text c.args.address c.args.most i c.min.result _ c.requires.few c.requires.address c.word_index.ensures.index c.min.ensures (grind (arith, length-take, length-drop)) in
+    let inv = c.loop-word.invariant in
+    subst (λ (ws : List ℕ). ArePut (concat (listed_from c.args.address ws)) (Err c.in-Err.end) (g.E.Sink.held c.args.notes.now) (g.E.Sink.held c.list_word.new.notes)) due
+    (puts_failed c.in-Err.end _ _ _ _ _ (listed c.loop-word.at (get_or words c.loop-word.word-index 0)) _ inv.got (listed_at c.loop-word.at words c.loop-word.word-index c.loop-word-test.true) c.in-Err.ensures.put)
+
+-- one more note was put
+pub loop-word-preserved : goal.loop-word-preserved
+loop-word-preserved g c =
+    let i = c.word_index.result in
+    let text = c.args.text.now in
+    let words : List ℕ = take c.min.result (take (length text - i) (drop i text)) in
+    let inv = c.loop-word.invariant in
+    record {
+      at = omega (arith, inv.at);
+      got = got_more _ _ _ _ _ (listed c.loop-word.at (get_or words c.loop-word.word-index 0)) _ inv.got (listed_at c.loop-word.at words c.loop-word.word-index c.loop-word-test.true) c.in_default.ensures.put;
+      calm = c.in_default.ensures.counts ∙ inv.calm;
+    }

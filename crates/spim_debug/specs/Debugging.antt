@@ -1,0 +1,82 @@
+-- How a debugged run ends, over a source and sinks that may fail.
+use Rattle.std.specs.Prelude.{◌≡◌, ℕ, ◌≤◌, ◌<◌, ◌+◌, ◌*◌, List, length, Option, Some}
+use Rattle.std.specs.List.{AllByRecursion, concat}
+use Rattle.cool_ports.specs.Counts.{Rose}
+use Rattle.cool_ports.specs.SinkBytes.{appended, GotPrefix}
+use Rattle.mips_isa.specs.declared.address_map.TheConstants.{TEXT_START}
+use Rattle.mips_isa.specs.ImageBounds.{ImageParts}
+use Rattle.mips_isa.specs.Bytes.{segments_of}
+use Rattle.mips_isa.specs.Run.{start}
+use Rattle.spim_machine.specs.declared.halt.Halt.{Halt}
+use Rattle.spim_machine.specs.declared.halt.Halt.TheVariants.{Exit, Trap, StepLimit, ReadFault, WriteFault}
+use Rattle.spim_machine.specs.Machine.{MachineParts}
+use Rattle.spim_machine.specs.Ends.{Ran, Counted}
+use Rattle.spim_debug.specs.declared.debugger.DebugEnd.{DebugEnd}
+use Rattle.spim_debug.specs.declared.debugger.DebugEnd.TheVariants as end
+use Rattle.spim_debug.specs.declared.script.DebugCommand.{DebugCommand}
+use Rattle.spim_debug.specs.declared.script.DebugCommand.TheVariants.{Break, Delete, Step, Run, Regs, Show, List as ListWords}
+use Rattle.spim_debug.specs.Moves.{Debuggee, beginning, outcome}
+use Rattle.spim_debug.specs.Notes.{state_in, all_notes}
+
+-- an image with so many bytes of heap and stack, over an input
+abbrev pub debuggee : ImageParts → ℕ → ℕ → ℕ → List ℕ → Debuggee
+debuggee image heap stack budget input = record {
+  text = image.text;
+  segments = segments_of image heap stack;
+  start = start image (segments_of image heap stack) input;
+  budget = budget;
+}
+
+-- the address is that of a word of a text
+pub record IsTextAddress {W : Type 0} (text : List W) (a : ℕ) : Type 0 where
+  pub index : ℕ
+  pub within : index < length text
+  pub address : a ≡ TEXT_START + 4 * index
+
+-- a command's address is one
+abbrev pub IsCommandFor : List ℕ → DebugCommand → Type 0
+IsCommandFor text (Break a) = IsTextAddress text a
+IsCommandFor text (Delete a) = IsTextAddress text a
+IsCommandFor text (Step n) = Unit {0}
+IsCommandFor text Run = Unit {0}
+IsCommandFor text Regs = Unit {0}
+IsCommandFor text (Show a) = Unit {0}
+IsCommandFor text (ListWords a n) = IsTextAddress text a
+
+abbrev pub IsScriptFor : List ℕ → List DebugCommand → Type 0
+IsScriptFor text = AllByRecursion (IsCommandFor text)
+
+-- The notes that are due were all put, unless a read or a write failed before.
+abbrev pub Noted : Halt → List ℕ → Option (List ℕ) → Option (List ℕ) → Type 0
+Noted (Exit code) due before after = after ≡ appended before due
+Noted (Trap trap) due before after = after ≡ appended before due
+Noted StepLimit due before after = after ≡ appended before due
+Noted ReadFault due before after = GotPrefix before due after
+Noted WriteFault due before after = GotPrefix before due after
+
+-- The run stands where the definition's stands after all instructions that may be executed, or at a call that failed.
+pub record StandsAtEnd (d : Debuggee) (halt : Halt) (first left held : Option (List ℕ)) : Type 0 where
+  pub machine : MachineParts
+  pub ran : Ran d.text d.segments d.budget d.start first halt machine left held
+
+-- It stands where the definition's stands after some of them.
+pub record StandsEarlier (d : Debuggee) (first left held : Option (List ℕ)) : Type 0 where
+  pub executed : ℕ
+  pub within : executed ≤ d.budget
+  pub left_is : left ≡ Some (state_in (outcome d executed)).input
+  pub held_is : held ≡ appended first (state_in (outcome d executed)).output
+
+-- What a debugger leaves: its machine's output and input, and its notes. After a failing device the rest of the script is not done.
+abbrev pub Debugged : Debuggee → List DebugCommand → DebugEnd → Option (List ℕ) → Option (List ℕ) → Option (List ℕ) → Option (List ℕ) → Option (List ℕ) → Type 0
+Debugged d script (end.Halt halt) first left held noted noted' =
+    StandsAtEnd d halt first left held × Noted halt (concat (all_notes d script beginning)) noted noted'
+Debugged d script end.NoteFault first left held noted noted' =
+    StandsEarlier d first left held × GotPrefix noted (concat (all_notes d script beginning)) noted'
+Debugged d script end.Memory first left held noted noted' =
+    StandsEarlier d first left held × GotPrefix noted (concat (all_notes d script beginning)) noted'
+
+-- Which count of faults rose: of the source (s, then s'), of the sink (k, then k') and of the notes (e, then e').
+abbrev pub CountedBy : DebugEnd → ℕ → ℕ → ℕ → ℕ → ℕ → ℕ → Type 0
+CountedBy (end.Halt halt) s s' k k' e e' = Counted halt s s' k k' × (e' ≡ e)
+CountedBy end.NoteFault s s' k k' e e' = (s' ≡ s) × (k' ≡ k) × Rose e e'
+CountedBy end.Memory s s' k k' e e' = (s' ≡ s) × (k' ≡ k) × (e' ≡ e)

@@ -1,0 +1,6 @@
+pub mod Disassembly
+pub mod Moves
+pub mod Notes
+pub mod Debugging
+pub mod BreakSets
+pub mod Obeying

@@ -1,0 +1,107 @@
+-- What a debugger's parts have to do with how far its script is, and what it leaves after a command.
+use Rattle.std.specs.Prelude.{◌≡◌, ℕ, ◌+◌, ◌≤◌, Bool, List, length, Option, Some, None, Result, Ok, Err}
+use Rattle.std.specs.List.{concat}
+use Rattle.cool_ports.specs.Counts.{Rose}
+use Rattle.cool_ports.specs.SinkBytes.{appended, GotPrefix}
+use Rattle.mips_isa.specs.declared.address_map.TheConstants.{MOST_TEXT_WORDS}
+use Rattle.mips_isa.specs.Calls.{Outcome, Running, Exited, Trapped}
+use Rattle.spim_memory.specs.Memory.{segments}
+use Rattle.spim_machine.specs.declared.halt.Halt.{Halt}
+use Rattle.spim_machine.specs.declared.halt.Halt.TheVariants.{Exit, Trap, StepLimit, ReadFault, WriteFault}
+use Rattle.spim_machine.specs.Machine.{MachineParts, IsIn, halted_by}
+use Rattle.spim_machine.specs.Ends.{Ran}
+use Rattle.spim_debug.specs.declared.debugger.DebugEnd.{DebugEnd}
+use Rattle.spim_debug.specs.declared.debugger.DebugEnd.TheVariants as end
+use Rattle.spim_debug.specs.declared.debugger.Debugger.{Debugger}
+use Rattle.spim_debug.specs.declared.script.DebugCommand.{DebugCommand}
+use Rattle.spim_debug.specs.BreakSets.{in_set}
+use Rattle.spim_debug.specs.Moves.{Debuggee, Progress, outcome, is_break, go_on, moves}
+use Rattle.spim_debug.specs.Notes.{at_note, ended_note, state_in, notes}
+use Rattle.spim_debug.specs.Debugging.{CountedBy}
+
+-- no read and no write has failed in a run
+abbrev pub NoneFailed : Option Halt → Type 0
+NoneFailed None = Unit {0}
+NoneFailed (Some (Exit code)) = Unit {0}
+NoneFailed (Some (Trap trap)) = Unit {0}
+NoneFailed (Some StepLimit) = ⊥
+NoneFailed (Some ReadFault) = ⊥
+NoneFailed (Some WriteFault) = ⊥
+
+-- A debugger that can go on.
+pub record IsReady (x : Debugger) : Type 0 where
+  pub within : x.executed ≤ x.budget
+  pub none_failed : NoneFailed x.machine.halted
+
+-- A debugger of a text, with a mark for each word.
+pub record IsDebuggerOf (text : List ℕ) (x : Debugger) : Type 0 where
+  pub words : x.machine.cpu.memory.text ≡ text
+  pub marks : length x.breaks ≡ length text
+  pub few : length text ≤ MOST_TEXT_WORDS
+  pub ready : IsReady x
+
+-- What a run keeps of a debugger.
+pub record KeepsText (old new : Debugger) : Type 0 where
+  pub text : new.machine.cpu.memory.text ≡ old.machine.cpu.memory.text
+  pub breaks : new.breaks ≡ old.breaks
+
+-- how a machine has halted whose run has this outcome
+abbrev pub halted_in : Outcome → Option Halt
+halted_in (Running s) = None
+halted_in (Exited code s) = Some (Exit code)
+halted_in (Trapped trap s) = Some (Trap trap)
+
+-- The debugger is so far: its machine is in the state of the run, its source has the state's input left, and its sink, which held
+-- `first`, got the state's output.
+pub record Stands (d : Debuggee) (p : Progress) (first : Option (List ℕ)) (x : Debugger) (left held : Option (List ℕ)) : Type 0 where
+  pub text : x.machine.cpu.memory.text ≡ d.text
+  pub segments : segments x.machine.cpu.memory ≡ d.segments
+  pub budget : x.budget ≡ d.budget
+  pub executed : x.executed ≡ p.executed
+  pub within : x.executed ≤ x.budget
+  pub state : IsIn first (state_in (outcome d p.executed)) x.machine left held
+  pub halted : x.machine.halted ≡ halted_in (outcome d p.executed)
+  pub breaks : (a : ℕ) → in_set x.breaks a ≡ is_break p.breaks a
+
+-- How the whole run ends where a call in it failed.
+abbrev pub Fails : Debuggee → Option (List ℕ) → Halt → MachineParts → Option (List ℕ) → Option (List ℕ) → Type 0
+Fails d first halt m left held = Ran d.text d.segments d.budget d.start first halt m left held
+
+-- a note was put, or its put failed
+abbrev pub IsPut : List ℕ → Result Unit DebugEnd → Option (List ℕ) → Option (List ℕ) → Type 0
+IsPut note (Ok done) noted noted' = noted' ≡ appended noted note
+IsPut note (Err (end.Halt halt)) noted noted' = ⊥
+IsPut note (Err end.NoteFault) noted noted' = GotPrefix noted note noted'
+IsPut note (Err end.Memory) noted noted' = ⊥
+
+-- the same of several notes, for which memory may run out
+abbrev pub ArePut : List ℕ → Result Unit DebugEnd → Option (List ℕ) → Option (List ℕ) → Type 0
+ArePut bytes (Ok done) noted noted' = noted' ≡ appended noted bytes
+ArePut bytes (Err (end.Halt halt)) noted noted' = ⊥
+ArePut bytes (Err end.NoteFault) noted noted' = GotPrefix noted bytes noted'
+ArePut bytes (Err end.Memory) noted noted' = GotPrefix noted bytes noted'
+
+-- where the machine stopped was noted, unless a read or a write failed
+abbrev pub StopNoted : Halt → ℕ → ℕ → Result Unit DebugEnd → Option (List ℕ) → Option (List ℕ) → Type 0
+StopNoted (Exit code) pc n result noted noted' = IsPut (ended_note n) result noted noted'
+StopNoted (Trap trap) pc n result noted noted' = IsPut (ended_note n) result noted noted'
+StopNoted StepLimit pc n result noted noted' = IsPut (at_note pc n) result noted noted'
+StopNoted ReadFault pc n result noted noted' = (result ≡ Err (end.Halt ReadFault)) × (noted' ≡ noted)
+StopNoted WriteFault pc n result noted noted' = (result ≡ Err (end.Halt WriteFault)) × (noted' ≡ noted)
+
+-- What a command leaves: the debugger is as far as the command moves it, and its notes were put, unless a call failed.
+abbrev pub Obeyed : Debuggee → DebugCommand → Progress → Option (List ℕ) → Result Unit DebugEnd → Debugger → Option (List ℕ) → Option (List ℕ) → Option (List ℕ) → Option (List ℕ) → Type 0
+Obeyed d c p first (Err (end.Halt ReadFault)) x left held noted noted' = Fails d first ReadFault x.machine left held × (noted' ≡ noted)
+Obeyed d c p first (Err (end.Halt WriteFault)) x left held noted noted' = Fails d first WriteFault x.machine left held × (noted' ≡ noted)
+Obeyed d c p first result x left held noted noted' =
+    Stands d (moves d c p) first x left held × ArePut (concat (notes d c (moves d c p).executed)) result noted noted'
+
+-- Which count of faults rose, if any.
+abbrev pub CountedUnless : Result Unit DebugEnd → ℕ → ℕ → ℕ → ℕ → ℕ → ℕ → Type 0
+CountedUnless (Ok done) s s' k k' e e' = (s' ≡ s) × (k' ≡ k) × (e' ≡ e)
+CountedUnless (Err halt) s s' k k' e e' = CountedBy halt s s' k k' e e'
+
+-- The same of a put of notes alone.
+abbrev pub NotesCounted : Result Unit DebugEnd → ℕ → ℕ → Type 0
+NotesCounted (Err end.NoteFault) e e' = Rose e e'
+NotesCounted result e e' = e' ≡ e

@@ -1,0 +1,17 @@
+//! The debugger of the machine.
+//!
+//! Comes in: an image, a script, a source and two sinks. Goes out: what the program prints, the notes that the script asks for, and
+//! how the run ends. It meets `Moves.antt`, `Notes.antt` and `Debugging.antt`; disassembly meets `Decoding.antt` of `mips_isa`.
+#![tactic(auto)]
+
+mod break_set;
+mod debugger;
+mod disassembly;
+mod laws;
+mod notes;
+mod script;
+
+pub use debugger::{DebugEnd, debug};
+pub use disassembly::disassemble;
+pub use laws::law_disassembly;
+pub use script::DebugCommand;

@@ -1,0 +1,153 @@
+//! What the notes say.
+
+ghost use Rattle.std.specs.Prelude.{◌≡◌, ◌+◌, ◌≤◌, ◌++◌, IfOk, decimal, codes, Result};
+ghost use Rattle.arrayvec.specs.ArrayString.{array_string_len};
+ghost use Rattle.mips_isa.specs.Decoding.{decoded};
+ghost use Rattle.spim_memory.specs.Memory.{segments, bytes_of};
+ghost use Rattle.spim_cpu.specs.Cpu.{core_of};
+ghost use Rattle.spim_debug.specs.Notes as spec;
+
+use crate::disassemble;
+use arrayvec::ArrayString;
+use itoa::Buffer;
+use mips_isa::Reg;
+use mips_text::print_asm;
+use spim_cpu::Cpu;
+use spim_memory::{MemFault, Memory};
+use std::alloc::{AllocError, Global};
+use std::slice;
+
+/// A note that takes no memory. The longest one has the registers.
+pub type Note = ArrayString<302>;
+
+/// Where the run is, after so many instructions.
+pub fn at_note(pc: u32, executed: u64) -> Note
+    ensures { result.bytes ≡ spec.at_note pc executed }
+{
+    let mut note = Note::new();
+    note.push_str("at ");
+    push_word(&mut note, pc);
+    note.push_str(" after ");
+    push_decimal(&mut note, executed);
+    note.push_str("\n");
+    note
+}
+
+/// That the run has ended, after so many instructions.
+pub fn ended_note(executed: u64) -> Note
+    ensures { result.bytes ≡ spec.ended_note executed }
+{
+    let mut note = Note::new();
+    note.push_str("ended after ");
+    push_decimal(&mut note, executed);
+    note.push_str("\n");
+    note
+}
+
+/// What pc and the registers hold.
+pub fn registers_note(cpu: &Cpu) -> Note
+    ensures { result.bytes ≡ spec.registers_note (core_of cpu.now) }
+{
+    let mut note = Note::new();
+    note.push_str("regs");
+    push_spaced(&mut note, cpu.pc());
+    for number in 0..32 {
+        push_spaced(&mut note, cpu.register(Reg::new(number)));
+    }
+    note.push_str("\n");
+    note
+}
+
+/// The word at an address, or why it may not be loaded.
+pub fn memory_note(memory: &Memory, a: u32) -> Note
+    ensures { result.bytes ≡ spec.memory_note (segments memory.now) (bytes_of memory.now) a }
+{
+    let mut note = Note::new();
+    push_word(&mut note, a);
+    note.push_str(": ");
+    push_loaded(&mut note, memory.load_word(a));
+    note.push_str("\n");
+    note
+}
+
+/// The instruction of a word at an address. `Err` comes only for want of memory.
+pub fn listed(alloc: Global, a: u32, word: u32) -> Result<Vec<u8>, AllocError>
+    ensures { IfOk result (λ note. note.items ≡ spec.listed a word) }
+{
+    let mut head = Note::new();
+    push_word(&mut head, a);
+    head.push_str(": ");
+    let instruction = instruction_line(alloc, word)?;
+    let mut note = Vec::from_slice(alloc, head.as_str().as_bytes())?;
+    note.extend_from_slice(&instruction)?;
+    Ok(note)
+}
+
+/// The instruction of a word, and a newline. `Err` comes only for want of memory.
+fn instruction_line(alloc: Global, word: u32) -> Result<Vec<u8>, AllocError>
+    ensures { IfOk result (λ line. line.items ≡ spec.instruction_text (decoded word) ++ codes "\n") }
+{
+    match disassemble(alloc, word)? {
+        None => Vec::from_slice(alloc, b"no instruction\n"),
+        Some(line) => print_asm(alloc, slice::from_ref(&line)),
+    }
+}
+
+/// Adds what a load answers.
+fn push_loaded(note: &mut Note, loaded: Result<u32, MemFault>)
+    requires { array_string_len note.old + 17 ≤ 302 }
+    ensures bytes { note.new.bytes ≡ note.old.bytes ++ spec.loaded_text loaded }
+    ensures len { array_string_len note.new ≤ array_string_len note.old + 17 }
+{
+    match loaded {
+        Ok(word) => push_word(note, word),
+        Err(MemFault::BadAddress(_)) => note.push_str("bad address"),
+        Err(MemFault::Unaligned(_)) => note.push_str("unaligned address"),
+    }
+}
+
+/// Adds a space and the digits of a word.
+fn push_spaced(note: &mut Note, word: u32)
+    requires { array_string_len note.old + 9 ≤ 302 }
+    ensures bytes { note.new.bytes ≡ note.old.bytes ++ spec.spaced word }
+    ensures len { array_string_len note.new ≡ array_string_len note.old + 9 }
+{
+    note.push_str(" ");
+    push_digits(note, word);
+}
+
+/// Adds a word or an address.
+fn push_word(note: &mut Note, word: u32)
+    requires { array_string_len note.old + 10 ≤ 302 }
+    ensures bytes { note.new.bytes ≡ note.old.bytes ++ spec.word_text word }
+    ensures len { array_string_len note.new ≡ array_string_len note.old + 10 }
+{
+    note.push_str("0x");
+    push_digits(note, word);
+}
+
+/// Adds eight hexadecimal digits.
+fn push_digits(note: &mut Note, word: u32)
+    requires { array_string_len note.old + 8 ≤ 302 }
+    ensures bytes { note.new.bytes ≡ note.old.bytes ++ spec.digits word }
+    ensures len { array_string_len note.new ≡ array_string_len note.old + 8 }
+{
+    let mut digits = [0; 8];
+    if hex::encode_to_slice(word.to_be_bytes(), &mut digits).is_err() {
+        unreachable!();
+    }
+    match str::from_utf8(&digits) {
+        Ok(text) => note.push_str(text),
+        Err(_) => unreachable!(),
+    }
+}
+
+/// Adds a number in decimal.
+fn push_decimal(note: &mut Note, number: u64)
+    requires { array_string_len note.old + 40 ≤ 302 }
+    ensures bytes { note.new.bytes ≡ note.old.bytes ++ decimal number }
+    ensures len { array_string_len note.new ≤ array_string_len note.old + 40 }
+{
+    let mut buffer = Buffer::new();
+    note.push_str(buffer.format(number));
+}
