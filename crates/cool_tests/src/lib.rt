@@ -7,6 +7,8 @@ mod calls;
 #[cfg(test)]
 mod constants;
 #[cfg(test)]
+mod debugged_runs;
+#[cfg(test)]
 mod images;
 #[cfg(test)]
 mod layouts;
