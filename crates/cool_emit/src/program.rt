@@ -16,7 +16,7 @@ use cool_consts::Consts;
 use cool_layout::Layout;
 use cool_rules::TypedProgram;
 use cool_runtime::{label_line, number, routines, word_line};
-use mips_isa::{AsmDirective, Line, Statement};
+use mips_isa::{AsmDirective, Line, LineLabels, Statement};
 use std::alloc::{AllocError, Global};
 
 /// The assembly of a program whose files have these names: the routines, and the initializer and the methods of each class; then the data.
@@ -88,7 +88,7 @@ fn add_data(
     let alloc = emission.alloc;
     let layout = emission.layout;
     lines.push(Line {
-        labels: Vec::new(alloc),
+        labels: LineLabels::none(),
         statement: Statement::Directive(AsmDirective::ToData),
     })?;
     add_lines(lines, layout.lines(alloc, emission.table())?)?;

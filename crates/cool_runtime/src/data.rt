@@ -28,10 +28,10 @@ pub fn address(alloc: Global, name: &[u8]) -> Result<WordItem, AllocError>
 }
 
 /// Adds a statement without a label.
-fn add(alloc: Global, lines: &mut Vec<Line>, statement: Statement) -> Result<(), AllocError>
+fn add(lines: &mut Vec<Line>, statement: Statement) -> Result<(), AllocError>
     ensures { OnOk result (lines_of lines.new.items ≡ lines_of lines.old.items ++ unlabelled (statement_of statement) ∷ []) }
 {
-    lines.push(unlabelled(alloc, statement))?;
+    lines.push(unlabelled(statement))?;
     Ok(())
 }
 
@@ -50,18 +50,15 @@ pub fn word_line(
 ) -> Result<(), AllocError>
     ensures { OnOk result (lines_of lines.new.items ≡ lines_of lines.old.items ++ written.words (map item_of items.items) ∷ []) }
 {
-    add(alloc, lines, Statement::Data(DataItem::Word(items)))
+    add(lines, Statement::of_item(alloc, DataItem::Word(items))?)
 }
 
 /// Adds bytes and a zero.
 pub fn text(alloc: Global, lines: &mut Vec<Line>, bytes: &[u8]) -> Result<(), AllocError>
     ensures { OnOk result (lines_of lines.new.items ≡ lines_of lines.old.items ++ data_line (Asciiz bytes.now) ∷ []) }
 {
-    add(
-        alloc,
-        lines,
-        Statement::Data(DataItem::Asciiz(Vec::from_slice(alloc, bytes)?)),
-    )
+    let item = DataItem::Asciiz(Vec::from_slice(alloc, bytes)?);
+    add(lines, Statement::of_item(alloc, item)?)
 }
 
 /// Adds bytes and a zero under a label.
@@ -201,5 +198,5 @@ pub fn string_object(
     int_object(alloc, lines, length_name, tags.int, length)?;
     string_head(alloc, lines, name, length_name, tags.string, length / 4 + 5)?;
     text(alloc, lines, bytes)?;
-    add(alloc, lines, Statement::Directive(AsmDirective::Align(2)))
+    add(lines, Statement::Directive(AsmDirective::Align(2)))
 }

@@ -8,8 +8,8 @@ ghost use Rattle.cool_runtime.specs.Instructions as written;
 
 use mips_isa::register::{RA, V0, ZERO};
 use mips_isa::{
-    AsmInstr, FromOp, ImmOp, Instr, JumpOp, Label, Line, MemOp, MulDivOp, OneOp, Reg, ShiftOp,
-    Statement, ThreeOp, TwoOp,
+    AsmInstr, FromOp, ImmOp, Instr, JumpOp, Label, Line, LineLabels, MemOp, MulDivOp, OneOp, Reg,
+    ShiftOp, Statement, ThreeOp, TwoOp,
 };
 use std::alloc::{AllocError, Global};
 
@@ -45,44 +45,40 @@ fn full_line(alloc: Global, draft: &Draft<'_>) -> Result<Line, AllocError>
     ensures { IfOk result (λ line. line_of line ≡ drafted draft.now) }
 {
     match *draft {
-        Draft::Label(name) => {
-            let mut labels = Vec::new(alloc);
-            labels.push(Label::new(alloc, name)?)?;
-            Ok(Line {
-                labels,
-                statement: Statement::Empty,
-            })
-        }
-        Draft::Plain(instr) => Ok(instruction_line(alloc, AsmInstr::Plain(instr))),
+        Draft::Label(name) => Ok(Line {
+            labels: LineLabels::one(Label::new(alloc, name)?),
+            statement: Statement::Empty,
+        }),
+        Draft::Plain(instr) => Ok(instruction_line(AsmInstr::Plain(instr))),
         Draft::Jump(op, name) => {
             let target = Label::new(alloc, name)?;
-            Ok(instruction_line(alloc, AsmInstr::ToJump { op, target }))
+            Ok(instruction_line(AsmInstr::ToJump { op, target }))
         }
         Draft::La(rd, name) => {
             let label = Label::new(alloc, name)?;
-            Ok(instruction_line(alloc, AsmInstr::La { rd, label }))
+            Ok(instruction_line(AsmInstr::La { rd, label }))
         }
         Draft::Li(rd, number) => {
             let value = i64::from(number);
-            Ok(instruction_line(alloc, AsmInstr::Li { rd, value }))
+            Ok(instruction_line(AsmInstr::Li { rd, value }))
         }
-        Draft::Move(rd, rs) => Ok(instruction_line(alloc, AsmInstr::Move { rd, rs })),
+        Draft::Move(rd, rs) => Ok(instruction_line(AsmInstr::Move { rd, rs })),
     }
 }
 
 /// A line that is an instruction alone.
-fn instruction_line(alloc: Global, instruction: AsmInstr) -> Line
+fn instruction_line(instruction: AsmInstr) -> Line
     ensures { line_of result ≡ instruction_line (instruction_of instruction) }
 {
-    unlabelled(alloc, Statement::Instruction(instruction))
+    unlabelled(Statement::Instruction(instruction))
 }
 
 /// A line without a label.
-pub(crate) fn unlabelled(alloc: Global, statement: Statement) -> Line
+pub(crate) fn unlabelled(statement: Statement) -> Line
     ensures { line_of result ≡ unlabelled (statement_of statement) }
 {
     Line {
-        labels: Vec::new(alloc),
+        labels: LineLabels::none(),
         statement,
     }
 }

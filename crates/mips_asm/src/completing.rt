@@ -11,9 +11,12 @@ ghost use Rattle.mips_asm.specs.Completing.{segment_after_need, segment_of_name,
 use mips_isa::register::{V0, ZERO};
 use mips_isa::system_call::EXIT;
 use mips_isa::{
-    AsmDirective, AsmInstr, ImmOp, Instr, JumpOp, Label, Line, Reg, Segment, Statement,
+    AsmDirective, AsmInstr, ImmOp, Instr, JumpOp, Label, Line, LineLabels, Reg, Segment, Statement,
 };
 use std::alloc::{AllocError, Global};
+
+/// The words of text of the lines that complete lines.
+pub const ADDED_WORDS: u32 = 3;
 
 /// The lines that complete lines: a call of `main` and an exit, or none.
 pub fn missing_lines(alloc: Global, lines: &[Line]) -> Result<Vec<Line>, AllocError>
@@ -27,7 +30,7 @@ pub fn missing_lines(alloc: Global, lines: &[Line]) -> Result<Vec<Line>, AllocEr
 }
 
 /// Whether no `__start` is defined, and `main` is a label in text.
-fn lacks_start(lines: &[Line]) -> bool
+pub fn lacks_start(lines: &[Line]) -> bool
     ensures { result ≡ (not (is_some (place_of (lines_of lines.now) start_name)) && in_text (place_of (lines_of lines.now) main_name)) }
 {
     match segment_of(lines, b"__start") {
@@ -44,7 +47,7 @@ fn is_text_segment(segment: Option<Segment>) -> bool
 }
 
 /// The segment of the first label of this name.
-fn segment_of(lines: &[Line], name: &[u8]) -> Option<Segment>
+pub fn segment_of(lines: &[Line], name: &[u8]) -> Option<Segment>
     ensures { result ≡ segment_of_name Text (lines_of lines.now) name.now }
 {
     let mut segment = Segment::Text;
@@ -58,10 +61,13 @@ fn segment_of(lines: &[Line], name: &[u8]) -> Option<Segment>
 }
 
 /// Whether a line has a label of this name.
-fn is_labelled(line: &Line, name: &[u8]) -> bool
+pub fn is_labelled(line: &Line, name: &[u8]) -> bool
     ensures { result ≡ has (line_of line.now).labels name.now }
 {
-    line.labels.iter().any(|label| name == label.as_slice())
+    line.labels
+        .as_slice()
+        .iter()
+        .any(|label| name == label.as_slice())
 }
 
 /// The segment that is open after a statement.
@@ -76,11 +82,11 @@ fn segment_after(statement: &Statement, segment: Segment) -> Segment
 }
 
 /// A line without a label.
-fn without_label(alloc: Global, statement: Statement) -> Line
+fn without_label(statement: Statement) -> Line
     ensures { line_of result ≡ unlabelled (statement_of statement) }
 {
     Line {
-        labels: Vec::new(alloc),
+        labels: LineLabels::none(),
         statement,
     }
 }
@@ -108,19 +114,17 @@ fn exit_number() -> Instr
 fn start_lines(alloc: Global) -> Result<Vec<Line>, AllocError>
     ensures { IfOk result (λ added. lines_of added.items ≡ added_lines) }
 {
-    let mut labels = Vec::new(alloc);
-    labels.push(Label::new(alloc, b"__start")?)?;
     let call = Line {
-        labels,
+        labels: LineLabels::one(Label::new(alloc, b"__start")?),
         statement: Statement::Instruction(AsmInstr::ToJump {
             op: JumpOp::Jal,
             target: Label::new(alloc, b"main")?,
         }),
     };
     let mut lines = Vec::new(alloc);
-    lines.push(without_label(alloc, Statement::Directive(AsmDirective::ToText)))?;
+    lines.push(without_label(Statement::Directive(AsmDirective::ToText)))?;
     lines.push(call)?;
-    lines.push(without_label(alloc, plain(exit_number())))?;
-    lines.push(without_label(alloc, plain(Instr::Syscall)))?;
+    lines.push(without_label(plain(exit_number())))?;
+    lines.push(without_label(plain(Instr::Syscall)))?;
     Ok(lines)
 }

@@ -29,7 +29,7 @@ fn step<'a>(
             line: number,
         }));
     }
-    define_labels(table, &line.labels, index, number)?;
+    define_labels(table, line.labels.as_slice(), index, number)?;
     match position_after(need, position) {
         Some(next) => Ok(next),
         None => Err(AsmError::Fault(AsmFault {

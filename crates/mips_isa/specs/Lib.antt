@@ -6,5 +6,7 @@ pub mod Bytes
 pub mod Machine
 pub mod Calls
 pub mod Run
+pub mod Spellings
+pub mod Listings
 pub mod Lines
 pub mod Assembly

@@ -108,11 +108,11 @@ directive_of (directives.Align n) = Align n
 abbrev pub statement_of : declared_statement.Statement → Statement
 statement_of statements.Empty = Empty
 statement_of (statements.Instruction i) = Instruction (instruction_of i)
-statement_of (statements.Data item) = Data (data_item_of item)
+statement_of (statements.Data item) = Data (data_item_of item.value)
 statement_of (statements.Directive directive) = Directive (directive_of directive)
 
 abbrev pub line_of : declared_line.Line → Line
-line_of line = record { labels = line.labels.items; statement = statement_of line.statement }
+line_of line = record { labels = line.labels; statement = statement_of line.statement }
 
 abbrev pub lines_of : List declared_line.Line → List Line
 lines_of = map line_of

@@ -10,7 +10,9 @@ mod decoding;
 mod encoding;
 mod image;
 mod instr;
+mod label;
 mod line;
+mod line_labels;
 mod place;
 pub mod register;
 pub mod system_call;
@@ -26,9 +28,12 @@ pub use image::Image;
 pub use instr::{
     FromOp, ImmOp, Instr, JumpOp, MemOp, MulDivOp, OneOp, ShiftOp, ShiftRegOp, ThreeOp, ToOp, TwoOp,
 };
+pub use label::{Label, MOST_SHORT_NAME};
 pub use line::{
-    AsmDirective, AsmInstr, DataItem, Label, Line, OrderOp, Statement, WordItem, ZeroOp,
+    AsmDirective, AsmInstr, DataItem, LINE_BYTES, Line, OrderOp, Statement, WordItem, ZeroOp,
+    law_line_bytes,
 };
+pub use line_labels::LineLabels;
 pub use place::{Place, Segment};
 pub use register::Reg;
 pub use trap::{Trap, TrapKind};

@@ -1,42 +1,19 @@
 //! Lines of assembly.
 
 ghost use Rattle.std.specs.Prelude.{◌≡◌, IfOk};
+ghost use Rattle.mips_isa.specs.declared.line.TheConstants.{LINE_BYTES};
+ghost use Rattle.mips_isa.specs.Lines.{data_item_of, statement_of, Data};
 
-use crate::{Instr, JumpOp, OneOp, Reg, TwoOp};
+use crate::{Instr, JumpOp, Label, LineLabels, OneOp, Reg, TwoOp};
 use std::alloc::{AllocError, Global};
-use std::marker::Model;
 
-/// The name of a place. A contract sees the list of its bytes.
-#[derive(Debug, Drop)]
-pub struct Label {
-    bytes: Vec<u8>,
-}
+/// The bytes of a line, without what its long names, its further labels and its item of data are boxed in.
+pub const LINE_BYTES: usize = size_of::<Line>();
 
-impl Model for Label {
-    ghost use Rattle.std.specs.Prelude.{ℕ, List};
-
-    ghost Value = { List ℕ };
-
-    ghost view = { λ s. s.bytes.items };
-}
-
-impl Label {
-    /// A copy of the bytes of the name. `Err` comes only for want of memory.
-    pub fn new(alloc: Global, bytes: &[u8]) -> Result<Self, AllocError>
-        ensures copied { IfOk result (λ label. label ≡ bytes.now) }
-    {
-        Ok(Label {
-            bytes: Vec::from_slice(alloc, bytes)?,
-        })
-    }
-
-    /// The bytes of the name.
-    pub fn as_slice(&self) -> &[u8]
-        ensures { result.now ≡ self.now }
-    {
-        self.bytes.as_slice()
-    }
-}
+/// A line takes 56 bytes.
+pub fn law_line_bytes()
+    ensures { LINE_BYTES ≡ 56 }
+{}
 
 /// A branch on a comparison with zero, written as one line.
 #[derive(Clone, Copy, Debug, PartialEq, Eq)]
@@ -140,19 +117,28 @@ pub enum AsmDirective {
     Align(u32),
 }
 
-/// What stands on a line after its labels.
+/// What stands on a line after its labels, in 32 bytes.
 #[derive(Debug, Drop)]
 pub enum Statement {
     /// Nothing.
     Empty,
     Instruction(AsmInstr),
-    Data(DataItem),
+    Data(Box<DataItem>),
     Directive(AsmDirective),
 }
 
-/// A line: its labels, and its statement.
+impl Statement {
+    /// The statement that is an item of data. `Err` comes only for want of memory.
+    pub fn of_item(alloc: Global, item: DataItem) -> Result<Self, AllocError>
+        ensures { IfOk result (λ statement. statement_of statement ≡ Data (data_item_of item)) }
+    {
+        Ok(Statement::Data(Box::new(alloc, item)?))
+    }
+}
+
+/// A line: its labels, and its statement, in 56 bytes.
 #[derive(Debug, Drop)]
 pub struct Line {
-    pub labels: Vec<Label>,
+    pub labels: LineLabels,
     pub statement: Statement,
 }

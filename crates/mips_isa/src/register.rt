@@ -4,10 +4,10 @@ ghost use Rattle.std.specs.Prelude.{◌≡◌, ◌<◌};
 
 use std::marker::Model;
 
-/// A general register: a number below 32. A contract sees the number.
+/// A general register: a number below 32, in one byte. A contract sees the number.
 #[derive(Clone, Copy, Debug, PartialEq, Eq)]
 pub struct Reg {
-    number: u32,
+    number: u8,
 }
 
 impl Model for Reg {
@@ -28,7 +28,9 @@ impl Reg {
         requires { number < 32 }
         ensures { result ≡ number }
     {
-        Reg { number }
+        Reg {
+            number: number as u8,
+        }
     }
 
     /// Its number, below 32.
@@ -36,7 +38,7 @@ impl Reg {
         ensures value { result ≡ self }
         ensures below { result < 32 }
     {
-        self.number
+        u32::from(self.number)
     }
 }
 

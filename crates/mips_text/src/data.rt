@@ -54,19 +54,19 @@ pub(crate) fn directive_statement(
             let name = Label::new(alloc, label_at(words, 0))?;
             Ok(Statement::Directive(AsmDirective::Globl(name)))
         }
-        Directive::Word => Ok(Statement::Data(DataItem::Word(items(alloc, words)?))),
-        Directive::Byte => Ok(Statement::Data(DataItem::Byte(bytes(alloc, words)?))),
+        Directive::Word => Statement::of_item(alloc, DataItem::Word(items(alloc, words)?)),
+        Directive::Byte => Statement::of_item(alloc, DataItem::Byte(bytes(alloc, words)?)),
         Directive::Ascii => {
             let text = unescaped(alloc, raw_at(words, 0))?;
-            Ok(Statement::Data(DataItem::Ascii(text)))
+            Statement::of_item(alloc, DataItem::Ascii(text))
         }
         Directive::Asciiz => {
             let text = unescaped(alloc, raw_at(words, 0))?;
-            Ok(Statement::Data(DataItem::Asciiz(text)))
+            Statement::of_item(alloc, DataItem::Asciiz(text))
         }
         Directive::Space => {
             let size = space_size(number_at(words, 0));
-            Ok(Statement::Data(DataItem::Space(size)))
+            Statement::of_item(alloc, DataItem::Space(size))
         }
         Directive::Align => {
             let power = align_power(number_at(words, 0));
@@ -79,7 +79,7 @@ pub(crate) fn directive_statement(
 fn items(alloc: Global, words: &[Word]) -> Result<Vec<WordItem>, AllocError>
     ensures { IfOk result (λ items. map item_of items.items ≡ map item_made (map word_seen words.now)) }
 {
-    let mut items = Vec::new(alloc);
+    let mut items = Vec::with_capacity(alloc, words.len())?;
     for word in words {
         items.push(item(alloc, *word)?)?;
     }
@@ -101,7 +101,7 @@ fn item(alloc: Global, word: Word) -> Result<WordItem, AllocError>
 fn bytes(alloc: Global, words: &[Word]) -> Result<Vec<i32>, AllocError>
     ensures { IfOk result (λ bytes. bytes.items ≡ map byte_made (map word_seen words.now)) }
 {
-    let mut bytes = Vec::new(alloc);
+    let mut bytes = Vec::with_capacity(alloc, words.len())?;
     for word in words {
         bytes.push(byte(*word))?;
     }

@@ -16,7 +16,7 @@ use crate::mnemonics::Mnemonic;
 use crate::operands::{has_colon, has_name, label_at};
 use crate::wanted::row_fault;
 use crate::words::{Word, words_of};
-use mips_isa::{AsmKind, Label, Line, Statement};
+use mips_isa::{AsmKind, Label, Line, LineLabels, Statement};
 use std::alloc::Global;
 
 /// The line of these bytes.
@@ -31,10 +31,10 @@ pub(crate) fn read_line(alloc: Global, bytes: &[u8]) -> Result<Line, Flaw>
 fn line_of_words(alloc: Global, words: &[Word]) -> Result<Line, Flaw>
     ensures { Meets line_of result (line_read (map word_seen words.now)) }
 {
-    let mut labels = Vec::new(alloc);
+    let mut labels = LineLabels::none();
     let mut at = 0;
     while has_label(words, at) {
-        labels.push(Label::new(alloc, label_at(words, at))?)?;
+        labels = labels.with(alloc, Label::new(alloc, label_at(words, at))?)?;
         at += 2;
     }
     match read_rest(alloc, &words[at..]) {

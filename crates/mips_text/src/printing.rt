@@ -31,7 +31,7 @@ pub fn print_asm(alloc: Global, lines: &[Line]) -> Result<Vec<u8>, AllocError>
 fn put_line(out: &mut Vec<u8>, line: &Line) -> Result<(), AllocError>
     ensures { OnOk result (out.new.items ≡ out.old.items ++ line_text (line_of line.now)) }
 {
-    put_labels(out, &line.labels)?;
+    put_labels(out, line.labels.as_slice())?;
     put_statement(out, &line.statement)?;
     out.extend_from_slice(b"\n")
 }

@@ -29,7 +29,7 @@ returns c =
     let l1 = lines_of c.push.new.self.items in
     let l2 = lines_of c.add_lines.new.lines.items in
     let directive : l1 ≡ lines_of c.args.lines.now.items ++ directive_line ToData ∷ [] =
-    ap lines_of c.in_ok-push.ensures.items ∙ (map_push _ _ _ ∙ ap (λ labels. lines_of c.args.lines.now.items ++ record { labels = labels; statement = Directive ToData } ∷ []) c.new.ensures.items) in
+    ap lines_of c.in_ok-push.ensures.items ∙ (map_push _ _ _ ∙ ap (λ labels. lines_of c.args.lines.now.items ++ record { labels = labels; statement = Directive ToData } ∷ []) c.none.ensures) in
     let layout : l2 ≡ l1 ++ layout_lines p =
     c.in_ok-add_lines.ensures ∙ (ap (λ ls. l1 ++ ls) c.in_ok-lines.ensures ∙ ap (λ (q : List Class). l1 ++ layout_lines q) c.table.ensures) in
     let constants : lines_of c.add_lines-2.new.lines.items ≡ l2 ++ constants_lines (tag p (class_number 2)) (tag p (class_number 3)) (tag p (class_number 4)) c.args.consts.now =

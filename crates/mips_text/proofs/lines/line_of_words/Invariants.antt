@@ -7,7 +7,7 @@ use Rattle.mips_text.proofs.lines.line_of_words.Given as goal
 abbrev pub invariant-loop-labels : goal.invariant-loop-labels
 invariant-loop-labels l = record {
   within : l.at ≤ length l.words;
-  read : labelled l.labels.items (line_read (drop l.at (map word_seen l.words))) ≡ line_read (map word_seen l.words);
+  read : labelled l.labels (line_read (drop l.at (map word_seen l.words))) ≡ line_read (map word_seen l.words);
 }
 
 abbrev pub decreases-loop-labels : goal.decreases-loop-labels
