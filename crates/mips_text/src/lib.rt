@@ -1,7 +1,7 @@
 //! Assembly as text.
 //!
 //! Comes in: the bytes of a text, or lines of assembly. Goes out: the other of the two. Reading finds the first word of the
-//! text that is at fault; `print_asm` has one spelling for each line.
+//! text that is at fault; `print_asm` has one spelling for each line. What a name and a number are is told alone, too.
 #![tactic(auto)]
 
 mod class;
@@ -16,6 +16,7 @@ mod letters;
 mod lines;
 mod magnitudes;
 mod mnemonics;
+mod names;
 mod numbers;
 mod operands;
 mod printing;
@@ -32,5 +33,7 @@ pub use laws::{
     law_always_one, law_kinds_of_reading, law_longest_words, law_never_both, law_one_first_fault,
     law_one_reading, law_printed_is_read, law_read_is_printable, law_text_is_cut,
 };
+pub use names::is_name;
+pub use numbers::{LARGEST, value_of_digits};
 pub use printing::print_asm;
 pub use reading::read_asm;

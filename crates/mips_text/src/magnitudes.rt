@@ -4,7 +4,7 @@ ghost use Rattle.std.specs.Prelude.{◌≡◌, ◌≤◌, ◌<◌, IfSome, lengt
 ghost use Rattle.mips_text.specs.Fronts.{capped_magnitude, decimal_found, hexadecimal_found, magnitude_found};
 ghost use Rattle.mips_text.specs.Views.{magnitude_seen};
 
-use crate::numbers::{LARGEST, value};
+use crate::numbers::{LARGEST, value_of_digits};
 use crate::span::{Span, span_len};
 
 /// A number without its sign, or one past every range in place of a larger one, and how many bytes it has.
@@ -42,7 +42,7 @@ fn hexadecimal(bytes: &[u8]) -> Option<Magnitude>
         return None;
     }
     Some(Magnitude {
-        value: value(16, &tail[..size]),
+        value: value_of_digits(16, &tail[..size]),
         size: size + 2,
     })
 }
@@ -59,7 +59,7 @@ fn decimal(bytes: &[u8]) -> Option<Magnitude>
         return None;
     }
     Some(Magnitude {
-        value: value(10, &bytes[..size]),
+        value: value_of_digits(10, &bytes[..size]),
         size,
     })
 }

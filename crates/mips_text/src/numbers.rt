@@ -4,10 +4,10 @@ ghost use Rattle.std.specs.Prelude.{◌≡◌, ◌≤◌, min};
 ghost use Rattle.mips_text.specs.Words.{digit_value, value};
 
 /// A value that is past the range of every operand. Larger numbers are read as this one.
-pub(crate) const LARGEST: u64 = 0x100_0000_0000;
+pub const LARGEST: u64 = 0x100_0000_0000;
 
-/// The number of these digits, in a base up to 16.
-pub(crate) fn value(base: u64, digits: &[u8]) -> u64
+/// The number of these digits, in a base up to 16; `LARGEST` in place of a larger one. Other bytes are not told from digits.
+pub fn value_of_digits(base: u64, digits: &[u8]) -> u64
     requires least { 1 ≤ base }
     requires most { base ≤ 16 }
     ensures { result ≡ min (value base digits.now) LARGEST }

@@ -1,6 +1,6 @@
 use Rattle.std.proofs.Common.{arith}
 use Rattle.mips_text.proofs.CappedNumbers.{capped_more}
-use Rattle.mips_text.proofs.numbers.value.Goals as goal
+use Rattle.mips_text.proofs.numbers.value_of_digits.Goals as goal
 
 pub loop-digit-preserved : goal.loop-digit-preserved
 loop-digit-preserved c = record {

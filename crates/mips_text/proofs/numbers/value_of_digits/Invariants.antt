@@ -2,7 +2,7 @@ use Rattle.std.proofs.Common.{◌≡◌, ◌+◌, ◌*◌, ◌≤◌, min, drop}
 use Rattle.std.specs.List.{fold}
 use Rattle.mips_text.specs.Words.{digit_value, value}
 use Rattle.mips_text.specs.declared.numbers.TheConstants.{LARGEST}
-use Rattle.mips_text.proofs.numbers.value.Given as goal
+use Rattle.mips_text.proofs.numbers.value_of_digits.Given as goal
 
 abbrev pub invariant-loop-digit : goal.invariant-loop-digit
 invariant-loop-digit l = record {
