@@ -18,16 +18,10 @@ use Rattle.mips_isa.specs.Lines.{Name, WordItem, Line, AreInRange, AsmInstr, ToT
 use Rattle.mips_isa.specs.Assembly as assembly
 use Rattle.mips_isa.specs.Assembly.{Need, need, Position, start_position, up, after_need, after_line, padding, words_of_instruction, need_of_data, need_of_directive, expansion, instructions, order_branch, bytes_of_data, item_bytes, item_value, four_bytes, address_or_zero, text_from, bytes_from, is_too_large, is_wrong, any_twice, defining_fault, fault_or, first_pass, second_pass, using_fault, any_without_place, used, reaches, instruction_reaches, names_of_instruction, offset, branch_reaches, jump_reaches}
 use Rattle.mips_asm.specs.Completing.{segment_after_need}
+use Rattle.mips_asm.specs.TextWords.{words_needed}
 use Rattle.mips_asm.specs.Parts.{instruction_fault, statement_fault, target_fault, found, words_of_statement, bytes_of_statement, zeros}
 
 -- How much a statement adds
-
-abbrev pub words_needed : Need → ℕ
-words_needed assembly.Nothing = 0
-words_needed (assembly.Words n) = n
-words_needed (assembly.Item unit size) = 0
-words_needed (assembly.Switch segment) = 0
-words_needed (assembly.Padding unit) = 0
 
 abbrev pub bytes_needed : Need → ℕ
 bytes_needed assembly.Nothing = 0

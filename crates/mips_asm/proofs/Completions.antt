@@ -17,7 +17,8 @@ padded_segment : (segment : Segment) (unit : ℕ) (p : Position) → (padded seg
 padded_segment Text unit p = refl
 padded_segment Data unit p = refl
 
-after_segment : (n : Need) (p : Position) → (after_need n p).segment ≡ segment_after_need n p.segment
+-- the segment after a need
+pub after_segment : (n : Need) (p : Position) → (after_need n p).segment ≡ segment_after_need n p.segment
 after_segment Nothing p = refl
 after_segment (Words n) p = refl
 after_segment (Item unit size) p = refl

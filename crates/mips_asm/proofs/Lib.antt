@@ -8,3 +8,5 @@ pub mod Targets
 pub mod ItemsLeft
 pub mod Assembled
 pub mod AllAssembled
+pub mod WordsOfText
+pub mod LabelsOfText

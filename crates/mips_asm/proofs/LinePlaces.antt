@@ -86,7 +86,7 @@ placing_step lines k item places line rest here behind d =
 -- No position of lines without a fault of the first pass is too large.
 
 -- the first of several faults is none
-fine_here : (number : ℕ) (o : Option AsmKind) (other : Option AsmFault) → fault_or number o other ≡ None → (o ≡ None) × (other ≡ None)
+pub fine_here : (number : ℕ) (o : Option AsmKind) (other : Option AsmFault) → fault_or number o other ≡ None → (o ≡ None) × (other ≡ None)
 fine_here number None other h = (refl, h)
 fine_here number (Some kind) other h = cc
 
@@ -98,7 +98,7 @@ or_fits words bytes h = by (nat_lt 66060288 words) (nat_lt 268435456 bytes) refl
     by false true e f k = absurd (true≢false k)
     by false false e f k = record { words_fit = ltb-false 66060288 words e; bytes_fit = ltb-false 268435456 bytes f }
 
-fine_fits : (seen : List Name) (p : Position) (line : Line) → defining_fault seen p line ≡ None → Fits (after_line line p).words (after_line line p).bytes
+pub fine_fits : (seen : List Name) (p : Position) (line : Line) → defining_fault seen p line ≡ None → Fits (after_line line p).words (after_line line p).bytes
 fine_fits seen p line h =
     let q : Position = after_line line p in
     or_fits q.words q.bytes (by (is_wrong (need line.statement) p.segment) (any_twice seen line.labels) (is_too_large q) h)

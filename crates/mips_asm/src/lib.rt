@@ -12,6 +12,8 @@ mod position;
 mod second_pass;
 mod table;
 mod target;
+mod text_labels;
+mod text_words;
 
 ghost use Rattle.std.specs.Prelude.{◌≡◌, ◌<◌, ◌++◌, length, OnOk};
 ghost use Rattle.mips_isa.specs.Lines.{lines_of, AreInRange};
@@ -23,6 +25,7 @@ use labels::Labels;
 use mips_isa::{AsmError, Image, Line};
 use second_pass::second_pass;
 use std::alloc::{AllocError, Global};
+pub use text_labels::{TextLabels, text_label};
 
 /// The image of lines of assembly, in two passes.
 ///

@@ -49,7 +49,7 @@ pub fn need_of_statement(statement: &Statement) -> Need
 }
 
 /// The words of text that an instruction is assembled to.
-fn words_of_instruction(instruction: &AsmInstr) -> u32
+pub fn words_of_instruction(instruction: &AsmInstr) -> u32
     ensures exact { result ≡ words_of_instruction (instruction_of instruction.now) }
     ensures small { result ≤ 2 }
 {
