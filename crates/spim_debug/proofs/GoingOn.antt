@@ -23,16 +23,16 @@ use Rattle.spim_debug.specs.declared.debugger.Debugger.{Debugger}
 use Rattle.spim_debug.specs.BreakSets.{in_set}
 use Rattle.spim_debug.specs.Moves.{Debuggee, Progress, outcome, further, go_on, no_break, is_break}
 use Rattle.spim_debug.specs.Notes.{state_in}
-use Rattle.spim_debug.specs.Debugging.{StandsAtEnd}
-use Rattle.spim_debug.specs.Obeying.{halted_in, Stands, Fails}
+use Rattle.spim_debug.specs.Debugging.{StandsAtEnd, FailsWithin}
+use Rattle.spim_debug.specs.Obeying.{halted_in, Stands, Fails, EndsFrom}
 
--- What came of going on: the debugger stands further on, and its machine has halted so, unless a call failed in it.
-abbrev pub WentOn : Debuggee → Progress → Option (List ℕ) → Halt → Debugger → Option (List ℕ) → Option (List ℕ) → Type 0
-WentOn d q first (halts.Exit code) x left held = Stands d q first x left held × (x.machine.halted ≡ Some (halts.Exit code))
-WentOn d q first (halts.Trap trap) x left held = Stands d q first x left held × (x.machine.halted ≡ Some (halts.Trap trap))
-WentOn d q first halts.StepLimit x left held = Stands d q first x left held × (x.machine.halted ≡ None)
-WentOn d q first halts.ReadFault x left held = Fails d first halts.ReadFault x.machine left held
-WentOn d q first halts.WriteFault x left held = Fails d first halts.WriteFault x.machine left held
+-- What came of going on from p to q: the debugger stands there, and its machine has halted so, unless a call failed on the way.
+abbrev pub WentOn : Debuggee → Progress → Progress → Option (List ℕ) → Halt → Debugger → Option (List ℕ) → Option (List ℕ) → Type 0
+WentOn d p q first (halts.Exit code) x left held = Stands d q first x left held × (x.machine.halted ≡ Some (halts.Exit code))
+WentOn d p q first (halts.Trap trap) x left held = Stands d q first x left held × (x.machine.halted ≡ Some (halts.Trap trap))
+WentOn d p q first halts.StepLimit x left held = Stands d q first x left held × (x.machine.halted ≡ None)
+WentOn d p q first halts.ReadFault x left held = Fails d p (q.executed - p.executed) first halts.ReadFault left held
+WentOn d p q first halts.WriteFault x left held = Fails d p (q.executed - p.executed) first halts.WriteFault left held
 
 -- a debugger after so many more instructions
 abbrev pub after_run : Debugger → MachineParts → ℕ → Debugger
@@ -57,10 +57,13 @@ stands_at d p q first x m count left held left' held' o st keeps on same fits is
 
 -- a call that failed in it is one in which the whole run fails
 fails_so : (d : Debuggee) (p : Progress) (first : Option (List ℕ)) (halt : Halt) (m : MachineParts) (left held : Option (List ℕ)) (n : ℕ) → halt ≢ halts.StepLimit → p.executed + n ≤ d.budget
-    → Ran d.text d.segments (p.executed + n) d.start first halt m left held → Fails d first halt m left held
+    → Ran d.text d.segments (p.executed + n) d.start first halt m left held → StandsAtEnd d halt first left held
 fails_so d p first halt m left held n other fits ran =
     let all : p.executed + n + (d.budget - (p.executed + n)) ≡ d.budget = omega (arith, fits) in
-    subst (λ (k : ℕ). Ran d.text d.segments k d.start first halt m left held) all (ran_ended d.text d.segments (p.executed + n) (d.budget - (p.executed + n)) d.start first m halt left held other ran)
+    record {
+      machine = m;
+      ran = subst (λ (k : ℕ). Ran d.text d.segments k d.start first halt m left held) all (ran_ended d.text d.segments (p.executed + n) (d.budget - (p.executed + n)) d.start first m halt left held other ran);
+    }
 
 -- how many instructions may be executed at once, of so many
 abbrev pub span : Debuggee → Progress → ℕ → ℕ
@@ -87,19 +90,24 @@ stands_run d p breaks most first x m executed left held left' held' s o st keeps
 -- it fails in a run from where it stood
 fails_run : (d : Debuggee) (p : Progress) (breaks : ℕ → Bool) (most : ℕ) (first : Option (List ℕ)) (x : Debugger) (halt : Halt) (m : MachineParts) (left held left' held' : Option (List ℕ)) (s : State)
     → halt ≢ halts.StepLimit → Stands d p first x left held → outcome d p.executed ≡ Running s
-    → Ran d.text d.segments (moved breaks d.text d.segments (span d p most) s) s first halt m left' held' → Fails d first halt m left' held'
+    → Ran d.text d.segments (moved breaks d.text d.segments (span d p most) s) s first halt m left' held' → Fails d p ((go_on d breaks most p).executed - p.executed) first halt left' held'
 fails_run d p breaks most first x halt m left held left' held' s other st is ran =
     let run_count : ℕ = moved breaks d.text d.segments (span d p most) s in
     let fits : run_count ≤ d.budget - p.executed = span_fits most (d.budget - p.executed) run_count (moved_within breaks d.text d.segments (span d p most) s) in
-    fails_so d p first halt m left' held' run_count other (omega (arith, fits, st.executed, st.budget, st.within))
-    (ran_on_from d.text d.segments p.executed run_count d.start s first halt m left' held' is ran)
+    let on : (go_on d breaks most p).executed ≡ p.executed + run_count = ap (λ (r : Outcome). p.executed + further d breaks (span d p most) r) is in
+    let all : run_count ≡ (go_on d breaks most p).executed - p.executed = omega (arith, on) in
+    record {
+      ends = fails_so d p first halt m left' held' run_count other (omega (arith, fits, st.executed, st.budget, st.within))
+          (ran_on_from d.text d.segments p.executed run_count d.start s first halt m left' held' is ran);
+      within = record { state = s; goes_on = is; machine = m; ran = subst (λ (k : ℕ). Ran d.text d.segments k s first halt m left' held') all ran };
+    }
 
 -- from a state in which the run goes on
 went_running : (d : Debuggee) (p : Progress) (breaks : ℕ → Bool) (most : ℕ) (first : Option (List ℕ)) (x : Debugger) (halt : Halt) (m : MachineParts) (executed : ℕ) (left held left' held' : Option (List ℕ)) (s : State)
     → Stands d p first x left held → KeepsSegments x.machine.cpu.memory m.cpu.memory → outcome d p.executed ≡ Running s
     → Ran d.text d.segments (moved breaks d.text d.segments (span d p most) s) s first halt m left' held'
     → UnlessFault halt (executed ≡ moved breaks d.text d.segments (span d p most) s) → m.halted ≡ halted_by halt
-    → WentOn d (go_on d breaks most p) first halt (after_run x m executed) left' held'
+    → WentOn d p (go_on d breaks most p) first halt (after_run x m executed) left' held'
 went_running d p breaks most first x (halts.Exit code) m executed left held left' held' s st keeps is (end, ends, at) count halted =
     (stands_run d p breaks most first x m executed left held left' held' s (Exited code end) st keeps is ends count at halted, halted)
 went_running d p breaks most first x (halts.Trap trap) m executed left held left' held' s st keeps is (end, ends, at) count halted =
@@ -114,7 +122,7 @@ went_running d p breaks most first x halts.WriteFault m executed left held left'
 -- after an end nothing is executed
 went_ended : (d : Debuggee) (p : Progress) (breaks : ℕ → Bool) (most : ℕ) (first : Option (List ℕ)) (x : Debugger) (halt : Halt) (left held : Option (List ℕ)) (o : Outcome)
     → Stands d p first x left held → outcome d p.executed ≡ o → x.machine.halted ≡ Some halt
-    → WentOn d (go_on d breaks most p) first halt (after_run x x.machine 0) left held
+    → WentOn d p (go_on d breaks most p) first halt (after_run x x.machine 0) left held
 went_ended d p breaks most first x halt left held (Running s) st is halted =
     let none : x.machine.halted ≡ None = st.halted ∙ ap (λ (r : Outcome). halted_in r) is in
     absurd cc
@@ -123,7 +131,7 @@ went_ended d p breaks most first x halt left held (Exited code s) st is halted =
     let same : halts.Exit code ≡ halt = cc in
     let on : p.executed + further d breaks (span d p most) (outcome d p.executed) ≡ p.executed + 0 = ap (λ (r : Outcome). p.executed + further d breaks (span d p most) r) is in
     let stays : p.executed + further d breaks (span d p most) (outcome d p.executed) ≡ p.executed = on ∙ omega arith in
-    subst (λ (h : Halt). WentOn d (go_on d breaks most p) first h (after_run x x.machine 0) left held) same (
+    subst (λ (h : Halt). WentOn d p (go_on d breaks most p) first h (after_run x x.machine 0) left held) same (
       stands_at d p (go_on d breaks most p) first x x.machine 0 left held left held (Exited code s) st (record { text = refl; segments = refl }) on refl (omega arith)
           (ap (λ (k : ℕ). outcome d k) stays ∙ is) (subst (λ (r : Outcome). IsIn first (state_in r) x.machine left held) is st.state) was,
       was,
@@ -133,7 +141,7 @@ went_ended d p breaks most first x halt left held (Trapped trap s) st is halted 
     let same : halts.Trap trap ≡ halt = cc in
     let on : p.executed + further d breaks (span d p most) (outcome d p.executed) ≡ p.executed + 0 = ap (λ (r : Outcome). p.executed + further d breaks (span d p most) r) is in
     let stays : p.executed + further d breaks (span d p most) (outcome d p.executed) ≡ p.executed = on ∙ omega arith in
-    subst (λ (h : Halt). WentOn d (go_on d breaks most p) first h (after_run x x.machine 0) left held) same (
+    subst (λ (h : Halt). WentOn d p (go_on d breaks most p) first h (after_run x x.machine 0) left held) same (
       stands_at d p (go_on d breaks most p) first x x.machine 0 left held left held (Trapped trap s) st (record { text = refl; segments = refl }) on refl (omega arith)
           (ap (λ (k : ℕ). outcome d k) stays ∙ is) (subst (λ (r : Outcome). IsIn first (state_in r) x.machine left held) is st.state) was,
       was,
@@ -196,32 +204,42 @@ runs_from d p breaks n first x stopped m left held left' held' st a none =
 -- it went on, or had ended
 pub went_on : (d : Debuggee) (p : Progress) (breaks : ℕ → Bool) (most : ℕ) (first : Option (List ℕ)) (x : Debugger) (stopped : Stopped) (m : MachineParts) (left held left' held' : Option (List ℕ))
     → Stands d p first x left held → Answers breaks (span d p most) first x stopped m left held left' held'
-    → WentOn d (go_on d breaks most p) first stopped.halt (after_run x m stopped.executed) left' held'
+    → WentOn d p (go_on d breaks most p) first stopped.halt (after_run x m stopped.executed) left' held'
 went_on d p breaks most first x stopped m left held left' held' st a = by x.machine.halted refl
   where
-    by : (o : Option Halt) → x.machine.halted ≡ o → WentOn d (go_on d breaks most p) first stopped.halt (after_run x m stopped.executed) left' held'
+    by : (o : Option Halt) → x.machine.halted ≡ o → WentOn d p (go_on d breaks most p) first stopped.halt (after_run x m stopped.executed) left' held'
     by None h =
         let r = runs_from d p breaks (span d p most) first x stopped m left held left' held' st a h in
         went_running d p breaks most first x stopped.halt m stopped.executed left held left' held' r.state st a.keeps r.is r.runs.ran r.runs.executed (a.halted h)
     by (Some halt) h =
         let ended = went_ended d p breaks most first x halt left held (outcome d p.executed) st refl h in
-        subst (λ (q : Stopped). WentOn d (go_on d breaks most p) first q.halt (after_run x m q.executed) left' held') (sym (a.again halt h))
-        (subst (λ (q : MachineParts). WentOn d (go_on d breaks most p) first halt (after_run x q 0) left' held') (sym (a.machine halt h))
-        (subst (λ (l : Option (List ℕ)). WentOn d (go_on d breaks most p) first halt (after_run x x.machine 0) l held') (sym (a.left_same halt h))
-        (subst (λ (k : Option (List ℕ)). WentOn d (go_on d breaks most p) first halt (after_run x x.machine 0) left k) (sym (a.held_same halt h)) ended)))
+        subst (λ (q : Stopped). WentOn d p (go_on d breaks most p) first q.halt (after_run x m q.executed) left' held') (sym (a.again halt h))
+        (subst (λ (q : MachineParts). WentOn d p (go_on d breaks most p) first halt (after_run x q 0) left' held') (sym (a.machine halt h))
+        (subst (λ (l : Option (List ℕ)). WentOn d p (go_on d breaks most p) first halt (after_run x x.machine 0) l held') (sym (a.left_same halt h))
+        (subst (λ (k : Option (List ℕ)). WentOn d p (go_on d breaks most p) first halt (after_run x x.machine 0) left k) (sym (a.held_same halt h)) ended)))
+
+-- it stands at its end, and where a call failed, that was among the instructions from here to the end
+ends_from : (d : Debuggee) (p : Progress) (n : ℕ) (first : Option (List ℕ)) (halt : Halt) (left held : Option (List ℕ)) → StandsAtEnd d halt first left held → FailsWithin d p n first halt left held → EndsFrom d p n first halt left held
+ends_from d p n first (halts.Exit code) left held at within = at
+ends_from d p n first (halts.Trap trap) left held at within = at
+ends_from d p n first halts.StepLimit left held at within = at
+ends_from d p n first halts.ReadFault left held at within = record { ends = at; within = within }
+ends_from d p n first halts.WriteFault left held at within = record { ends = at; within = within }
 
 -- the run to its end, from where it goes on
 ended_running : (d : Debuggee) (p : Progress) (first : Option (List ℕ)) (x : Debugger) (halt : Halt) (m : MachineParts) (left held left' held' : Option (List ℕ)) (s : State)
     → Stands d p first x left held → outcome d p.executed ≡ Running s
-    → Ran d.text d.segments (moved no_break d.text d.segments (d.budget - p.executed) s) s first halt m left' held' → StandsAtEnd d halt first left' held'
+    → Ran d.text d.segments (moved no_break d.text d.segments (d.budget - p.executed) s) s first halt m left' held' → EndsFrom d p (d.budget - p.executed) first halt left' held'
 ended_running d p first x halt m left held left' held' s st is ran =
     let n : ℕ = d.budget - p.executed in
     let all : p.executed + n ≡ d.budget = omega (arith, st.executed, st.budget, st.within) in
     let longer : Ran d.text d.segments n s first halt m left' held' = ran_without_breaks d.text d.segments n s first halt m left' held' ran in
-    record {
+    ends_from d p n first halt left' held'
+    (record {
       machine = m;
       ran = subst (λ (k : ℕ). Ran d.text d.segments k d.start first halt m left' held') all (ran_on_from d.text d.segments p.executed n d.start s first halt m left' held' is longer);
-    }
+    })
+    (record { state = s; goes_on = is; machine = m; ran = longer })
 
 -- and where it had ended
 ended_so : (d : Debuggee) (p : Progress) (first : Option (List ℕ)) (x : Debugger) (halt : Halt) (left held : Option (List ℕ)) → halt ≢ halts.StepLimit → Stands d p first x left held
@@ -234,34 +252,34 @@ ended_so d p first x halt left held other st ran =
     }
 
 ended_before : (d : Debuggee) (p : Progress) (first : Option (List ℕ)) (x : Debugger) (halt : Halt) (left held : Option (List ℕ)) (o : Outcome)
-    → Stands d p first x left held → outcome d p.executed ≡ o → x.machine.halted ≡ Some halt → StandsAtEnd d halt first left held
+    → Stands d p first x left held → outcome d p.executed ≡ o → x.machine.halted ≡ Some halt → EndsFrom d p (d.budget - p.executed) first halt left held
 ended_before d p first x halt left held (Running s) st is halted =
     let none : x.machine.halted ≡ None = st.halted ∙ ap (λ (r : Outcome). halted_in r) is in
     absurd cc
 ended_before d p first x halt left held (Exited code s) st is halted =
     let was : x.machine.halted ≡ Some (halts.Exit code) = st.halted ∙ ap (λ (r : Outcome). halted_in r) is in
     let same : halts.Exit code ≡ halt = cc in
-    subst (λ (h : Halt). StandsAtEnd d h first left held) same
+    subst (λ (h : Halt). EndsFrom d p (d.budget - p.executed) first h left held) same
     (ended_so d p first x (halts.Exit code) left held (λ e. absurd cc) st (s, is, subst (λ (r : Outcome). IsIn first (state_in r) x.machine left held) is st.state))
 ended_before d p first x halt left held (Trapped trap s) st is halted =
     let was : x.machine.halted ≡ Some (halts.Trap trap) = st.halted ∙ ap (λ (r : Outcome). halted_in r) is in
     let same : halts.Trap trap ≡ halt = cc in
-    subst (λ (h : Halt). StandsAtEnd d h first left held) same
+    subst (λ (h : Halt). EndsFrom d p (d.budget - p.executed) first h left held) same
     (ended_so d p first x (halts.Trap trap) left held (λ e. absurd cc) st (s, is, subst (λ (r : Outcome). IsIn first (state_in r) x.machine left held) is st.state))
 
 pub ended : (d : Debuggee) (p : Progress) (first : Option (List ℕ)) (x : Debugger) (stopped : Stopped) (m : MachineParts) (left held left' held' : Option (List ℕ))
-    → Stands d p first x left held → Answers no_break (d.budget - p.executed) first x stopped m left held left' held' → StandsAtEnd d stopped.halt first left' held'
+    → Stands d p first x left held → Answers no_break (d.budget - p.executed) first x stopped m left held left' held' → EndsFrom d p (d.budget - p.executed) first stopped.halt left' held'
 ended d p first x stopped m left held left' held' st a = by x.machine.halted refl
   where
-    by : (o : Option Halt) → x.machine.halted ≡ o → StandsAtEnd d stopped.halt first left' held'
+    by : (o : Option Halt) → x.machine.halted ≡ o → EndsFrom d p (d.budget - p.executed) first stopped.halt left' held'
     by None h =
         let r = runs_from d p no_break (d.budget - p.executed) first x stopped m left held left' held' st a h in
         ended_running d p first x stopped.halt m left held left' held' r.state st r.is r.runs.ran
     by (Some halt) h =
         let before = ended_before d p first x halt left held (outcome d p.executed) st refl h in
-        subst (λ (q : Stopped). StandsAtEnd d q.halt first left' held') (sym (a.again halt h))
-        (subst (λ (l : Option (List ℕ)). StandsAtEnd d halt first l held') (sym (a.left_same halt h))
-        (subst (λ (k : Option (List ℕ)). StandsAtEnd d halt first left k) (sym (a.held_same halt h)) before))
+        subst (λ (q : Stopped). EndsFrom d p (d.budget - p.executed) first q.halt left' held') (sym (a.again halt h))
+        (subst (λ (l : Option (List ℕ)). EndsFrom d p (d.budget - p.executed) first halt l held') (sym (a.left_same halt h))
+        (subst (λ (k : Option (List ℕ)). EndsFrom d p (d.budget - p.executed) first halt left k) (sym (a.held_same halt h)) before))
 
 -- how many instructions a debugger may execute, by its own numbers
 pub room_is : (d : Debuggee) (p : Progress) (first : Option (List ℕ)) (x : Debugger) (left held : Option (List ℕ)) → Stands d p first x left held → x.budget - x.executed ≡ d.budget - p.executed

@@ -7,3 +7,9 @@ pub mod LinesOfWords
 pub mod ObeyedCommands
 pub mod ChangedBreaks
 pub mod DoneScripts
+pub mod ScriptParts
+pub mod ScriptNumbers
+pub mod ScriptCommands
+pub mod ReadScripts
+pub mod LabelsOfText
+pub mod CommandsForText

@@ -1,13 +1,12 @@
 -- What a command leaves, by what its parts left: where the run went, and whether its notes were put.
-use Rattle.std.proofs.Common.{◌≡◌, ◌⊎◌, inl, inr, ◌∙◌, refl, sym, ap, subst, ℕ, ◌+◌, List, [], ◌∷◌, ◌++◌, append-nil}
+use Rattle.std.proofs.Common.{◌≡◌, ◌⊎◌, inl, inr, ◌∙◌, refl, sym, ap, subst, ℕ, List, [], ◌++◌, append-nil}
 use Rattle.std.specs.Prelude.{Option, Some, None, Result, Ok, Err}
 use Rattle.std.specs.List.{concat}
 use Rattle.cool_ports.specs.SinkBytes.{appended, GotUpTo, GotPrefix}
 use Rattle.cool_ports.proofs.GettingBytes.{got_prefix}
 use Rattle.mips_isa.specs.declared.trap.Trap.{Trap}
 use Rattle.mips_isa.specs.Machine.{Core}
-use Rattle.mips_isa.specs.Calls.{State, Outcome, Running, Exited, Trapped}
-use Rattle.spim_cpu.specs.Cpu.{core_of}
+use Rattle.mips_isa.specs.Calls.{Outcome, Running, Exited, Trapped}
 use Rattle.spim_machine.specs.declared.halt.Halt.{Halt}
 use Rattle.spim_machine.specs.declared.halt.Halt.TheVariants as halts
 use Rattle.spim_debug.specs.declared.debugger.Debugger.{Debugger}
@@ -74,7 +73,7 @@ running_text d q first x left held st halted =
 -- a command that goes on and notes where the machine is
 pub obeyed_stop : (d : Debuggee) (c : DebugCommand) (p : Progress) (first : Option (List ℕ)) (halt : Halt) (result : Result Unit DebugEnd) (x : Debugger) (left held noted noted' : Option (List ℕ))
     → concat (notes d c (moves d c p).executed) ≡ place_note (outcome d (moves d c p).executed) (moves d c p).executed ++ []
-    → WentOn d (moves d c p) first halt x left held → StopNoted halt x.machine.cpu.pc x.executed result noted noted' → Obeyed d c p first result x left held noted noted'
+    → WentOn d p (moves d c p) first halt x left held → StopNoted halt x.machine.cpu.pc x.executed result noted noted' → Obeyed d c p first result x left held noted noted'
 obeyed_stop d c p first (halts.Exit code) result x left held noted noted' is (st, halted) put =
     obeyed_put d c p first result x left held noted noted' (ended_note x.executed) st (is ∙ ended_text d (moves d c p) first (halts.Exit code) x left held st halted) (one_put (ended_note x.executed) result noted noted' put)
 obeyed_stop d c p first (halts.Trap trap) result x left held noted noted' is (st, halted) put =

@@ -1,11 +1,12 @@
 -- How a debugged run ends, over a source and sinks that may fail.
-use Rattle.std.specs.Prelude.{◌≡◌, ℕ, ◌≤◌, ◌<◌, ◌+◌, ◌*◌, List, length, Option, Some}
+use Rattle.std.specs.Prelude.{◌≡◌, ◌⊎◌, ℕ, ◌≤◌, ◌<◌, ◌+◌, ◌*◌, List, ◌∷◌, ◌++◌, length, Option, Some}
 use Rattle.std.specs.List.{AllByRecursion, concat}
 use Rattle.cool_ports.specs.Counts.{Rose}
 use Rattle.cool_ports.specs.SinkBytes.{appended, GotPrefix}
 use Rattle.mips_isa.specs.declared.address_map.TheConstants.{TEXT_START}
 use Rattle.mips_isa.specs.ImageBounds.{ImageParts}
 use Rattle.mips_isa.specs.Bytes.{segments_of}
+use Rattle.mips_isa.specs.Calls.{State, Running}
 use Rattle.mips_isa.specs.Run.{start}
 use Rattle.spim_machine.specs.declared.halt.Halt.{Halt}
 use Rattle.spim_machine.specs.declared.halt.Halt.TheVariants.{Exit, Trap, StepLimit, ReadFault, WriteFault}
@@ -15,8 +16,8 @@ use Rattle.spim_debug.specs.declared.debugger.DebugEnd.{DebugEnd}
 use Rattle.spim_debug.specs.declared.debugger.DebugEnd.TheVariants as end
 use Rattle.spim_debug.specs.declared.script.DebugCommand.{DebugCommand}
 use Rattle.spim_debug.specs.declared.script.DebugCommand.TheVariants.{Break, Delete, Step, Run, Regs, Show, List as ListWords}
-use Rattle.spim_debug.specs.Moves.{Debuggee, beginning, outcome}
-use Rattle.spim_debug.specs.Notes.{state_in, all_notes}
+use Rattle.spim_debug.specs.Moves.{Debuggee, Progress, beginning, outcome, moves, all_moves, next_span}
+use Rattle.spim_debug.specs.Notes.{state_in, notes, all_notes}
 
 -- an image with so many bytes of heap and stack, over an input
 abbrev pub debuggee : ImageParts → ℕ → ℕ → ℕ → List ℕ → Debuggee
@@ -66,14 +67,55 @@ pub record StandsEarlier (d : Debuggee) (first left held : Option (List ℕ)) : 
   pub left_is : left ≡ Some (state_in (outcome d executed)).input
   pub held_is : held ≡ appended first (state_in (outcome d executed)).output
 
--- What a debugger leaves: its machine's output and input, and its notes. After a failing device the rest of the script is not done.
+-- A call fails among the next n instructions of a run that goes on from here.
+pub record FailsWithin (d : Debuggee) (p : Progress) (n : ℕ) (first : Option (List ℕ)) (halt : Halt) (left held : Option (List ℕ)) : Type 0 where
+  pub state : State
+  pub goes_on : outcome d p.executed ≡ Running state
+  pub machine : MachineParts
+  pub ran : Ran d.text d.segments n state first halt machine left held
+
+-- A read or a write failed behind the front of a script, before the next command was done: the notes are those of the front.
+pub record BrokenOff (d : Debuggee) (script : List DebugCommand) (halt : Halt) (first left held noted noted' : Option (List ℕ)) : Type 0 where
+  pub front : List DebugCommand
+  pub rest : List DebugCommand
+  pub script_is : script ≡ front ++ rest
+  pub fails : FailsWithin d (all_moves d front beginning) (next_span d rest (all_moves d front beginning)) first halt left held
+  pub noted_is : noted' ≡ appended noted (concat (all_notes d front beginning))
+
+abbrev pub IfBrokenOff : Debuggee → List DebugCommand → Halt → Option (List ℕ) → Option (List ℕ) → Option (List ℕ) → Option (List ℕ) → Option (List ℕ) → Type 0
+IfBrokenOff d script (Exit code) first left held noted noted' = Unit {0}
+IfBrokenOff d script (Trap trap) first left held noted noted' = Unit {0}
+IfBrokenOff d script StepLimit first left held noted noted' = Unit {0}
+IfBrokenOff d script ReadFault first left held noted noted' = BrokenOff d script ReadFault first left held noted noted'
+IfBrokenOff d script WriteFault first left held noted noted' = BrokenOff d script WriteFault first left held noted noted'
+
+-- The command that was begun last is this one, behind the front of a script: so many instructions are executed, and the notes are those of
+-- the front, and of its own a prefix.
+pub record StoppedIn (d : Debuggee) (script : List DebugCommand) (executed : ℕ) (noted noted' : Option (List ℕ)) : Type 0 where
+  pub front : List DebugCommand
+  pub command : DebugCommand
+  pub rest : List DebugCommand
+  pub script_is : script ≡ front ++ command ∷ rest
+  pub executed_is : executed ≡ (moves d command (all_moves d front beginning)).executed
+  pub noted_is : GotPrefix (appended noted (concat (all_notes d front beginning))) (concat (notes d command executed)) noted'
+
+-- No command was begun.
+pub record NotBegun (executed : ℕ) (noted noted' : Option (List ℕ)) : Type 0 where
+  pub executed_is : executed ≡ 0
+  pub noted_is : noted' ≡ noted
+
+-- What a debugger leaves: its machine's output and input, and its notes. After a failing device, or where memory ran out, the rest of the
+-- script is not done.
 abbrev pub Debugged : Debuggee → List DebugCommand → DebugEnd → Option (List ℕ) → Option (List ℕ) → Option (List ℕ) → Option (List ℕ) → Option (List ℕ) → Type 0
 Debugged d script (end.Halt halt) first left held noted noted' =
     StandsAtEnd d halt first left held × Noted halt (concat (all_notes d script beginning)) noted noted'
+    × IfBrokenOff d script halt first left held noted noted'
 Debugged d script end.NoteFault first left held noted noted' =
-    StandsEarlier d first left held × GotPrefix noted (concat (all_notes d script beginning)) noted'
+    (at : StandsEarlier d first left held) × GotPrefix noted (concat (all_notes d script beginning)) noted'
+    × StoppedIn d script at.executed noted noted'
 Debugged d script end.Memory first left held noted noted' =
-    StandsEarlier d first left held × GotPrefix noted (concat (all_notes d script beginning)) noted'
+    (at : StandsEarlier d first left held) × GotPrefix noted (concat (all_notes d script beginning)) noted'
+    × (NotBegun at.executed noted noted' ⊎ StoppedIn d script at.executed noted noted')
 
 -- Which count of faults rose: of the source (s, then s'), of the sink (k, then k') and of the notes (e, then e').
 abbrev pub CountedBy : DebugEnd → ℕ → ℕ → ℕ → ℕ → ℕ → ℕ → Type 0

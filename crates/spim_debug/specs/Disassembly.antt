@@ -1,5 +1,5 @@
 -- What a word's line of assembly is: that of its instruction, without labels.
-use Rattle.std.specs.Prelude.{◌≡◌, refl, ℕ, pos, List, [], ◌∷◌, Option, Some, None}
+use Rattle.std.specs.Prelude.{◌≡◌, refl, ℕ, pos, [], ◌∷◌, Option, Some, None}
 use Rattle.mips_isa.specs.declared.line.Line as declared_line
 use Rattle.mips_isa.specs.declared.instr.Instr.{Instr}
 use Rattle.mips_isa.specs.declared.instr.Instr.TheVariants.{Lui}

@@ -1,3 +1,5 @@
+pub mod Scripts
+pub mod ScriptLines
 pub mod Disassembly
 pub mod Moves
 pub mod Notes

@@ -53,3 +53,13 @@ moves d Run p = go_on d (is_break p.breaks) d.budget p
 moves d Regs p = p
 moves d (Show a) p = p
 moves d (ListWords a n) p = p
+
+-- after commands
+abbrev pub all_moves : Debuggee → List DebugCommand → Progress → Progress
+all_moves d [] p = p
+all_moves d (command ∷ rest) p = all_moves d rest (moves d command p)
+
+-- how many instructions are executed next: by the first of these commands, or up to the budget where there is none
+abbrev pub next_span : Debuggee → List DebugCommand → Progress → ℕ
+next_span d [] p = d.budget - p.executed
+next_span d (command ∷ rest) p = (moves d command p).executed - p.executed

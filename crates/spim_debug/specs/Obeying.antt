@@ -1,5 +1,5 @@
 -- What a debugger's parts have to do with how far its script is, and what it leaves after a command.
-use Rattle.std.specs.Prelude.{◌≡◌, ℕ, ◌+◌, ◌≤◌, Bool, List, length, Option, Some, None, Result, Ok, Err}
+use Rattle.std.specs.Prelude.{◌≡◌, ℕ, ◌-◌, ◌≤◌, List, length, Option, Some, None, Result, Ok, Err}
 use Rattle.std.specs.List.{concat}
 use Rattle.cool_ports.specs.Counts.{Rose}
 use Rattle.cool_ports.specs.SinkBytes.{appended, GotPrefix}
@@ -8,16 +8,15 @@ use Rattle.mips_isa.specs.Calls.{Outcome, Running, Exited, Trapped}
 use Rattle.spim_memory.specs.Memory.{segments}
 use Rattle.spim_machine.specs.declared.halt.Halt.{Halt}
 use Rattle.spim_machine.specs.declared.halt.Halt.TheVariants.{Exit, Trap, StepLimit, ReadFault, WriteFault}
-use Rattle.spim_machine.specs.Machine.{MachineParts, IsIn, halted_by}
-use Rattle.spim_machine.specs.Ends.{Ran}
+use Rattle.spim_machine.specs.Machine.{IsIn}
 use Rattle.spim_debug.specs.declared.debugger.DebugEnd.{DebugEnd}
 use Rattle.spim_debug.specs.declared.debugger.DebugEnd.TheVariants as end
 use Rattle.spim_debug.specs.declared.debugger.Debugger.{Debugger}
 use Rattle.spim_debug.specs.declared.script.DebugCommand.{DebugCommand}
 use Rattle.spim_debug.specs.BreakSets.{in_set}
-use Rattle.spim_debug.specs.Moves.{Debuggee, Progress, outcome, is_break, go_on, moves}
+use Rattle.spim_debug.specs.Moves.{Debuggee, Progress, outcome, is_break, moves}
 use Rattle.spim_debug.specs.Notes.{at_note, ended_note, state_in, notes}
-use Rattle.spim_debug.specs.Debugging.{CountedBy}
+use Rattle.spim_debug.specs.Debugging.{StandsAtEnd, FailsWithin, CountedBy}
 
 -- no read and no write has failed in a run
 abbrev pub NoneFailed : Option Halt → Type 0
@@ -63,9 +62,18 @@ pub record Stands (d : Debuggee) (p : Progress) (first : Option (List ℕ)) (x :
   pub halted : x.machine.halted ≡ halted_in (outcome d p.executed)
   pub breaks : (a : ℕ) → in_set x.breaks a ≡ is_break p.breaks a
 
--- How the whole run ends where a call in it failed.
-abbrev pub Fails : Debuggee → Option (List ℕ) → Halt → MachineParts → Option (List ℕ) → Option (List ℕ) → Type 0
-Fails d first halt m left held = Ran d.text d.segments d.budget d.start first halt m left held
+-- How the whole run ends where a call failed among the next n instructions.
+pub record Fails (d : Debuggee) (p : Progress) (n : ℕ) (first : Option (List ℕ)) (halt : Halt) (left held : Option (List ℕ)) : Type 0 where
+  pub ends : StandsAtEnd d halt first left held
+  pub within : FailsWithin d p n first halt left held
+
+-- The run stands at its end, and where a call failed on the way from here, that was among the next n instructions.
+abbrev pub EndsFrom : Debuggee → Progress → ℕ → Option (List ℕ) → Halt → Option (List ℕ) → Option (List ℕ) → Type 0
+EndsFrom d p n first (Exit code) left held = StandsAtEnd d (Exit code) first left held
+EndsFrom d p n first (Trap trap) left held = StandsAtEnd d (Trap trap) first left held
+EndsFrom d p n first StepLimit left held = StandsAtEnd d StepLimit first left held
+EndsFrom d p n first ReadFault left held = Fails d p n first ReadFault left held
+EndsFrom d p n first WriteFault left held = Fails d p n first WriteFault left held
 
 -- a note was put, or its put failed
 abbrev pub IsPut : List ℕ → Result Unit DebugEnd → Option (List ℕ) → Option (List ℕ) → Type 0
@@ -91,8 +99,10 @@ StopNoted WriteFault pc n result noted noted' = (result ≡ Err (end.Halt WriteF
 
 -- What a command leaves: the debugger is as far as the command moves it, and its notes were put, unless a call failed.
 abbrev pub Obeyed : Debuggee → DebugCommand → Progress → Option (List ℕ) → Result Unit DebugEnd → Debugger → Option (List ℕ) → Option (List ℕ) → Option (List ℕ) → Option (List ℕ) → Type 0
-Obeyed d c p first (Err (end.Halt ReadFault)) x left held noted noted' = Fails d first ReadFault x.machine left held × (noted' ≡ noted)
-Obeyed d c p first (Err (end.Halt WriteFault)) x left held noted noted' = Fails d first WriteFault x.machine left held × (noted' ≡ noted)
+Obeyed d c p first (Err (end.Halt ReadFault)) x left held noted noted' =
+    Fails d p ((moves d c p).executed - p.executed) first ReadFault left held × (noted' ≡ noted)
+Obeyed d c p first (Err (end.Halt WriteFault)) x left held noted noted' =
+    Fails d p ((moves d c p).executed - p.executed) first WriteFault left held × (noted' ≡ noted)
 Obeyed d c p first result x left held noted noted' =
     Stands d (moves d c p) first x left held × ArePut (concat (notes d c (moves d c p).executed)) result noted noted'
 

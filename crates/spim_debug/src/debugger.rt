@@ -1,6 +1,6 @@
 //! The debugger: a run of the machine that stops where it is asked to, and notes what it is asked for.
 
-ghost use Rattle.std.specs.Prelude.{◌≡◌, ◌≤◌, ◌<◌, ◌+◌, List, ℕ, Bool, Option, Some, false, length, IfOk, OnOk};
+ghost use Rattle.std.specs.Prelude.{◌≡◌, ◌≤◌, ◌<◌, ◌+◌, ◌-◌, List, ℕ, Bool, Option, Some, false, length, IfOk, OnOk};
 ghost use Rattle.std.specs.List.{concat};
 ghost use Rattle.cool_ports.specs.Answers.{Leaves};
 ghost use Rattle.cool_ports.specs.Taking.{Took, OfAnyInput};
@@ -9,8 +9,8 @@ ghost use Rattle.spim_memory.specs.Memory.{IsLimits};
 ghost use Rattle.spim_debug.specs.declared.script.DebugCommand.TheVariants as commands;
 ghost use Rattle.spim_debug.specs.Moves.{Debuggee, Progress, beginning};
 ghost use Rattle.spim_debug.specs.Notes.{listed, listed_from, words_from};
-ghost use Rattle.spim_debug.specs.Debugging.{IsTextAddress, IsCommandFor, IsScriptFor, debuggee, StandsAtEnd, Debugged, CountedBy};
-ghost use Rattle.spim_debug.specs.Obeying.{IsDebuggerOf, IsReady, KeepsText, Stands, IsPut, ArePut, StopNoted, Obeyed, CountedUnless, NotesCounted};
+ghost use Rattle.spim_debug.specs.Debugging.{IsTextAddress, IsCommandFor, IsScriptFor, debuggee, Debugged, CountedBy};
+ghost use Rattle.spim_debug.specs.Obeying.{IsDebuggerOf, IsReady, KeepsText, Stands, EndsFrom, IsPut, ArePut, StopNoted, Obeyed, CountedUnless, NotesCounted};
 ghost use Rattle.spim_machine.specs.Ends.{Counted};
 
 use crate::DebugCommand;
@@ -210,7 +210,7 @@ impl Debugger {
         requires { IsReady self.old }
         ensures took { Took self.old.machine.ended self.new.machine.ended (S.past source.old) (S.past source.new) (S.left source.old) (S.left source.new) }
         ensures ended { (d : Debuggee) (p : Progress) (first : Option (List ℕ)) → OfAnyInput (S.past source.old) (S.past source.new) (λ input rest. Stands d p first self.old input (K.held sink.old)
-            → StandsAtEnd d result first rest (K.held sink.new)) }
+            → EndsFrom d p (d.budget - p.executed) first result rest (K.held sink.new)) }
         ensures counts { Counted result (S.faults source.old) (S.faults source.new) (K.faults sink.old) (K.faults sink.new) }
     {
         self.machine
@@ -236,9 +236,7 @@ fn list<E: Sink>(
     let words = &rest[..(most as usize).min(rest.len())];
     let mut at = address;
     for word in words {
-        if let Err(end) = list_word(alloc, at, *word, notes) {
-            return Err(end);
-        }
+        list_word(alloc, at, *word, notes)?;
         at += 4;
     }
     Ok(())

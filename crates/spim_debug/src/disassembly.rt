@@ -1,20 +1,17 @@
 //! From a word to its line of assembly.
 
-ghost use Rattle.std.specs.Prelude.{◌≡◌, IfOk};
+ghost use Rattle.std.specs.Prelude.{◌≡◌};
 ghost use Rattle.spim_debug.specs.Disassembly.{line_of_option, disassembled};
 
-use mips_isa::{AsmInstr, Line, Statement, decode};
-use std::alloc::{AllocError, Global};
+use mips_isa::{AsmInstr, Line, LineLabels, Statement, decode};
 
-/// The line of a word's instruction, or none exactly where the word is no instruction. `Err` comes only for want of memory.
-pub fn disassemble(alloc: Global, word: u32) -> Result<Option<Line>, AllocError>
-    ensures { IfOk result (λ line. line_of_option line ≡ disassembled word) }
+/// The line of a word's instruction, or none exactly where the word is no instruction.
+pub fn disassemble(word: u32) -> Option<Line>
+    ensures { line_of_option result ≡ disassembled word }
 {
-    match decode(word) {
-        None => Ok(None),
-        Some(instruction) => Ok(Some(Line {
-            labels: Vec::new(alloc),
-            statement: Statement::Instruction(AsmInstr::Plain(instruction)),
-        })),
-    }
+    let instruction = decode(word)?;
+    Some(Line {
+        labels: LineLabels::none(),
+        statement: Statement::Instruction(AsmInstr::Plain(instruction)),
+    })
 }

@@ -1,7 +1,8 @@
 //! The debugger of the machine.
 //!
 //! Comes in: an image, a script, a source and two sinks. Goes out: what the program prints, the notes that the script asks for, and
-//! how the run ends. It meets `Moves.antt`, `Notes.antt` and `Debugging.antt`; disassembly meets `Decoding.antt` of `mips_isa`.
+//! how the run ends. It meets `Moves.antt`, `Notes.antt` and `Debugging.antt`; the reading of a script meets `Scripts.antt`, and
+//! disassembly `Decoding.antt` of `mips_isa`.
 #![tactic(auto)]
 
 mod break_set;
@@ -10,8 +11,12 @@ mod disassembly;
 mod laws;
 mod notes;
 mod script;
+mod script_lines;
+mod script_words;
 
 pub use debugger::{DebugEnd, debug};
 pub use disassembly::disassemble;
 pub use laws::law_disassembly;
-pub use script::DebugCommand;
+pub use script::{
+    DebugCommand, MOST_SCRIPT_BYTES, ScriptError, ScriptFault, ScriptKind, read_script,
+};

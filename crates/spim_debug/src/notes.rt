@@ -87,7 +87,7 @@ pub fn listed(alloc: Global, a: u32, word: u32) -> Result<Vec<u8>, AllocError>
 fn instruction_line(alloc: Global, word: u32) -> Result<Vec<u8>, AllocError>
     ensures { IfOk result (λ line. line.items ≡ spec.instruction_text (decoded word) ++ codes "\n") }
 {
-    match disassemble(alloc, word)? {
+    match disassemble(word) {
         None => Vec::from_slice(alloc, b"no instruction\n"),
         Some(line) => print_asm(alloc, slice::from_ref(&line)),
     }

@@ -1,6 +1,23 @@
-//! Scripts: what a debugger is asked to do, one command after another.
+//! Scripts: what a debugger is asked to do, line by line.
 
-/// A command of a script. An address of `Break`, `Delete` and `List` is that of a word of the text.
+ghost use Rattle.std.specs.Prelude.{◌≡◌, ◌<◌, ◌≤◌, length, IfOk, None};
+ghost use Rattle.mips_isa.specs.Lines.{lines_of, AreInRange};
+ghost use Rattle.mips_isa.specs.Assembly.{fault_of, image_of};
+ghost use Rattle.mips_asm.specs.TextLabels.{text_label};
+ghost use Rattle.spim_debug.specs.Scripts.{IsReadAs, commands_in};
+ghost use Rattle.spim_debug.specs.Debugging.{IsScriptFor};
+ghost use Rattle.spim_debug.specs.declared.script.ScriptError.TheVariants.{Memory};
+
+use crate::script_lines::read_lines;
+use crate::script_words::parts;
+use mips_asm::TextLabels;
+use mips_isa::Line;
+use std::alloc::{AllocError, Global};
+
+/// The most bytes of a script.
+pub const MOST_SCRIPT_BYTES: u64 = 65_536;
+
+/// What a line of a script asks for. Labels are the addresses of their words.
 #[derive(Clone, Copy, Debug, PartialEq, Eq)]
 pub enum DebugCommand {
     /// To stop before the instruction at this address.
@@ -17,4 +34,56 @@ pub enum DebugCommand {
     Show(u32),
     /// To note so many instructions from this address on.
     List(u32, u32),
+}
+
+/// What is wrong with a line of a script.
+#[derive(Clone, Copy, Debug, PartialEq, Eq)]
+pub enum ScriptKind {
+    /// It is in no form.
+    B1,
+    /// Its label is no label of a word of the text.
+    B2,
+}
+
+/// The first faulty line of a script, by its number from 1.
+#[derive(Clone, Copy, Debug, PartialEq, Eq)]
+pub struct ScriptFault {
+    pub kind: ScriptKind,
+    pub line: u32,
+}
+
+/// Why a script has no commands.
+#[derive(Clone, Copy, Debug, PartialEq, Eq)]
+pub enum ScriptError {
+    Memory,
+    Fault(ScriptFault),
+}
+
+impl From<AllocError> for ScriptError {
+    ghost from_gives = { λ _ e. e ≡ Memory };
+
+    fn from(_error: AllocError) -> ScriptError {
+        ScriptError::Memory
+    }
+}
+
+/// The commands of a script for a program of these lines: one for each line of the script that is not empty.
+///
+/// B1 comes where a line is in no form, and B2 where it names no label of a word of the program's text; the first faulty line
+/// counts. `Memory` comes only for want of memory. The forms are those of `docs/debugger.md`.
+pub fn read_script(
+    alloc: Global,
+    bytes: &[u8],
+    lines: &[Line],
+) -> Result<Vec<DebugCommand>, ScriptError>
+    requires small { length bytes.now ≤ MOST_SCRIPT_BYTES }
+    requires few { length lines.now < 4294967292 }
+    requires ranges { AreInRange (lines_of lines.now) }
+    requires image { fault_of (lines_of lines.now) ≡ None }
+    ensures exact { IsReadAs (commands_in (text_label (lines_of lines.now)) bytes.now) result }
+    ensures for_text { IfOk result (λ commands. IsScriptFor (image_of (lines_of lines.now)).text commands.items) }
+{
+    let labels = TextLabels::find(alloc, lines)?;
+    let script = parts(alloc, bytes, b'\n')?;
+    read_lines(alloc, script.as_slice(), &labels)
 }

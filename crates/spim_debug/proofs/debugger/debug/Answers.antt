@@ -1,10 +1,10 @@
 use Rattle.std.proofs.Common.{◌≡◌, ◌∙◌, refl, sym, ap, subst, ℕ, Bool, false, List, arith}
-use Rattle.std.specs.Prelude.{Option, Some}
+use Rattle.std.specs.Prelude.{Some}
 use Rattle.std.proofs.lemmas.List.{get_or_default}
 use Rattle.cool_ports.specs.Taking.{Took}
 use Rattle.cool_ports.proofs.InputsInParts.{took_nothing, took_both, in_two, leaves_same}
 use Rattle.mips_isa.specs.ImageBounds.{ImageParts}
-use Rattle.spim_debug.specs.Moves.{beginning}
+use Rattle.spim_debug.specs.Moves.{beginning, all_moves}
 use Rattle.spim_debug.specs.Debugging.{debuggee}
 use Rattle.spim_debug.specs.Obeying.{IsDebuggerOf, Stands}
 use Rattle.spim_debug.proofs.DoneScripts.{so_far_none, so_far_more, stopped_in, done_all, not_begun}
@@ -48,7 +48,7 @@ returns-in-Err-clause-debugged g c input rest leaves =
     let so = inv.so_far input two.middle two.before in
     let inside = c.loop-command-test.true in
     stopped_in d c.args.script.now c.loop-command.command-index _ _ c.in-Err.end _ c.obey.new.self _ _ _ _ _ _ _ inside (get_or_default c.args.script.now c.loop-command.command-index _ _ inside) so
-    (c.in-Err.ensures.obeyed d so.progress _ two.middle rest two.later so.stands)
+    (c.in-Err.ensures.obeyed d (all_moves d so.front beginning) _ two.middle rest two.later so.stands)
 
 -- one more command is done
 pub loop-command-preserved : goal.loop-command-preserved
@@ -64,7 +64,7 @@ loop-command-preserved g c =
           let two = in_two _ _ _ _ _ _ _ _ _ input rest inv.took c.obey.ensures.took leaves in
           let so = inv.so_far input two.middle two.before in
           so_far_more d c.args.script.now c.loop-command.command-index _ _ _ c.obey.new.self _ _ _ _ _ _ _ c.loop-command-test.true (get_or_default c.args.script.now c.loop-command.command-index _ _ c.loop-command-test.true) so
-          (done.obeyed d so.progress _ two.middle rest two.later so.stands);
+          (done.obeyed d (all_moves d so.front beginning) _ two.middle rest two.later so.stands);
       source = done.counts.0 ∙ inv.source;
       sink = done.counts.1 ∙ inv.sink;
       notes = done.counts.2 ∙ inv.notes;
@@ -78,4 +78,4 @@ returns-clause-debugged g c input rest leaves =
     let two = in_two _ _ _ _ _ _ _ _ _ input rest inv.took c.finish.ensures.took leaves in
     let so = inv.so_far input two.middle two.before in
     done_all d c.args.script.now c.loop-command.command-index _ c.finish.result _ _ _ _ _ _ _ (omega (arith, c.loop-command-test.false)) so
-    (c.finish.ensures.ended d so.progress _ two.middle rest two.later so.stands)
+    (c.finish.ensures.ended d (all_moves d so.front beginning) _ two.middle rest two.later so.stands)

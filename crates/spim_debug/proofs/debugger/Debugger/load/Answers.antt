@@ -1,4 +1,4 @@
-use Rattle.std.proofs.Common.{◌≡◌, ◌∙◌, refl, sym, ap, [], arith}
+use Rattle.std.proofs.Common.{◌∙◌, refl, sym, ap, [], arith}
 use Rattle.std.specs.Prelude.{Some}
 use Rattle.cool_ports.specs.SinkBytes.{appended}
 use Rattle.cool_ports.proofs.GettingBytes.{appended-nil}

@@ -1,4 +1,4 @@
-use Rattle.std.proofs.Common.{◌≡◌, ◌∙◌, refl, sym, ap, subst, List, ℕ}
+use Rattle.std.proofs.Common.{◌∙◌, refl, sym, ap, subst}
 use Rattle.std.specs.Prelude.{Some}
 use Rattle.spim_cpu.specs.Cpu.{CpuParts, core_of}
 use Rattle.spim_memory.specs.Memory.{MemoryParts, segments, bytes_of}

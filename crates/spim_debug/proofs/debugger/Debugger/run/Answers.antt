@@ -1,6 +1,5 @@
-use Rattle.std.proofs.Common.{◌≡◌, ◌∙◌, refl, sym, ap, subst, ℕ, ◌-◌, Bool, List}
-use Rattle.std.specs.Prelude.{Option, Some}
-use Rattle.mips_isa.specs.Calls.{State}
+use Rattle.std.proofs.Common.{◌∙◌, refl, sym, ap, subst, ℕ, ◌-◌, Bool}
+use Rattle.std.specs.Prelude.{Some}
 use Rattle.spim_memory.specs.Memory.{segments}
 use Rattle.spim_machine.specs.Counting.{RanTo}
 use Rattle.spim_debug.specs.declared.debugger.Debugger.{Debugger}

@@ -1,0 +1,20 @@
+-- What is read of the parts of a text at its newlines, by the addresses of a table, is read of the script.
+use Rattle.std.proofs.Common.{◌≡◌, ap, subst, ◌∙◌, ℕ, List}
+use Rattle.std.proofs.Math.Path.{fun_ext}
+use Rattle.std.specs.Prelude.{◌==◌, Option, Result, Vec}
+use Rattle.std.specs.Global.{Global}
+use Rattle.std.specs.List.{slice_split}
+use Rattle.mips_isa.specs.Lines as lines
+use Rattle.spim_debug.specs.declared.script.DebugCommand.{DebugCommand}
+use Rattle.spim_debug.specs.declared.script.ScriptFault.{ScriptFault}
+use Rattle.spim_debug.specs.declared.script.ScriptError.{ScriptError}
+use Rattle.spim_debug.specs.Scripts.{IsReadAs, commands_from, commands_in}
+use Rattle.spim_debug.proofs.ScriptParts.{parts_say}
+
+-- the table has the addresses that names have, and the parts are those of the script
+pub script_read : (table place : lines.Name → Option ℕ) (bytes : List ℕ) (parts : List (List ℕ)) (answer : Result (Vec DebugCommand Global) ScriptError)
+    → ((name : lines.Name) → table name ≡ place name) → parts ≡ slice_split (λ b. b == 10) bytes → IsReadAs (commands_from table 1 parts) answer → IsReadAs (commands_in place bytes) answer
+script_read table place bytes parts answer same cut h =
+    let names : table ≡ place = fun_ext same in
+    subst (λ (told : Result (List DebugCommand) ScriptFault). IsReadAs told answer)
+    (ap (λ (p : lines.Name → Option ℕ). commands_from p 1 parts) names ∙ (ap (commands_from place 1) cut ∙ parts_say place bytes)) h

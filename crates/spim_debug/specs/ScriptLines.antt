@@ -1,0 +1,17 @@
+-- What the readers of a script's lines hand to one another: what is asked for at a label, and a command that is added if there is one.
+use Rattle.std.specs.Prelude.{ℕ, List, [], ◌∷◌, ◌++◌, Option, Some, None}
+use Rattle.spim_debug.specs.declared.script.DebugCommand.{DebugCommand}
+use Rattle.spim_debug.specs.declared.script.DebugCommand.TheVariants as command
+use Rattle.spim_debug.specs.declared.script_lines.Asked.{Asked}
+use Rattle.spim_debug.specs.declared.script_lines.Asked.TheVariants.{Break, Delete, List as Listed}
+
+-- what is asked for, at an address
+abbrev pub asked : Asked → ℕ → DebugCommand
+asked Break address = command.Break address
+asked Delete address = command.Delete address
+asked (Listed count) address = command.List address count
+
+-- commands, and one more if there is one
+abbrev pub with_command : List DebugCommand → Option DebugCommand → List DebugCommand
+with_command commands None = commands
+with_command commands (Some command) = commands ++ command ∷ []

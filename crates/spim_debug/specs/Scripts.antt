@@ -1,0 +1,130 @@
+-- What a script says: a command for each line that is not empty, or the first line that is in no form, or names no label of a word of the
+-- text. The rule is in `docs/debugger.md`, Scripts.
+use Rattle.std.specs.Prelude.{◌≡◌, refl, ℕ, suc, ◌==◌, ◌&&◌, nat_le, if◌then◌else◌, List, [], ◌∷◌, length, bytes_eq, codes, Option, Some, None, Result, Ok, Err}
+use Rattle.mips_isa.specs.Lines as lines
+use Rattle.mips_text.specs.Names.{is_name}
+use Rattle.mips_text.specs.Reading.{lines_in, with_byte}
+use Rattle.mips_text.specs.Words.{decimal, hexadecimal}
+use Rattle.spim_debug.specs.declared.script.DebugCommand.{DebugCommand}
+use Rattle.spim_debug.specs.declared.script.DebugCommand.TheVariants.{Break, Delete, Step, Run, Regs, Show, List as ListWords}
+use Rattle.spim_debug.specs.declared.script.ScriptKind.{ScriptKind}
+use Rattle.spim_debug.specs.declared.script.ScriptKind.TheVariants.{B1, B2}
+use Rattle.spim_debug.specs.declared.script.ScriptFault.{ScriptFault}
+use Rattle.spim_debug.specs.declared.script.ScriptError.{ScriptError}
+use Rattle.spim_debug.specs.declared.script.ScriptError.TheVariants.{Memory, Fault}
+use Rattle.std.specs.Global.{Vec}
+
+-- what a line says: a command, or nothing where it is empty; or its fault
+abbrev pub Said : Type 0
+Said = Result (Option DebugCommand) ScriptKind
+
+abbrev pub says : DebugCommand → Said
+says command = Ok (Some command)
+
+-- the words of a line, which is parted at each space
+abbrev pub words_in : List ℕ → List (List ℕ)
+words_in [] = [] ∷ []
+words_in (b ∷ bs) = if b == 32 then [] ∷ words_in bs else with_byte b (words_in bs)
+
+-- a number from 1 on in at most so many digits, and at most so large
+abbrev pub up_to : ℕ → Option ℕ → Option ℕ
+up_to most None = None
+up_to most (Some n) = if nat_le 1 n && nat_le n most then Some n else None
+
+abbrev pub number_in : ℕ → ℕ → List ℕ → Option ℕ
+number_in digits most word = if nat_le (length word) digits then up_to most (decimal word) else None
+
+-- `0x` and eight hexadecimal digits
+abbrev pub address_in : List ℕ → Option ℕ
+address_in word = if length word == 10 then hexadecimal word else None
+
+-- with a number or an address, if it is one
+abbrev pub with_number : Option ℕ → (ℕ → DebugCommand) → Said
+with_number None command = Err B1
+with_number (Some n) command = says (command n)
+
+-- with the address of a label, if it has one
+abbrev pub at_label : Option ℕ → (ℕ → DebugCommand) → Said
+at_label None command = Err B2
+at_label (Some a) command = says (command a)
+
+abbrev pub with_label : (lines.Name → Option ℕ) → List ℕ → (ℕ → DebugCommand) → Said
+with_label place word command = if is_name word then at_label (place word) command else Err B1
+
+-- with a label and a number
+abbrev pub with_both : (lines.Name → Option ℕ) → List ℕ → Option ℕ → (ℕ → ℕ → DebugCommand) → Said
+with_both place word None command = Err B1
+with_both place word (Some n) command = with_label place word (λ a. command a n)
+
+-- a word alone, and with one operand and two
+abbrev pub alone : List ℕ → Said
+alone verb = if bytes_eq verb (codes "run") then says Run else (if bytes_eq verb (codes "regs") then says Regs else Err B1)
+
+abbrev pub with_operand : (lines.Name → Option ℕ) → List ℕ → List ℕ → Said
+with_operand place verb word =
+    if bytes_eq verb (codes "break") then with_label place word Break
+    else (if bytes_eq verb (codes "delete") then with_label place word Delete
+    else (if bytes_eq verb (codes "step") then with_number (number_in 10 1000000000 word) Step
+    else (if bytes_eq verb (codes "show") then with_number (address_in word) Show else Err B1)))
+
+abbrev pub with_operands : (lines.Name → Option ℕ) → List ℕ → List ℕ → List ℕ → Said
+with_operands place verb first second =
+    if bytes_eq verb (codes "list") then with_both place first (number_in 4 1000 second) ListWords else Err B1
+
+abbrev pub said_by : (lines.Name → Option ℕ) → List (List ℕ) → Said
+said_by place (verb ∷ []) = alone verb
+said_by place (verb ∷ word ∷ []) = with_operand place verb word
+said_by place (verb ∷ first ∷ second ∷ []) = with_operands place verb first second
+said_by place words = Err B1
+
+-- what a line says, where labels have these addresses
+abbrev pub said : (lines.Name → Option ℕ) → List ℕ → Said
+said place [] = Ok None
+said place (b ∷ bs) = said_by place (words_in (b ∷ bs))
+
+-- the commands of lines from a number on, or the first fault
+abbrev pub then_commands : ℕ → Said → Result (List DebugCommand) ScriptFault → Result (List DebugCommand) ScriptFault
+then_commands number (Err kind) later = Err (record { kind = kind; line = number })
+then_commands number (Ok None) later = later
+then_commands number (Ok (Some command)) (Err fault) = Err fault
+then_commands number (Ok (Some command)) (Ok commands) = Ok (command ∷ commands)
+
+abbrev pub commands_from : (lines.Name → Option ℕ) → ℕ → List (List ℕ) → Result (List DebugCommand) ScriptFault
+commands_from place number [] = Ok []
+commands_from place number (line ∷ rest) = then_commands number (said place line) (commands_from place (suc number) rest)
+
+-- the commands of a script, or its first fault
+abbrev pub commands_in : (lines.Name → Option ℕ) → List ℕ → Result (List DebugCommand) ScriptFault
+commands_in place bytes = commands_from place 1 (lines_in bytes)
+
+-- What reading answers: the commands, or the first fault, unless memory ran out.
+abbrev pub IsReadAs : Result (List DebugCommand) ScriptFault → Result (Vec DebugCommand) ScriptError → Type 0
+IsReadAs told (Ok commands) = told ≡ Ok commands.items
+IsReadAs told (Err Memory) = Unit {0}
+IsReadAs told (Err (Fault fault)) = told ≡ Err fault
+
+-- worked examples, where `main` alone is a label, at 0x00400000
+abbrev main_alone : lines.Name → Option ℕ
+main_alone name = if bytes_eq name (codes "main") then Some 0x00400000 else None
+
+a_script : commands_in main_alone (codes "break main\nrun\n\nlist main 2\nstep 5\nshow 0x1000000A\nregs")
+    ≡ Ok (Break 0x00400000 ∷ Run ∷ ListWords 0x00400000 2 ∷ Step 5 ∷ Show 0x1000000a ∷ Regs ∷ [])
+a_script = refl
+
+unknown_label : commands_in main_alone (codes "run\nbreak Nope\nstep") ≡ Err (record { kind = B2; line = 2 })
+unknown_label = refl
+
+two_spaces : said main_alone (codes "step  1") ≡ Err B1
+two_spaces = refl
+
+no_step : said main_alone (codes "step 0") ≡ Err B1
+no_step = refl
+
+form_before_label : said main_alone (codes "list Nope 1001") ≡ Err B1
+form_before_label = refl
+
+eleven_digits : said main_alone (codes "step 00000000001") ≡ Err B1
+eleven_digits = refl
+
+no_label : said main_alone (codes "delete 1a") ≡ Err B1
+no_label = refl

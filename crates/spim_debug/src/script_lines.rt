@@ -1,0 +1,196 @@
+//! The lines of a script, each by itself.
+
+ghost use Rattle.std.specs.Prelude.{◌≡◌, ◌≤◌, IfOk, length, map, suc};
+ghost use Rattle.mips_asm.specs.TextLabels.{address_of};
+ghost use Rattle.spim_debug.specs.Scripts.{IsReadAs, address_in, alone, commands_from, number_in, said, said_by, with_label, with_number, with_operand, with_operands};
+ghost use Rattle.spim_debug.specs.ScriptLines.{asked, with_command};
+ghost use Rattle.spim_debug.specs.declared.script.DebugCommand.TheVariants.{Show, Step};
+
+use crate::script::{DebugCommand, ScriptError, ScriptFault, ScriptKind};
+use crate::script_words::{parts, read_address, read_number};
+use mips_asm::TextLabels;
+use mips_text::is_name;
+use std::alloc::{AllocError, Global};
+
+/// The most instructions of a `step`.
+const MOST_STEPS: u64 = 1_000_000_000;
+
+/// The most digits of their number.
+const STEP_DIGITS: usize = 10;
+
+/// The most instructions of a `list`.
+const MOST_LISTED: u64 = 1_000;
+
+/// The most digits of their number.
+const LIST_DIGITS: usize = 4;
+
+/// The commands of the lines of a script, or the first fault.
+pub(crate) fn read_lines(
+    alloc: Global,
+    lines: &[&[u8]],
+    labels: &TextLabels<'_>,
+) -> Result<Vec<DebugCommand>, ScriptError>
+    requires { length lines.now ≤ 65537 }
+    ensures { IsReadAs (commands_from (address_of labels.now) 1 (map (λ line. line.now) lines.now)) result }
+{
+    let mut commands = Vec::new(alloc);
+    for (index, line) in lines.iter().enumerate() {
+        match read_line(alloc, line, labels)? {
+            Ok(command) => keep(&mut commands, command)?,
+            Err(kind) => {
+                let line = index as u32 + 1;
+                return Err(ScriptError::Fault(ScriptFault { kind, line }));
+            }
+        }
+    }
+    Ok(commands)
+}
+
+/// Adds a command, if there is one.
+fn keep(commands: &mut Vec<DebugCommand>, command: Option<DebugCommand>) -> Result<(), AllocError>
+    ensures { IfOk result (λ done. commands.new.items ≡ with_command commands.old.items command) }
+{
+    if let Some(command) = command {
+        commands.push(command)?;
+    }
+    Ok(())
+}
+
+/// What a line says: a command, or nothing where it is empty; or its fault. The outer `Err` comes only for want of memory.
+fn read_line(
+    alloc: Global,
+    line: &[u8],
+    labels: &TextLabels<'_>,
+) -> Result<Result<Option<DebugCommand>, ScriptKind>, AllocError>
+    ensures { IfOk result (λ told. told ≡ said (address_of labels.now) line.now) }
+{
+    if line.is_empty() {
+        return Ok(Ok(None));
+    }
+    let words = parts(alloc, line, b' ')?;
+    Ok(said_by(words.as_slice(), labels))
+}
+
+/// What the words of a line say.
+#[tactic(auto, using(crate::proofs::ScriptCommands::more_words))]
+fn said_by(words: &[&[u8]], labels: &TextLabels<'_>) -> Result<Option<DebugCommand>, ScriptKind>
+    ensures { result ≡ said_by (address_of labels.now) (map (λ word. word.now) words.now) }
+{
+    match words {
+        [verb] => alone(verb),
+        [verb, word] => with_operand(verb, word, labels.address(word)),
+        [verb, first, second] => with_operands(verb, first, second, labels.address(first)),
+        _ => Err(ScriptKind::B1),
+    }
+}
+
+/// What a word alone says.
+fn alone(verb: &[u8]) -> Result<Option<DebugCommand>, ScriptKind>
+    ensures { result ≡ alone verb.now }
+{
+    if verb == b"run".as_slice() {
+        Ok(Some(DebugCommand::Run))
+    } else if verb == b"regs".as_slice() {
+        Ok(Some(DebugCommand::Regs))
+    } else {
+        Err(ScriptKind::B1)
+    }
+}
+
+/// What a word with an operand says, where the operand has this address if it is a label.
+fn with_operand(
+    verb: &[u8],
+    word: &[u8],
+    address: Option<u32>,
+) -> Result<Option<DebugCommand>, ScriptKind>
+    ensures { result ≡ with_operand (λ name. address) verb.now word.now }
+{
+    if verb == b"break".as_slice() {
+        at_label(Asked::Break, word, address)
+    } else if verb == b"delete".as_slice() {
+        at_label(Asked::Delete, word, address)
+    } else if verb == b"step".as_slice() {
+        step(word)
+    } else if verb == b"show".as_slice() {
+        show(word)
+    } else {
+        Err(ScriptKind::B1)
+    }
+}
+
+/// What a word with two operands says, where the first has this address if it is a label.
+fn with_operands(
+    verb: &[u8],
+    first: &[u8],
+    second: &[u8],
+    address: Option<u32>,
+) -> Result<Option<DebugCommand>, ScriptKind>
+    ensures { result ≡ with_operands (λ name. address) verb.now first.now second.now }
+{
+    if verb != b"list".as_slice() {
+        return Err(ScriptKind::B1);
+    }
+    match read_number(second, LIST_DIGITS, MOST_LISTED) {
+        Some(count) => at_label(Asked::List(count as u32), first, address),
+        None => Err(ScriptKind::B1),
+    }
+}
+
+/// What is asked for at a label.
+#[derive(Clone, Copy, Debug)]
+enum Asked {
+    Break,
+    Delete,
+    /// To note so many instructions.
+    List(u32),
+}
+
+impl Asked {
+    /// The command at this address.
+    fn at(self, address: u32) -> DebugCommand
+        ensures { result ≡ asked self address }
+    {
+        match self {
+            Asked::Break => DebugCommand::Break(address),
+            Asked::Delete => DebugCommand::Delete(address),
+            Asked::List(count) => DebugCommand::List(address, count),
+        }
+    }
+}
+
+/// The command at a label. B1 comes where the word is no name, and B2 where it has no address.
+fn at_label(
+    what: Asked,
+    word: &[u8],
+    address: Option<u32>,
+) -> Result<Option<DebugCommand>, ScriptKind>
+    ensures { result ≡ with_label (λ name. address) word.now (asked what) }
+{
+    if !is_name(word) {
+        return Err(ScriptKind::B1);
+    }
+    match address {
+        Some(address) => Ok(Some(what.at(address))),
+        None => Err(ScriptKind::B2),
+    }
+}
+
+/// The command to execute so many instructions.
+fn step(word: &[u8]) -> Result<Option<DebugCommand>, ScriptKind>
+    ensures { result ≡ with_number (number_in 10 1000000000 word.now) Step }
+{
+    match read_number(word, STEP_DIGITS, MOST_STEPS) {
+        Some(count) => Ok(Some(DebugCommand::Step(count))),
+        None => Err(ScriptKind::B1),
+    }
+}
+
+/// The command to note the word at this address.
+fn show(word: &[u8]) -> Result<Option<DebugCommand>, ScriptKind>
+    ensures { result ≡ with_number (address_in word.now) Show }
+{
+    match read_address(word) {
+        Some(address) => Ok(Some(DebugCommand::Show(address))),
+        None => Err(ScriptKind::B1),
+    }
+}
