@@ -10,15 +10,16 @@ use Rattle.cool_words.specs.declared.plan.RunLimits.{RunLimits}
 use Rattle.cool_driver.specs.CommandLine.{plan_of}
 use Rattle.cool_driver.specs.Notes.{refused_note}
 use Rattle.cool_driver.specs.Calls.{Request, IsRead, MayRefuse, Told}
-use Rattle.cool_driver.specs.Ends.{Due, IsRunOf, IsEvaluationOf, IsCompiled, built_bytes}
+use Rattle.cool_driver.specs.Ends.{Due, IsRunOf, IsDebugged, IsEvaluationOf, IsCompiled, built_bytes}
 use Rattle.cool_driver.specs.Ends.IsRunOf.{of_file, of_program}
-use Rattle.cool_driver.specs.Ends.Due.{checked, built, refused, executed, unread_input, evaluated, unread_source, unfit, misread, summed, usage, too_many, missing, unread, too_large}
+use Rattle.cool_driver.specs.Ends.Due.{checked, built, refused, executed, unread_input, debugged, unread_debugged, misscripted, unscripted, evaluated, unread_source, unfit, misread, summed, usage, too_many, missing, unread, too_large}
 use Rattle.cool_driver.specs.declared.command_line.Command.{Command}
-use Rattle.cool_driver.specs.declared.command_line.Command.TheVariants.{Check, Build, Run, Eval, Exec}
+use Rattle.cool_driver.specs.declared.command_line.Command.TheVariants.{Check, Build, Run, Eval, Exec, Debug}
 use Rattle.cool_driver.specs.declared.command_line.Form.{Form}
 use Rattle.cool_driver.proofs.Plans.{no_files_for_big, no_files_for_nothing}
 use Rattle.cool_driver.proofs.ReadTwice.{same_plan, no_plan_and_plan, same_read, may_refuse}
-use Rattle.cool_driver.proofs.Findings.{no_file_fault}
+use Rattle.cool_driver.proofs.ScriptsOfCalls.{debug_plan}
+use Rattle.cool_driver.proofs.Findings.{no_file_fault, missing_fault, large_fault, script_fault}
 
 -- The status, the output and the note that come for files of these names with this fault list.
 pub record Answers (command : Command) (names contents : List (List ℕ)) (faults : List Fault) (status : ℕ) (output note : List ℕ) : Type 0 where
@@ -44,6 +45,12 @@ eval_or_check steps command a b = let same = a ∙ b in cc
 eval_or_build : (steps : ℕ) (form : Form) (command : Command) → Eval steps ≡ command → command ≡ Build form → ⊥
 eval_or_build steps form command a b = let same = a ∙ b in cc
 
+debug_or_check : (limits : RunLimits) (command : Command) → Debug limits ≡ command → command ≡ Check → ⊥
+debug_or_check limits command a b = let same = a ∙ b in cc
+
+debug_or_build : (limits : RunLimits) (form : Form) (command : Command) → Debug limits ≡ command → command ≡ Build form → ⊥
+debug_or_build limits form command a b = let same = a ∙ b in cc
+
 -- a command has one form
 same_form : (a b : Form) → Build a ≡ Build b → a ≡ b
 same_form a b e = cc
@@ -62,6 +69,20 @@ answered_by_run r files limits found command names contents faults status output
       checked = λ check _. absurd (run_or_check limits command asked check);
       built = λ form q build _. absurd (run_or_build limits form command asked build);
       compiled = λ form q build _. absurd (run_or_build limits form command asked build);
+    }
+
+-- a program that is debugged answers the empty list of `debug`
+answered_by_debugged : (r : Request) (files : FileMap) (limits : RunLimits) (p : List Class) (script bytes : List ℕ) (command : Command) (others names contents : List (List ℕ)) (faults : List Fault) (status : ℕ) (output note : List ℕ)
+    → IsDebugged r limits others p script bytes → Told r files → IsRead r command names contents → IsFaultList contents faults → Answers command names contents faults status output note
+answered_by_debugged r files limits p script bytes command others names contents faults status output note is told read list =
+    let same = same_read r files (Debug limits) command others names is.contents contents told is.read read in
+    let none : faults ≡ [] = one_list contents faults [] list (subst (λ (cs : List (List ℕ)). IsFaultList cs []) same is.accepted.list) in
+    let asked = (same_plan (plan_of r.words) (Debug limits) command others names is.read.plan read.plan).0 in
+    record {
+      refused = λ some. absurd (some none);
+      checked = λ check _. absurd (debug_or_check limits command asked check);
+      built = λ form q build _. absurd (debug_or_build limits form command asked build);
+      compiled = λ form q build _. absurd (debug_or_build limits form command asked build);
     }
 
 -- an evaluation answers the empty list of `eval`
@@ -121,6 +142,14 @@ answered r _ _ _ _ files command names contents faults (refused command' names' 
     }
 answered r _ _ _ _ files command names contents faults (executed limits found run) told read may list = answered_by_run r files _ _ command names contents faults _ _ _ run told read may list
 answered r _ _ _ _ files command names contents faults (unread_input limits found at output left run comes fails) told read may list = answered_by_run r files _ _ command names contents faults _ _ _ run told read may list
+answered r _ _ _ _ files command names contents faults (debugged limits found commands is) told read may list =
+    answered_by_debugged r files limits is.p is.script is.bytes command is.names names contents faults _ _ _ is.debugged told read list
+answered r _ _ _ _ files command names contents faults (unread_debugged limits found front rest at output left is comes fails) told read may list =
+    answered_by_debugged r files limits is.p is.script is.bytes command is.names names contents faults _ _ _ is.debugged told read list
+answered r _ _ _ _ files command names contents faults (misscripted limits names' p script bytes fault is says) told read may list =
+    answered_by_debugged r files limits p script bytes command names' names contents faults _ _ _ is told read list
+answered r _ _ _ _ files command names contents faults (unscripted limits names' script note asked few why) told read may list =
+    absurd (no_file_fault r files _ _ _ _ _ told read (debug_plan r.words script names' limits asked) (script_fault asked why))
 answered r _ _ _ _ files command names contents faults (evaluated steps names' p status is e) told read may list = answered_by_evaluation r files steps p command names' names contents faults _ _ _ is told read list
 answered r _ _ _ _ files command names contents faults (unread_source steps names' p output left is part) told read may list =
     answered_by_evaluation r files steps p command names' names contents faults _ _ _ is told read list
@@ -134,9 +163,7 @@ answered r _ _ _ _ files command names contents faults (usage none calm) told re
     absurd (no_plan_and_plan _ _ _ (no_files_for_nothing r.words none) read.plan)
 answered r _ _ _ _ files command names contents faults (too_many command' names' plan many calm) told read may list = absurd (no_file_fault r files _ _ _ _ _ told read plan (inl (many, calm)))
 answered r _ _ _ _ files command names contents faults (missing command' name contents' u gone) told read may list =
-    absurd (no_file_fault r files _ _ _ _ _ told read u.plan
-    (inr (inr (record { front = u.front; rest = u.rest; name = name; contents = contents'; stands = refl; held = u.held; cause = inl gone }))))
+    absurd (no_file_fault r files _ _ _ _ _ told read u.plan (missing_fault u gone))
 answered r _ _ _ _ files command names contents faults (unread command' name contents' u rose) told read may list = absurd (no_file_fault r files _ _ _ _ _ told read u.plan (inr (inl rose)))
 answered r _ _ _ _ files command names contents faults (too_large command' name contents' u long) told read may list =
-    absurd (no_file_fault r files _ _ _ _ _ told read u.plan
-    (inr (inr (record { front = u.front; rest = u.rest; name = name; contents = contents'; stands = refl; held = u.held; cause = inr long }))))
+    absurd (no_file_fault r files _ _ _ _ _ told read u.plan (large_fault u long))

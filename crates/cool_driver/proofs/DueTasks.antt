@@ -1,5 +1,5 @@
 -- What is left to do is what is due.
-use Rattle.std.proofs.Common.{◌≡◌, ℕ, ◌<◌, ◌≤◌, true, List, [], ◌∷◌, length, get_or, Some, refl, sym, ◌∙◌, ap, subst, inl, inr, eqb-true, arith}
+use Rattle.std.proofs.Common.{◌≡◌, ℕ, ◌-◌, ◌<◌, ◌≤◌, true, List, [], ◌∷◌, length, get_or, Some, refl, sym, ◌∙◌, ap, subst, inl, inr, eqb-true, arith}
 use Rattle.std.specs.Prelude.{Option, Result, Ok, Err, IfOk, String, string_bytes}
 use Rattle.std.specs.Global.{Global, Vec}
 use Rattle.cool_syntax.specs.declared.TheConstants.{MOST_FILES}
@@ -12,20 +12,21 @@ use Rattle.cool_words.specs.Plans.{IsBounded}
 use Rattle.cool_driver.specs.CommandLine.{words_of, is_number_of_files, plan_of, most_bytes}
 use Rattle.cool_driver.specs.Contents.{texts}
 use Rattle.cool_driver.specs.Notes.{missing_note, unread_note, too_large_note, too_many_note}
-use Rattle.cool_driver.specs.Calls.{Request, IsRead, IsReadUpTo, AreHeld}
+use Rattle.cool_driver.specs.Calls.{Request, IsRead, IsReadUpTo, AreHeld, HasScript}
 use Rattle.cool_driver.specs.Ends.{Due}
 use Rattle.cool_driver.specs.Ends.Due.{checked, built, refused, unfit, misread, too_many, missing, unread, too_large}
 use Rattle.cool_driver.specs.Ends.IsRunOf.{of_file, of_program}
 use Rattle.cool_driver.specs.Ends.Writing.{by_build}
-use Rattle.cool_driver.specs.Reading.{IsStopAt}
-use Rattle.cool_driver.specs.Tasks.{fault_note, IsTaskOf, IsTaskOfFile, IsTaskOfChecked, IsTaskOfBuilt, IsTaskOfRun, IsTaskOfEval, IsLine, HasLimits, IsDue, IsFileTask}
+use Rattle.cool_driver.specs.Reading.{IsCause, IsStopAt}
+use Rattle.cool_driver.specs.Tasks.{fault_note, IsTaskOf, IsTaskOfFile, IsTaskOfChecked, IsTaskOfBuilt, IsTaskOfRun, IsTaskOfEval, IsLine, IsUnreadLine, HasLimits, TakesNoScript, IsDue, IsFileTask}
 use Rattle.cool_driver.specs.declared.command_line.Command.{Command}
 use Rattle.cool_driver.specs.declared.command_line.Command.TheVariants as command
 use Rattle.cool_driver.specs.declared.command_line.Form.{Form}
 use Rattle.cool_driver.specs.declared.status.Status.TheVariants as statuses
 use Rattle.cool_driver.specs.declared.task.Task.{Task}
-use Rattle.cool_driver.specs.declared.task.Task.TheVariants.{Tell, Write, Execute, Evaluate}
+use Rattle.cool_driver.specs.declared.task.Task.TheVariants.{Tell, Write, Execute, Debug, Evaluate}
 use Rattle.cool_driver.proofs.NoteLines.{line_due}
+use Rattle.cool_driver.proofs.ScriptsOfCalls.{plain_script}
 
 -- for files that `check` names
 checked_due : (r : Request) (names contents : List (List ℕ)) (task : Task) → IsRead r command.Check names contents → IsTaskOfChecked names contents task → IsDue r task
@@ -34,6 +35,7 @@ checked_due r names contents (Tell status lines) read (are, inr h) = rw (h.0, h.
 checked_due r names contents (Write made) read h = absurd h
 checked_due r names contents (Execute within image) read h = absurd h
 checked_due r names contents (Evaluate steps p files) read h = absurd h
+checked_due r names contents (Debug within image commands) read h = absurd h
 
 -- for files that `asm` or `build` names
 built_due : (r : Request) (form : Form) (names contents : List (List ℕ)) (task : Task) → IsRead r (command.Build form) names contents
@@ -43,6 +45,7 @@ built_due r form names contents (Tell status lines) read (are, one, h) =
 built_due r form names contents (Write made) read h = rw h.3 (built form names contents h.0 read h.1 h.2, by_build form names contents h.0 read h.1)
 built_due r form names contents (Execute within image) read h = absurd h
 built_due r form names contents (Evaluate steps p files) read h = absurd h
+built_due r form names contents (Debug within image commands) read h = absurd h
 
 -- for files that `run` names
 run_due : (r : Request) (limits : RunLimits) (names contents : List (List ℕ)) (task : Task) → IsBounded limits → IsRead r (command.Run limits) names contents
@@ -53,6 +56,7 @@ run_due r limits names contents (Write made) bounded read h = absurd h
 run_due r limits names contents (Execute within image) bounded read (same, h) =
     rw same (bounded, of_program names contents h.0 read h.1 h.2 h.3 bounded)
 run_due r limits names contents (Evaluate steps p files) bounded read h = absurd h
+run_due r limits names contents (Debug within image commands) bounded read h = absurd h
 
 -- for files that `eval` names
 eval_due : (r : Request) (steps : ℕ) (names contents : List (List ℕ)) (task : Task) → IsRead r (command.Eval steps) names contents
@@ -61,6 +65,7 @@ eval_due r steps names contents (Tell status lines) read (are, one, h) =
     rw (one, h.2) (refused (command.Eval steps) names contents h.0 read tt h.1, are, λ e. omega (arith, e))
 eval_due r steps names contents (Write made) read h = absurd h
 eval_due r steps names contents (Execute within image) read h = absurd h
+eval_due r steps names contents (Debug within image commands) read h = absurd h
 eval_due r steps names contents (Evaluate most p files) read (same, named, is) = rw (same, named) (record { contents = contents; read = read; accepted = is })
 
 -- for the file that `exec` names
@@ -73,6 +78,7 @@ file_due r limits name bytes (Tell status lines) bounded read (twelve, are, inr 
 file_due r limits name bytes (Write made) bounded read h = absurd h
 file_due r limits name bytes (Execute within image) bounded read (same, h) = rw same (bounded, of_file name bytes read h)
 file_due r limits name bytes (Evaluate steps p files) bounded read h = absurd h
+file_due r limits name bytes (Debug within image commands) bounded read h = absurd h
 
 -- `exec` names one file
 exec_due : (r : Request) (limits : RunLimits) (names contents : List (List ℕ)) (task : Task) → IsBounded limits → IsRead r (command.Exec limits) names contents → length names ≡ 1
@@ -107,6 +113,7 @@ task_due r (command.Build form) names contents task bounded read number h = buil
 task_due r (command.Run limits) names contents task bounded read number h = run_due r limits names contents task bounded read h
 task_due r (command.Eval steps) names contents task bounded read number h = eval_due r steps names contents task read h
 task_due r (command.Exec limits) names contents task bounded read number h = exec_due r limits names contents task bounded read (eqb-true (length names) 1 number) read.held h
+task_due r (command.Debug limits) names contents task bounded read number h = absurd h
 
 -- what follows for each value follows for one that was made
 pub for_ok : {T E : Type 0} (P Q : T → Type 0) (result : Result T E) → ((made : T) → P made → Q made) → IfOk result P → IfOk result Q
@@ -115,49 +122,72 @@ for_ok P Q (Ok made) f h = f made h
 
 -- for files that were read, for any words that ask for them and over any input
 pub file_task : (files : Option FileMap) (before after : ℕ) (asked : Command) (names contents : List (List ℕ)) (task : Task)
-    → HasLimits asked → is_number_of_files asked (length names) ≡ true
-    → AreHeld files names contents → length names ≤ MOST_FILES → total contents ≤ most_bytes asked → after ≡ before → IsTaskOf asked names contents task → IsFileTask files before after asked names task
-file_task files before after asked names contents task bounded number held few within calm h words input plan =
+    → HasLimits asked → TakesNoScript asked → is_number_of_files asked (length names) ≡ true → AreHeld files names contents
+    → length names ≤ MOST_FILES → total contents ≤ most_bytes asked → after ≡ before → IsTaskOf asked names contents task → IsFileTask files before after asked names task
+file_task files before after asked names contents task bounded plain number held few within calm h words input plan =
     let r : Request = record { words = words; files = files; faults_before = before; faults_after = after; input = input } in
-    let read : IsRead r asked names contents = record { plan = plan; few = few; held = held; within = within; calm = calm } in
+    let read : IsRead r asked names contents = record {
+      plan = plan;
+      few = few;
+      held = held;
+      within = within;
+      script = plain_script r asked names plain plan;
+      calm = calm;
+    } in
     task_due r asked names contents task bounded read number h
 
 -- for too many files
-pub many_task : (files : Option FileMap) (faults : ℕ) (asked : Command) (names : List (List ℕ)) (task : Task) → MOST_FILES < length names → IsLine statuses.FileFault too_many_note task → IsFileTask files faults faults asked names task
+pub many_due : (r : Request) (asked : Command) (names : List (List ℕ)) (task : Task) → plan_of r.words ≡ Some (asked, names)
+    → MOST_FILES < length names → r.faults_after ≡ r.faults_before → IsLine statuses.FileFault too_many_note task → IsDue r task
+many_due r asked names task plan many calm h =
+    line_due r statuses.FileFault too_many_note task h (omega arith) (λ e. omega (arith, e)) (too_many asked names plan many calm)
+
+pub many_task : (files : Option FileMap) (faults : ℕ) (asked : Command) (names : List (List ℕ)) (task : Task) → MOST_FILES < length names
+    → IsLine statuses.FileFault too_many_note task → IsFileTask files faults faults asked names task
 many_task files faults asked names task many h words input plan =
-    let r : Request = record { words = words; files = files; faults_before = faults; faults_after = faults; input = input } in
-    line_due r statuses.FileFault too_many_note task h (omega arith) (λ e. omega (arith, e)) (too_many asked names plan many refl)
+    many_due (record { words = words; files = files; faults_before = faults; faults_after = faults; input = input }) asked names task plan many refl h
 
 -- the files before the one that was refused were read
-read_before : (r : Request) (asked : Command) (names : List (List ℕ)) (name : List ℕ) (fault : ShelfFault) → plan_of r.words ≡ Some (asked, names) → length names ≤ MOST_FILES
-    → (s : IsStopAt r.files r.faults_before r.faults_after names (most_bytes asked) name fault) → IsReadUpTo r asked name s.contents
-read_before r asked names name fault plan few s = record {
+read_before : (r : Request) (asked : Command) (names : List (List ℕ)) (name : List ℕ) (fault : ShelfFault) → plan_of r.words ≡ Some (asked, names)
+    → HasScript r → length names ≤ MOST_FILES → (s : IsStopAt r.files r.faults_before r.faults_after names (most_bytes asked) name fault)
+    → IsReadUpTo r asked name s.contents
+read_before r asked names name fault plan script few s = record {
   front = s.front;
   rest = s.rest;
   plan = plan ∙ ap (λ (ns : List (List ℕ)). Some (asked, ns)) s.stands;
   few = omega (arith, few, ap length s.stands);
   held = s.held;
   within = s.within;
+  script = script;
 }
 
--- for a file that was refused
-stop_due : (r : Request) (asked : Command) (names : List (List ℕ)) (name : List ℕ) (fault : ShelfFault) (note : List ℕ) → plan_of r.words ≡ Some (asked, names) → length names ≤ MOST_FILES
-    → IsStopAt r.files r.faults_before r.faults_after names (most_bytes asked) name fault → fault_note name fault ≡ Some note → Due r 10 [] note r.input × (0 < length note)
-stop_due r asked names name faults.Missing note plan few s e =
+-- what is due for a file that was refused
+noted_due : (r : Request) (asked : Command) (name : List ℕ) (contents : List (List ℕ)) (fault : ShelfFault) (note : List ℕ)
+    → IsReadUpTo r asked name contents → IsCause r.files r.faults_before r.faults_after name (most_bytes asked - total contents) fault → fault_note name fault ≡ Some note
+    → Due r 10 [] note r.input × (0 < length note)
+noted_due r asked name contents faults.Missing note read cause e =
     let same : missing_note name ≡ note = cc in
-    rw (← same) (missing asked name s.contents (read_before r asked names name faults.Missing plan few s) s.cause, omega arith)
-stop_due r asked names name faults.Failed note plan few s e =
+    rw (← same) (missing asked name contents read cause, omega arith)
+noted_due r asked name contents faults.Failed note read cause e =
     let same : unread_note name ≡ note = cc in
-    rw (← same) (unread asked name s.contents (read_before r asked names name faults.Failed plan few s) s.cause, omega arith)
-stop_due r asked names name faults.TooLarge note plan few s e =
+    rw (← same) (unread asked name contents read cause, omega arith)
+noted_due r asked name contents faults.TooLarge note read cause e =
     let same : too_large_note ≡ note = cc in
-    rw (← same) (too_large asked name s.contents (read_before r asked names name faults.TooLarge plan few s) s.cause, omega arith)
-stop_due r asked names name faults.Memory note plan few s e = absurd s.cause
+    rw (← same) (too_large asked name contents read cause, omega arith)
+noted_due r asked name contents faults.Memory note read cause e = absurd cause
+
+-- so that is what is left to do
+pub stop_due : (r : Request) (asked : Command) (names : List (List ℕ)) (name : List ℕ) (fault : ShelfFault) (task : Task)
+    → plan_of r.words ≡ Some (asked, names) → HasScript r → length names ≤ MOST_FILES → IsStopAt r.files r.faults_before r.faults_after names (most_bytes asked) name fault
+    → IsUnreadLine name fault task → IsDue r task
+stop_due r asked names name fault task plan script few s (note, is, h) =
+    let due = noted_due r asked name s.contents fault note (read_before r asked names name fault plan script few s) s.cause is in
+    line_due r statuses.FileFault note task h due.1 (λ e. omega (arith, e)) due.0
 
 -- the same, for any words that ask for these files and over any input
-pub stop_task : (files : Option FileMap) (before after : ℕ) (asked : Command) (names : List (List ℕ)) (name : List ℕ) (fault : ShelfFault) (note : List ℕ) (task : Task) → length names ≤ MOST_FILES
-    → IsStopAt files before after names (most_bytes asked) name fault → fault_note name fault ≡ Some note → IsLine statuses.FileFault note task → IsFileTask files before after asked names task
-stop_task files before after asked names name fault note task few s e h words input plan =
+pub stop_task : (files : Option FileMap) (before after : ℕ) (asked : Command) (names : List (List ℕ)) (name : List ℕ) (fault : ShelfFault)
+    (task : Task) → TakesNoScript asked → length names ≤ MOST_FILES → IsStopAt files before after names (most_bytes asked) name fault → IsUnreadLine name fault task
+    → IsFileTask files before after asked names task
+stop_task files before after asked names name fault task plain few s h words input plan =
     let r : Request = record { words = words; files = files; faults_before = before; faults_after = after; input = input } in
-    let due = stop_due r asked names name fault note plan few s e in
-    line_due r statuses.FileFault note task h due.1 (λ e. omega (arith, e)) due.0
+    stop_due r asked names name fault task plan (plain_script r asked names plain plan) few s h

@@ -8,12 +8,13 @@ use Rattle.cool_ports.specs.ShelfFiles.{FileMap}
 use Rattle.cool_driver.specs.declared.command_line.Command.{Command}
 use Rattle.cool_driver.specs.declared.command_line.Command.TheVariants.{Check, Build}
 use Rattle.cool_driver.specs.Calls.{Request, Call, NoLess, DidNothing, Got, Told, IsRead, MayRefuse}
-use Rattle.cool_driver.specs.Ends.{Due, Writing, Ends, FailedOutput, FailedNote, RanShort}
+use Rattle.cool_driver.specs.Ends.{Due, Writing, Ends, FailedOutput, FailedNote, FailedDebugged, RanShort, DebuggedShort}
 use Rattle.cool_driver.specs.Ends.Writing.{by_build, by_big, by_image, by_eval}
 use Rattle.cool_driver.proofs.HeadlineOfCalls.{headline_written, headline_failed, not_run}
+use Rattle.cool_driver.proofs.HeadlineOfDebugs.{misscripted_ends, debugged_ends, debug_written, debug_failed, debug_short}
 use Rattle.cool_driver.proofs.NotesOfTexts.{misread_note}
 use Rattle.cool_driver.proofs.AnsweredFaults.{answered}
-use Rattle.cool_driver.proofs.Findings as findings
+use Rattle.cool_driver.proofs.StatusesOfFindings as findings
 use Rattle.cool_driver.proofs.Findings.{Finding, finding_of_due, finding_below}
 use Rattle.cool_driver.proofs.EvaluationsOfCalls.{evaluated_ends, prefix_of_due, prefix_of_failed, prefix_of_short}
 use Rattle.cool_driver.proofs.ImagesOfCalls.{read_for_run}
@@ -70,6 +71,9 @@ ends_found c status found calm written =
       too_many_exactly = λ command names plan many _ _. findings.too_many_exactly r status command names found plan many;
       missing_exactly = λ files command names name told plan named gone _ _. findings.missing_exactly r status files command names name found told plan named gone;
       too_large_exactly = λ files command names contents told plan held large _ _. findings.too_large_exactly r status files command names contents found told plan held large;
+      script_missing_exactly = λ files script told asked gone _ _. findings.unread_exactly r status script found asked (λ bytes read. findings.no_missing_script r files script bytes told gone read);
+      script_too_large_exactly = λ files script large told asked held more _ _.
+          findings.unread_exactly r status script found asked (λ bytes read. findings.no_large_script r files script large bytes told held more read);
       checked_exactly = λ files names contents faults told read list _ _.
           let a = answer Check names contents faults files told read tt list in
           (a.checked refl, λ some. (a.refused some).0);
@@ -83,6 +87,12 @@ ends_found c status found calm written =
       compiled_exactly = λ files limits names contents p told read is _ _. findings.compiled_exactly r status files limits names contents p found told read is;
       headline = λ files limits names contents p told read is bytes _. headline_written c status written.0 written.1 files limits names contents p written.2 written.3 told read is bytes;
       not_run = λ limits names plan e. absurd (bounds.2 e);
+      debugged_exactly = λ files limits names contents p script bytes commands told read is script_read says _ _.
+          debugged_ends c files limits names contents p script bytes told read is script_read commands says status written.0 written.1 written.2 written.3 written.4;
+      misscripted_exactly = λ files limits names contents p script bytes fault told read is script_read says _ _.
+          misscripted_ends c files limits names contents p script bytes told read is script_read status written.0 written.1 fault written.2 written.4 says;
+      debugged_headline = λ files limits names contents p script bytes commands told read is script_read says are.
+          debug_written c files limits names contents p script bytes told read is script_read commands says are status written.0 written.1 written.2 written.3;
       evaluated_exactly = λ files steps names contents p told read is _ _.
           evaluated_ends c status written.0 written.1 files steps names contents p written.2 written.3 written.4 told read is;
       evaluated_prefix = λ files steps names contents p told read is. prefix_of_due c status written.0 written.1 files steps names contents p written.2 written.3 told read is;
@@ -122,14 +132,26 @@ read_of r _ _ _ (by_image limits image at printed is comes prints) = (read_for_r
 read_of r _ _ _ (by_eval steps names p kept is) = is.read.calm
 
 -- no count fell where a write failed
-no_less_of : (c : Call) → FailedOutput c ⊎ FailedNote c → c.input_before ≤ c.input_after → NoLess c
+no_less_of : (c : Call) → FailedOutput c ⊎ FailedNote c ⊎ FailedDebugged c → c.input_before ≤ c.input_after → NoLess c
 no_less_of c (inl (bytes, more, writing, part, notes)) input = record {
   files = omega (arith, read_of c.request bytes more c.left writing);
   input = input;
   out = part.1.no_less;
   notes = omega (arith, notes.1);
 }
-no_less_of c (inr (due, output, note, is, out, part)) input = record {
+no_less_of c (inr (inr (debugged, inl (stops, noted)))) input = record {
+  files = omega (arith, debugged.is.debugged.read.calm);
+  input = input;
+  out = stops.wrote.1.no_less;
+  notes = omega (arith, noted.3.1);
+}
+no_less_of c (inr (inr (debugged, inr (stops, rose)))) input = record {
+  files = omega (arith, debugged.is.debugged.read.calm);
+  input = input;
+  out = omega (arith, stops.out_calm);
+  notes = rose.no_less;
+}
+no_less_of c (inr (inl (due, output, note, is, out, part))) input = record {
   files = findings.shelf_no_less c.request due (finding_of_due c.request due output note c.left is);
   input = input;
   out = omega (arith, out.1);
@@ -138,7 +160,7 @@ no_less_of c (inr (due, output, note, is, out, part)) input = record {
 
 -- a write failed
 pub ends_write_fault : (c : Call) → Rose c.out.faults_before c.out.faults_after ⊎ Rose c.notes.faults_before c.notes.faults_after
-    → FailedOutput c ⊎ FailedNote c → c.input_before ≤ c.input_after → Ends c 8
+    → FailedOutput c ⊎ FailedNote c ⊎ FailedDebugged c → c.input_before ≤ c.input_after → Ends c 8
 ends_write_fault c rose part input = record {
   no_less = no_less_of c part input;
   statuses = omega arith;
@@ -152,6 +174,8 @@ ends_write_fault c rose part input = record {
   too_many_exactly = λ command names plan many other _. absurd (other refl);
   missing_exactly = λ files command names name told plan named gone other _. absurd (other refl);
   too_large_exactly = λ files command names contents told plan held large other _. absurd (other refl);
+  script_missing_exactly = λ files script told asked gone other _. absurd (other refl);
+  script_too_large_exactly = λ files script large told asked held more other _. absurd (other refl);
   checked_exactly = λ files names contents faults told read list other _. absurd (other refl);
   built_exactly = λ files form names contents p told read is other _. absurd (other refl);
   built_means = λ files form names contents p told read is other _. absurd (other refl);
@@ -159,6 +183,10 @@ ends_write_fault c rose part input = record {
   compiled_exactly = λ files limits names contents p told read is other _. absurd (other refl);
   headline = λ files limits names contents p told read is bytes _. headline_failed c files limits names contents p part told read is bytes;
   not_run = λ limits names plan e. absurd (omega arith);
+  debugged_exactly = λ files limits names contents p script bytes commands told read is script_read says other _. absurd (other refl);
+  misscripted_exactly = λ files limits names contents p script bytes fault told read is script_read says other _. absurd (other refl);
+  debugged_headline = λ files limits names contents p script bytes commands told read is script_read says are.
+      debug_failed c files limits names contents p script bytes told read is script_read commands says are part;
   evaluated_exactly = λ files steps names contents p told read is other _. absurd (other refl);
   evaluated_prefix = λ files steps names contents p told read is. prefix_of_failed c files steps names contents p part told read is;
   unfit_exactly = λ files limits name bytes told read none other _. absurd (other refl);
@@ -173,7 +201,7 @@ ends_write_fault c rose part input = record {
 
 -- memory ran out, and no device failed
 pub ends_short : (c : Call) → c.request.faults_before ≤ c.request.faults_after → c.out.faults_after ≡ c.out.faults_before → c.notes.faults_after ≡ c.notes.faults_before
-    → c.input_after ≡ c.input_before → DidNothing c ⊎ RanShort c → Ends c 9
+    → c.input_after ≡ c.input_before → DidNothing c ⊎ RanShort c ⊎ DebuggedShort c → Ends c 9
 ends_short c files out notes calm short = record {
   no_less = record { files = files; input = omega (arith, calm); out = omega (arith, out); notes = omega (arith, notes) };
   statuses = omega arith;
@@ -187,6 +215,8 @@ ends_short c files out notes calm short = record {
   too_many_exactly = λ command names plan many _ other. absurd (other refl);
   missing_exactly = λ files command names name told plan named gone _ other. absurd (other refl);
   too_large_exactly = λ files command names contents told plan held large _ other. absurd (other refl);
+  script_missing_exactly = λ files script told asked gone _ other. absurd (other refl);
+  script_too_large_exactly = λ files script large told asked held more _ other. absurd (other refl);
   checked_exactly = λ files names contents faults told read list _ other. absurd (other refl);
   built_exactly = λ files form names contents p told read is _ other. absurd (other refl);
   built_means = λ files form names contents p told read is _ other. absurd (other refl);
@@ -194,6 +224,10 @@ ends_short c files out notes calm short = record {
   compiled_exactly = λ files limits names contents p told read is _ other. absurd (other refl);
   headline = λ files limits names contents p told read is bytes other. absurd (other refl);
   not_run = λ limits names plan _. not_run c limits names plan short;
+  debugged_exactly = λ files limits names contents p script bytes commands told read is script_read says _ other. absurd (other refl);
+  misscripted_exactly = λ files limits names contents p script bytes fault told read is script_read says _ other. absurd (other refl);
+  debugged_headline = λ files limits names contents p script bytes commands told read is script_read says are.
+      debug_short c files limits names contents p script bytes told read is script_read commands says are short;
   evaluated_exactly = λ files steps names contents p told read is _ other. absurd (other refl);
   evaluated_prefix = λ files steps names contents p told read is. prefix_of_short c files steps names contents p short told read is;
   unfit_exactly = λ files limits name bytes told read none _ other. absurd (other refl);

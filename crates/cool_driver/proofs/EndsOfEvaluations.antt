@@ -92,4 +92,4 @@ write_failed c notes e =
 pub ran_short : (c : Call) → Got c.notes [] → IsEvaluated c ends.Memory → Ends c 9
 ran_short c notes e =
     ends_short c (omega (arith, e.is.read.calm)) e.counted.1 notes.1 e.counted.0
-    (inr (e.steps, e.names, e.program, e.is, e.comes, e.counted.1, notes, e.counted.0))
+    (inr (inl (e.steps, e.names, e.program, e.is, e.comes, e.counted.1, notes, e.counted.0)))

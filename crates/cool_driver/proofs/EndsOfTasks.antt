@@ -24,7 +24,7 @@ note_ends c status answered note due other out alone (inl told) =
     (ends_written c (code_of status) [] note (due_left c (code_of status) [] note alone due) out told.1 (λ _. alone.calm) (λ e. absurd (other e)))
 note_ends c status answered note due other out alone (inr failed) =
     subst (λ (s : Status). Ends c (code_of s)) (sym failed.0)
-    (ends_write_fault c (inr failed.1.1) (inr (code_of status, [], note, due_left c (code_of status) [] note alone due, out, failed.1)) (omega (arith, alone.calm)))
+    (ends_write_fault c (inr failed.1.1) (inr (inl (code_of status, [], note, due_left c (code_of status) [] note alone due, out, failed.1))) (omega (arith, alone.calm)))
 
 -- bytes that are due were written, or their write failed
 pub written_ends : (c : Call) (bytes : List ℕ) (answered : Status) → Due c.request 0 bytes [] c.request.input → Writing c.request [] bytes c.request.input

@@ -13,15 +13,16 @@ use Rattle.cool_words.specs.declared.plan.RunLimits.{RunLimits}
 use Rattle.cool_driver.specs.CommandLine.{plan_of, TakesNoInput}
 use Rattle.cool_driver.specs.Evaluation.{status_of_end, note_of_end, IsPartOf}
 use Rattle.cool_driver.specs.Calls.{Request, IsRead, SinkUse, Got, Call, DidNothing, Told}
-use Rattle.cool_driver.specs.Ends.{Due, Writing, IsRunOf, IsEvaluationOf, FailedOutput, FailedNote, RanShort, EndsAs}
+use Rattle.cool_driver.specs.Ends.{Due, Writing, IsRunOf, IsEvaluationOf, FailedOutput, FailedNote, FailedDebugged, RanShort, DebuggedShort, EndsAs}
 use Rattle.cool_driver.specs.Ends.IsRunOf.{of_file, of_program}
-use Rattle.cool_driver.specs.Ends.Due.{checked, built, refused, executed, unread_input, evaluated, unread_source, unfit, misread, summed, usage, too_many, missing, unread, too_large}
+use Rattle.cool_driver.specs.Ends.Due.{checked, built, refused, executed, unread_input, debugged, unread_debugged, misscripted, unscripted, evaluated, unread_source, unfit, misread, summed, usage, too_many, missing, unread, too_large}
 use Rattle.cool_driver.specs.Ends.Writing.{by_build, by_big, by_image, by_eval}
 use Rattle.cool_driver.specs.declared.command_line.Command.{Command}
-use Rattle.cool_driver.specs.declared.command_line.Command.TheVariants.{Check, Build, Run, Eval, Exec}
+use Rattle.cool_driver.specs.declared.command_line.Command.TheVariants.{Check, Build, Run, Eval, Exec, Debug}
 use Rattle.cool_driver.proofs.Plans.{no_files_for_big, no_files_for_nothing}
 use Rattle.cool_driver.proofs.ReadTwice.{same_plan, no_plan_and_plan, same_read}
-use Rattle.cool_driver.proofs.Findings.{no_file_fault}
+use Rattle.cool_driver.proofs.ScriptsOfCalls.{debug_plan}
+use Rattle.cool_driver.proofs.Findings.{no_file_fault, missing_fault, large_fault}
 
 -- the words ask to take of the input
 pub evaluation_takes_input : (r : Request) (steps : ℕ) (names : List (List ℕ)) (p : List Class) → IsEvaluationOf r steps names p → TakesNoInput r.words → ⊥
@@ -34,6 +35,7 @@ EvaluatesNothing (Build form) = Unit {0}
 EvaluatesNothing (Run limits) = Unit {0}
 EvaluatesNothing (Eval steps) = ⊥
 EvaluatesNothing (Exec limits) = Unit {0}
+EvaluatesNothing (Debug limits) = Unit {0}
 
 -- a plan is not both one of such a command and one of `eval`
 pub no_eval : (plan : Option (Command × List (List ℕ))) (a : Command) (steps : ℕ) (names others : List (List ℕ)) → EvaluatesNothing a
@@ -74,6 +76,12 @@ due_by r _ _ _ _ files steps names contents p (refused command' names' contents'
     absurd (never_both_verdicts contents p faults' form (subst (λ (cs : List (List ℕ)). IsRefused cs faults') (same_read r files _ _ _ _ _ _ told read' read) is))
 due_by r _ _ _ _ files steps names contents p (executed limits found run) told read form = absurd (no_image r limits found steps names run read.plan)
 due_by r _ _ _ _ files steps names contents p (unread_input limits found at output left run comes fails) told read form = absurd (no_image r limits found steps names run read.plan)
+due_by r _ _ _ _ files steps names contents p (debugged limits found commands is) told read form = absurd (no_eval _ (Debug limits) steps _ _ tt is.debugged.read.plan read.plan)
+due_by r _ _ _ _ files steps names contents p (unread_debugged limits found front rest at output left is comes fails) told read form =
+    absurd (no_eval _ (Debug limits) steps _ _ tt is.debugged.read.plan read.plan)
+due_by r _ _ _ _ files steps names contents p (misscripted limits names' p' script bytes fault is says) told read form = absurd (no_eval _ (Debug limits) steps _ _ tt is.read.plan read.plan)
+due_by r _ _ _ _ files steps names contents p (unscripted limits names' script note asked few why) told read form =
+    absurd (no_eval _ (Debug limits) steps _ _ tt (debug_plan r.words script names' limits asked) read.plan)
 due_by r status _ _ _ files steps names contents p (evaluated most names' p' _ is e) told read form =
     let run = source.run p' names' r.input most in
     subst (λ (x : source.Run). IsDueBy x status run.output (note_of_end run.end) run.left) (same_run r files most steps names' names contents p' p is told read form)
@@ -86,12 +94,10 @@ due_by r _ _ _ _ files steps names contents p (summed n line asked calm is) told
 due_by r _ _ _ _ files steps names contents p (usage none calm) told read form = absurd (no_plan_and_plan _ _ _ (no_files_for_nothing r.words none) read.plan)
 due_by r _ _ _ _ files steps names contents p (too_many command' names' plan many calm) told read form = absurd (no_file_fault r files _ _ _ _ _ told read plan (inl (many, calm)))
 due_by r _ _ _ _ files steps names contents p (missing command' name contents' u gone) told read form =
-    absurd (no_file_fault r files _ _ _ _ _ told read u.plan
-    (inr (inr (record { front = u.front; rest = u.rest; name = name; contents = contents'; stands = refl; held = u.held; cause = inl gone }))))
+    absurd (no_file_fault r files _ _ _ _ _ told read u.plan (missing_fault u gone))
 due_by r _ _ _ _ files steps names contents p (unread command' name contents' u rose) told read form = absurd (no_file_fault r files _ _ _ _ _ told read u.plan (inr (inl rose)))
 due_by r _ _ _ _ files steps names contents p (too_large command' name contents' u long) told read form =
-    absurd (no_file_fault r files _ _ _ _ _ told read u.plan
-    (inr (inr (record { front = u.front; rest = u.rest; name = name; contents = contents'; stands = refl; held = u.held; cause = inr long }))))
+    absurd (no_file_fault r files _ _ _ _ _ told read u.plan (large_fault u long))
 
 -- what was due was written
 ends_as : (c : Call) (run : source.Run) (status : ℕ) (output note : List ℕ) → IsDueBy run status output note c.left → Got c.out output → Got c.notes note
@@ -133,19 +139,21 @@ from_start held held' bytes more all none same got =
     (subst (λ (x : Option (List ℕ)). GotPrefix x more held') (appended-nil held) (subst (λ (x : List ℕ). GotPrefix (appended held x) more held') none got))
 
 -- where a write failed, a prefix came
-pub prefix_of_failed : (c : Call) (files : FileMap) (steps : ℕ) (names contents : List (List ℕ)) (p : List Class) → FailedOutput c ⊎ FailedNote c
+pub prefix_of_failed : (c : Call) (files : FileMap) (steps : ℕ) (names contents : List (List ℕ)) (p : List Class) → FailedOutput c ⊎ FailedNote c ⊎ FailedDebugged c
     → Told c.request files → IsRead c.request (Eval steps) names contents → IsAccepted contents p
     → GotPrefix c.out.held_before (source.run p names c.request.input steps).output c.out.held_after
 prefix_of_failed c files steps names contents p (inl (bytes, more, writing, part, notes)) told read form =
     let by = writing_by c.request bytes more c.left files steps names contents p writing told read form in
     from_start c.out.held_before c.out.held_after bytes more _ by.0 by.1 part.0
-prefix_of_failed c files steps names contents p (inr (due, output, note, is, out, part)) told read form =
+prefix_of_failed c files steps names contents p (inr (inl (due, output, note, is, out, part))) told read form =
     prefix_of_due c due output note files steps names contents p is out told read form
+prefix_of_failed c files steps names contents p (inr (inr (part, how))) told read form = absurd (no_eval _ (Debug part.limits) steps _ _ tt part.is.debugged.read.plan read.plan)
 
 -- and where memory ran out
-pub prefix_of_short : (c : Call) (files : FileMap) (steps : ℕ) (names contents : List (List ℕ)) (p : List Class) → DidNothing c ⊎ RanShort c
+pub prefix_of_short : (c : Call) (files : FileMap) (steps : ℕ) (names contents : List (List ℕ)) (p : List Class) → DidNothing c ⊎ RanShort c ⊎ DebuggedShort c
     → Told c.request files → IsRead c.request (Eval steps) names contents → IsAccepted contents p
     → GotPrefix c.out.held_before (source.run p names c.request.input steps).output c.out.held_after
 prefix_of_short c files steps names contents p (inl nothing) told read form = (_, record { front = []; cut = refl; got = nothing.0.0 })
-prefix_of_short c files steps names contents p (inr (most, names', p', is, got, calm, notes, input)) told read form =
+prefix_of_short c files steps names contents p (inr (inl (most, names', p', is, got, calm, notes, input))) told read form =
     subst (λ (x : source.Run). GotPrefix c.out.held_before x.output c.out.held_after) (same_run c.request files most steps names' names contents p' p is told read form) got
+prefix_of_short c files steps names contents p (inr (inr (part, stops, calm))) told read form = absurd (no_eval _ (Debug part.limits) steps _ _ tt part.is.debugged.read.plan read.plan)

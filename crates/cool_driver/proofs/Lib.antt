@@ -2,12 +2,15 @@ pub mod NotesOfTexts
 pub mod AssembledTexts
 pub mod HeldFiles
 pub mod ReadTwice
+pub mod ScriptsOfCalls
 pub mod ImagesOfCalls
 pub mod ReadingNames
 pub mod NoteLines
 pub mod Plans
 pub mod DueTasks
+pub mod ScriptTasks
 pub mod Findings
+pub mod StatusesOfFindings
 pub mod AnsweredFaults
 pub mod EvaluationsOfCalls
 pub mod EndsOfDue
@@ -15,6 +18,7 @@ pub mod EndsOfTasks
 pub mod RunsWithinLimits
 pub mod BigRuns
 pub mod EndsOfRuns
+pub mod EndsOfDebugs
 pub mod EndsOfEvaluations
 pub mod HexDigits
 pub mod LoadingImages
@@ -22,4 +26,7 @@ pub mod Accords
 pub mod NamesAreTexts
 pub mod MeantPrograms
 pub mod StoppedRuns
+pub mod HeadlineOfRuns
 pub mod HeadlineOfCalls
+pub mod DebugsOfCalls
+pub mod HeadlineOfDebugs

@@ -1,27 +1,30 @@
 -- The lines of notes: none is empty, and what a task tells is what its lines are.
 use Rattle.std.proofs.Common.{◌≡◌, ◌≢◌, ℕ, ◌+◌, ◌<◌, List, [], ◌∷◌, ◌++◌, length, get_or, drop, map, inl, inr, sym, ◌∙◌, ap, append-nil, arith}
-use Rattle.std.specs.Prelude.{codes, decimal}
+use Rattle.std.specs.Prelude.{codes, decimal, Err}
 use Rattle.std.specs.Global.{Vec}
 use Rattle.std.specs.List.{concat, AllByRecursion}
 use Rattle.std.proofs.Math.ListN.{length-append}
 use Rattle.std.proofs.lemmas.List.{at_drop_more}
 use Rattle.cool_syntax.specs.TokenFacts.{IsPlaced}
+use Rattle.cool_classes.specs.Chains.{Class}
 use Rattle.cool_faults.specs.declared.fault.Fault.{Fault}
 use Rattle.cool_faults.specs.Texts.{fault_words, fault_line}
 use Rattle.cool_faults.specs.Verdicts.{place_of, IsRefused}
-use Rattle.cool_driver.specs.Notes.{image_fault, image_note, asm_words, asm_note}
+use Rattle.cool_driver.specs.Debugging.{commands_for}
+use Rattle.cool_driver.specs.Notes.{image_fault, image_note, asm_words, asm_note, script_words, script_note}
 use Rattle.cool_words.specs.declared.plan.RunLimits.{RunLimits}
 use Rattle.cool_driver.specs.Contents.{texts}
 use Rattle.cool_driver.specs.Calls.{Request}
 use Rattle.cool_driver.specs.Ends.{Due}
-use Rattle.cool_driver.specs.Tasks.{code_of, AreLines, note_of, IsUnfit, IsMisread, IsTaskOfFile, IsTaskOfChecked, IsTaskOfBuilt, IsTaskOfRun, IsTaskOfEval, IsLine, AreLinesOf, IsDue}
+use Rattle.cool_driver.specs.Tasks.{code_of, AreLines, note_of, IsUnfit, IsMisread, IsTaskOfFile, IsTaskOfChecked, IsTaskOfBuilt, IsTaskOfRun, IsTaskOfEval, IsTaskOfScript, IsLine, AreLinesOf, IsDue}
 use Rattle.cool_driver.specs.declared.command_line.Form.{Form}
 use Rattle.cool_driver.specs.declared.status.Status.{Status}
 use Rattle.cool_driver.specs.declared.status.Status.TheVariants as statuses
 use Rattle.cool_driver.specs.declared.task.Task.{Task}
-use Rattle.cool_driver.specs.declared.task.Task.TheVariants.{Tell, Write, Execute, Evaluate}
+use Rattle.cool_driver.specs.declared.task.Task.TheVariants.{Tell, Write, Execute, Debug, Evaluate}
 use Rattle.mips_isa.specs.declared.asm_fault.AsmFault.{AsmFault}
 use Rattle.mips_image.specs.declared.image_error.ImageError.{ImageError}
+use Rattle.spim_debug.specs.declared.script.ScriptFault.{ScriptFault}
 
 -- the line of a fault is not empty
 some_line : (names : List (List ℕ)) (fault : Fault) → 0 < length (fault_line names fault)
@@ -29,7 +32,7 @@ some_line names fault =
     omega (arith, length-append (get_or names (place_of fault).file []) (codes ":" ++ (decimal (place_of fault).line ++ (codes ": " ++ (fault_words fault ++ codes "\n")))))
 
 -- so none of the lines of faults is
-some_lines : (names : List (List ℕ)) (faults : List Fault) → AllByRecursion (λ line. 0 < length line) (map (fault_line names) faults)
+pub some_lines : (names : List (List ℕ)) (faults : List Fault) → AllByRecursion (λ line. 0 < length line) (map (fault_line names) faults)
 some_lines names [] = tt
 some_lines names (fault ∷ faults) = (some_line names fault, some_lines names faults)
 
@@ -40,6 +43,11 @@ some_unfit name fault = omega (arith, length-append name (codes ": " ++ image_fa
 -- nor is that of a text with a fault
 some_misread : (name : List ℕ) (fault : AsmFault) → 0 < length (asm_note name fault)
 some_misread name fault = omega (arith, length-append name (codes ":" ++ (decimal fault.line ++ (codes ": " ++ (asm_words fault.kind ++ codes "\n")))))
+
+-- nor that of a script with one
+some_misscripted : (name : List ℕ) (fault : ScriptFault) → 0 < length (script_note name fault)
+some_misscripted name fault =
+    omega (arith, length-append name (codes ":" ++ (decimal fault.line ++ (codes ": " ++ (script_words fault.kind ++ codes "\n")))))
 
 -- lines that are these texts, none of which is empty
 pub are_lines : (lines : List (Vec ℕ)) (all : List (List ℕ)) → texts lines ≡ all → AllByRecursion (λ line. 0 < length line) all → AreLines lines
@@ -59,6 +67,7 @@ pub line_due : (r : Request) (status : Status) (line : List ℕ) (task : Task) �
 line_due r status line (Tell told lines) h some other due = rw (h.0, one_line lines.items line h.1) (due, are_lines lines.items (line ∷ []) h.1 (some, tt), other)
 line_due r status line (Write made) h some other due = absurd h
 line_due r status line (Execute within image) h some other due = absurd h
+line_due r status line (Debug within image commands) h some other due = absurd h
 line_due r status line (Evaluate steps p files) h some other due = absurd h
 
 -- the faults of files that `check` names
@@ -66,6 +75,7 @@ pub checked_lines : (names contents : List (List ℕ)) (faults : List Fault) (ta
 checked_lines names contents faults (Tell status lines) is h = (are_lines lines.items _ h.1 (some_lines names faults), inr (h.0, (faults, is, ap concat h.1)))
 checked_lines names contents faults (Write made) is h = absurd h
 checked_lines names contents faults (Execute within image) is h = absurd h
+checked_lines names contents faults (Debug within image commands) is h = absurd h
 checked_lines names contents faults (Evaluate steps p files) is h = absurd h
 
 -- the faults of files that `asm` or `build` names
@@ -75,6 +85,7 @@ built_lines form names contents faults (Tell status lines) is h =
     (are_lines lines.items _ h.1 (some_lines names faults), h.0, (faults, is, ap concat h.1))
 built_lines form names contents faults (Write made) is h = absurd h
 built_lines form names contents faults (Execute within image) is h = absurd h
+built_lines form names contents faults (Debug within image commands) is h = absurd h
 built_lines form names contents faults (Evaluate steps p files) is h = absurd h
 
 -- the faults of files that `run` names
@@ -83,6 +94,7 @@ pub run_lines : (limits : RunLimits) (names contents : List (List ℕ)) (faults 
 run_lines limits names contents faults (Tell status lines) is h = (are_lines lines.items _ h.1 (some_lines names faults), h.0, (faults, is, ap concat h.1))
 run_lines limits names contents faults (Write made) is h = absurd h
 run_lines limits names contents faults (Execute within image) is h = absurd h
+run_lines limits names contents faults (Debug within image commands) is h = absurd h
 run_lines limits names contents faults (Evaluate steps p files) is h = absurd h
 
 -- the faults of files that `eval` names
@@ -91,6 +103,7 @@ pub eval_lines : (steps : ℕ) (names contents : List (List ℕ)) (faults : List
 eval_lines steps names contents faults (Tell status lines) is h = (are_lines lines.items _ h.1 (some_lines names faults), h.0, (faults, is, ap concat h.1))
 eval_lines steps names contents faults (Write made) is h = absurd h
 eval_lines steps names contents faults (Execute within image) is h = absurd h
+eval_lines steps names contents faults (Debug within image commands) is h = absurd h
 eval_lines steps names contents faults (Evaluate most p files) is h = absurd h
 
 -- a file that is no image
@@ -101,6 +114,7 @@ unfit_line limits name bytes line (Tell status lines) is h =
     (ap code_of h.0, are_lines lines.items (line ∷ []) h.1 (some, tt), inl (is.0, same, is.2, is.3))
 unfit_line limits name bytes line (Write made) is h = absurd h
 unfit_line limits name bytes line (Execute within image) is h = absurd h
+unfit_line limits name bytes line (Debug within image commands) is h = absurd h
 unfit_line limits name bytes line (Evaluate steps p files) is h = absurd h
 
 -- a text with a fault
@@ -111,7 +125,20 @@ misread_line limits name bytes line (Tell status lines) is h =
     (ap code_of h.0, are_lines lines.items (line ∷ []) h.1 (some, tt), inr (is.0, same, is.2, is.3))
 misread_line limits name bytes line (Write made) is h = absurd h
 misread_line limits name bytes line (Execute within image) is h = absurd h
+misread_line limits name bytes line (Debug within image commands) is h = absurd h
 misread_line limits name bytes line (Evaluate steps p files) is h = absurd h
+
+-- a script with a fault
+pub script_line : (limits : RunLimits) (script bytes : List ℕ) (names : List (List ℕ)) (p : List Class) (fault : ScriptFault) (line : List ℕ)
+    (task : Task) → commands_for p names bytes ≡ Err fault → line ≡ script_note script fault
+    → IsLine statuses.Unfit line task → IsTaskOfScript limits script bytes names p task
+script_line limits script bytes names p fault line (Tell status lines) wrong is h =
+    let some : 0 < length line = rw is (some_misscripted script fault) in
+    (ap code_of h.0, are_lines lines.items (line ∷ []) h.1 (some, tt), (fault, wrong, one_line lines.items line h.1 ∙ is))
+script_line limits script bytes names p fault line (Write made) wrong is h = absurd h
+script_line limits script bytes names p fault line (Execute within image) wrong is h = absurd h
+script_line limits script bytes names p fault line (Debug within image commands) wrong is h = absurd h
+script_line limits script bytes names p fault line (Evaluate steps q files) wrong is h = absurd h
 
 -- the line at a number, in front of those after it
 pub note_at : (lines : List (Vec ℕ)) (i : ℕ) (line : Vec ℕ) → i < length lines → line ≡ get_or lines i line → line.items ++ note_of (drop (i + 1) lines) ≡ note_of (drop i lines)

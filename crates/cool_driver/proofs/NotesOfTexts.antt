@@ -1,5 +1,5 @@
 -- The note of a text with a fault tells that fault.
-use Rattle.std.proofs.Common.{◌≡◌, ℕ, List, [], ◌∷◌, inl, inr, refl, true, false, ◌∙◌, ap, sym, subst}
+use Rattle.std.proofs.Common.{◌≡◌, ℕ, List, [], ◌∷◌, inl, inr, true, false, ◌∙◌, ap, sym, subst}
 use Rattle.std.specs.Prelude.{Some}
 use Rattle.cool_ports.specs.ShelfFiles.{FileMap}
 use Rattle.cool_words.specs.declared.plan.RunLimits.{RunLimits}
@@ -11,12 +11,13 @@ use Rattle.cool_driver.specs.Execution.{IsTextFault, is_text_file}
 use Rattle.cool_driver.specs.Notes.{asm_note}
 use Rattle.cool_driver.specs.Calls.{Request, IsRead, Told}
 use Rattle.cool_driver.specs.Ends.{Due}
-use Rattle.cool_driver.specs.Ends.Due.{checked, built, refused, executed, unread_input, evaluated, unread_source, unfit, misread, summed, usage, too_many, missing, unread, too_large}
+use Rattle.cool_driver.specs.Ends.Due.{checked, built, refused, executed, unread_input, debugged, unread_debugged, misscripted, unscripted, evaluated, unread_source, unfit, misread, summed, usage, too_many, missing, unread, too_large}
 use Rattle.cool_driver.specs.declared.command_line.Command.TheVariants.{Check, Build, Eval, Exec}
-use Rattle.cool_driver.proofs.Findings.{no_file_fault}
+use Rattle.cool_driver.proofs.Findings.{no_file_fault, missing_fault, large_fault}
 use Rattle.cool_driver.proofs.ImagesOfCalls.{fault_or_runs, run_of_file}
 use Rattle.cool_driver.proofs.Plans.{no_files_for_big, no_files_for_nothing}
-use Rattle.cool_driver.proofs.ReadTwice.{may_refuse, no_plan_and_plan, runs_nothing, same_file, same_plan}
+use Rattle.cool_driver.proofs.ReadTwice.{may_refuse, no_debug, no_plan_and_plan, runs_nothing, same_file, same_plan}
+use Rattle.cool_driver.proofs.ScriptsOfCalls.{debug_plan}
 
 -- a text has one fault
 one_text_fault : (bytes : List ℕ) (a b : AsmFault) → IsTextFault bytes a → IsTextFault bytes b → a ≡ b
@@ -41,6 +42,12 @@ misread_note r _ _ _ _ files limits name bytes fault (executed limits' found run
     absurd (fault_or_runs found bytes fault text wrong (run_of_file r files limits' limits found name bytes run told read).1)
 misread_note r _ _ _ _ files limits name bytes fault (unread_input limits' found at output left run comes fails) told read text wrong =
     absurd (fault_or_runs found bytes fault text wrong (run_of_file r files limits' limits found name bytes run told read).1)
+misread_note r _ _ _ _ files limits name bytes fault (debugged limits' found commands is) told read text wrong = absurd (no_debug _ (Exec limits) limits' _ _ tt read.plan is.debugged.read.plan)
+misread_note r _ _ _ _ files limits name bytes fault (unread_debugged limits' found front rest at output left is comes fails) told read text wrong =
+    absurd (no_debug _ (Exec limits) limits' _ _ tt read.plan is.debugged.read.plan)
+misread_note r _ _ _ _ files limits name bytes fault (misscripted limits' names' p script bytes' fault' is says) told read text wrong = absurd (no_debug _ (Exec limits) limits' _ _ tt read.plan is.read.plan)
+misread_note r _ _ _ _ files limits name bytes fault (unscripted limits' names' script note asked few why) told read text wrong =
+    absurd (no_debug _ (Exec limits) limits' _ _ tt read.plan (debug_plan r.words script names' limits' asked))
 misread_note r _ _ _ _ files limits name bytes fault (evaluated steps names' p status is e) told read text wrong = absurd (runs_nothing _ (Eval steps) (Exec limits) _ _ tt is.read.plan read.plan)
 misread_note r _ _ _ _ files limits name bytes fault (unread_source steps names' p output left is part) told read text wrong = absurd (runs_nothing _ (Eval steps) (Exec limits) _ _ tt is.read.plan read.plan)
 misread_note r _ _ _ _ files limits name bytes fault (unfit limits' name' bytes' fault' read' binary is) told read text wrong =
@@ -56,9 +63,7 @@ misread_note r _ _ _ _ files limits name bytes fault (summed n line asked calm i
 misread_note r _ _ _ _ files limits name bytes fault (usage none calm) told read text wrong = absurd (no_plan_and_plan _ _ _ (no_files_for_nothing r.words none) read.plan)
 misread_note r _ _ _ _ files limits name bytes fault (too_many command' names' plan many calm) told read text wrong = absurd (no_file_fault r files _ _ _ _ _ told read plan (inl (many, calm)))
 misread_note r _ _ _ _ files limits name bytes fault (missing command' name' contents' u gone) told read text wrong =
-    absurd (no_file_fault r files _ _ _ _ _ told read u.plan
-    (inr (inr (record { front = u.front; rest = u.rest; name = name'; contents = contents'; stands = refl; held = u.held; cause = inl gone }))))
+    absurd (no_file_fault r files _ _ _ _ _ told read u.plan (missing_fault u gone))
 misread_note r _ _ _ _ files limits name bytes fault (unread command' name' contents' u rose) told read text wrong = absurd (no_file_fault r files _ _ _ _ _ told read u.plan (inr (inl rose)))
 misread_note r _ _ _ _ files limits name bytes fault (too_large command' name' contents' u long) told read text wrong =
-    absurd (no_file_fault r files _ _ _ _ _ told read u.plan
-    (inr (inr (record { front = u.front; rest = u.rest; name = name'; contents = contents'; stands = refl; held = u.held; cause = inr long }))))
+    absurd (no_file_fault r files _ _ _ _ _ told read u.plan (large_fault u long))

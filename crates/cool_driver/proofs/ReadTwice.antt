@@ -6,7 +6,7 @@ use Rattle.cool_words.specs.declared.plan.RunLimits.{RunLimits}
 use Rattle.cool_driver.specs.CommandLine.{plan_of}
 use Rattle.cool_driver.specs.Calls.{Request, IsRead, AreHeld, MayRefuse, Told}
 use Rattle.cool_driver.specs.declared.command_line.Command.{Command}
-use Rattle.cool_driver.specs.declared.command_line.Command.TheVariants.{Check, Build, Run, Eval, Exec}
+use Rattle.cool_driver.specs.declared.command_line.Command.TheVariants.{Check, Build, Run, Eval, Exec, Debug}
 use Rattle.cool_driver.proofs.HeldFiles.{held_same}
 
 -- a plan, or another one where there is none
@@ -32,6 +32,23 @@ same_run a b e = cc
 pub same_exec : (a b : RunLimits) → Exec a ≡ Exec b → a ≡ b
 same_exec a b e = cc
 
+pub same_debug : (a b : RunLimits) → Debug a ≡ Debug b → a ≡ b
+same_debug a b e = cc
+
+-- a command that debugs nothing
+abbrev pub DebugsNothing : Command → Type 0
+DebugsNothing Check = Unit {0}
+DebugsNothing (Build form) = Unit {0}
+DebugsNothing (Run limits) = Unit {0}
+DebugsNothing (Eval steps) = Unit {0}
+DebugsNothing (Exec limits) = Unit {0}
+DebugsNothing (Debug limits) = ⊥
+
+-- a plan is not both one of such a command and one of `debug`
+pub no_debug : (plan : Option (Command × List (List ℕ))) (a : Command) (limits : RunLimits) (names others : List (List ℕ)) → DebugsNothing a
+    → plan ≡ Some (a, names) → plan ≡ Some (Debug limits, others) → ⊥
+no_debug plan a limits names others nothing p q = subst DebugsNothing (same_plan plan a (Debug limits) names others p q).0 nothing
+
 -- a command that runs no image
 abbrev pub RunsNothing : Command → Type 0
 RunsNothing Check = Unit {0}
@@ -39,6 +56,7 @@ RunsNothing (Build form) = Unit {0}
 RunsNothing (Run limits) = ⊥
 RunsNothing (Eval steps) = Unit {0}
 RunsNothing (Exec limits) = ⊥
+RunsNothing (Debug limits) = ⊥
 
 -- where a plan is one of such a command, every plan is
 pub runs_nothing : (plan : Option (Command × List (List ℕ))) (a b : Command) (names others : List (List ℕ))

@@ -1,15 +1,17 @@
--- A run that comes to a system call whose read or write fails wrote and took, up to there, a part of what the whole run does.
+-- A run that comes to a system call whose read or write fails, or that is left between two instructions, wrote and took, up to there, a part of
+-- what the whole run does.
 use Rattle.std.specs.Prelude.{if◌then◌else◌, ◌==◌, ◌||◌, not, nat_le}
-use Rattle.std.proofs.Common.{◌≡◌, ℕ, zero, suc, ◌+◌, ◌-◌, ◌≤◌, Bool, true, false, List, [], ◌∷◌, ◌++◌, length, Option, Some, None, ap, sym, ◌∙◌, subst, arith, append_assoc}
+use Rattle.std.proofs.Common.{◌≡◌, ℕ, zero, suc, ◌+◌, ◌-◌, ◌≤◌, Bool, true, false, List, [], ◌∷◌, ◌++◌, length, Option, Some, None, refl, ap, sym, ◌∙◌, subst, arith, append_assoc, append-nil}
 use Rattle.std.proofs.lemmas.List.{length-append}
 use Rattle.mips_isa.specs.Bytes.{Segments}
 use Rattle.mips_isa.specs.Machine.{Next, is_negative}
 use Rattle.mips_isa.specs.Calls.{State, Outcome, Running, Exited, Trapped, Taken, taken, asked, call, print, print_string, string_at, read_string, v0, a0, a1, all_writable}
 use Rattle.mips_isa.specs.Run.{after, and_then, run}
 use Rattle.mips_isa.proofs.RunsInParts.{run_sum}
-use Rattle.mips_isa.proofs.OutputGrows.{output_of, run_grew}
+use Rattle.mips_isa.proofs.OutputGrows.{output_of, Grew, run_grew}
 use Rattle.cool_runtime.specs.Reaches.{IsPrefix, IsSuffix}
 use Rattle.cool_simulation.proofs.theorem.InputShrinks.{input_of, Shrank, taken_suffix, run_shrank}
+use Rattle.spim_debug.specs.Notes.{state_in}
 use Rattle.spim_machine.specs.Ends.{ComesToCall, FailsReading, MetEnd, call_with}
 
 -- A call that would meet the end of a front of the input takes this front
@@ -140,3 +142,33 @@ written_by_printing text b n s at bytes c prints =
     let g = goes_on text b n s at c in
     let grew = run_grew text b g.behind (record at { output = at.output ++ bytes }) in
     (grew.0, ap output_of (g.calls ∙ ap (λ (o : Outcome). and_then o (run text b g.behind)) prints) ∙ grew.1)
+
+-- A run that is left after some of its instructions
+
+grown_from : (o : Outcome) (go : State → Outcome) → ((t : State) → Grew t (go t)) → IsPrefix (state_in o).output (output_of (and_then o go))
+grown_from (Running t) go k = k t
+grown_from (Exited code t) go k = ([], sym (append-nil t.output))
+grown_from (Trapped trap t) go k = ([], sym (append-nil t.output))
+
+taken_from : (o : Outcome) (go : State → Outcome) → ((t : State) → Shrank t (go t)) → IsSuffix (input_of (and_then o go)) (state_in o).input
+taken_from (Running t) go k = k t
+taken_from (Exited code t) go k = ([], refl)
+taken_from (Trapped trap t) go k = ([], refl)
+
+-- the run in two parts
+in_parts : (text : List ℕ) (b : Segments) (m n : ℕ) (s : State) → m ≤ n → run text b n s ≡ and_then (run text b m s) (run text b (n - m))
+in_parts text b m n s less =
+    let split : n ≡ m + (n - m) = omega arith in
+    ap (λ (k : ℕ). run text b k s) split ∙ run_sum text b m (n - m) s
+
+-- what was written up to there is a prefix of what the run writes
+pub written_between : (text : List ℕ) (b : Segments) (m n : ℕ) (s : State) → m ≤ n → IsPrefix (state_in (run text b m s)).output (output_of (run text b n s))
+written_between text b m n s less =
+    subst (λ (o : Outcome). IsPrefix (state_in (run text b m s)).output (output_of o)) (sym (in_parts text b m n s less))
+    (grown_from (run text b m s) (run text b (n - m)) (run_grew text b (n - m)))
+
+-- what was left there has what the run leaves at its end
+pub left_between : (text : List ℕ) (b : Segments) (m n : ℕ) (s : State) → m ≤ n → IsSuffix (input_of (run text b n s)) (state_in (run text b m s)).input
+left_between text b m n s less =
+    subst (λ (o : Outcome). IsSuffix (input_of o) (state_in (run text b m s)).input) (sym (in_parts text b m n s less))
+    (taken_from (run text b m s) (run text b (n - m)) (run_shrank text b (n - m)))

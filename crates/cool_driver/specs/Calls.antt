@@ -5,9 +5,10 @@ use Rattle.cool_faults.specs.Files.{total}
 use Rattle.cool_ports.specs.Counts.{last_count, Rose}
 use Rattle.cool_ports.specs.ShelfFiles.{FileMap, MayHold}
 use Rattle.cool_ports.specs.SinkBytes.{appended, GotPrefix}
-use Rattle.cool_driver.specs.CommandLine.{plan_of, most_bytes}
+use Rattle.spim_debug.specs.declared.script.TheConstants.{MOST_SCRIPT_BYTES}
+use Rattle.cool_driver.specs.CommandLine.{plan_of, script_of, most_bytes}
 use Rattle.cool_driver.specs.declared.command_line.Command.{Command}
-use Rattle.cool_driver.specs.declared.command_line.Command.TheVariants.{Check, Build, Run, Eval, Exec}
+use Rattle.cool_driver.specs.declared.command_line.Command.TheVariants.{Check, Build, Run, Eval, Exec, Debug}
 
 -- What a call was asked: its words, the files that the shelf tells, the shelf's count of faults before and after, and an input
 -- that the source may have had left at first.
@@ -25,16 +26,28 @@ AreHeld files [] (bytes ∷ contents) = ⊥
 AreHeld files (name ∷ names) [] = ⊥
 AreHeld files (name ∷ names) (bytes ∷ contents) = MayHold files name bytes × AreHeld files names contents
 
+-- The script that the words name has these bytes, as far as the shelf tells, and is not too large.
+pub record IsScriptRead (r : Request) (script bytes : List ℕ) : Type 0 where
+  pub asked : script_of r.words ≡ Some script
+  pub held : MayHold r.files script bytes
+  pub within : length bytes ≤ MOST_SCRIPT_BYTES
+
+-- a script that the words name was read
+abbrev pub HasScript : Request → Type 0
+HasScript r = (script : List ℕ) → script_of r.words ≡ Some script → (bytes : List ℕ) × IsScriptRead r script bytes
+
 -- The files that the words name for this command have these bytes, as far as the shelf tells, and are not too many and not too large;
--- no fault came.
+-- a script that they name was read before, and no fault came.
 pub record IsRead (r : Request) (command : Command) (names contents : List (List ℕ)) : Type 0 where
   pub plan : plan_of r.words ≡ Some (command, names)
   pub few : length names ≤ MOST_FILES
   pub held : AreHeld r.files names contents
   pub within : total contents ≤ most_bytes command
+  pub script : HasScript r
   pub calm : r.faults_after ≡ r.faults_before
 
--- The files before the one of this name have these bytes, as far as the shelf tells, and are not too large.
+-- The files before the one of this name have these bytes, as far as the shelf tells, and are not too large; a script that the words name
+-- was read before.
 pub record IsReadUpTo (r : Request) (command : Command) (name : List ℕ) (contents : List (List ℕ)) : Type 0 where
   pub front : List (List ℕ)
   pub rest : List (List ℕ)
@@ -42,6 +55,7 @@ pub record IsReadUpTo (r : Request) (command : Command) (name : List ℕ) (conte
   pub few : length (front ++ name ∷ rest) ≤ MOST_FILES
   pub held : AreHeld r.files front contents
   pub within : total contents ≤ most_bytes command
+  pub script : HasScript r
 
 -- the command refuses files for their faults: `exec` never does
 abbrev pub MayRefuse : Command → Type 0
@@ -50,6 +64,7 @@ MayRefuse (Build form) = Unit {0}
 MayRefuse (Run limits) = Unit {0}
 MayRefuse (Eval steps) = Unit {0}
 MayRefuse (Exec limits) = ⊥
+MayRefuse (Debug limits) = Unit {0}
 
 -- What a sink held, and its count of faults, before a call and after it.
 pub record SinkUse : Type 0 where

@@ -1,5 +1,5 @@
 -- How a call of `cool` ends: what is due for the words over the shelf's files and the input, and what came of it.
-use Rattle.std.specs.Prelude.{◌≡◌, ◌≢◌, ℕ, ◌<◌, ◌≤◌, ◌⊎◌, ◌-◌, true, false, List, [], ◌∷◌, ◌++◌, length, Contains, Some, None}
+use Rattle.std.specs.Prelude.{◌≡◌, ◌≢◌, ℕ, ◌<◌, ◌≤◌, ◌⊎◌, ◌-◌, true, false, List, [], ◌∷◌, ◌++◌, length, Contains, Some, None, Ok, Err}
 use Rattle.cool_syntax.specs.declared.TheConstants.{MOST_FILES}
 use Rattle.cool_classes.specs.Chains.{Class}
 use Rattle.cool_faults.specs.declared.fault.Fault.{Fault}
@@ -17,23 +17,27 @@ use Rattle.mips_image.specs.ImageBytes.{image_bytes}
 use Rattle.mips_image.specs.ImageReading.{first_fault}
 use Rattle.mips_image.specs.declared.image_error.ImageError.{ImageError}
 use Rattle.mips_image.specs.declared.stored_image.TheConstants.{CHECKED_VERSION}
+use Rattle.spim_debug.specs.declared.script.TheConstants.{MOST_SCRIPT_BYTES}
+use Rattle.spim_debug.specs.declared.script.DebugCommand.{DebugCommand}
+use Rattle.spim_debug.specs.declared.script.ScriptFault.{ScriptFault}
 use Rattle.spim_machine.specs.Ends.{FailsReading, call_with}
 use Rattle.cool_emit.specs.Programs.{program_lines}
 use Rattle.cool_meaning.specs.SourceRun as source
 use Rattle.cool_runtime.specs.Contents.{AreBytes}
 use Rattle.cool_simulation.specs.Accord.{Means}
 use Rattle.cool_words.specs.declared.plan.RunLimits.{RunLimits}
-use Rattle.cool_words.specs.Plans.Asked.{big}
+use Rattle.cool_words.specs.Plans.Asked.{debug, big}
 use Rattle.cool_words.specs.Plans.{IsBounded}
 use Rattle.cool_driver.specs.Big.{IsBigLine}
-use Rattle.cool_driver.specs.CommandLine.{asked_for, plan_of, most_bytes}
-use Rattle.cool_driver.specs.Notes.{refused_note, usage_note, missing_note, unread_note, too_many_note, too_large_note, read_fault_note, image_note, asm_note}
+use Rattle.cool_driver.specs.CommandLine.{asked_for, plan_of, script_of, most_bytes}
+use Rattle.cool_driver.specs.Notes.{refused_note, usage_note, missing_note, unread_note, too_many_note, too_large_note, read_fault_note, image_note, asm_note, script_note}
 use Rattle.cool_driver.specs.Execution.{IsAssembled, IsRunnable, IsTextFault, is_text_file, segments_within, run_of, ComesTo, left_by, status_of, note_of}
+use Rattle.cool_driver.specs.Debugging.{commands_for, debug_notes}
 use Rattle.cool_driver.specs.Evaluation.{status_of_end, note_of_end, IsPartOf}
-use Rattle.cool_driver.specs.Calls.{Request, AreHeld, IsRead, IsReadUpTo, MayRefuse, Got, GotPart, Call, NoLess, DidNothing, Told, Unless}
-use Rattle.cool_driver.specs.Headline.{Headline}
+use Rattle.cool_driver.specs.Calls.{Request, AreHeld, IsRead, IsReadUpTo, IsScriptRead, MayRefuse, Got, GotPart, Call, NoLess, DidNothing, Told, Unless}
+use Rattle.cool_driver.specs.Headline.{EndsAsImage, StopsWriting, StopsBetween, Headline, StopsShort}
 use Rattle.cool_driver.specs.declared.command_line.Command.{Command}
-use Rattle.cool_driver.specs.declared.command_line.Command.TheVariants.{Check, Build, Run, Eval, Exec}
+use Rattle.cool_driver.specs.declared.command_line.Command.TheVariants.{Check, Build, Run, Eval, Exec, Debug}
 use Rattle.cool_driver.specs.declared.command_line.Form.{Form}
 use Rattle.cool_driver.specs.declared.command_line.Form.TheVariants.{Text, Image}
 
@@ -49,6 +53,32 @@ pub record IsEvaluationOf (r : Request) (steps : ℕ) (names : List (List ℕ)) 
   pub contents : List (List ℕ)
   pub read : IsRead r (Eval steps) names contents
   pub accepted : IsAccepted contents p
+
+-- The program that a call is to debug within limits, that of the files of `debug`, which have these names, and its script.
+pub record IsDebugged (r : Request) (limits : RunLimits) (names : List (List ℕ)) (p : List Class) (script bytes : List ℕ) : Type 0 where
+  pub contents : List (List ℕ)
+  pub read : IsRead r (Debug limits) names contents
+  pub accepted : IsAccepted contents p
+  pub script_read : IsScriptRead r script bytes
+
+-- The image that a call runs over its input under the debugger, the one of the lines of that program, which means the program, within limits in
+-- their bounds; and the commands that the script says for the program.
+pub record IsDebugOf (r : Request) (limits : RunLimits) (image : ImageParts) (commands : List DebugCommand) : Type 0 where
+  pub names : List (List ℕ)
+  pub p : List Class
+  pub script : List ℕ
+  pub bytes : List ℕ
+  pub debugged : IsDebugged r limits names p script bytes
+  pub image_is : image ≡ image_of (program_lines p names)
+  pub means : Means image p names
+  pub bounded : IsBounded limits
+  pub says : commands_for p names bytes ≡ Ok commands
+
+-- Why a script was not read, and the note of it.
+pub data IsUnreadScript (r : Request) (script : List ℕ) : List ℕ → Type 0 where
+  missing_script : IsMissing r.files script r.faults_before r.faults_after → IsUnreadScript r script (missing_note script)
+  unread_script : Rose r.faults_before r.faults_after → IsUnreadScript r script (unread_note script)
+  large_script : IsLonger r.files script MOST_SCRIPT_BYTES r.faults_before r.faults_after → IsUnreadScript r script too_large_note
 
 -- what `asm` and `build` write for a program whose files have these names: its lines, and the image of its lines in the version of checked
 -- arithmetic
@@ -68,7 +98,7 @@ pub data Due (r : Request) : ℕ → List ℕ → List ℕ → List ℕ → Type
   -- `asm` and `build`: the lines or the image, where the files are accepted, and compiled to what means the program
   built : (form : Form) (names contents : List (List ℕ)) (p : List Class) → IsRead r (Build form) names contents → IsAccepted contents p
       → IsCompiled p names → Due r 0 (built_bytes form p names) [] r.input
-  -- `check`, `asm`, `build`, `run` and `eval`: a line for each fault
+  -- `check`, `asm`, `build`, `run`, `eval` and `debug`: a line for each fault
   refused : (command : Command) (names contents : List (List ℕ)) (faults : List Fault) → IsRead r command names contents
       → MayRefuse command → IsRefused contents faults
       → Due r 1 [] (refused_note names faults) r.input
@@ -80,6 +110,21 @@ pub data Due (r : Request) : ℕ → List ℕ → List ℕ → List ℕ → Type
   unread_input : (limits : RunLimits) (image : ImageParts) (at : State) (output left : List ℕ) → IsRunOf r limits image
       → ComesTo limits image r.input at → FailsReading (call_with (segments_within limits image) at) at (Some []) (Some left) (Some output)
       → Due r 7 output read_fault_note left
+  -- `debug`: as the run of the image ends, with the notes that the script asks for in front of its own
+  debugged : (limits : RunLimits) (image : ImageParts) (commands : List DebugCommand) → IsDebugOf r limits image commands
+      → Due r (status_of (run_of limits image r.input)) (left_by (run_of limits image r.input)).output
+      (debug_notes limits image commands r.input ++ note_of (run_of limits image r.input)) (left_by (run_of limits image r.input)).input
+  -- `debug`: the run comes to a call that fails to read, over what is left, with the notes of a front of the script
+  unread_debugged : (limits : RunLimits) (image : ImageParts) (front rest : List DebugCommand) (at : State) (output left : List ℕ)
+      → IsDebugOf r limits image (front ++ rest) → ComesTo limits image r.input at
+      → FailsReading (call_with (segments_within limits image) at) at (Some []) (Some left) (Some output)
+      → Due r 7 output (debug_notes limits image front r.input ++ read_fault_note) left
+  -- `debug`: the script has a fault
+  misscripted : (limits : RunLimits) (names : List (List ℕ)) (p : List Class) (script bytes : List ℕ) (fault : ScriptFault)
+      → IsDebugged r limits names p script bytes → commands_for p names bytes ≡ Err fault → Due r 12 [] (script_note script fault) r.input
+  -- `debug`: the script was not read, where there are not too many files
+  unscripted : (limits : RunLimits) (names : List (List ℕ)) (script note : List ℕ) → asked_for r.words ≡ Some (debug script names limits)
+      → length names ≤ MOST_FILES → IsUnreadScript r script note → Due r 10 [] note r.input
   -- `eval`: as the run of the source ends
   evaluated : (steps : ℕ) (names : List (List ℕ)) (p : List Class) (status : ℕ) → IsEvaluationOf r steps names p
       → status_of_end (source.run p names r.input steps).end ≡ Some status
@@ -130,6 +175,29 @@ FailedOutput c = (bytes : List ℕ) × (more : List ℕ) × Writing c.request by
 abbrev pub FailedNote : Call → Type 0
 FailedNote c = (due : ℕ) × (output : List ℕ) × (note : List ℕ) × Due c.request due output note c.left × Got c.out output × GotPart c.notes [] note
 
+-- A program was debugged in part: a prefix of the notes came that its script asks for.
+pub record DebuggedPart (c : Call) : Type 0 where
+  pub limits : RunLimits
+  pub image : ImageParts
+  pub commands : List DebugCommand
+  pub is : IsDebugOf c.request limits image commands
+  pub noted : GotPrefix c.notes.held_before (debug_notes limits image commands c.request.input) c.notes.held_after
+
+-- just the notes of a front of the script came, and no fault of theirs
+abbrev pub NotedFront : (c : Call) → DebuggedPart c → Type 0
+NotedFront c part = (front : List DebugCommand) × (rest : List DebugCommand) × (part.commands ≡ front ++ rest)
+    × Got c.notes (debug_notes part.limits part.image front c.request.input)
+
+-- under the debugger a write of the output failed, or a note of the debugger, which then stopped between two instructions
+abbrev pub FailedDebugged : Call → Type 0
+FailedDebugged c = (part : DebuggedPart c)
+    × ((StopsWriting c part.limits part.image × NotedFront c part)
+    ⊎ (StopsBetween c part.limits part.image × Rose c.notes.faults_before c.notes.faults_after))
+
+-- memory ran out under the debugger, and no device failed
+abbrev pub DebuggedShort : Call → Type 0
+DebuggedShort c = (part : DebuggedPart c) × StopsBetween c part.limits part.image × (c.notes.faults_after ≡ c.notes.faults_before)
+
 -- memory ran out while a program was evaluated: a prefix of what its run writes came, and no fault
 abbrev pub RanShort : Call → Type 0
 RanShort c = (steps : ℕ) × (names : List (List ℕ)) × (p : List Class) × IsEvaluationOf c.request steps names p
@@ -140,6 +208,12 @@ RanShort c = (steps : ℕ) × (names : List (List ℕ)) × (p : List Class) × I
 abbrev pub EndsAs : Call → ℕ → source.Run → Type 0
 EndsAs c status run = (status_of_end run.end ≡ Some status) × Got c.out run.output × Got c.notes (note_of_end run.end) × (c.left ≡ run.left)
 
+-- a debugged call ended as the run of an image, with its status, its output, its notes and what it left of the input
+abbrev pub EndsDebugged : Call → ℕ → RunLimits → ImageParts → List DebugCommand → Type 0
+EndsDebugged c status limits image commands =
+    EndsAsImage c status limits image
+    × Got c.notes (debug_notes limits image commands c.request.input ++ note_of (run_of limits image c.request.input))
+
 -- How a call ends with a status.
 pub record Ends (c : Call) (status : ℕ) : Type 0 where
   -- no other status comes
@@ -148,9 +222,9 @@ pub record Ends (c : Call) (status : ℕ) : Type 0 where
   pub written : Unless status ((output : List ℕ) × (note : List ℕ) × Due c.request status output note c.left × Got c.out output × Got c.notes note)
   -- status 8: a write failed
   pub write_fault : status ≡ 8 → Rose c.out.faults_before c.out.faults_after ⊎ Rose c.notes.faults_before c.notes.faults_after
-  pub prefixes : status ≡ 8 → FailedOutput c ⊎ FailedNote c
-  -- status 9: nothing was written or taken, but where `eval` ran
-  pub want_of_memory : status ≡ 9 → DidNothing c ⊎ RanShort c
+  pub prefixes : status ≡ 8 → FailedOutput c ⊎ FailedNote c ⊎ FailedDebugged c
+  -- status 9: nothing was written or taken, but where `eval` or the debugger ran
+  pub want_of_memory : status ≡ 9 → DidNothing c ⊎ RanShort c ⊎ DebuggedShort c
   -- status 7 comes only where the input failed
   pub read_fault : status ≡ 7 → Rose c.input_before c.input_after
   -- status 2 comes where the words ask for nothing, and only there
@@ -165,6 +239,11 @@ pub record Ends (c : Call) (status : ℕ) : Type 0 where
   pub too_large_exactly : (files : FileMap) (command : Command) (names contents : List (List ℕ)) → Told c.request files
       → plan_of c.request.words ≡ Some (command, names) → AreHeld (Some files) names contents
       → most_bytes command < total contents → Unless status (status ≡ 10)
+  -- `debug`: so it does where the script is missing or too large
+  pub script_missing_exactly : (files : FileMap) (script : List ℕ) → Told c.request files → script_of c.request.words ≡ Some script
+      → files script ≡ None → Unless status (status ≡ 10)
+  pub script_too_large_exactly : (files : FileMap) (script bytes : List ℕ) → Told c.request files → script_of c.request.words ≡ Some script
+      → files script ≡ Some bytes → MOST_SCRIPT_BYTES < length bytes → Unless status (status ≡ 10)
   -- `check`: status 0 comes where the files were read and their fault list is empty, and status 1 where it is not
   pub checked_exactly : (files : FileMap) (names contents : List (List ℕ)) (faults : List Fault) → Told c.request files
       → IsRead c.request Check names contents → IsFaultList contents faults
@@ -175,8 +254,8 @@ pub record Ends (c : Call) (status : ℕ) : Type 0 where
   -- the image, for which the text stands, too, means the program
   pub built_means : (files : FileMap) (form : Form) (names contents : List (List ℕ)) (p : List Class) → Told c.request files
       → IsRead c.request (Build form) names contents → IsAccepted contents p → Unless status (IsCompiled p names)
-  -- `check`, `asm`, `build`, `run` and `eval`: status 1 comes where the files were read and their fault list is not empty, with a line for each fault
-  -- of it
+  -- `check`, `asm`, `build`, `run`, `eval` and `debug`: status 1 comes where the files were read and their fault list is not empty, with a line for
+  -- each fault of it
   pub refused_exactly : (files : FileMap) (command : Command) (names contents : List (List ℕ)) (faults : List Fault) → Told c.request files
       → IsRead c.request command names contents → MayRefuse command
       → IsFaultList contents faults → faults ≢ [] → Unless status ((status ≡ 1) × Got c.notes (refused_note names faults))
@@ -190,6 +269,21 @@ pub record Ends (c : Call) (status : ℕ) : Type 0 where
       → IsRead c.request (Run limits) names contents → IsAccepted contents p → AreBytes c.request.input
       → status ≢ 9 → Headline c status limits names p
   pub not_run : (limits : RunLimits) (names : List (List ℕ)) → plan_of c.request.words ≡ Some (Run limits, names) → status ≡ 9 → DidNothing c
+  -- `debug`: where the files were read and are accepted, and the script was read, the status of its run's end comes, and the notes that the script
+  -- asks for and that of the end, unless a read failed; or status 12 where the script has a fault, which the note tells
+  pub debugged_exactly : (files : FileMap) (limits : RunLimits) (names contents : List (List ℕ)) (p : List Class) (script bytes : List ℕ)
+      (commands : List DebugCommand) → Told c.request files → IsRead c.request (Debug limits) names contents → IsAccepted contents p
+      → IsScriptRead c.request script bytes → commands_for p names bytes ≡ Ok commands
+      → Unless status ((status ≡ 7) ⊎ EndsDebugged c status limits (image_of (program_lines p names)) commands)
+  pub misscripted_exactly : (files : FileMap) (limits : RunLimits) (names contents : List (List ℕ)) (p : List Class) (script bytes : List ℕ)
+      (fault : ScriptFault) → Told c.request files → IsRead c.request (Debug limits) names contents → IsAccepted contents p
+      → IsScriptRead c.request script bytes → commands_for p names bytes ≡ Err fault
+      → Unless status ((status ≡ 12) × Got c.notes (script_note script fault))
+  -- `debug`: where the script has no fault, it goes as `run`, unless it stops short, or memory ran out before anything was written or taken
+  pub debugged_headline : (files : FileMap) (limits : RunLimits) (names contents : List (List ℕ)) (p : List Class) (script bytes : List ℕ)
+      (commands : List DebugCommand) → Told c.request files → IsRead c.request (Debug limits) names contents → IsAccepted contents p
+      → IsScriptRead c.request script bytes → commands_for p names bytes ≡ Ok commands → AreBytes c.request.input
+      → Headline c status limits names p ⊎ StopsShort c status limits names p ⊎ ((status ≡ 9) × DidNothing c)
   -- `eval`: the status, the output and the note of the run's end come where the files were read and are accepted, and what it leaves of the
   -- input is left, unless a read failed; whatever the status, a prefix of the run's output came
   pub evaluated_exactly : (files : FileMap) (steps : ℕ) (names contents : List (List ℕ)) (p : List Class) → Told c.request files

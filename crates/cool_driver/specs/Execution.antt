@@ -13,7 +13,7 @@ use Rattle.spim_machine.specs.Ends.{ComesToCall}
 use Rattle.spim_machine.specs.declared.halt.Halt.{Halt}
 use Rattle.spim_machine.specs.declared.halt.Halt.TheVariants.{Exit, Trap, StepLimit, ReadFault, WriteFault}
 use Rattle.cool_words.specs.declared.plan.RunLimits.{RunLimits}
-use Rattle.cool_driver.specs.Notes.{heap_limit_note, stack_limit_note, step_limit_note, trap_note}
+use Rattle.cool_driver.specs.Notes.{heap_limit_note, stack_limit_note, step_limit_note, read_fault_note, trap_note}
 
 -- The bytes are those of this image, in version 1 or 2.
 pub record IsImageOf (image : ImageParts) (bytes : List ℕ) : Type 0 where
@@ -87,7 +87,19 @@ status_of_halt StepLimit = 6
 status_of_halt ReadFault = 7
 status_of_halt WriteFault = 8
 
+-- the note of an exit, and of a run's end
+abbrev pub exit_note : ℕ → List ℕ
+exit_note code = if code == 4 then heap_limit_note else (if code == 5 then stack_limit_note else [])
+
 abbrev pub note_of : Outcome → List ℕ
 note_of (Running s) = step_limit_note
-note_of (Exited code s) = if code == 4 then heap_limit_note else (if code == 5 then stack_limit_note else [])
+note_of (Exited code s) = exit_note code
 note_of (Trapped trap s) = trap_note trap
+
+-- the same for how a machine halted; where a write failed, no note follows
+abbrev pub note_of_halt : Halt → List ℕ
+note_of_halt (Exit code) = exit_note code
+note_of_halt (Trap trap) = trap_note trap
+note_of_halt StepLimit = step_limit_note
+note_of_halt ReadFault = read_fault_note
+note_of_halt WriteFault = []

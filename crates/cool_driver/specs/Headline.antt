@@ -1,5 +1,5 @@
--- What `run` promises for files that are accepted: it goes as the run of an image that means the program, so that within its limits what it
--- writes and leaves and how it ends are those of the runs of the source.
+-- What `run` and `debug` promise for files that are accepted: they go as the run of an image that means the program, so that within its limits
+-- what it writes and leaves and how it ends are those of the runs of the source.
 use Rattle.std.specs.Prelude.{◌≡◌, ◌≢◌, ℕ, ◌+◌, ◌⊎◌, List, [], Some}
 use Rattle.cool_classes.specs.Chains.{Class}
 use Rattle.cool_meaning.specs.SourceRun as source
@@ -8,8 +8,10 @@ use Rattle.cool_simulation.specs.Accord.{Limits, Accord, Means}
 use Rattle.cool_words.specs.declared.plan.RunLimits.{RunLimits}
 use Rattle.mips_isa.specs.ImageBounds.{ImageParts}
 use Rattle.mips_isa.specs.Calls.{State, call, print}
+use Rattle.spim_debug.specs.Debugging.{StandsEarlier}
 use Rattle.spim_machine.specs.Ends.{FailsReading, call_with}
 use Rattle.cool_driver.specs.Calls.{Call, Got, GotPart}
+use Rattle.cool_driver.specs.Debugging.{debuggee_within}
 use Rattle.cool_driver.specs.Evaluation.{IsPartOf}
 use Rattle.cool_driver.specs.Execution.{heap_of, stack_of, segments_within, run_of, ComesTo, left_by, status_of}
 
@@ -39,11 +41,24 @@ pub record StopsWriting (c : Call) (limits : RunLimits) (image : ImageParts) : T
   pub wrote : GotPart c.out at.output bytes
   pub leaves : c.left ≡ at.input
 
+-- The run was left after some of its instructions: the output up to there came, what was left there of the input is left, and no read and no
+-- write of the output failed.
+pub record StopsBetween (c : Call) (limits : RunLimits) (image : ImageParts) : Type 0 where
+  pub stands : StandsEarlier (debuggee_within limits image c.request.input) c.out.held_before (Some c.left) c.out.held_after
+  pub input_calm : c.input_after ≡ c.input_before
+  pub out_calm : c.out.faults_after ≡ c.out.faults_before
+
 -- what the call wrote and left accords with the runs of the source
 abbrev pub AccordsWith : (ℕ → source.Run) → Call → ℕ → RunLimits → Type 0
 AccordsWith runs c status limits = (output : List ℕ) × Got c.out output × Accord runs (limits_of limits) status output c.left
 
--- How a call of `run` for a program ends with a status other than 9.
+-- what came and was taken is a part of what the run of the source with a step more than instructions writes and takes
+abbrev pub IsPartOfSource : Call → RunLimits → List (List ℕ) → List Class → Type 0
+IsPartOfSource c limits names p =
+    (output : List ℕ) × (c.out.held_after ≡ appended c.out.held_before output)
+    × IsPartOf (source.run p names c.request.input (limits.steps + 1)) output c.left
+
+-- How a call of `run` for a program ends with a status other than 9, and one of `debug`, unless it stops short.
 pub record Headline (c : Call) (status : ℕ) (limits : RunLimits) (names : List (List ℕ)) (p : List Class) : Type 0 where
   -- there is an image that means the program
   pub image : ImageParts
@@ -57,4 +72,13 @@ pub record Headline (c : Call) (status : ℕ) (limits : RunLimits) (names : List
   pub unwritten : status ≡ 8
       → StopsWriting c limits image ⊎ (StopsReading c limits image ⊎ ((due : ℕ) × EndsAsImage c due limits image × AccordsWith (source.run p names c.request.input) c due limits))
   -- whatever failed, what came and was taken is a part of what the run of the source with a step more than instructions writes and takes
-  pub part : (output : List ℕ) × (c.out.held_after ≡ appended c.out.held_before output) × IsPartOf (source.run p names c.request.input (limits.steps + 1)) output c.left
+  pub part : IsPartOfSource c limits names p
+
+-- How a call of `debug` for a program stops short: a note of the debugger failed, status 8, or memory ran out, status 9, after some instructions
+-- of the run of an image that means the program.
+pub record StopsShort (c : Call) (status : ℕ) (limits : RunLimits) (names : List (List ℕ)) (p : List Class) : Type 0 where
+  pub statuses : (status ≡ 8) ⊎ (status ≡ 9)
+  pub image : ImageParts
+  pub means : Means image p names
+  pub stops : StopsBetween c limits image
+  pub part : IsPartOfSource c limits names p

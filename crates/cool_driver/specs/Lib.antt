@@ -5,6 +5,7 @@ pub mod CommandLine
 pub mod Notes
 pub mod Execution
 pub mod Evaluation
+pub mod Debugging
 pub mod Big
 pub mod Calls
 pub mod Headline

@@ -1,7 +1,8 @@
 -- The texts that are written: the end of a run, and the notes.
-use Rattle.std.specs.Prelude.{ℕ, List, [], ◌++◌, map, codes, decimal}
+use Rattle.std.specs.Prelude.{◌≡◌, refl, ℕ, List, [], ◌++◌, map, codes, decimal}
 use Rattle.std.specs.List.{concat}
 use Rattle.std.specs.Int.{w32, to_be_bytes}
+use Rattle.std.specs.Fmt as decimals
 use Rattle.hex.specs.Hex.{encode_lower}
 use Rattle.cool_faults.specs.declared.fault.Fault.{Fault}
 use Rattle.cool_faults.specs.Texts.{fault_line}
@@ -11,6 +12,9 @@ use Rattle.mips_isa.specs.declared.trap.TrapKind.TheVariants.{BadAddress, Unalig
 use Rattle.mips_isa.specs.declared.asm_fault.AsmKind.{AsmKind}
 use Rattle.mips_isa.specs.declared.asm_fault.AsmKind.TheVariants.{A1, A2, A3, A4, A5, A6, A7, A8, A9}
 use Rattle.mips_isa.specs.declared.asm_fault.AsmFault.{AsmFault}
+use Rattle.spim_debug.specs.declared.script.ScriptKind.{ScriptKind}
+use Rattle.spim_debug.specs.declared.script.ScriptKind.TheVariants.{B1, B2}
+use Rattle.spim_debug.specs.declared.script.ScriptFault.{ScriptFault}
 use Rattle.mips_image.specs.declared.image_error.ImageError.{ImageError}
 use Rattle.mips_image.specs.declared.image_error.ImageError.TheVariants.{Memory, I1, I2, I3, I4, I5}
 
@@ -75,6 +79,19 @@ asm_words A9 = codes "A9: segment too large"
 
 abbrev pub asm_note : List ℕ → AsmFault → List ℕ
 asm_note name fault = name ++ (codes ":" ++ (decimal fault.line ++ (codes ": " ++ (asm_words fault.kind ++ codes "\n"))))
+
+-- the first fault of a script
+abbrev pub script_words : ScriptKind → List ℕ
+script_words B1 = codes "B1: bad script line"
+script_words B2 = codes "B2: unknown label"
+
+abbrev pub script_note : List ℕ → ScriptFault → List ℕ
+script_note name fault = name ++ (codes ":" ++ (decimal fault.line ++ (codes ": " ++ (script_words fault.kind ++ codes "\n"))))
+
+-- a worked example
+label_in_line_3 : script_note (codes "steps.txt") (record { kind = B2; line = 3 }) ≡ codes "steps.txt:3: B2: unknown label\n"
+unfolding decimals.digits
+label_in_line_3 = refl
 
 abbrev pub trap_words : TrapKind → List ℕ
 trap_words BadAddress = codes "bad address"

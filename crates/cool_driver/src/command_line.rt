@@ -29,17 +29,21 @@ pub enum Command {
     Eval(u64),
     /// To run the image that the one file is within the limits.
     Exec(RunLimits),
+    /// To compile them, and run that within the limits under the debugger, as a script says.
+    Debug(RunLimits),
 }
 
 impl Command {
-    /// The most bytes that its files may have together.
+    /// The most bytes that its files may have together, without a script.
     pub fn most_bytes(self) -> u64
         ensures { result ≡ most_bytes self }
     {
         match self {
-            Command::Check | Command::Build(_) | Command::Run(_) | Command::Eval(_) => {
-                MOST_SOURCE_BYTES
-            }
+            Command::Check
+            | Command::Build(_)
+            | Command::Run(_)
+            | Command::Eval(_)
+            | Command::Debug(_) => MOST_SOURCE_BYTES,
             Command::Exec(_) => MOST_IMAGE_BYTES,
         }
     }

@@ -8,7 +8,7 @@ ghost use Rattle.cool_driver.specs.Ends.{IsRunOf, Ends};
 ghost use Rattle.cool_driver.specs.Execution.{heap_of, stack_of};
 ghost use Rattle.cool_words.specs.Plans.{IsBounded};
 ghost use Rattle.spim_memory.specs.Memory.{IsLimits};
-ghost use Rattle.cool_driver.specs.Tasks.{code_of};
+ghost use Rattle.cool_driver.specs.Tasks.{code_of, HaltNoted};
 
 use crate::notes::{HEAP_LIMIT, READ_FAULT, STACK_LIMIT, STEP_LIMIT, tell, trap_note};
 use crate::status::Status;
@@ -65,7 +65,20 @@ pub fn execute<I: Source, O: Sink, E: Sink>(
     let Ok(mut machine) = Machine::load(alloc, image, machine_limits(limits)) else {
         return Status::Memory;
     };
-    match machine.run(limits.steps, input, out) {
+    let halt = machine.run(limits.steps, input, out);
+    tell_halt(notes, halt)
+}
+
+/// Writes how a machine halted, and answers its status, or that the write failed.
+pub fn tell_halt<E: Sink>(notes: &mut E, halt: Halt) -> Status
+    ensures { HaltNoted (record {
+      held_before = E.held notes.old;
+      held_after = E.held notes.new;
+      faults_before = E.faults notes.old;
+      faults_after = E.faults notes.new;
+    }) halt result }
+{
+    match halt {
         Halt::Exit(0) => Status::Done,
         Halt::Exit(4) => tell(notes, Status::HeapLimit, HEAP_LIMIT),
         Halt::Exit(5) => tell(notes, Status::StackLimit, STACK_LIMIT),

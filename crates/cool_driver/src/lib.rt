@@ -15,16 +15,19 @@ ghost use Rattle.cool_driver.specs.Limits.{AreLimits};
 
 mod big;
 mod command_line;
+mod debugging;
 mod evaluation;
 mod execution;
 mod growing_sink;
 mod notes;
 mod reading;
+mod script;
 mod status;
 mod task;
 mod writing;
 
 use cool_ports::{Failed, Shelf, Sink, Source};
+use debugging::debug_image;
 use evaluation::evaluate_program;
 use execution::execute;
 use notes::{BAD_COMMAND_LINE, tell_lines};
@@ -54,7 +57,7 @@ pub fn cool<F: Shelf, I: Source, O: Sink, E: Sink>(
     // The shelf keeps its files.
     ensures files { F.files files.new ≡ F.files files.old }
 
-    // Only `run`, `exec` and `eval` take of the input.
+    // Only `run`, `exec`, `debug` and `eval` take of the input.
     ensures input { TakesNoInput (words_of words.now) → input.new ≡ input.old }
 
     // What it takes of the input: bytes, and then perhaps the answer that nothing is left, once.
@@ -92,6 +95,9 @@ pub fn cool<F: Shelf, I: Source, O: Sink, E: Sink>(
         Ok(Task::Tell(status, lines)) => tell_lines(notes, status, &lines),
         Ok(Task::Write(bytes)) => write_pieces(out, &bytes),
         Ok(Task::Execute(limits, image)) => execute(alloc, limits, &image, input, out, notes),
+        Ok(Task::Debug(limits, image, script)) => {
+            debug_image(alloc, limits, &image, &script, input, out, notes)
+        }
         Ok(Task::Evaluate(steps, program, names)) => {
             evaluate_program(alloc, steps, &program, &names, input, out, notes)
         }

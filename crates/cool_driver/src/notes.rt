@@ -2,7 +2,7 @@
 
 ghost use Rattle.std.specs.Prelude.{◌≡◌, ◌≢◌, ◌+◌, ◌<◌, ◌≤◌, ◌++◌, length, IfOk, Some, string_bytes};
 ghost use Rattle.arrayvec.specs.ArrayString.{array_string_len};
-ghost use Rattle.cool_driver.specs.Notes.{asm_note, asm_words, digits, image_note, trap_words, trap_note};
+ghost use Rattle.cool_driver.specs.Notes.{asm_note, asm_words, digits, image_note, script_note, script_words, trap_words, trap_note};
 ghost use Rattle.cool_driver.specs.Tasks.{AreLines, Noted, fault_note, note_of};
 
 use crate::status::Status;
@@ -10,6 +10,7 @@ use arrayvec::ArrayString;
 use cool_ports::{Failed, ShelfFault, Sink};
 use mips_image::ImageError;
 use mips_isa::{AsmFault, AsmKind, Trap, TrapKind};
+use spim_debug::{ScriptFault, ScriptKind};
 use std::alloc::{AllocError, Global};
 
 /// Of words that are no command line.
@@ -108,7 +109,7 @@ fn push_digits(note: &mut ArrayString<64>, a: u32)
     }
 }
 
-/// The note of a file that was not read.
+/// The note of a file or a script that was not read.
 pub fn file_note(alloc: Global, name: &str, fault: ShelfFault) -> Result<String, AllocError>
     ensures { IfOk result (λ note. fault_note name.now fault ≡ Some (string_bytes note)) }
 {
@@ -143,6 +144,25 @@ fn asm_words(kind: AsmKind) -> &'static str
         AsmKind::A7 => "A7: branch too far",
         AsmKind::A8 => "A8: wrong segment",
         AsmKind::A9 => "A9: segment too large",
+    }
+}
+
+/// The note of a script with a fault.
+pub fn script_note(alloc: Global, name: &str, fault: ScriptFault) -> Result<String, AllocError>
+    ensures { IfOk result (λ note. string_bytes note ≡ script_note name.now fault) }
+{
+    let line = fault.line;
+    let words = script_words(fault.kind);
+    format!(in alloc; "{name}:{line}: {words}\n")
+}
+
+/// The kind of a fault of a script, and what it says.
+fn script_words(kind: ScriptKind) -> &'static str
+    ensures { result.now ≡ script_words kind }
+{
+    match kind {
+        ScriptKind::B1 => "B1: bad script line",
+        ScriptKind::B2 => "B2: unknown label",
     }
 }
 

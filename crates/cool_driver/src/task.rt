@@ -15,16 +15,17 @@ ghost use Rattle.cool_faults.specs.Files.{total};
 ghost use Rattle.cool_driver.specs.Ends.{built_bytes};
 ghost use Rattle.cool_faults.specs.Verdicts.{place_of};
 ghost use Rattle.cool_driver.specs.CommandLine.{is_number_of_files, most_bytes};
-ghost use Rattle.cool_driver.specs.Tasks.{AreSources, AssemblesText, IsLine, AreLinesOf, IsTaskOf, IsTaskOfFile, IsTaskOfChecked, IsTaskOfBuilt, IsTaskOfRun, IsTaskOfEval, IsDue, IsFileTask, HasLimits};
+ghost use Rattle.cool_driver.specs.Tasks.{AreSources, AssemblesText, IsLine, AreLinesOf, IsTaskOf, IsTaskOfFile, IsTaskOfChecked, IsTaskOfBuilt, IsTaskOfRun, IsTaskOfEval, IsDue, IsFileTask, IsUnreadLine, HasLimits, TakesNoScript};
 
 use crate::big::big_line;
 use crate::command_line::{Command, Form};
 use crate::notes::{BAD_COMMAND_LINE, TOO_MANY_FILES, asm_note, file_note, image_note};
 use crate::reading::{ReadError, read_files};
+use crate::script::find_debug_task;
 use crate::status::Status;
 use cool_emit::{build, lines};
 use cool_faults::{Fault, Verdict, accept, fault_text};
-use cool_ports::Shelf;
+use cool_ports::{Shelf, ShelfFault};
 use cool_rules::TypedProgram;
 use cool_syntax::MOST_FILES;
 use cool_words::{Plan, RunLimits, WordsError, read_words};
@@ -32,6 +33,7 @@ use mips_asm::assemble;
 use mips_image::{CHECKED_VERSION, read_image, write_image};
 use mips_isa::{AsmError, Image};
 use mips_text::{print_asm, read_asm};
+use spim_debug::DebugCommand;
 use std::alloc::{AllocError, Global};
 
 /// The first byte of an image. No text of assembly begins with it.
@@ -46,6 +48,8 @@ pub enum Task {
     Write(Vec<u8>),
     /// To run this image over the input within these limits.
     Execute(RunLimits, Image),
+    /// To run this image over the input within these limits under the debugger, which does what these commands say.
+    Debug(RunLimits, Image, Vec<DebugCommand>),
     /// To evaluate this program over the input with so many steps. Its files have these names.
     Evaluate(u64, TypedProgram, Vec<String>),
 }
@@ -90,6 +94,13 @@ pub fn find_task<F: Shelf>(
             let names = vec![in alloc; file]?;
             find_file_task(alloc, Command::Exec(limits), &names, files)
         }
+        Ok(
+            Plan::Debug {
+                script,
+                files: names,
+                limits,
+            },
+        ) => find_debug_task(alloc, limits, script.as_str(), &names, files),
         Ok(Plan::Big { n }) => Ok(Task::Write(big_line(alloc, n)?.into_bytes())),
         Err(WordsError::Usage) => tell_usage(alloc),
         Err(WordsError::Memory) => Err(AllocError),
@@ -104,7 +115,7 @@ fn tell_usage(alloc: Global) -> Result<Task, AllocError>
 }
 
 /// To write this one line. `Err` comes only for want of memory.
-fn tell_line(alloc: Global, status: Status, line: &[u8]) -> Result<Task, AllocError>
+pub fn tell_line(alloc: Global, status: Status, line: &[u8]) -> Result<Task, AllocError>
     ensures { IfOk result (IsLine status line.now) }
 {
     let mut lines = Vec::new(alloc);
@@ -112,7 +123,7 @@ fn tell_line(alloc: Global, status: Status, line: &[u8]) -> Result<Task, AllocEr
     Ok(Task::Tell(status, lines))
 }
 
-/// What is left to do for files of these names. `Err` comes only for want of memory.
+/// What is left to do for files of these names, by a command without a script. `Err` comes only for want of memory.
 fn find_file_task<F: Shelf>(
     alloc: Global,
     command: Command,
@@ -122,6 +133,7 @@ fn find_file_task<F: Shelf>(
     requires number { is_number_of_files command (length names.now) ≡ true }
     requires names { list_all is_file_name (words_of names.now) ≡ true }
     requires limits { HasLimits command }
+    requires plain { TakesNoScript command }
     ensures kept { F.files files.new ≡ F.files files.old }
     ensures count { F.faults files.old ≤ F.faults files.new }
     ensures due { IfOk result (IsFileTask (F.files files.old) (F.faults files.old) (F.faults files.new) command (words_of names.now)) }
@@ -131,12 +143,17 @@ fn find_file_task<F: Shelf>(
     }
     match read_files(alloc, names, command.most_bytes(), files) {
         Ok(contents) => find_content_task(alloc, command, names, &contents),
-        Err(ReadError::Refused(name, fault)) => {
-            let note = file_note(alloc, name, fault)?;
-            tell_line(alloc, Status::FileFault, note.as_bytes())
-        }
+        Err(ReadError::Refused(name, fault)) => tell_unread(alloc, name, fault),
         Err(ReadError::Memory) => Err(AllocError),
     }
+}
+
+/// To write that the file or script of this name was not read. `Err` comes only for want of memory.
+pub fn tell_unread(alloc: Global, name: &str, fault: ShelfFault) -> Result<Task, AllocError>
+    ensures { IfOk result (IsUnreadLine name.now fault) }
+{
+    let note = file_note(alloc, name, fault)?;
+    tell_line(alloc, Status::FileFault, note.as_bytes())
 }
 
 /// What is left to do for files of these names that have these bytes.
@@ -152,6 +169,7 @@ fn find_content_task(
     requires bytes { AllByRecursion AreBytes (texts contents.now) }
     requires few { length contents.now ≤ MOST_FILES }
     requires small { total (texts contents.now) ≤ most_bytes command }
+    requires plain { TakesNoScript command }
     ensures { IfOk result (IsTaskOf command (words_of names.now) (texts contents.now)) }
 {
     match command {
@@ -159,6 +177,7 @@ fn find_content_task(
         Command::Build(form) => build_files(alloc, form, names, contents),
         Command::Run(limits) => compile_files(alloc, limits, names, contents),
         Command::Eval(steps) => evaluate_files(alloc, steps, names, contents),
+        Command::Debug(_) => unreachable!(),
         Command::Exec(limits) => load(alloc, limits, names[0].as_str(), &contents[0]),
     }
 }
@@ -210,7 +229,7 @@ fn written_program(
 }
 
 /// To write the lines of faults of files of these names.
-fn refuse(alloc: Global, names: &[String], faults: &[Fault]) -> Result<Task, AllocError>
+pub fn refuse(alloc: Global, names: &[String], faults: &[Fault]) -> Result<Task, AllocError>
     requires { AllByRecursion (λ f. (place_of f).file < length names.now) faults.now }
     ensures { IfOk result (AreLinesOf (words_of names.now) faults.now) }
 {

@@ -8,21 +8,21 @@ use Rattle.clap.proofs.WalkLemmas.{first_value-rows, raw_values-rows}
 use Rattle.cool_words.specs.Numbers.{number_in}
 use Rattle.cool_words.specs.Plans.{are_file_names, file_in, files_in, if_name, if_names, is_file_name, value_in}
 
--- the one name is there
-name_there : (f : Found) (name : Option Text) → name ≡ first_value f (codes "FILE") → file_in (rows_of f) ≡ option_and_then if_name name
-name_there f name e = ap (option_and_then if_name) (sym (e ∙ first_value-rows f (codes "FILE")))
+-- the one name that is the value of an argument is there
+name_there : (f : Found) (argument : Text) (name : Option Text) → name ≡ first_value f argument → file_in argument (rows_of f) ≡ option_and_then if_name name
+name_there f argument name e = ap (option_and_then if_name) (sym (e ∙ first_value-rows f argument))
 
 -- and is a file's
-pub name_found : (f : Found) (name : Text) → Some name ≡ first_value f (codes "FILE") → is_file_name name ≡ true → file_in (rows_of f) ≡ Some name
-name_found f name e k = name_there f (Some name) e ∙ ap (λ b. if b then Some name else None) k
+pub name_found : (f : Found) (argument name : Text) → Some name ≡ first_value f argument → is_file_name name ≡ true → file_in argument (rows_of f) ≡ Some name
+name_found f argument name e k = name_there f argument (Some name) e ∙ ap (λ b. if b then Some name else None) k
 
 -- it is not
-pub name_refused : (f : Found) (name : Text) → Some name ≡ first_value f (codes "FILE") → is_file_name name ≡ false → file_in (rows_of f) ≡ None
-name_refused f name e k = name_there f (Some name) e ∙ ap (λ b. if b then Some name else None) k
+pub name_refused : (f : Found) (argument name : Text) → Some name ≡ first_value f argument → is_file_name name ≡ false → file_in argument (rows_of f) ≡ None
+name_refused f argument name e k = name_there f argument (Some name) e ∙ ap (λ b. if b then Some name else None) k
 
 -- there is none
-pub name_missing : (f : Found) → None ≡ first_value f (codes "FILE") → file_in (rows_of f) ≡ None
-name_missing f e = name_there f None e
+pub name_missing : (f : Found) (argument : Text) → None ≡ first_value f argument → file_in argument (rows_of f) ≡ None
+name_missing f argument e = name_there f argument None e
 
 -- the names are there
 names_there : (f : Found) (names : Option (List Text)) → names ≡ option_map raw_values (matched_of f (codes "FILES")) → files_in (rows_of f) ≡ option_and_then if_names names

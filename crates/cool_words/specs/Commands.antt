@@ -5,7 +5,7 @@ use Rattle.clap.specs.Simple.{new_shape}
 use Rattle.clap.specs.declared.builder.action.ArgAction.{ArgAction}
 use Rattle.clap.specs.declared.builder.action.ArgAction.TheVariants.{Set, Append}
 use Rattle.cool_words.specs.declared.command_word.CommandWord.{CommandWord}
-use Rattle.cool_words.specs.declared.command_word.CommandWord.TheVariants.{Check, Asm, Build, Run, Eval, Exec, Big}
+use Rattle.cool_words.specs.declared.command_word.CommandWord.TheVariants.{Check, Asm, Build, Run, Eval, Exec, Debug, Big}
 
 abbrev pub name_of : CommandWord → Text
 name_of Check = codes "check"
@@ -14,6 +14,7 @@ name_of Build = codes "build"
 name_of Run = codes "run"
 name_of Eval = codes "eval"
 name_of Exec = codes "exec"
+name_of Debug = codes "debug"
 name_of Big = codes "big"
 
 abbrev pub command_of : Text → Option CommandWord
@@ -24,7 +25,8 @@ command_of word =
     else (if bytes_eq word (codes "run") then Some Run
     else (if bytes_eq word (codes "eval") then Some Eval
     else (if bytes_eq word (codes "exec") then Some Exec
-    else (if bytes_eq word (codes "big") then Some Big else None))))))
+    else (if bytes_eq word (codes "debug") then Some Debug
+    else (if bytes_eq word (codes "big") then Some Big else None)))))))
 
 -- an option `--name`, which takes one value, at most once
 abbrev pub option_rule : Text → Rule
@@ -54,5 +56,6 @@ abbrev pub app_for : CommandWord → App
 app_for Run = with_rule (with_limits (bare (codes "run"))) FILES
 app_for Eval = with_rule (with_steps (bare (codes "eval"))) FILES
 app_for Exec = with_rule (with_limits (bare (codes "exec"))) (positional_rule (codes "FILE") Set)
+app_for Debug = with_rule (with_rule (with_limits (bare (codes "debug"))) (positional_rule (codes "SCRIPT") Set)) FILES
 app_for Big = with_rule (bare (codes "big")) (positional_rule (codes "N") Set)
 app_for command = with_rule (bare (name_of command)) FILES

@@ -11,7 +11,7 @@ use Rattle.clap.specs.Words.{Row, Text, all_of, first_of, matches_of, fault_of}
 use Rattle.cool_words.specs.Commands.{app_for, command_of}
 use Rattle.cool_words.specs.Numbers.{IsWithin, number_in}
 use Rattle.cool_words.specs.declared.command_word.CommandWord.{CommandWord}
-use Rattle.cool_words.specs.declared.command_word.CommandWord.TheVariants.{Check, Asm, Build, Run, Eval, Exec, Big}
+use Rattle.cool_words.specs.declared.command_word.CommandWord.TheVariants.{Check, Asm, Build, Run, Eval, Exec, Debug, Big}
 use Rattle.cool_words.specs.declared.plan.RunLimits.{RunLimits}
 use Rattle.cool_words.specs.declared.plan.Plan.{Plan}
 use Rattle.cool_words.specs.declared.plan.Plan.TheVariants as plan
@@ -30,6 +30,7 @@ pub data Asked : Type 0 where
   run : List Text → RunLimits → Asked
   eval : List Text → ℕ → Asked
   exec : Text → RunLimits → Asked
+  debug : Text → List Text → RunLimits → Asked
   big : ℕ → Asked
 
 abbrev pub asked_by : Plan → Asked
@@ -39,6 +40,7 @@ asked_by (plan.Build files) = build (words_of files.items)
 asked_by (plan.Run files limits) = run (words_of files.items) limits
 asked_by (plan.Eval files steps) = eval (words_of files.items) steps
 asked_by (plan.Exec file limits) = exec (string_bytes file) limits
+asked_by (plan.Debug script files limits) = debug (string_bytes script) (words_of files.items) limits
 asked_by (plan.Big n) = big n
 
 -- ---- names and limits
@@ -70,8 +72,9 @@ files_in rows = option_and_then if_names (all_of (codes "FILES") rows)
 abbrev pub if_name : Text → Option Text
 if_name name = if is_file_name name then Some name else None
 
-abbrev pub file_in : List Row → Option Text
-file_in rows = option_and_then if_name (first_of (codes "FILE") rows)
+-- the name of the one file that is the value of an argument
+abbrev pub file_in : Text → List Row → Option Text
+file_in argument rows = option_and_then if_name (first_of argument rows)
 
 -- the value of the argument from low to high, and the default where it is not used
 abbrev pub value_in : Text → ℕ → ℕ → Option ℕ → List Row → Option ℕ
@@ -104,7 +107,9 @@ asked_of Asm rows = option_map asm (files_in rows)
 asked_of Build rows = option_map build (files_in rows)
 asked_of Run rows = option_and_then (λ files. option_map (run files) (limits_in rows)) (files_in rows)
 asked_of Eval rows = option_and_then (λ files. option_map (eval files) (steps_in rows)) (files_in rows)
-asked_of Exec rows = option_and_then (λ file. option_map (exec file) (limits_in rows)) (file_in rows)
+asked_of Exec rows = option_and_then (λ file. option_map (exec file) (limits_in rows)) (file_in (codes "FILE") rows)
+asked_of Debug rows =
+    option_and_then (λ script. option_and_then (λ files. option_map (debug script files) (limits_in rows)) (files_in rows)) (file_in (codes "SCRIPT") rows)
 asked_of Big rows = option_map big (value_in (codes "N") 1 300 None rows)
 
 -- clap finds no fault in the words, of which the first is the command's
@@ -144,6 +149,16 @@ eval_of_one = refl
 eval_with_steps : plan_of (codes "eval" ∷ codes "a.cl" ∷ codes "--steps" ∷ codes "1000" ∷ codes "b.cl" ∷ []) ≡ Some (eval (codes "a.cl" ∷ codes "b.cl" ∷ []) 1000)
 unfolding on_literals
 eval_with_steps = refl
+
+debug_of_one : plan_of (codes "debug" ∷ codes "--heap" ∷ codes "64" ∷ codes "steps.txt" ∷ codes "hello.cl" ∷ [])
+    ≡ Some (debug (codes "steps.txt") (codes "hello.cl" ∷ []) (limits 64))
+unfolding on_literals
+debug_of_one = refl
+
+debug_of_two : plan_of (codes "debug" ∷ codes "steps.txt" ∷ codes "a.cl" ∷ codes "--heap=64" ∷ codes "b.cl" ∷ [])
+    ≡ Some (debug (codes "steps.txt") (codes "a.cl" ∷ codes "b.cl" ∷ []) (limits 64))
+unfolding on_literals
+debug_of_two = refl
 
 name_with_hyphen : plan_of (codes "check" ∷ codes "--" ∷ codes "-x.cl" ∷ []) ≡ Some (check (codes "-x.cl" ∷ []))
 unfolding on_literals
@@ -192,6 +207,10 @@ eval_of_no_file : plan_of (codes "eval" ∷ []) ≡ None
 unfolding on_literals
 eval_of_no_file = refl
 
+debug_of_no_file : plan_of (codes "debug" ∷ codes "steps.txt" ∷ []) ≡ None
+unfolding on_literals
+debug_of_no_file = refl
+
 hyphen_first : plan_of (codes "check" ∷ codes "-x.cl" ∷ []) ≡ None
 unfolding on_literals
 hyphen_first = refl
@@ -225,4 +244,5 @@ IsWithinBounds (plan.Build files) = HasFileNames (words_of files.items)
 IsWithinBounds (plan.Run files limits) = HasFileNames (words_of files.items) × IsBounded limits
 IsWithinBounds (plan.Eval files steps) = HasFileNames (words_of files.items) × IsWithin 1 most_steps steps
 IsWithinBounds (plan.Exec file limits) = (is_file_name (string_bytes file) ≡ true) × IsBounded limits
+IsWithinBounds (plan.Debug script files limits) = (is_file_name (string_bytes script) ≡ true) × HasFileNames (words_of files.items) × IsBounded limits
 IsWithinBounds (plan.Big n) = IsWithin 1 300 n

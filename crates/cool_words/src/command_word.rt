@@ -16,6 +16,7 @@ pub enum CommandWord {
     Run,
     Eval,
     Exec,
+    Debug,
     Big,
 }
 
@@ -30,6 +31,7 @@ pub(crate) fn command_of(word: &str) -> Option<CommandWord>
         "run" => Some(CommandWord::Run),
         "eval" => Some(CommandWord::Eval),
         "exec" => Some(CommandWord::Exec),
+        "debug" => Some(CommandWord::Debug),
         "big" => Some(CommandWord::Big),
         _ => None,
     }
@@ -47,6 +49,7 @@ impl CommandWord {
             CommandWord::Run => "run",
             CommandWord::Eval => "eval",
             CommandWord::Exec => "exec",
+            CommandWord::Debug => "debug",
             CommandWord::Big => "big",
         }
     }
@@ -65,6 +68,11 @@ impl CommandWord {
                 "FILE",
                 ArgAction::Set,
             )),
+            CommandWord::Debug => {
+                with_limits(alloc, parser)?
+                    .arg(positional(alloc, "SCRIPT", ArgAction::Set))?
+                    .arg(files(alloc))
+            }
             CommandWord::Big => parser.arg(positional(alloc, "N", ArgAction::Set)),
         }
     }

@@ -48,6 +48,12 @@ pub enum Plan {
         file: String,
         limits: RunLimits,
     },
+    /// To compile the files, and run the program within the limits under the debugger, as the script says.
+    Debug {
+        script: String,
+        files: Vec<String>,
+        limits: RunLimits,
+    },
     /// To write a program of size `n`.
     Big {
         n: u32,

@@ -94,7 +94,12 @@ fn read_matches(
             steps: steps_of(matches)?,
         }),
         CommandWord::Exec => Ok(Plan::Exec {
-            file: file_of(alloc, matches)?,
+            file: file_of(alloc, matches, "FILE")?,
+            limits: limits_of(matches)?,
+        }),
+        CommandWord::Debug => Ok(Plan::Debug {
+            script: file_of(alloc, matches, "SCRIPT")?,
+            files: files_of(alloc, matches)?,
             limits: limits_of(matches)?,
         }),
         CommandWord::Big => Ok(Plan::Big {
@@ -114,12 +119,12 @@ fn files_of(alloc: Global, matches: &ArgMatches<'_>) -> Result<Vec<String>, Word
     }
 }
 
-/// The name of the one file.
-fn file_of(alloc: Global, matches: &ArgMatches<'_>) -> Result<String, WordsError>
-    ensures value { Answers string_bytes (file_in (rows_of (found_of matches.now))) result }
+/// The name of the one file that is the value of an argument.
+fn file_of(alloc: Global, matches: &ArgMatches<'_>, argument: &str) -> Result<String, WordsError>
+    ensures value { Answers string_bytes (file_in argument.now (rows_of (found_of matches.now))) result }
     ensures bounds { IfOk result (λ file. is_file_name (string_bytes file) ≡ true) }
 {
-    match matches.get_str("FILE") {
+    match matches.get_str(argument) {
         Some(name) if is_file_name(name) => Ok(String::from_str(alloc, name)?),
         _ => Err(WordsError::Usage),
     }

@@ -3,10 +3,11 @@ use Rattle.cool_ports.proofs.GettingBytes.{appended-nil}
 use Rattle.cool_ports.proofs.InputsInParts.{took_nothing, leaves_same}
 use Rattle.cool_driver.proofs.EndsOfDue.{ends_without_memory}
 use Rattle.cool_driver.proofs.EndsOfTasks.{note_ends, written_ends}
+use Rattle.cool_driver.proofs.DebugsOfCalls.{debug_takes_input}
 use Rattle.cool_driver.proofs.EvaluationsOfCalls.{evaluation_takes_input}
 use Rattle.cool_driver.proofs.ImagesOfCalls.{run_takes_input}
 use Rattle.cool_driver.proofs.cool.Goals as goal
-use Rattle.cool_driver.proofs.cool.Goals.{in-Err, in-Ok-Tell, in-Ok-Write, in-Ok-Execute, in-Ok-Evaluate}
+use Rattle.cool_driver.proofs.cool.Goals.{in-Err, in-Ok-Tell, in-Ok-Write, in-Ok-Execute, in-Ok-Debug, in-Ok-Evaluate}
 
 -- no line is empty
 pub tell_lines-status-requires : goal.tell_lines-status-requires
@@ -20,6 +21,12 @@ execute-status-requires g c =
     let due = rw c.in-Ok-Execute.field-0-is at (c.in-Ok-Execute.ensures.due []) in
     due.0
 
+-- and what a script says is meant for the image
+pub debug_image-status-requires : goal.debug_image-status-requires
+debug_image-status-requires g c =
+    let due = rw (c.in-Ok-Debug.field-0-is, ← c.deref-in-Ok-Debug.ensures.value) at (c.in-Ok-Debug.ensures.due []) in
+    record { bounded = due.0; script = due.1 }
+
 pub returns-clause-input : goal.returns-clause-input
 returns-clause-input g c none =
     elim c.match-find_task.branch [
@@ -29,6 +36,9 @@ returns-clause-input g c none =
       | in-Ok-Execute w ↦
           let due = rw w.in-Ok-Execute.field-0-is at (w.in-Ok-Execute.ensures.due []) in
           absurd (run_takes_input _ _ _ due.1 none)
+      | in-Ok-Debug w ↦
+          let due = rw w.in-Ok-Debug.field-0-is at (w.in-Ok-Debug.ensures.due []) in
+          absurd (debug_takes_input _ _ _ _ due.2 none)
       | in-Ok-Evaluate w ↦
           let due = rw w.in-Ok-Evaluate.field-0-is at (w.in-Ok-Evaluate.ensures.due []) in
           absurd (evaluation_takes_input _ _ _ _ due none)
@@ -55,6 +65,10 @@ returns-clause-ends g c given rest leaves =
           let here = rw w.input-is at leaves in
           let due = rw w.in-Ok-Execute.field-0-is at (w.in-Ok-Execute.ensures.due given) in
           rw (c.code.ensures, w.status-is, w.out-is, w.notes-is, w.input-is) (w.execute-status.ensures.ends _ rest due.1 here)
+      | in-Ok-Debug w ↦
+          let here = rw w.input-is at leaves in
+          let due = rw (w.in-Ok-Debug.field-0-is, ← w.deref-in-Ok-Debug.ensures.value) at (w.in-Ok-Debug.ensures.due given) in
+          rw (c.code.ensures, w.status-is, w.out-is, w.notes-is, w.input-is) (w.debug_image-status.ensures.ends _ rest due.2 here)
       | in-Ok-Evaluate w ↦
           let here = rw w.input-is at leaves in
           let due = rw (w.in-Ok-Evaluate.field-0-is, ← w.deref-in-Ok-Evaluate.ensures.value) at (w.in-Ok-Evaluate.ensures.due given) in
@@ -68,8 +82,9 @@ returns-clause-taken g c =
       | in-Ok-Tell w ↦ rw w.input-is (false, took_nothing _ _ _)
       | in-Ok-Write w ↦ rw w.input-is (false, took_nothing _ _ _)
       | in-Ok-Execute w ↦ rw w.input-is w.execute-status.ensures.taken
+      | in-Ok-Debug w ↦ rw w.input-is w.debug_image-status.ensures.taken
       | in-Ok-Evaluate w ↦ rw w.input-is w.evaluate_program-status.ensures.taken
     ]
 
 pub returns-clause-limits : goal.returns-clause-limits
-returns-clause-limits g c = record { image_bytes = refl; big_output = refl }
+returns-clause-limits g c = record { image_bytes = refl; script_bytes = refl; big_output = refl }

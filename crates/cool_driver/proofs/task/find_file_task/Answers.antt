@@ -1,4 +1,4 @@
-use Rattle.std.proofs.Common.{◌≡◌, ◌≤◌, ◌<◌, ℕ, List, length, Some, sym, ap, ◌∙◌, subst, arith}
+use Rattle.std.proofs.Common.{◌≤◌, ◌<◌, ℕ, List, length, ap, ◌∙◌, subst, arith}
 use Rattle.std.specs.Prelude.{string_bytes}
 use Rattle.std.proofs.lemmas.List.{length-map}
 use Rattle.cool_syntax.specs.declared.TheConstants.{MOST_FILES}
@@ -6,7 +6,7 @@ use Rattle.cool_faults.specs.Files.{total}
 use Rattle.cool_driver.specs.CommandLine.{words_of, is_number_of_files, most_bytes}
 use Rattle.cool_driver.specs.Contents.{texts}
 use Rattle.cool_driver.specs.Reading.{IsStopAt}
-use Rattle.cool_driver.specs.Tasks.{IsTaskOf, fault_note}
+use Rattle.cool_driver.specs.Tasks.{IsTaskOf}
 use Rattle.std.specs.Global.{Vec}
 use Rattle.cool_driver.proofs.HeldFiles.{held_length}
 use Rattle.cool_driver.proofs.DueTasks.{for_ok, file_task, many_task, stop_task}
@@ -36,20 +36,23 @@ returns-in-Ok-clause-due g c =
     let few : length (words_of c.args.names.now) ≤ MOST_FILES = omega (arith, length-map c.args.names.now string_bytes, c.if-names-gt-MOST_FILES.false) in
     let within : total (texts c.in-Ok.contents.items) ≤ most_bytes c.args.command = omega (arith, read.within, c.most_bytes.ensures) in
     for_ok _ _ c.find_content_task.result
-    (λ task h. file_task _ _ _ c.args.command (words_of c.args.names.now) (texts c.in-Ok.contents.items) task c.requires.limits
+    (λ task h. file_task _ _ _ c.args.command (words_of c.args.names.now) (texts c.in-Ok.contents.items) task c.requires.limits c.requires.plain
     (ap (is_number_of_files c.args.command) (length-map c.args.names.now string_bytes) ∙ c.requires.number) read.held few within read.calm
     (subst (λ (files : List (Vec ℕ)). IsTaskOf c.args.command (words_of c.args.names.now) (texts files) task) c.deref.ensures.value h))
     c.find_content_task.ensures
 
 -- a file was refused
-pub returns-in_ok-note-in-Err-Refused-clause-due : goal.returns-in_ok-note-in-Err-Refused-clause-due
-returns-in_ok-note-in-Err-Refused-clause-due g c =
-    let few : length (words_of c.args.names.now) ≤ MOST_FILES = omega (arith, length-map c.args.names.now string_bytes, c.if-names-gt-MOST_FILES.false) in
+pub returns-in-Err-Refused-clause-due : goal.returns-in-Err-Refused-clause-due
+returns-in-Err-Refused-clause-due g c =
+    let names = words_of c.args.names.now in
+    let few : length names ≤ MOST_FILES = omega (arith, length-map c.args.names.now string_bytes, c.if-names-gt-MOST_FILES.false) in
     let refused = c.in-Err-Refused in
     let stop = rw refused.field-0-is at refused.ensures.stop in
-    let told = rw refused.field-0-is at c.in_ok-note-in-Err-Refused.ensures in
-    let note : fault_note refused.name.now refused.fault ≡ Some c.as_bytes.result.now = told ∙ ap Some (sym c.as_bytes.ensures.value) in
-    for_ok _ _ c.tell_line-in-Err-Refused.result
-    (λ task h. stop_task _ _ _ c.args.command (words_of c.args.names.now) refused.name.now refused.fault c.as_bytes.result.now task few
-    (subst (λ (most : ℕ). IsStopAt (g.F.Shelf.files c.args.files.now) (g.F.Shelf.faults c.args.files.now) (g.F.Shelf.faults c.read_files.new.files) (words_of c.args.names.now) most refused.name.now refused.fault) c.most_bytes.ensures stop) note h)
-    c.tell_line-in-Err-Refused.ensures
+    let told = g.F.Shelf.files c.args.files.now in
+    let before = g.F.Shelf.faults c.args.files.now in
+    let after = g.F.Shelf.faults c.read_files.new.files in
+    let within_most =
+    subst (λ (most : ℕ). IsStopAt told before after names most refused.name.now refused.fault) c.most_bytes.ensures stop in
+    for_ok _ _ c.tell_unread.result
+    (λ task h. stop_task _ _ _ c.args.command names refused.name.now refused.fault task c.requires.plain few within_most h)
+    (rw refused.field-0-is at c.tell_unread.ensures)

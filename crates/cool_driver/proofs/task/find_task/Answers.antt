@@ -1,5 +1,7 @@
-use Rattle.std.proofs.Common.{refl, ap, sym, ◌∙◌, arith, Some}
-use Rattle.std.specs.Prelude.{Err}
+use Rattle.std.proofs.Common.{List, ℕ, refl, ap, sym, ◌∙◌, arith, Some}
+use Rattle.std.specs.Prelude.{Err, String, string_bytes}
+use Rattle.std.specs.Global.{Global}
+use Rattle.cool_words.specs.Plans.Asked.{debug}
 use Rattle.cool_driver.specs.CommandLine.{words_of}
 use Rattle.cool_driver.specs.Notes.{usage_note}
 use Rattle.cool_driver.specs.Ends.Due.{summed, usage}
@@ -50,6 +52,16 @@ returns-in_ok-names-in-Ok-Exec-clause-due g c input =
     let plan =
     plan_is (words_of c.args.words.now) _ asked ∙ ap (λ names. Some (Exec c.in-Ok-Exec.limits, words_of names)) (sym (c.deref-in-Ok-Exec.ensures.value ∙ names)) in
     for_ok _ _ c.find_file_task-in-Ok-Exec.result (λ task h. h (words_of c.args.words.now) input plan) c.find_file_task-in-Ok-Exec.ensures.due
+
+-- what is left to do for the plan's script and files is due
+pub returns-in-Ok-Debug-clause-due : goal.returns-in-Ok-Debug-clause-due
+returns-in-Ok-Debug-clause-due g c input =
+    let plan = c.in-Ok-Debug in
+    let asked = asked_is (words_of c.args.words.now) ∙ (rw plan.field-0-is at plan.ensures.plan) in
+    let names =
+    ap (λ (files : List (String Global)). Some (debug (string_bytes plan.script) (words_of files) plan.limits)) (sym c.deref-in-Ok-Debug.ensures.value) in
+    let script = ap (λ (name : List ℕ). Some (debug name (words_of c.deref-in-Ok-Debug.result.now) plan.limits)) (sym c.as_str.ensures.value) in
+    for_ok _ _ c.find_debug_task.result (λ task h. h (words_of c.args.words.now) input (asked ∙ names ∙ script)) c.find_debug_task.ensures.due
 
 -- the line of `big` is due
 pub returns-in_ok-big_line-in-Ok-Big-clause-due : goal.returns-in_ok-big_line-in-Ok-Big-clause-due

@@ -1,0 +1,75 @@
+use Rattle.std.proofs.Common.{◌∙◌, length, refl, ap, sym, subst, arith}
+use Rattle.std.proofs.lemmas.List.{length-map}
+use Rattle.mips_isa.specs.Assembly.{fault_of, image_of}
+use Rattle.mips_isa.specs.ImageBounds.{ImageParts}
+use Rattle.mips_isa.specs.Lines.{line_of, lines_of, AreInRange}
+use Rattle.cool_emit.proofs.SoundLinesAssemble.{few_lines, in_range, no_fault}
+use Rattle.spim_debug.specs.Debugging.{IsScriptFor}
+use Rattle.cool_driver.specs.CommandLine.{words_of}
+use Rattle.cool_driver.proofs.Plans.{short_names}
+use Rattle.cool_driver.proofs.DueTasks.{for_ok}
+use Rattle.cool_driver.proofs.NoteLines.{script_line}
+use Rattle.cool_driver.proofs.ScriptTasks.{says_commands, says_fault}
+use Rattle.cool_driver.proofs.script.debug_program.Goals as goal
+
+-- the names are short
+pub lines-requires-clause-names : goal.lines-requires-clause-names
+lines-requires-clause-names c = short_names (words_of c.args.names.now) c.requires.names
+
+-- the lines are few, their numbers are in range, and none has a fault
+pub read_script-requires-clause-few : goal.read_script-requires-clause-few
+read_script-requires-clause-few c =
+    let made = ap length c.in_ok-lines.ensures.lines in
+    let same = length-map c.in_ok-lines.lines.items line_of in
+    let slice = ap length c.deref.ensures.value in
+    let few = few_lines _ _ c.lines.ensures.sound in
+    omega arith
+
+pub read_script-requires-clause-ranges : goal.read_script-requires-clause-ranges
+read_script-requires-clause-ranges c =
+    subst AreInRange (sym (ap lines_of c.deref.ensures.value ∙ c.in_ok-lines.ensures.lines)) (in_range _ _ c.lines.ensures.sound)
+
+pub read_script-requires-clause-image : goal.read_script-requires-clause-image
+read_script-requires-clause-image c =
+    ap fault_of (ap lines_of c.deref.ensures.value ∙ c.in_ok-lines.ensures.lines) ∙ no_fault _ _ c.lines.ensures.sound
+
+pub assemble_lines-requires-clause-few : goal.assemble_lines-requires-clause-few
+assemble_lines-requires-clause-few c =
+    let made = ap length c.in_ok-lines.ensures.lines in
+    let same = length-map c.in_ok-lines.lines.items line_of in
+    let slice = ap length c.deref-in-Ok.ensures.value in
+    let few = few_lines _ _ c.lines.ensures.sound in
+    omega arith
+
+pub assemble_lines-requires-clause-ranges : goal.assemble_lines-requires-clause-ranges
+assemble_lines-requires-clause-ranges c =
+    subst AreInRange (sym (ap lines_of c.deref-in-Ok.ensures.value ∙ c.in_ok-lines.ensures.lines)) (in_range _ _ c.lines.ensures.sound)
+
+pub assemble_lines-requires-clause-no_fault : goal.assemble_lines-requires-clause-no_fault
+assemble_lines-requires-clause-no_fault c =
+    ap fault_of (ap lines_of c.deref-in-Ok.ensures.value ∙ c.in_ok-lines.ensures.lines) ∙ no_fault _ _ c.lines.ensures.sound
+
+-- the script says commands
+pub returns-in-Ok : goal.returns-in-Ok
+returns-in-Ok c =
+    let commands = c.in-Ok.commands.items in
+    let same = ap lines_of c.deref.ensures.value ∙ c.in_ok-lines.ensures.lines in
+    let again = ap lines_of c.deref-in-Ok.ensures.value ∙ c.in_ok-lines.ensures.lines in
+    let image = c.in_ok-assemble_lines-in-Ok.ensures ∙ ap image_of again in
+    let fits = subst (λ (i : ImageParts). IsScriptFor i.text commands) (ap image_of same ∙ sym image) c.in-Ok.ensures.for_text in
+    let names = words_of c.args.names.now in
+    let says = says_commands (lines_of c.deref.result.now) c.args.program.now names c.args.bytes.now commands same c.in-Ok.ensures.exact in
+    (refl, image, says, fits)
+
+-- it has a fault
+pub returns-in-Err-Fault : goal.returns-in-Err-Fault
+returns-in-Err-Fault c =
+    let fault = c.in-Err-Fault.fault in
+    let names = words_of c.args.names.now in
+    let same = ap lines_of c.deref.ensures.value ∙ c.in_ok-lines.ensures.lines in
+    let exact = rw c.in-Err-Fault.field-0-is at c.in-Err-Fault.ensures.exact in
+    let wrong = says_fault (lines_of c.deref.result.now) c.args.program.now names c.args.bytes.now fault same exact in
+    let note = c.as_bytes.ensures.value ∙ (rw c.in-Err-Fault.field-0-is at c.in_ok-note-in-Err-Fault.ensures) in
+    for_ok _ _ c.tell_line.result
+    (λ task h. script_line c.args.limits c.args.script.now c.args.bytes.now names c.args.program.now fault c.as_bytes.result.now task wrong note h)
+    c.tell_line.ensures
