@@ -15,6 +15,7 @@ use Rattle.cool_classes.specs.Features.{implementation}
 use Rattle.cool_classes.specs.ClimbedChains.{chain}
 use Rattle.cool_rules.specs.Rules.{class_named}
 use Rattle.cool_meaning.specs.Values.{Value, Void, Int, Bool, Str, Obj, State, Environment, default_of}
+use Rattle.cool_meaning.specs.Numbers.{signed}
 use Rattle.cool_meaning.specs.Meters.{Outcome, Val, Stop, On, Stuck, DispatchVoid, CaseVoid, NoBranch, Computation, ◌>>=◌, give, given}
 use Rattle.cool_meaning.specs.Lookups.{class_made, method_at, attributes, default_values, init_of, located, formal_names, environment_of}
 use Rattle.cool_meaning.specs.BasicMethods.{as_truth, as_number, basic, locate_all}
@@ -222,7 +223,7 @@ returned p (CompareTo op left) v fs s n = after (compare op left v s n).outcome 
 -- an expression is begun
 unfoldable pub begun : List Class → Value → Environment → Tree → List Frame → State → ℕ → Next
 begun p self env (trees.Id at name) fs s n = after (value_named self env name s n).outcome fs
-begun p self env (trees.Int at k) fs s n = Continue (Return (Int (pos k))) fs s n
+begun p self env (trees.Int at k) fs s n = Continue (Return (Int (signed k))) fs s n
 begun p self env (trees.Str at bytes) fs s n = Continue (Return (Str bytes)) fs s n
 begun p self env (trees.Bool at b) fs s n = Continue (Return (Bool b)) fs s n
 begun p self env (trees.Assign at name e) fs s n = Continue (Begin self env e) (AssignTo env name ∷ fs) s n

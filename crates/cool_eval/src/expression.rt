@@ -280,7 +280,7 @@ fn begin_leaf<'a>(
 {
     match form {
         Form::Id { name, .. } => Ok(Focus::Return(value_named(setting, machine, &scene, name)?)),
-        Form::Int { value, .. } => Ok(Focus::Return(Value::Int(i64::from(value)))),
+        Form::Int { value, .. } => Ok(Focus::Return(Value::Int(i64::from(value.cast_signed())))),
         Form::Str { bytes, .. } => {
             let copy = Vec::from_slice(setting.alloc, bytes.as_slice())?;
             Ok(Focus::Return(string(setting.alloc, copy)?))

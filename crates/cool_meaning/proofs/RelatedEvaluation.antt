@@ -223,7 +223,7 @@ module _ (R S : (A : Type 0) → Computation A → Computation A → Type 0) (h0
     mutual
       pub eval_kept : (self : Value) (env : Environment) (t : Tree) → R _ (eval p calls self env t) (eval p calls' self env t)
       eval_kept self env (trees.Id at name) = rule_kept R h0.before (named_kept R h0.before self env name)
-      eval_kept self env (trees.Int at n) = rule_kept R h0.before (h0.before.give_kept (Int (pos n)))
+      eval_kept self env (trees.Int at n) = rule_kept R h0.before (h0.before.give_kept (Int (signed n)))
       eval_kept self env (trees.Str at bytes) = rule_kept R h0.before (h0.before.give_kept (Str bytes))
       eval_kept self env (trees.Bool at b) = rule_kept R h0.before (h0.before.give_kept (Truth b))
       eval_kept self env (trees.Assign at name t) = rule_kept R h0.before (h0.before.bind_kept (eval_kept self env t) (λ v. assign_kept R h0.before env name v))

@@ -21,6 +21,7 @@ use Rattle.cool_classes.specs.Names.{self_type}
 use Rattle.cool_classes.specs.LawfulTables.{MayInherit}
 use Rattle.cool_rules.specs.TypedTables.{IsTypedTable}
 use Rattle.cool_meaning.specs.Values.{Value, Void, Int, Bool as Truth, Str, Environment, class_of, location_of, default_of}
+use Rattle.cool_meaning.specs.Numbers.{signed}
 use Rattle.cool_meaning.specs.Meters.{DispatchVoid, CaseVoid, Computation, ◌>>=◌, ◌>>◌, give, given, load, store}
 use Rattle.cool_classes.specs.ClimbedChains.{chain as chain_of}
 use Rattle.cool_rules.specs.Rules.{class_named}
@@ -180,7 +181,7 @@ module _ (p : List Class) (typed : IsTypedTable p) (calls : Calls) (b : ℕ) (ca
   mutual
     pub eval_sound : (t : Tree) (w : World) (scope : List Binding) (env : Environment) (type : Ty) → Scene p w c k self scope env → HasType p c scope t type → Sound p b w (IsOf type) (eval p calls self env t)
     eval_sound (trees.Id at name) w scope env type scene h = rule_sound (name_sound w scope env name type scene h)
-    eval_sound (trees.Int at n) w scope env type scene h = rule_sound (to_type int_type type h (give_sound (Int (pos n)) (int_fits p typed)))
+    eval_sound (trees.Int at n) w scope env type scene h = rule_sound (to_type int_type type h (give_sound (Int (signed n)) (int_fits p typed)))
     eval_sound (trees.Str at bytes) w scope env type scene h = rule_sound (to_type (IsClass (class_number 4)) type h (give_sound (Str bytes) (string_fits p typed)))
     eval_sound (trees.Bool at x) w scope env type scene h = rule_sound (to_type bool_type type h (give_sound (Truth x) (bool_fits p typed)))
     eval_sound (trees.Assign at name e) w scope env type scene (declared, other, has, there, conforms) =

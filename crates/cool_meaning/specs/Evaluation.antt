@@ -18,7 +18,7 @@ use Rattle.cool_classes.specs.Chains.{Class, name_of}
 use Rattle.cool_classes.specs.Features.{implementation}
 use Rattle.cool_meaning.specs.Values.{Value, Void, Int, Bool, Str, Obj, Environment, location_of, class_of, default_of}
 use Rattle.cool_meaning.specs.Meters.{Error, DispatchVoid, CaseVoid, NoBranch, DivisionByZero, Overflow, Computation, ◌>>=◌, ◌>>◌, give, stop, stuck, spend, rule, working, giving, holding, given, locate, load, store}
-use Rattle.cool_meaning.specs.Numbers.{fits, is_zero}
+use Rattle.cool_meaning.specs.Numbers.{fits, is_zero, signed}
 use Rattle.cool_classes.specs.ClimbedChains.{chain}
 use Rattle.cool_rules.specs.Rules.{class_named}
 use Rattle.cool_meaning.specs.Lookups.{class_made, method_at, attributes, default_values, init_of, located, formal_names, locations_of, environment_of}
@@ -170,10 +170,10 @@ branch_count (CaseOf at name declared t cs) = suc (branch_count cs)
 -- Evaluation
 
 abbrev mutual
-  -- the value of an expression
+  -- the value of an expression; a number stands in a tree as the word of its 32 bits
   pub eval : List Class → Calls → Value → Environment → Tree → Computation Value
   eval p calls self env (trees.Id at name) = rule (value_named self env name)
-  eval p calls self env (trees.Int at n) = rule (give (Int (pos n)))
+  eval p calls self env (trees.Int at n) = rule (give (Int (signed n)))
   eval p calls self env (trees.Str at bytes) = rule (give (Str bytes))
   eval p calls self env (trees.Bool at b) = rule (give (Bool b))
   eval p calls self env (trees.Assign at name t) = rule (do

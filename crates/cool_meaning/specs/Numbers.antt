@@ -42,12 +42,19 @@ number_after_blanks (b ∷ rest) = if b == 45 then signed (negated (digits_from 
 abbrev pub number_of : List ℕ → ℤ
 number_of line = number_after_blanks (skip_blanks line)
 
--- Worked examples: the smallest number fits, and what is one below it does not; -7 from text, and what wraps around.
+-- Worked examples: the smallest number fits, and what is one below it does not; the words of the largest number and of -1; -7 from text,
+-- and what wraps around.
 smallest : fits (negsuc 2147483647) ≡ Bool.true
 smallest = refl
 
 below_smallest : fits (negsuc 2147483648) ≡ false
 below_smallest = refl
+
+largest_word : signed 2147483647 ≡ pos 2147483647
+largest_word = refl
+
+word_below_zero : signed 4294967295 ≡ negsuc 0
+word_below_zero = refl
 
 seven_below : number_of (32 ∷ 45 ∷ 55 ∷ 120 ∷ []) ≡ negsuc 6
 seven_below = refl

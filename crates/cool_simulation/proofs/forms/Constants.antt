@@ -1,5 +1,5 @@
 -- The code of constants does what they mean.
-use Rattle.std.proofs.Common.{ℕ, ◌+◌, pos, List, [], ◌∷◌, refl, arith}
+use Rattle.std.proofs.Common.{ℕ, ◌+◌, List, [], ◌∷◌, refl, arith}
 use Rattle.std.specs.Prelude.{Contains, Bool as Truth}
 use Rattle.mips_isa.specs.Calls.{State as Machine}
 use Rattle.mips_isa.specs.Bytes.{Bytes}
@@ -12,6 +12,7 @@ use Rattle.cool_runtime.specs.Machines.{At, Pointers, Console}
 use Rattle.cool_runtime.proofs.Pieces.{next, done}
 use Rattle.cool_codegen.specs.Pieces.{take_lines}
 use Rattle.cool_meaning.specs.Values.{Value, Int, Bool, Str, State}
+use Rattle.cool_meaning.specs.Numbers.{signed}
 use Rattle.cool_meaning.specs.Evaluation.{Calls}
 use Rattle.cool_simulation.specs.Loadings.{Loading, IsLoaded}
 use Rattle.cool_simulation.specs.Pictures.{Map, Pic, Pictures, Shows}
@@ -40,9 +41,9 @@ module _ (l : Loading) (loaded : IsLoaded l) (calls : Calls) (b : ℕ) where
   int_correct at value = record {
     runs = λ c f k self scope vs env made d first q m map console st s n type less begins has code room.
         let numbers = begins.at.numbers in
-        run_gives l (Int (pos value)) st s n 2 60 (Done l (record q { pc = q.pc + 8 }) m map st 0) (omega arith)
-        (takes_value l _ (Int (pos value)) q m map console st s n 0 code.lines begins.at begins.shows begins.pictures
-        (integer_pic l loaded m map st q.gp q.sp numbers.gp_from begins.pictures value (code.integers value (only value)) (let w = code.within.1 in omega arith)));
+        run_gives l (Int (signed value)) st s n 2 60 (Done l (record q { pc = q.pc + 8 }) m map st 0) (omega arith)
+        (takes_value l _ (Int (signed value)) q m map console st s n 0 code.lines begins.at begins.shows begins.pictures
+        (integer_pic l loaded m map st q.gp q.sp numbers.gp_from begins.pictures value (code.integers value (only value))));
   }
 
   pub str_correct : (at : Place) (bytes : List ℕ) → Correct l calls b (trees.Str at bytes)

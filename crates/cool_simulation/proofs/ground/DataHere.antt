@@ -24,13 +24,11 @@ use Rattle.cool_consts.specs.Labels.{int_constant, string_constant}
 use Rattle.cool_codegen.specs.Code.{truth_label}
 use Rattle.cool_meaning.specs.Values.{Value, Void, Int, Bool, Str, State, default_of}
 use Rattle.cool_meaning.specs.Lookups.{default_values}
-use Rattle.cool_meaning.specs.Numbers.{fits}
+use Rattle.cool_meaning.specs.Numbers.{signed}
 use Rattle.cool_simulation.specs.Loadings.{Loading, IsLoaded, constants, item_word}
-use Rattle.cool_simulation.specs.Pictures.{Map, Pic, Pictures, bit, Unmarked}
+use Rattle.cool_simulation.specs.Pictures.{Map, Pic, Pictures, bit, word_of, Unmarked}
+use Rattle.cool_simulation.proofs.ground.WordsOfNumbers.{signed_word}
 use Rattle.cool_simulation.proofs.ground.MovedContents.{lies_less, data_word, int_moved, bool_moved, string_moved, object_moved, zero_byte}
-
-low_fits : (n : ℕ) → n < 2147483648 → fits (pos n) ≡ true
-low_fits n small = grind arith
 
 are_other : (a b : ℕ) → a ≢ b → nat_eq a b ≡ false
 are_other a b other = grind arith
@@ -45,8 +43,13 @@ module _ (l : Loading) (is : IsLoaded l) (m : Bytes) (map : Map) (st : State) (g
   pub integer_here : (n : ℕ) → Contains (constants l).integers n → IntAt l.world m gp (l.world.place (int_constant (integer_number (constants l).integers n))) n
   integer_here n among = int_moved l.world l.memory m gp from at.as_loaded _ n (is.integers n among)
 
-  pub integer_pic : (n : ℕ) → Contains (constants l).integers n → n < 2147483648 → Pic l.world m map st.drawn gp (Int (pos n)) (l.world.place (int_constant (integer_number (constants l).integers n)))
-  integer_pic n among small = (integer_here n among, low_fits n small, data_unmarked _ 16 (is.integers n among).lies.to)
+  pub integer_pic : (n : ℕ) → Contains (constants l).integers n → Pic l.world m map st.drawn gp (Int (signed n)) (l.world.place (int_constant (integer_number (constants l).integers n)))
+  integer_pic n among =
+      let here = is.integers n among in
+      let small = here.fits in
+      let (word, fit) = signed_word n in
+      let same : word_of (signed n) ≡ n = word ∙ (omega arith) in
+      (subst (λ v. IntAt l.world m gp (l.world.place (int_constant (integer_number (constants l).integers n))) v) (sym same) (integer_here n among), fit, data_unmarked _ 16 here.lies.to)
 
   text_pic : (a : ℕ) (bytes : List ℕ) → StringAt l.world l.memory HEAP_START a bytes → Pic l.world m map st.drawn gp (Str bytes) a
   text_pic a bytes string =
