@@ -1,0 +1,67 @@
+-- What a line of a session's input asks. Words are parted by one space.
+use Rattle.std.specs.Prelude.{◌≡◌, refl, ℕ, ◌==◌, ◌&&◌, nat_le, if◌then◌else◌, List, [], ◌∷◌, length, codes, bytes_eq, Bool, Option, Some, None}
+use Rattle.std.specs.List.{list_all}
+use Rattle.cool_syntax.specs.Lexemes.{is_digit, value}
+
+pub data Command : Type 0 where
+  -- set the file of this name to the next so many bytes
+  File : List ℕ → ℕ → Command
+  -- take the file of this name away
+  Drop : List ℕ → Command
+  Check : Command
+  Quit : Command
+
+-- with a byte more at the head of the first word
+abbrev pub with_byte : ℕ → List (List ℕ) → List (List ℕ)
+with_byte b [] = (b ∷ []) ∷ []
+with_byte b (w ∷ ws) = (b ∷ w) ∷ ws
+
+-- the words of a line, which is parted at each space
+abbrev pub words_in : List ℕ → List (List ℕ)
+words_in [] = [] ∷ []
+words_in (b ∷ bs) = if b == 32 then [] ∷ words_in bs else with_byte b (words_in bs)
+
+-- a name: 1 to 255 bytes from 33 to 126
+abbrev pub is_name : List ℕ → Bool
+is_name word = nat_le 1 (length word) && (nat_le (length word) 255 && list_all (λ b. nat_le 33 b && nat_le b 126) word)
+
+-- a length: 1 to 7 digits
+abbrev pub is_length : List ℕ → Bool
+is_length word = nat_le 1 (length word) && (nat_le (length word) 7 && list_all is_digit word)
+
+-- what words ask, where they ask anything
+abbrev pub asked : List (List ℕ) → Option Command
+asked [] = None
+asked (word ∷ []) =
+    if bytes_eq word (codes "check") then Some Check
+    else if bytes_eq word (codes "quit") then Some Quit else None
+asked (word ∷ name ∷ []) = if bytes_eq word (codes "drop") && is_name name then Some (Drop name) else None
+asked (word ∷ name ∷ digits ∷ []) =
+    if bytes_eq word (codes "file") && (is_name name && is_length digits) then Some (File name (value digits)) else None
+asked (word ∷ name ∷ digits ∷ more ∷ words) = None
+
+-- what a line asks, its newline aside
+abbrev pub command : List ℕ → Option Command
+command line = asked (words_in line)
+
+-- Worked examples
+file_line : command (codes "file p.cl 120") ≡ Some (File (codes "p.cl") 120)
+file_line = refl
+
+drop_line : command (codes "drop p.cl") ≡ Some (Drop (codes "p.cl"))
+drop_line = refl
+
+quit_line : command (codes "quit") ≡ Some Quit
+quit_line = refl
+
+two_spaces : command (codes "drop  a") ≡ None
+two_spaces = refl
+
+space_at_the_end : command (codes "check ") ≡ None
+space_at_the_end = refl
+
+eight_digits : command (codes "file a 00000001") ≡ None
+eight_digits = refl
+
+no_length : command (codes "file a") ≡ None
+no_length = refl

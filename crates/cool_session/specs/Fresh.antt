@@ -1,0 +1,59 @@
+-- How many features a check types: those that are not kept of the last check that typed. And what is kept of it for the next one.
+use Rattle.std.specs.Prelude.{◌≡◌, ◌≢◌, refl, ℕ, suc, List, [], ◌∷◌, ◌++◌, map, length, Option, Some, None}
+use Rattle.cool_syntax.specs.declared.token.Token.{Token}
+use Rattle.cool_syntax.specs.declared.token.TokenKind.{TokenKind}
+use Rattle.cool_syntax.specs.declared.file_tree.FileTree.{FileTree}
+use Rattle.cool_syntax.specs.LexicalStructure.{Lexes}
+use Rattle.cool_classes.specs.ClassFaults.{feature_phase, HasClassPhase}
+use Rattle.cool_classes.specs.Definitions.{definitions}
+use Rattle.cool_faults.specs.Verdicts.{AreTrees}
+use Rattle.cool_session.specs.Signatures.{ClassSignature, features_in, signatures}
+
+-- What is kept of files: the signatures of their classes, and of each feature, in order, the tokens without their places.
+pub record Base : Type 0 where
+  pub signatures : List ClassSignature
+  pub features : List (List TokenKind)
+
+-- the files, of which the first has this number, have features of these tokens
+abbrev pub HaveFeatures : ℕ → List (List ℕ) → List (List TokenKind) → Type 0
+HaveFeatures file [] fs = fs ≡ []
+HaveFeatures file (bytes ∷ files) fs =
+    (tokens : List Token) × (rest : List (List TokenKind)) × Lexes file bytes tokens × (fs ≡ features_in (map (λ t. t.kind) tokens) ++ rest)
+    × HaveFeatures (suc file) files rest
+
+-- The files come to be typed: they have trees, and neither their classes nor their features have a fault. This is what is kept of them.
+pub record AreTyped (files : List (List ℕ)) (now : Base) : Type 0 where
+  pub trees : List FileTree
+  pub are_trees : AreTrees 0 files trees
+  pub classes : HasClassPhase (definitions trees) []
+  pub features : feature_phase (definitions trees) ≡ []
+  pub signed : now.signatures ≡ signatures (definitions trees)
+  pub tokens : HaveFeatures 0 files now.features
+
+-- so many items differ from those at the same positions
+pub data Differ {X : Type 0} : List X → List X → ℕ → Type 0 where
+  none : Differ [] [] 0
+  same : (x : X) (xs ys : List X) (n : ℕ) → Differ xs ys n → Differ (x ∷ xs) (x ∷ ys) n
+  other : (x y : X) (xs ys : List X) (n : ℕ) → x ≢ y → Differ xs ys n → Differ (x ∷ xs) (y ∷ ys) (suc n)
+
+-- So many features are not kept: a feature is kept where there is a base with the same signatures whose feature at the same position has
+-- the same tokens.
+pub data IsFresh (now : Base) : Option Base → ℕ → Type 0 where
+  first : IsFresh now None (length now.features)
+  signed_anew : (old : Base) → old.signatures ≢ now.signatures → IsFresh now (Some old) (length now.features)
+  edited : (old : Base) (n : ℕ) → old.signatures ≡ now.signatures → Differ old.features now.features n → IsFresh now (Some old) n
+
+-- A check of the files over a base types so many features, and leaves a base: none and the same base where an earlier phase finds a fault.
+pub data Types (files : List (List ℕ)) (base : Option Base) : ℕ → Option Base → Type 0 where
+  typed : (now : Base) (n : ℕ) → AreTyped files now → IsFresh now base n → Types files base n (Some now)
+  untyped : ((now : Base) → AreTyped files now → ⊥) → Types files base 0 base
+
+-- Worked examples
+abbrev empty : Base
+empty = record { signatures = []; features = [] ∷ [] ∷ [] }
+
+all_at_first : IsFresh empty None 2
+all_at_first = first
+
+none_again : IsFresh empty (Some empty) 0
+none_again = edited empty 0 refl (same [] ([] ∷ []) ([] ∷ []) 0 (same [] [] [] 0 none))
