@@ -1,0 +1,148 @@
+-- Tables of one shape: of the same classes, with the same parents, methods and attributes, which declare the same types. What typing and folding
+-- look up in the one is what they find in the other.
+use Rattle.std.proofs.Common.{◌≡◌, ℕ, zero, suc, ◌<◌, List, [], ◌∷◌, ◌++◌, length, Option, Some, None, Bool as Truth, refl, sym, ap, ◌∙◌, subst}
+use Rattle.std.specs.Prelude.{bytes_eq, unwrap_or, option_map, is_some, if◌then◌else◌, ◌&&◌, ◌||◌}
+use Rattle.std.specs.List.{list_any}
+use Rattle.cool_syntax.specs.declared.file_tree.Formal.{Formal}
+use Rattle.cool_classes.specs.declared.class_id.ClassId.{ClassId}
+use Rattle.cool_classes.specs.declared.class_id.Ty.{Ty}
+use Rattle.cool_classes.specs.declared.class_id.Ty.TheVariants.{Class as IsClass, SelfType}
+use Rattle.cool_classes.specs.declared.method.BasicMethod.TheVariants.{Abort}
+use Rattle.cool_classes.specs.declared.method.MethodRef.{MethodRef}
+use Rattle.cool_classes.specs.declared.method.MethodRef.TheVariants.{Basic, User}
+use Rattle.cool_classes.specs.declared.method.AttributeRef.{AttributeRef}
+use Rattle.cool_classes.specs.Chains.{Class, class_number, name_of, parent_of, features_of}
+use Rattle.cool_classes.specs.ClimbedChains.{climbed, above, chain}
+use Rattle.cool_classes.specs.Features.{own_method, first_of, implementation, own_attributes, attributes_of, attribute_name, formals_of, result_of}
+use Rattle.cool_classes.specs.Names.{self_type}
+use Rattle.cool_rules.specs.Rules.{is_among, first_among, join_in, class_named, type_of_name, type_meant, method_of, attribute_binding, formal_binding}
+use Rattle.cool_rules.specs.Scopes.{Binding}
+use Rattle.cool_rules.specs.Typing.{formals_in_scope, attributes_in_scope, result_on}
+use Rattle.cool_opt.specs.Types.{method_in, type_of_call}
+use Rattle.cool_opt.specs.Folding.{classes_from, defines_below, is_redefined, own_scope}
+
+-- what two tables have in common
+pub record SameShape (p p' : List Class) : Type 0 where
+  pub count : length p' ≡ length p
+  pub names : (c : ClassId) → name_of p' c ≡ name_of p c
+  pub parents : (c : ClassId) → parent_of p' c ≡ parent_of p c
+  pub methods : (c : ClassId) (f : List ℕ) → own_method p' c f ≡ own_method p c f
+  pub attributes : (c : ClassId) → own_attributes c 0 (features_of p' c) ≡ own_attributes c 0 (features_of p c)
+  pub formals : (m : MethodRef) → formals_of p' m ≡ formals_of p m
+  pub results : (m : MethodRef) → result_of p' m ≡ result_of p m
+  pub attribute_names : (r : AttributeRef) → attribute_name p' r ≡ attribute_name p r
+  pub classes : (name : List ℕ) → class_named p' name ≡ class_named p name
+
+pub flipped : (p p' : List Class) → SameShape p p' → SameShape p' p
+flipped p p' s = record {
+  count = sym s.count;
+  names = λ c. sym (s.names c);
+  parents = λ c. sym (s.parents c);
+  methods = λ c f. sym (s.methods c f);
+  attributes = λ c. sym (s.attributes c);
+  formals = λ m. sym (s.formals m);
+  results = λ m. sym (s.results m);
+  attribute_names = λ r. sym (s.attribute_names r);
+  classes = λ name. sym (s.classes name);
+}
+
+-- two functions that agree everywhere find the same in a list
+any_same : {A : Type 0} (f g : A → Truth) (xs : List A) → ((x : A) → f x ≡ g x) → list_any f xs ≡ list_any g xs
+any_same f g [] same = refl
+any_same f g (x ∷ xs) same = ap (λ (t : Truth). t || list_any f xs) (same x) ∙ ap (λ (t : Truth). g x || t) (any_same f g xs same)
+
+module _ (p p' : List Class) (s : SameShape p p') where
+  pub within_same : (c : ClassId) → c.0 < length p → c.0 < length p'
+  within_same c h = subst (λ (n : ℕ). c.0 < n) (sym s.count) h
+
+  -- Chains and what stands on them
+
+  climbed_same : (n : ℕ) (o : Option ClassId) → climbed n p' o ≡ climbed n p o
+  unfolding climbed
+  climbed_same zero o = refl
+  climbed_same (suc n) None = refl
+  climbed_same (suc n) (Some c) = ap (λ (ds : List ClassId). c ∷ ds) (ap (climbed n p') (s.parents c) ∙ climbed_same n (parent_of p c))
+
+  pub above_same : (c : ClassId) → above p' c ≡ above p c
+  unfolding above
+  above_same c =
+      ap (λ (n : ℕ). climbed n p' (parent_of p' c)) s.count ∙ (ap (climbed (length p) p') (s.parents c) ∙ climbed_same (length p) (parent_of p c))
+
+  pub chain_same : (c : ClassId) → chain p' c ≡ chain p c
+  unfolding chain
+  chain_same c = ap (λ (ds : List ClassId). c ∷ ds) (above_same c)
+
+  pub implementation_same : (ds : List ClassId) (f : List ℕ) → implementation p' ds f ≡ implementation p ds f
+  implementation_same [] f = refl
+  implementation_same (d ∷ ds) f =
+      ap (λ (o : Option MethodRef). first_of o (implementation p' ds f)) (s.methods d f) ∙ ap (first_of (own_method p d f)) (implementation_same ds f)
+
+  pub attributes_same : (ds : List ClassId) → attributes_of p' ds ≡ attributes_of p ds
+  attributes_same [] = refl
+  attributes_same (d ∷ ds) =
+      ap (λ (rs : List AttributeRef). rs ++ own_attributes d 0 (features_of p' d)) (attributes_same ds)
+      ∙ ap (λ (rs : List AttributeRef). attributes_of p ds ++ rs) (s.attributes d)
+
+  -- Types that names mean
+
+  pub meant_same : (name : List ℕ) → type_meant p' name ≡ type_meant p name
+  unfolding type_meant type_of_name
+  meant_same name =
+      ap (λ (o : Option ClassId). unwrap_or (if bytes_eq name self_type then Some SelfType else option_map IsClass o) (IsClass (class_number 0)))
+      (s.classes name)
+
+  pub formal_scope_same : (fs : List Formal) → formals_in_scope p' fs ≡ formals_in_scope p fs
+  formal_scope_same [] = refl
+  formal_scope_same (f ∷ fs) =
+      ap (λ (t : Ty). record { name = f.name; type = t } ∷ formals_in_scope p' fs) (meant_same f.declared.name)
+      ∙ ap (λ (bs : List Binding). formal_binding p f ∷ bs) (formal_scope_same fs)
+
+  attribute_same : (r : AttributeRef) → attribute_binding p' r ≡ attribute_binding p r
+  attribute_same r =
+      ap (λ (n : List ℕ). record { name = n; type = type_meant p' (result_of p' (User r.owner r.index)) }) (s.attribute_names r)
+      ∙ ap (λ (t : Ty). record { name = attribute_name p r; type = t })
+      (ap (type_meant p') (s.results (User r.owner r.index)) ∙ meant_same (result_of p (User r.owner r.index)))
+
+  attributes_scope_same : (rs : List AttributeRef) → attributes_in_scope p' rs ≡ attributes_in_scope p rs
+  attributes_scope_same [] = refl
+  attributes_scope_same (r ∷ rs) =
+      ap (λ (b : Binding). b ∷ attributes_in_scope p' rs) (attribute_same r)
+      ∙ ap (λ (bs : List Binding). attribute_binding p r ∷ bs) (attributes_scope_same rs)
+
+  -- the attributes of the classes of a chain, in scope
+  pub chain_scope_same : (ds : List ClassId) → attributes_in_scope p' (attributes_of p' ds) ≡ attributes_in_scope p (attributes_of p ds)
+  chain_scope_same ds = ap (attributes_in_scope p') (attributes_same ds) ∙ attributes_scope_same (attributes_of p ds)
+
+  pub own_scope_same : (c : ClassId) → own_scope p' c ≡ own_scope p c
+  own_scope_same c = ap (λ (ds : List ClassId). attributes_in_scope p' (attributes_of p' ds)) (chain_same c) ∙ chain_scope_same (chain p c)
+
+  pub join_same : (c : ClassId) (a b : Ty) → join_in p' c a b ≡ join_in p c a b
+  unfolding join_in
+  join_same c SelfType SelfType = refl
+  join_same c SelfType (IsClass b) = λ i. IsClass (first_among (chain_same c i) (chain_same b i))
+  join_same c (IsClass a) SelfType = λ i. IsClass (first_among (chain_same a i) (chain_same c i))
+  join_same c (IsClass a) (IsClass b) = λ i. IsClass (first_among (chain_same a i) (chain_same b i))
+
+  -- Methods
+
+  method_in_same : (c : ClassId) (name : List ℕ) → method_in p' c name ≡ method_in p c name
+  unfolding method_of
+  method_in_same c name =
+      ap (λ (o : Option MethodRef). unwrap_or o (Basic Abort))
+      (ap (λ (ds : List ClassId). implementation p' ds name) (chain_same c) ∙ implementation_same (chain p c) name)
+
+  pub call_same : (c : ClassId) (receiver : Ty) (name : List ℕ) → type_of_call p' c receiver name ≡ type_of_call p c receiver name
+  call_same c receiver name =
+      ap (λ (m : MethodRef). result_on receiver (type_meant p' (result_of p' m))) (method_in_same c name)
+      ∙ (ap (λ (n : List ℕ). result_on receiver (type_meant p' n)) (s.results (method_in p c name))
+      ∙ ap (result_on receiver) (meant_same (result_of p (method_in p c name))))
+
+  defines_same : (k : ClassId) (name : List ℕ) (d : ClassId) → defines_below p' k name d ≡ defines_below p k name d
+  defines_same k name d =
+      ap (λ (ds : List ClassId). is_among ds k && is_some (own_method p' d name)) (above_same d)
+      ∙ ap (λ (o : Option MethodRef). is_among (above p d) k && is_some o) (s.methods d name)
+
+  pub redefined_same : (k : ClassId) (name : List ℕ) → is_redefined p' k name ≡ is_redefined p k name
+  redefined_same k name =
+      ap (λ (n : ℕ). list_any (defines_below p' k name) (classes_from 0 n)) s.count
+      ∙ any_same (defines_below p' k name) (defines_below p k name) (classes_from 0 (length p)) (defines_same k name)

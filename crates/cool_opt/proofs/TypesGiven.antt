@@ -1,0 +1,158 @@
+-- The static type of an expression is the one that typing gives it.
+use Rattle.std.proofs.Common.{◌≡◌, ℕ, ◌<◌, List, [], ◌∷◌, length, Option, Some, None, refl, sym, ap, ◌∙◌, subst}
+use Rattle.std.specs.Prelude.{unwrap_or}
+use Rattle.std.specs.List.{AllByRecursion}
+use Rattle.cool_syntax.specs.Tree.{Tree, Trees, MaybeTree, Cases, Last, More, Without, With, NoCase, CaseOf}
+use Rattle.cool_syntax.specs.Tree as trees
+use Rattle.cool_classes.specs.declared.class_id.ClassId.{ClassId}
+use Rattle.cool_classes.specs.declared.class_id.Ty.{Ty}
+use Rattle.cool_classes.specs.declared.class_id.Ty.TheVariants.{Class as IsClass, SelfType}
+use Rattle.cool_classes.specs.declared.method.BasicMethod.TheVariants.{Abort}
+use Rattle.cool_classes.specs.declared.method.MethodRef.{MethodRef}
+use Rattle.cool_classes.specs.declared.method.MethodRef.TheVariants.{Basic}
+use Rattle.cool_classes.specs.Chains.{Class}
+use Rattle.cool_classes.specs.ClimbedChains.{chain}
+use Rattle.cool_classes.specs.Features.{Denotes, implementation, result_of}
+use Rattle.cool_classes.specs.Tables.{IsWholeTable}
+use Rattle.cool_classes.proofs.ChainsOfTables.{chain_is}
+use Rattle.cool_classes.proofs.Climbs.{chain_unique}
+use Rattle.cool_rules.specs.Conformance.{IsType, Conforms, class_of}
+use Rattle.cool_rules.specs.Rules.{join_in, type_meant, method_of}
+use Rattle.cool_rules.specs.Scopes.{Binding, found}
+use Rattle.cool_opt.specs.Types.{method_in, joined, type_of, last_type_of, cases_type_of}
+use Rattle.cool_rules.specs.Typing.{object_type, type_in_scope, with_name, IsImplementation, IsCall, IsJoinOfAll, IsJoinOfBranches, result_on, HasType, HaveItems, HaveBranches}
+use Rattle.cool_rules.proofs.ChainsOfTables.{below_trans, below_itself}
+use Rattle.cool_rules.proofs.RulesOfTables.{meant_is, join_in_is}
+use Rattle.cool_rules.proofs.RulesDecided.{denotes_type, join_is, one_type, conforming_type}
+use Rattle.cool_rules.proofs.TypesOfMethods.{expression_type}
+
+-- a list's types joined, after branches with this join
+abbrev pub folded : List Class → ClassId → Option Ty → List Ty → Option Ty
+folded p c join [] = join
+folded p c join (t ∷ ts) = folded p c (Some (joined p c join t)) ts
+
+module _ (p : List Class) (whole : IsWholeTable p) (c : ClassId) (within : c.0 < length p) where
+  abbrev AreTypes : List Binding → Type 0
+  AreTypes scope = AllByRecursion (λ (b : Binding). IsType p b.type) scope
+
+  -- Joins
+
+  conforms_on : (t u v : Ty) → Conforms p c t u → Conforms p c u v → Conforms p c t v
+  conforms_on SelfType SelfType v h k = k
+  conforms_on SelfType (IsClass b) SelfType h k = absurd k
+  conforms_on SelfType (IsClass b) (IsClass d) h k = below_trans p c b d h k
+  conforms_on (IsClass a) SelfType v h k = absurd h
+  conforms_on (IsClass a) (IsClass b) SelfType h k = absurd k
+  conforms_on (IsClass a) (IsClass b) (IsClass d) h k = below_trans p a b d h k
+
+  pub record IsFolded (t : Ty) (ts : List Ty) : Type 0 where
+    pub join : Ty
+    pub is : folded p c (Some t) ts ≡ Some join
+    pub all : IsJoinOfAll p c (t ∷ ts) join
+
+  folded_is : (t : Ty) (ts : List Ty) → IsType p t → AllByRecursion (IsType p) ts → IsFolded t ts
+  folded_is SelfType [] h g = record { join = SelfType; is = refl; all = record { all = (tt, tt); least = λ other k. k.0 } }
+  folded_is (IsClass a) [] h g = record { join = IsClass a; is = refl; all = record { all = (below_itself p whole a h, tt); least = λ other k. k.0 } }
+  folded_is t (u ∷ us) h g =
+      let i : Ty = join_in p c t u in
+      let j = join_is p whole c t u within h g.0 in
+      let rest = folded_is i us (conforming_type p whole c t i within h j.left) g.1 in
+      record {
+        join = rest.join;
+        is = rest.is;
+        all = record {
+          all = (conforms_on t i rest.join j.left rest.all.all.0, (conforms_on u i rest.join j.right rest.all.all.0, rest.all.all.1));
+          least = λ other k. rest.all.least other (j.least other k.0 k.1.0, k.1.1);
+        };
+      }
+
+  branches_folded : (ts : List Ty) (j : Ty) → AllByRecursion (IsType p) ts → IsJoinOfBranches p c ts j → unwrap_or (folded p c None ts) object_type ≡ j
+  branches_folded [] j h is = sym is
+  branches_folded (t ∷ ts) j h is =
+      let other = folded_is t ts h.0 h.1 in
+      ap (λ (o : Option Ty). unwrap_or o object_type) other.is
+      ∙ one_type p whole c other.join j (conforming_type p whole c t other.join within h.0 other.all.all.0) (conforming_type p whole c t j within h.0 is.all.0)
+      (other.all.least j is.all) (is.least other.join other.all.all)
+
+  branch_types : (cs : Cases) (scope : List Binding) (ts : List Ty) → AreTypes scope → HaveBranches p c scope cs ts → AllByRecursion (IsType p) ts
+  branch_types NoCase scope [] types h = tt
+  branch_types NoCase scope (t ∷ ts) types h = absurd h
+  branch_types (CaseOf at name declared e cs) scope [] types h = absurd h
+  branch_types (CaseOf at name declared e cs) scope (t ∷ ts) types ((d, other, denotes, has), have) =
+      (expression_type p whole c within e (with_name name (IsClass d) scope) t (denotes.0, types) has, branch_types cs scope ts types have)
+
+  -- Calls
+
+  pub class_there : (t : Ty) → IsType p t → (class_of c t).0 < length p
+  class_there SelfType h = within
+  class_there (IsClass a) h = h
+
+  pub method_found : (k : ClassId) → k.0 < length p → (name : List ℕ) (m : MethodRef) → IsImplementation p k name m → implementation p (chain p k) name ≡ Some m
+  method_found k k_within name m (ds, is_chain, is) = subst (λ (xs : List ClassId). implementation p xs name ≡ Some m) (chain_unique p (Some k) ds (chain p k) is_chain (chain_is p k whole.table k_within)) is
+
+  pub method_is : (k : ClassId) → k.0 < length p → (name : List ℕ) (m : MethodRef) → IsImplementation p k name m → method_in p k name ≡ m
+  unfolding method_of
+  method_is k k_within name m found = ap (λ (o : Option MethodRef). unwrap_or o (Basic Abort)) (method_found k k_within name m found)
+
+  call_is : (k : ClassId) → k.0 < length p → (name : List ℕ) (receiver : Ty) (given : List Ty) (type : Ty) → IsCall p c k name receiver given type
+      → result_on receiver (type_meant p (result_of p (method_in p k name))) ≡ type
+  call_is k k_within name receiver given type call =
+      ap (λ (m : MethodRef). result_on receiver (type_meant p (result_of p m))) (method_is k k_within name call.method call.found)
+      ∙ ap (result_on receiver) (meant_is p whole.table (result_of p call.method) call.result call.declared)
+      ∙ sym call.is
+
+  pub class_is : (name : List ℕ) (k : ClassId) → Denotes p name (IsClass k) → class_of c (type_meant p name) ≡ k
+  class_is name k denotes = ap (class_of c) (meant_is p whole.table name (IsClass k) denotes)
+
+  -- Names
+
+  named_is : (scope : List Binding) (name : List ℕ) (type : Ty) → type_in_scope scope name ≡ Some type → unwrap_or (type_in_scope scope name) object_type ≡ type
+  named_is scope name type e = ap (λ (o : Option Ty). unwrap_or o object_type) e
+
+  mutual
+    -- the type of an expression
+    pub type_is : (e : Tree) (scope : List Binding) (type : Ty) → AreTypes scope → HasType p c scope e type → type_of p c scope e ≡ type
+    type_is (trees.Id at name) scope type types h = named_is scope name type h
+    type_is (trees.Int at n) scope type types h = sym h
+    type_is (trees.Str at bytes) scope type types h = sym h
+    type_is (trees.Bool at b) scope type types h = sym h
+    type_is (trees.Assign at name e) scope type types (declared, other, has, there, conforms) = type_is e scope type types has
+    type_is (trees.Dispatch at e name es) scope type types (receiver, given, has, have, call) =
+        let same = type_is e scope receiver types has in
+        ap (λ (t : Ty). result_on t (type_meant p (result_of p (method_in p (class_of c t) name)))) same
+        ∙ call_is (class_of c receiver) (class_there receiver (expression_type p whole c within e scope receiver types has)) name receiver given type call
+    type_is (trees.StaticDispatch at e class name es) scope type types (receiver, given, k, has, have, denotes, conforms, call) =
+        let same = type_is e scope receiver types has in
+        ap (λ (t : Ty). result_on t (type_meant p (result_of p (method_in p (class_of c (type_meant p class.name)) name)))) same
+        ∙ ap (λ (x : ClassId). result_on receiver (type_meant p (result_of p (method_in p x name)))) (class_is class.name k denotes)
+        ∙ call_is k denotes.0 name receiver given type call
+    type_is (trees.If at test first second) scope type types (t, u, has, has1, has2, join) =
+        ap (λ (x : Ty). join_in p c x (type_of p c scope second)) (type_is first scope t types has1)
+        ∙ ap (λ (x : Ty). join_in p c t x) (type_is second scope u types has2)
+        ∙ sym (join_in_is p c t u type whole.table within (expression_type p whole c within first scope t types has1) (expression_type p whole c within second scope u types has2) join)
+    type_is (trees.While at test body) scope type types (t, has, has1, is) = sym is
+    type_is (trees.Block at es) scope type types h = last_is es scope object_type object_type type types refl h
+    type_is (trees.Let at name declared init e) scope type types (bound, other, denotes, has, has1) =
+        ap (λ (t : Ty). type_of p c (with_name name t scope) e) (meant_is p whole.table declared.name bound denotes)
+        ∙ type_is e (with_name name bound scope) type (denotes_type p whole declared.name bound denotes, types) has1
+    type_is (trees.Case at e cs) scope type types (t, ts, has, have, different, join) =
+        ap (λ (o : Option Ty). unwrap_or o object_type) (cases_are cs scope None ts types have) ∙ branches_folded ts type (branch_types cs scope ts types have) join
+    type_is (trees.New at class) scope type types h = meant_is p whole.table class.name type h
+    type_is (trees.IsVoid at e) scope type types (t, has, is) = sym is
+    type_is (trees.Not at e) scope type types (has, is) = sym is
+    type_is (trees.Neg at e) scope type types (has, is) = sym is
+    type_is (trees.Arith at op a b) scope type types (has, has1, is) = sym is
+    type_is (trees.Compare at op a b) scope type types (t, u, has, has1, comparable, is) = sym is
+
+    last_is : (es : Trees) (scope : List Binding) (last before type : Ty) → AreTypes scope → last ≡ before → HaveItems p c scope before es type → last_type_of p c scope last es ≡ type
+    last_is Last scope last before type types same is = same ∙ sym is
+    last_is (More e es) scope last before type types same (t, has, have) = last_is es scope (type_of p c scope e) t type types (type_is e scope t types has) have
+
+    cases_are : (cs : Cases) (scope : List Binding) (join : Option Ty) (ts : List Ty) → AreTypes scope → HaveBranches p c scope cs ts → cases_type_of p c scope join cs ≡ folded p c join ts
+    cases_are NoCase scope join [] types h = refl
+    cases_are NoCase scope join (t ∷ ts) types h = absurd h
+    cases_are (CaseOf at name declared e cs) scope join [] types h = absurd h
+    cases_are (CaseOf at name declared e cs) scope join (t ∷ ts) types ((k, other, denotes, has), have) =
+        ap (λ (x : Ty). cases_type_of p c scope (Some (joined p c join (type_of p c (with_name name x scope) e))) cs) (meant_is p whole.table declared.name (IsClass k) denotes)
+        ∙ ap (λ (x : Ty). cases_type_of p c scope (Some (joined p c join x)) cs) (type_is e (with_name name (IsClass k) scope) t (denotes.0, types) has)
+        ∙ cases_are cs scope (Some (joined p c join t)) ts types have

@@ -1,0 +1,12 @@
+-- What a law on folding claims: a run against that of the folded program.
+use Rattle.std.specs.Prelude.{◌≡◌, ◌≤◌}
+use Rattle.cool_meaning.specs.SourceRun.{Run}
+
+-- a run that ends as another does, writes and leaves the same, with no meter greater
+pub record NoMoreRun (r r' : Run) : Type 0 where
+  pub end : r'.end ≡ r.end
+  pub output : r'.output ≡ r.output
+  pub left : r'.left ≡ r.left
+  pub work : r'.work ≤ r.work
+  pub words : r'.words ≤ r.words
+  pub peak : r'.peak ≤ r.peak

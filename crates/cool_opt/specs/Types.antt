@@ -1,0 +1,61 @@
+-- The static types of expressions, of which it is known that they have one (the Cool manual, sections 4, 7 and 12). Where an expression
+-- has none, some type is given.
+use Rattle.std.specs.Prelude.{ℕ, List, Option, Some, None, unwrap_or}
+use Rattle.cool_syntax.specs.Tree.{Tree, Trees, MaybeTree, Cases, Last, More, Without, With, NoCase, CaseOf}
+use Rattle.cool_syntax.specs.Tree as trees
+use Rattle.cool_classes.specs.declared.class_id.ClassId.{ClassId}
+use Rattle.cool_classes.specs.declared.class_id.Ty.{Ty}
+use Rattle.cool_classes.specs.declared.method.BasicMethod.TheVariants.{Abort}
+use Rattle.cool_classes.specs.declared.method.MethodRef.{MethodRef}
+use Rattle.cool_classes.specs.declared.method.MethodRef.TheVariants.{Basic}
+use Rattle.cool_classes.specs.Chains.{Class}
+use Rattle.cool_classes.specs.Features.{result_of}
+use Rattle.cool_rules.specs.Conformance.{class_of}
+use Rattle.cool_rules.specs.Rules.{join_in, type_meant, method_of}
+use Rattle.cool_rules.specs.Scopes.{Binding}
+use Rattle.cool_rules.specs.Typing.{type_in_scope, with_name, object_type, int_type, bool_type, string_type, result_on}
+
+-- the method of a name that a class has; one of Object's where it has none
+abbrev pub method_in : List Class → ClassId → List ℕ → MethodRef
+method_in p c name = unwrap_or (method_of p c name) (Basic Abort)
+
+abbrev pub type_of_call : List Class → ClassId → Ty → List ℕ → Ty
+type_of_call p c receiver name = result_on receiver (type_meant p (result_of p (method_in p c name)))
+
+-- the join with the types of the branches before
+abbrev pub joined : List Class → ClassId → Option Ty → Ty → Ty
+joined p c None a = a
+joined p c (Some b) a = join_in p c b a
+
+-- the type of an expression of a class, with these names in scope
+abbrev mutual
+  pub type_of : List Class → ClassId → List Binding → Tree → Ty
+  type_of p c scope (trees.Id at name) = unwrap_or (type_in_scope scope name) object_type
+  type_of p c scope (trees.Assign at name t) = type_of p c scope t
+  type_of p c scope (trees.Dispatch at t name ts) = type_of_call p (class_of c (type_of p c scope t)) (type_of p c scope t) name
+  type_of p c scope (trees.StaticDispatch at t class name ts) = type_of_call p (class_of c (type_meant p class.name)) (type_of p c scope t) name
+  type_of p c scope (trees.If at t y n) = join_in p c (type_of p c scope y) (type_of p c scope n)
+  type_of p c scope (trees.While at t b) = object_type
+  type_of p c scope (trees.Block at ts) = last_type_of p c scope object_type ts
+  type_of p c scope (trees.Let at name declared o t) = type_of p c (with_name name (type_meant p declared.name) scope) t
+  type_of p c scope (trees.Case at t cs) = unwrap_or (cases_type_of p c scope None cs) object_type
+  type_of p c scope (trees.New at class) = type_meant p class.name
+  type_of p c scope (trees.IsVoid at t) = bool_type
+  type_of p c scope (trees.Arith at op a b) = int_type
+  type_of p c scope (trees.Neg at t) = int_type
+  type_of p c scope (trees.Compare at op a b) = bool_type
+  type_of p c scope (trees.Not at t) = bool_type
+  type_of p c scope (trees.Int at value) = int_type
+  type_of p c scope (trees.Str at bytes) = string_type
+  type_of p c scope (trees.Bool at value) = bool_type
+
+  -- of the last item of a block, after one of this type
+  pub last_type_of : List Class → ClassId → List Binding → Ty → Trees → Ty
+  last_type_of p c scope last Last = last
+  last_type_of p c scope last (More t ts) = last_type_of p c scope (type_of p c scope t) ts
+
+  -- the join of the branches after branches with this join
+  pub cases_type_of : List Class → ClassId → List Binding → Option Ty → Cases → Option Ty
+  cases_type_of p c scope join NoCase = join
+  cases_type_of p c scope join (CaseOf at name declared t cs) =
+      cases_type_of p c scope (Some (joined p c join (type_of p c (with_name name (type_meant p declared.name) scope) t))) cs
