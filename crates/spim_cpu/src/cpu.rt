@@ -115,7 +115,7 @@ impl Cpu {
             Ok(operation) => operation,
             Err(fault) => return Step::Trap(trap_of(fault, pc)),
         };
-        match self.operate::<true>(&operation, pc) {
+        match self.operate::<()>(&operation, pc) {
             Ok(next) => {
                 self.pc = next;
                 Step::Next
@@ -144,7 +144,7 @@ impl Cpu {
             let Some(operation) = operations.get(word_index(pc)) else {
                 break;
             };
-            let Ok(next) = self.operate::<false>(operation, pc) else {
+            let Ok(next) = self.operate::<B>(operation, pc) else {
                 break;
             };
             pc = next;

@@ -24,14 +24,10 @@ use spim_memory::Operation;
 impl Cpu {
     /// Executes the operation at pc, and answers the next pc. `Err` comes where it is a system call, or traps, which changes nothing.
     ///
-    /// One case for each operation of the instruction table. There are two instances, so that each has one caller: the one of
-    /// `advance` is compiled into its loop, and its answers stay in the processor's registers.
+    /// One case for each operation of the instruction table. `C` names the caller alone, so that each instance has just one: that of a
+    /// loop of `advance` is compiled into it, and its answers stay in the processor's registers.
     #[inline(always)]
-    pub(super) fn operate<const ALONE: bool>(
-        &mut self,
-        operation: &Operation,
-        pc: u32,
-    ) -> Result<u32, Step>
+    pub(super) fn operate<C>(&mut self, operation: &Operation, pc: u32) -> Result<u32, Step>
         requires range { IfSome (instr_of operation.now) InRange }
         requires pc { pc < DATA_START }
         ensures acted { Acted pc (machine.act_or_none (segments self.old.memory) (instr_of operation.now) (at pc (core_of self.old))) result self.old self.new }
