@@ -1,3 +1,5 @@
+pub mod AlikeTables
+pub mod AlikeTablesKept
 pub mod AllOfLists
 pub mod AttributesOfChains
 pub mod BasicDepths
@@ -38,4 +40,5 @@ pub mod SameMembers
 pub mod SameTypes
 pub mod Seen
 pub mod Signatures
+pub mod SwappedBodies
 pub mod WalksFind

@@ -1,7 +1,9 @@
 -- How the entries of a table are seen: as classes, with the number of classes above each.
 use Rattle.std.specs.Prelude.{◌≡◌, ℕ, List, [], map, get_or, Option, Some, None, refl}
+use Rattle.cool_syntax.specs.Tree.{Tree}
 use Rattle.cool_classes.specs.declared.class_id.ClassId.{ClassId}
 use Rattle.cool_classes.specs.declared.entry.Entry.{Entry}
+use Rattle.cool_classes.specs.Bodies.{with_body, changed_at}
 use Rattle.cool_classes.specs.Chains.{Class}
 use Rattle.cool_classes.specs.Tables.{IsTable, IsGrounded, basic_classes}
 
@@ -10,6 +12,10 @@ as_class e = record { name = e.name; parent = e.parent; features = e.features }
 
 abbrev pub classes : List Entry → List Class
 classes es = map as_class es
+
+-- an entry with another expression in the place of that of the feature at an index
+abbrev pub entry_with_body : ℕ → Tree → Entry → Entry
+entry_with_body k t e = record e { features = changed_at k (with_body t) e.features }
 
 abbrev pub no_entry : Entry
 no_entry = record { name = []; parent = None; depth = 0; features = [] }

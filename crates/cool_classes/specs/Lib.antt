@@ -1,4 +1,5 @@
 pub mod BasicMethods
+pub mod Bodies
 pub mod Chains
 pub mod ClassFaults
 pub mod ClassRows

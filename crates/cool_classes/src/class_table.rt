@@ -1,7 +1,8 @@
 //! The classes of a program, by number.
 
-ghost use Rattle.std.specs.Prelude.{◌≡◌, ◌+◌, ◌<◌, ◌↔◌, IsTrue, IfSome, IfNone, IfOk, Some, List, [], length, get_or};
+ghost use Rattle.std.specs.Prelude.{◌≡◌, ◌+◌, ◌<◌, ◌↔◌, IsTrue, IfSome, IfNone, IfOk, Some, List, [], length, get_or, IsSome};
 ghost use Rattle.cool_classes.specs.declared.class_id.ClassId as number;
+ghost use Rattle.cool_classes.specs.Bodies.{body_at, with_body_at};
 ghost use Rattle.cool_classes.specs.Chains.{IsChain, Below, IsJoin, name_of, parent_of, features_of};
 ghost use Rattle.std.specs.List.{AllByRecursion};
 ghost use Rattle.cool_classes.specs.Features.{implementation, attributes_of, attribute_name, attribute_type, HasAttribute, HasMethod, Denotes, formals_of, result_of};
@@ -15,8 +16,8 @@ use crate::entry::Entry;
 use crate::first_names::FirstNames;
 use crate::method::{AttributeRef, MethodRef};
 use crate::own_names::OwnNames;
-use crate::{attributes, climbing, lookup, signature};
-use cool_syntax::{Feature, Name};
+use crate::{attributes, bodies, climbing, lookup, signature};
+use cool_syntax::{Body, Feature, Name};
 use std::alloc::{AllocError, Global};
 use std::marker::Model;
 
@@ -200,5 +201,17 @@ impl ClassTable {
         ensures { Denotes self.now (result_of self.now method) result }
     {
         signature::result(self.entries.as_slice(), &self.names, method)
+    }
+
+    /// Puts a body in the place of that of a feature, counted from 0, and gives the one that was there: the body of a method, or the
+    /// initial value of an attribute. It takes no memory.
+    pub fn swap_body(&mut self, c: ClassId, feature: u32, body: Body) -> Body
+        requires within { c.0 < length self.old }
+        requires has { IsSome (body_at self.old c feature) }
+        ensures gave { body_at self.old c feature ≡ Some result }
+        ensures now { self.new ≡ with_body_at self.old c feature body }
+    {
+        let alloc = *self.entries.allocator();
+        bodies::swap_body(alloc, &mut self.entries, c, feature, body)
     }
 }

@@ -7,6 +7,7 @@
 mod attributes;
 mod basic_classes;
 mod basic_methods;
+mod bodies;
 mod building;
 mod class_id;
 mod class_phase;

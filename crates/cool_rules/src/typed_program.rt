@@ -52,4 +52,14 @@ impl TypedProgram {
     {
         &self.table
     }
+
+    /// The classes of the program, given up by it. It takes no memory.
+    pub fn into_table(self) -> ClassTable
+        ensures table { result ≡ self }
+        ensures fits { Fits result MOST_FILES }
+        ensures typed { IsTypedTable result }
+    {
+        let TypedProgram { table } = self;
+        table
+    }
 }
