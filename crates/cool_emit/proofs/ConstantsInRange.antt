@@ -44,9 +44,9 @@ all_with_strings P xs (y ∷ ys) all more = all_with_strings P (with_string xs y
     by true = all
     by false = all_with P xs y all more.0
 
--- an integer of the source
+-- an integer, as a word
 abbrev pub IsInt : ℕ → Type 0
-IsInt n = n ≤ 2147483647
+IsInt n = n < 4294967296
 
 -- a string of the source, or the name of a file
 abbrev pub IsShort : List ℕ → Type 0

@@ -22,13 +22,16 @@ use Rattle.cool_rules.specs.Typing.{FitsDeclared, IsTypedInit, formals_in_scope,
 use Rattle.cool_opt.specs.Folding.{fold, own_scope}
 use Rattle.cool_opt.specs.Foldable.{IsDone}
 use Rattle.cool_opt.proofs.FoldedTypes.{still_typed}
+use Rattle.cool_opt.specs.Shrinking.{shrunk}
 use Rattle.cool_opt.proofs.NothingLeft.{is_done}
+use Rattle.cool_opt.proofs.ShrinkingFolds.{shrunk_is}
 use Rattle.cool_opt.proofs.FoldedRuns.{formal_types, attribute_types, scope_types, attributes_there}
 
--- a declared expression, folded in its scope, still fits, and nothing is left to fold
+-- a declared expression, folded in its scope, still fits, and nothing is left to fold; the code folds it to the same
 pub record FoldsDeclared (p : List Class) (c : ClassId) (inner : List Binding) (e : Tree) (declared : List ℕ) : Type 0 where
   pub fits : FitsDeclared p c inner (fold p c (inner ++ own_scope p c) e) declared
   pub done : IsDone p c (inner ++ own_scope p c) (fold p c (inner ++ own_scope p c) e)
+  pub same : shrunk p c (inner ++ own_scope p c) e ≡ fold p c (inner ++ own_scope p c) e
 
 abbrev pub FoldsInit : List Class → ClassId → List ℕ → Option Tree → Type 0
 FoldsInit p c declared None = Unit {0}
@@ -56,6 +59,7 @@ module _ (p : List Class) (typed : IsTypedTable p) where
           conforms = f.conforms;
         };
         done = is_done p typed.whole c within e (inner ++ own_scope p c) f.type types has;
+        same = shrunk_is p typed.whole c within e (inner ++ own_scope p c) f.type types has;
       }
 
   -- every feature of a typed table

@@ -14,6 +14,7 @@ use Rattle.cool_classes.specs.ClimbedChains.{chain}
 use Rattle.cool_classes.specs.Features.{attributes_of}
 use Rattle.cool_classes.specs.Limits.{IsImplemented, KeepsLimits}
 use Rattle.cool_classes.specs.Tables.{IsTyped}
+use Rattle.cool_classes.proofs.AlikeTables.{FindSame, flipped}
 use Rattle.cool_classes.proofs.ChainsOfTables.{chain_of}
 use Rattle.cool_rules.specs.Conformance.{IsType}
 use Rattle.cool_rules.specs.Fits.{weight_of, Fits}
@@ -23,18 +24,17 @@ use Rattle.cool_rules.specs.Typing.{FitsDeclared, IsTypedInit, formals_in_scope,
 use Rattle.cool_meaning.specs.Lookups.{attributes}
 use Rattle.cool_meaning.proofs.MethodsOfTables.{all_get}
 use Rattle.cool_opt.specs.Folding.{fold, fold_option, fold_feature, fold_from, fold_table, own_scope}
-use Rattle.cool_opt.specs.FoldedLimits.{IsFoldedWithin, IsFeatureFoldedWithin, FoldedFits}
 use Rattle.cool_opt.proofs.FoldedRuns.{formal_types, attribute_types, scope_types, attributes_there}
 use Rattle.cool_opt.proofs.FoldedSizes.{folded_most}
-use Rattle.cool_opt.proofs.FoldedTableIsTyped.{within_back, each_folded}
+use Rattle.cool_opt.proofs.FoldedTableIsTyped.{each_folded}
 use Rattle.cool_opt.proofs.FoldedTables.{folded_shape, features_folded}
-use Rattle.cool_opt.proofs.FoldedWithin.{source_within, folded_within}
-use Rattle.cool_opt.proofs.SameShapes.{SameShape, flipped, implementation_same, attributes_same}
+use Rattle.cool_opt.proofs.FoldedWithin.{folded_within}
+use Rattle.cool_opt.proofs.SameShapes.{within_back, implementation_same, attributes_same}
 use Rattle.cool_opt.proofs.TypingOfShapes.{chain_kept}
 
 -- Counts of classes, attributes and methods
 
-module _ (p p' : List Class) (s : SameShape p p') where
+module _ (p p' : List Class) (s : FindSame p p') where
   all_implemented : (ds : List ClassId) (names : List (List ℕ)) → AllByRecursion (IsImplemented p' ds) names
       → AllByRecursion (IsImplemented p ds) names
   all_implemented ds [] h = tt
@@ -87,16 +87,16 @@ rest_lighter p (suc n) k (d ∷ ds) = rest_lighter p n (k + 1) ds
 module _ (p : List Class) (typed : IsTypedTable p) (count : ℕ) (fits : Fits p count) where
   declared_within : (c : ClassId) → c.0 < length p → (inner : List Binding) → AllByRecursion (λ (x : Binding). IsType p x.type) inner
       → (e : Tree) (declared : List ℕ) → FitsDeclared p c inner e declared → IsTreeWithin count e
-      → IsFoldedWithin count (fold p c (inner ++ own_scope p c) e)
+      → IsTreeWithin count (fold p c (inner ++ own_scope p c) e)
   declared_within c within inner inner_types e declared f h =
       let same : chain p c ≡ f.chain = chain_of p c f.chain f.is_chain in
       let types =
       scope_types p typed inner (own_scope p c) inner_types (attribute_types p typed (attributes p c) (attributes_there p typed c within)) in
       let has = subst (λ (ds : List ClassId). HasType p c (inner ++ attributes_in_scope p (attributes_of p ds)) e f.type) (sym same) f.has in
-      folded_within count p typed.whole fits.names c within e (inner ++ own_scope p c) f.type types has (source_within count e h)
+      folded_within count p typed.whole fits.names c within e (inner ++ own_scope p c) f.type types has h
 
   feature_within : (c : ClassId) (k : ℕ) (x : Feature) → c.0 < length p → slice_get (features_of p c) k ≡ Some x
-      → IsFeatureFoldedWithin count (fold_feature p c x)
+      → IsFeatureWithin count (fold_feature p c x)
   feature_within c k (Method m) within there =
       let (placed, named, formals, result, h) = all_get (IsFeatureWithin count) (features_of p c) k (Method m) (fits.within c within) there in
       let types : IsTyped p (Method m) = all_get (IsTyped p) (features_of p c) k (Method m) (typed.whole.table.types c within) there in (
@@ -111,17 +111,17 @@ module _ (p : List Class) (typed : IsTypedTable p) (count : ℕ) (fits : Fits p 
       let (placed, named, declared, h) = all_get (IsFeatureWithin count) (features_of p c) k (Attribute a) (fits.within c within) there in
       (placed, named, declared, by a.init (typed.features c k (Attribute a) within there) h)
     where
-      by : (o : Option Tree) → IsTypedInit p c a.declared.name o → IfSome o (IsTreeWithin count) → IfSome (fold_option p c o) (IsFoldedWithin count)
+      by : (o : Option Tree) → IsTypedInit p c a.declared.name o → IfSome o (IsTreeWithin count) → IfSome (fold_option p c o) (IsTreeWithin count)
       by None f h = tt
       by (Some e) f h = declared_within c within [] tt e a.declared.name f h
 
   features_within : (c : ClassId) (fs : List Feature)
-      → ((k : ℕ) (x : Feature) → slice_get fs k ≡ Some x → IsFeatureFoldedWithin count (fold_feature p c x))
-      → AllByRecursion (IsFeatureFoldedWithin count) (map (fold_feature p c) fs)
+      → ((k : ℕ) (x : Feature) → slice_get fs k ≡ Some x → IsFeatureWithin count (fold_feature p c x))
+      → AllByRecursion (IsFeatureWithin count) (map (fold_feature p c) fs)
   features_within c [] each = tt
   features_within c (x ∷ fs) each = (each zero x refl, features_within c fs (λ k y there. each (suc k) y there))
 
-  pub folded_fits : FoldedFits (fold_table p) count
+  pub folded_fits : Fits (fold_table p) count
   folded_fits =
       let s = folded_shape p in
       let back = within_back p (fold_table p) s in
@@ -129,7 +129,7 @@ module _ (p : List Class) (typed : IsTypedTable p) (count : ℕ) (fits : Fits p 
         table = limits_kept p (fold_table p) s fits.table;
         bounded = λ c within. each_folded p c IsBoundedFeature IsBoundedFeature (still_bounded p c) (fits.bounded c (back c within));
         within =
-            λ c within. subst (AllByRecursion (IsFeatureFoldedWithin count)) (sym (features_folded p c))
+            λ c within. subst (AllByRecursion (IsFeatureWithin count)) (sym (features_folded p c))
             (features_within c (features_of p c) (λ k x there. feature_within c k x (back c within) there));
         names = λ c within. subst IsTypeName (sym (s.names c)) (fits.names c (back c within));
         weight = let lighter = rest_lighter p 5 0 p in let weight = fits.weight in omega arith;

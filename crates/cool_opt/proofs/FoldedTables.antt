@@ -8,10 +8,10 @@ use Rattle.cool_classes.specs.declared.method.MethodRef.TheVariants.{User}
 use Rattle.cool_classes.specs.Chains.{Class, class_number, class_at, nothing, features_of}
 use Rattle.cool_classes.specs.ClimbedChains.{chain}
 use Rattle.cool_classes.specs.Features.{attributes_of}
+use Rattle.cool_classes.proofs.AlikeTables.{AllDeclareSame, AreAllAlike, FindSame, find_same}
 use Rattle.cool_opt.specs.Folding.{fold_feature, fold_from, fold_table}
-use Rattle.cool_opt.proofs.AlikeTables.{AllDeclareSame, AreAllAlike, alike_shape}
 use Rattle.cool_opt.proofs.FoldedCalls.{SameTables}
-use Rattle.cool_opt.proofs.SameShapes.{SameShape, chain_same, implementation_same, attributes_same}
+use Rattle.cool_opt.proofs.SameShapes.{chain_same, implementation_same, attributes_same, classes_same}
 
 -- Folding changes bodies and initial values alone
 
@@ -24,8 +24,11 @@ classes_alike : (p : List Class) (k : ℕ) (ds : List Class) → AreAllAlike ds 
 classes_alike p k [] = tt
 classes_alike p k (d ∷ ds) = ((refl, refl, features_alike p (class_number k) d.features), classes_alike p (k + 1) ds)
 
-pub folded_shape : (p : List Class) → SameShape p (fold_table p)
-folded_shape p = alike_shape p (fold_table p) (classes_alike p 0 p)
+pub folded_alike : (p : List Class) → AreAllAlike p (fold_table p)
+folded_alike p = classes_alike p 0 p
+
+pub folded_shape : (p : List Class) → FindSame p (fold_table p)
+folded_shape p = find_same p (fold_table p) (folded_alike p)
 
 -- what evaluation looks up in tables of one shape
 pub tables_same : (p : List Class) → SameTables p (fold_table p)
@@ -38,7 +41,7 @@ tables_same p =
       attributes = λ c. ap (attributes_of (fold_table p)) (chain_same p (fold_table p) s c) ∙ attributes_same p (fold_table p) s (chain p c);
       types = λ r. s.results (User r.owner r.index);
       attribute_names = s.attribute_names;
-      classes = s.classes;
+      classes = classes_same p (fold_table p) s;
     }
 
 -- Where each folded feature stands

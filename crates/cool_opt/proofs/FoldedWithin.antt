@@ -29,46 +29,7 @@ use Rattle.cool_meaning.specs.Numbers.{fits, is_zero}
 use Rattle.cool_meaning.specs.Evaluation.{same}
 use Rattle.cool_opt.specs.Types.{type_of}
 use Rattle.cool_opt.specs.Folding.{constant_in, number_in, truth_in, one_sort, word_of, exactly, result, number_or, arith_by, neg_by, less_by, equal_by, compare_by, not_by, is_void_by, taken_by, if_by, is_redefined, dispatch_by, fold, fold_all, fold_maybe, fold_cases}
-use Rattle.cool_opt.specs.FoldedLimits.{IsFoldedWithin, AreFoldedWithin, IsMaybeFoldedWithin, AreCasesFoldedWithin}
 use Rattle.cool_opt.proofs.TypesGiven.{type_is, class_there}
-
--- What the parser says of a tree is more: its numbers have 31 bits.
-
-mutual
-  pub source_within : (files : ℕ) (e : Tree) → IsTreeWithin files e → IsFoldedWithin files e
-  source_within files (trees.Assign at name e) (placed, named, h) = (placed, named, source_within files e h)
-  source_within files (trees.Dispatch at e name es) (placed, h, named, hs) = (placed, source_within files e h, named, sources_within files es hs)
-  source_within files (trees.StaticDispatch at e class name es) (placed, h, class_named, named, hs) =
-      (placed, source_within files e h, class_named, named, sources_within files es hs)
-  source_within files (trees.If at e y n) (placed, h, g, k) = (placed, source_within files e h, source_within files y g, source_within files n k)
-  source_within files (trees.While at e b) (placed, h, g) = (placed, source_within files e h, source_within files b g)
-  source_within files (trees.Block at es) (placed, hs) = (placed, sources_within files es hs)
-  source_within files (trees.Let at name declared o e) (placed, named, typed, h, g) =
-      (placed, named, typed, maybe_source_within files o h, source_within files e g)
-  source_within files (trees.Case at e cs) (placed, h, hs) = (placed, source_within files e h, case_sources_within files cs hs)
-  source_within files (trees.New at class) h = h
-  source_within files (trees.IsVoid at e) (placed, h) = (placed, source_within files e h)
-  source_within files (trees.Arith at op a b) (placed, h, g) = (placed, source_within files a h, source_within files b g)
-  source_within files (trees.Neg at e) (placed, h) = (placed, source_within files e h)
-  source_within files (trees.Compare at op a b) (placed, h, g) = (placed, source_within files a h, source_within files b g)
-  source_within files (trees.Not at e) (placed, h) = (placed, source_within files e h)
-  source_within files (trees.Id at name) h = h
-  source_within files (trees.Int at value) (placed, small) = (placed, omega arith)
-  source_within files (trees.Str at bytes) h = h
-  source_within files (trees.Bool at value) h = h
-
-  sources_within : (files : ℕ) (es : Trees) → AreTreesWithin files es → AreFoldedWithin files es
-  sources_within files Last h = tt
-  sources_within files (More e es) (h, hs) = (source_within files e h, sources_within files es hs)
-
-  maybe_source_within : (files : ℕ) (o : MaybeTree) → IsMaybeWithin files o → IsMaybeFoldedWithin files o
-  maybe_source_within files Without h = tt
-  maybe_source_within files (With e) h = source_within files e h
-
-  case_sources_within : (files : ℕ) (cs : Cases) → AreCasesWithin files cs → AreCasesFoldedWithin files cs
-  case_sources_within files NoCase h = tt
-  case_sources_within files (CaseOf at name declared e cs) (placed, named, typed, h, hs) =
-      (placed, named, typed, source_within files e h, case_sources_within files cs hs)
 
 -- The rows
 
@@ -81,69 +42,69 @@ word_small (pos n) e = let low = less_than n 2147483648 e in omega arith
 word_small (negsuc n) e = omega arith
 
 module _ (files : ℕ) where
-  number_within : (t : Tree) (at : Place) (n : ℤ) → IsPlaced files at → IsFoldedWithin files t → IsFoldedWithin files (number_or t at (exactly n))
+  number_within : (t : Tree) (at : Place) (n : ℤ) → IsPlaced files at → IsTreeWithin files t → IsTreeWithin files (number_or t at (exactly n))
   number_within t at n placed h = by (fits n) refl
     where
-      by : (x : Truth) → fits n ≡ x → IsFoldedWithin files (number_or t at (if x then Some n else None))
+      by : (x : Truth) → fits n ≡ x → IsTreeWithin files (number_or t at (if x then Some n else None))
       by true e = (placed, word_small n e)
       by false e = h
 
-  result_within : (at : Place) (op : ArithOp) (a b : Tree) (m n : ℤ) → IsFoldedWithin files (trees.Arith at op a b)
-      → IsFoldedWithin files (number_or (trees.Arith at op a b) at (result op m n))
+  result_within : (at : Place) (op : ArithOp) (a b : Tree) (m n : ℤ) → IsTreeWithin files (trees.Arith at op a b)
+      → IsTreeWithin files (number_or (trees.Arith at op a b) at (result op m n))
   result_within at Add a b m n h = number_within (trees.Arith at Add a b) at (m +ℤ n) h.0 h
   result_within at Sub a b m n h = number_within (trees.Arith at Sub a b) at (m -ℤ n) h.0 h
   result_within at Mul a b m n h = number_within (trees.Arith at Mul a b) at (m *ℤ n) h.0 h
   result_within at Div a b m n h = by (is_zero n)
     where
-      by : (x : Truth) → IsFoldedWithin files (number_or (trees.Arith at Div a b) at (if x then None else exactly (int_div m n)))
+      by : (x : Truth) → IsTreeWithin files (number_or (trees.Arith at Div a b) at (if x then None else exactly (int_div m n)))
       by true = h
       by false = number_within (trees.Arith at Div a b) at (int_div m n) h.0 h
 
-  arith_within : (at : Place) (op : ArithOp) (a b : Tree) (m n : Option ℤ) → IsFoldedWithin files (trees.Arith at op a b)
-      → IsFoldedWithin files (arith_by at op a b m n)
+  arith_within : (at : Place) (op : ArithOp) (a b : Tree) (m n : Option ℤ) → IsTreeWithin files (trees.Arith at op a b)
+      → IsTreeWithin files (arith_by at op a b m n)
   arith_within at op a b None n h = h
   arith_within at op a b (Some m) None h = h
   arith_within at op a b (Some m) (Some n) h = result_within at op a b m n h
 
-  neg_within : (at : Place) (a : Tree) (n : Option ℤ) → IsFoldedWithin files (trees.Neg at a) → IsFoldedWithin files (neg_by at a n)
+  neg_within : (at : Place) (a : Tree) (n : Option ℤ) → IsTreeWithin files (trees.Neg at a) → IsTreeWithin files (neg_by at a n)
   neg_within at a None h = h
   neg_within at a (Some n) h = number_within (trees.Neg at a) at (neg_ℤ n) h.0 h
 
-  less_within : (f : ℤ → ℤ → Truth) (at : Place) (op : CompareOp) (a b : Tree) (m n : Option ℤ) → IsFoldedWithin files (trees.Compare at op a b)
-      → IsFoldedWithin files (less_by f at op a b m n)
+  less_within : (f : ℤ → ℤ → Truth) (at : Place) (op : CompareOp) (a b : Tree) (m n : Option ℤ) → IsTreeWithin files (trees.Compare at op a b)
+      → IsTreeWithin files (less_by f at op a b m n)
   less_within f at op a b None n h = h
   less_within f at op a b (Some m) None h = h
   less_within f at op a b (Some m) (Some n) h = h.0
 
-  equal_within : (at : Place) (a b : Tree) (v w : Option Value) → IsFoldedWithin files (trees.Compare at Equal a b)
-      → IsFoldedWithin files (equal_by at a b v w)
+  equal_within : (at : Place) (a b : Tree) (v w : Option Value) → IsTreeWithin files (trees.Compare at Equal a b)
+      → IsTreeWithin files (equal_by at a b v w)
   equal_within at a b None w h = h
   equal_within at a b (Some v) None h = h
   equal_within at a b (Some v) (Some w) h = by (one_sort v w)
     where
-      by : (x : Truth) → IsFoldedWithin files (if x then trees.Bool at (same v w) else trees.Compare at Equal a b)
+      by : (x : Truth) → IsTreeWithin files (if x then trees.Bool at (same v w) else trees.Compare at Equal a b)
       by true = h.0
       by false = h
 
-  compare_within : (at : Place) (op : CompareOp) (a b : Tree) → IsFoldedWithin files (trees.Compare at op a b)
-      → IsFoldedWithin files (compare_by at op a b)
+  compare_within : (at : Place) (op : CompareOp) (a b : Tree) → IsTreeWithin files (trees.Compare at op a b)
+      → IsTreeWithin files (compare_by at op a b)
   compare_within at Less a b h = less_within int_lt at Less a b (number_in (constant_in a)) (number_in (constant_in b)) h
   compare_within at LessEqual a b h = less_within int_le at LessEqual a b (number_in (constant_in a)) (number_in (constant_in b)) h
   compare_within at Equal a b h = equal_within at a b (constant_in a) (constant_in b) h
 
-  not_within : (at : Place) (a : Tree) (o : Option Truth) → IsFoldedWithin files (trees.Not at a) → IsFoldedWithin files (not_by at a o)
+  not_within : (at : Place) (a : Tree) (o : Option Truth) → IsTreeWithin files (trees.Not at a) → IsTreeWithin files (not_by at a o)
   not_within at a None h = h
   not_within at a (Some b) h = h.0
 
-  void_within : (at : Place) (a : Tree) (o : Option Value) → IsFoldedWithin files (trees.IsVoid at a) → IsFoldedWithin files (is_void_by at a o)
+  void_within : (at : Place) (a : Tree) (o : Option Value) → IsTreeWithin files (trees.IsVoid at a) → IsTreeWithin files (is_void_by at a o)
   void_within at a None h = h
   void_within at a (Some v) h = h.0
 
-  taken_within : (e part : Tree) (type all : Ty) → IsFoldedWithin files e → IsFoldedWithin files part
-      → IsFoldedWithin files (taken_by e part type all)
+  taken_within : (e part : Tree) (type all : Ty) → IsTreeWithin files e → IsTreeWithin files part
+      → IsTreeWithin files (taken_by e part type all)
   taken_within e part type all h g = by (same_type type all)
     where
-      by : (x : Truth) → IsFoldedWithin files (if x then part else e)
+      by : (x : Truth) → IsTreeWithin files (if x then part else e)
       by true = g
       by false = h
 
@@ -152,8 +113,8 @@ module _ (files : ℕ) (p : List Class) (whole : IsWholeTable p) (names : (k : C
   abbrev AreTypes : List Binding → Type 0
   AreTypes scope = AllByRecursion (λ (b : Binding). IsType p b.type) scope
 
-  if_within : (scope : List Binding) (at : Place) (e y n : Tree) (o : Option Truth) → IsFoldedWithin files (trees.If at e y n)
-      → IsFoldedWithin files (if_by p c scope at e y n o)
+  if_within : (scope : List Binding) (at : Place) (e y n : Tree) (o : Option Truth) → IsTreeWithin files (trees.If at e y n)
+      → IsTreeWithin files (if_by p c scope at e y n o)
   if_within scope at e y n None h = h
   if_within scope at e y n (Some true) h =
       taken_within files (trees.If at e y n) y (type_of p c scope y) (type_of p c scope (trees.If at e y n)) h h.2
@@ -161,18 +122,18 @@ module _ (files : ℕ) (p : List Class) (whole : IsWholeTable p) (names : (k : C
       taken_within files (trees.If at e y n) n (type_of p c scope n) (type_of p c scope (trees.If at e y n)) h h.3
 
   dispatch_within : (k : ClassId) (at : Place) (e : Tree) (name : List ℕ) (es : Trees) → k.0 < length p
-      → IsFoldedWithin files (trees.Dispatch at e name es) → IsFoldedWithin files (dispatch_by p k at e name es)
+      → IsTreeWithin files (trees.Dispatch at e name es) → IsTreeWithin files (dispatch_by p k at e name es)
   dispatch_within k at e name es inside h = by (is_redefined p k name)
     where
       by : (x : Truth)
-          → IsFoldedWithin files
+          → IsTreeWithin files
           (if x then trees.Dispatch at e name es else trees.StaticDispatch at e (record { name = name_of p k; at = at }) name es)
       by true = h
       by false = (h.0, h.1, (names k inside, h.0), h.2, h.3)
 
   mutual
-    pub folded_within : (e : Tree) (scope : List Binding) (type : Ty) → AreTypes scope → HasType p c scope e type → IsFoldedWithin files e
-        → IsFoldedWithin files (fold p c scope e)
+    pub folded_within : (e : Tree) (scope : List Binding) (type : Ty) → AreTypes scope → HasType p c scope e type → IsTreeWithin files e
+        → IsTreeWithin files (fold p c scope e)
     folded_within (trees.Id at name) scope type types t h = h
     folded_within (trees.Int at n) scope type types t h = h
     folded_within (trees.Str at bytes) scope type types t h = h
@@ -199,7 +160,7 @@ module _ (files : ℕ) (p : List Class) (whole : IsWholeTable p) (names : (k : C
       named,
       typed,
       init_within init scope bound types has h,
-      subst (λ (t : Ty). IsFoldedWithin files (fold p c (with_name name t scope) e)) (sym (meant_is p whole.table declared.name bound denotes))
+      subst (λ (t : Ty). IsTreeWithin files (fold p c (with_name name t scope) e)) (sym (meant_is p whole.table declared.name bound denotes))
           (folded_within e (with_name name bound scope) type (denotes_type p whole declared.name bound denotes, types) has1 g),
     )
     folded_within (trees.Case at e cs) scope type types (t, ts, has, have, different, join) (placed, h, hs) =
@@ -219,32 +180,32 @@ module _ (files : ℕ) (p : List Class) (whole : IsWholeTable p) (names : (k : C
         compare_within files at op (fold p c scope a) (fold p c scope b)
         (placed, folded_within a scope t types has h, folded_within b scope u types has1 g)
 
-    all_within : (es : Trees) (scope : List Binding) (given : List Ty) → AreTypes scope → HaveTypes p c scope es given → AreFoldedWithin files es
-        → AreFoldedWithin files (fold_all p c scope es)
+    all_within : (es : Trees) (scope : List Binding) (given : List Ty) → AreTypes scope → HaveTypes p c scope es given → AreTreesWithin files es
+        → AreTreesWithin files (fold_all p c scope es)
     all_within Last scope given types have hs = tt
     all_within (More e es) scope [] types have hs = absurd have
     all_within (More e es) scope (t ∷ ts) types (has, have) (h, hs) = (folded_within e scope t types has h, all_within es scope ts types have hs)
 
     items_within : (es : Trees) (scope : List Binding) (before type : Ty) → AreTypes scope → HaveItems p c scope before es type
-        → AreFoldedWithin files es → AreFoldedWithin files (fold_all p c scope es)
+        → AreTreesWithin files es → AreTreesWithin files (fold_all p c scope es)
     items_within Last scope before type types have hs = tt
     items_within (More e es) scope before type types (t, has, have) (h, hs) =
         (folded_within e scope t types has h, items_within es scope t type types have hs)
 
-    init_within : (o : MaybeTree) (scope : List Binding) (bound : Ty) → AreTypes scope → HasInit p c scope bound o → IsMaybeFoldedWithin files o
-        → IsMaybeFoldedWithin files (fold_maybe p c scope o)
+    init_within : (o : MaybeTree) (scope : List Binding) (bound : Ty) → AreTypes scope → HasInit p c scope bound o → IsMaybeWithin files o
+        → IsMaybeWithin files (fold_maybe p c scope o)
     init_within Without scope bound types has h = tt
     init_within (With e) scope bound types (t, has, conforms) h = folded_within e scope t types has h
 
     branches_within : (cs : Cases) (scope : List Binding) (ts : List Ty) → AreTypes scope → HaveBranches p c scope cs ts
-        → AreCasesFoldedWithin files cs → AreCasesFoldedWithin files (fold_cases p c scope cs)
+        → AreCasesWithin files cs → AreCasesWithin files (fold_cases p c scope cs)
     branches_within NoCase scope ts types have hs = tt
     branches_within (CaseOf at name declared e cs) scope [] types have hs = absurd have
     branches_within (CaseOf at name declared e cs) scope (t ∷ ts) types ((d, other, denotes, has), have) (placed, named, typed, h, hs) = (
       placed,
       named,
       typed,
-      subst (λ (x : Ty). IsFoldedWithin files (fold p c (with_name name x scope) e)) (sym (meant_is p whole.table declared.name (IsClass d) denotes))
+      subst (λ (x : Ty). IsTreeWithin files (fold p c (with_name name x scope) e)) (sym (meant_is p whole.table declared.name (IsClass d) denotes))
           (folded_within e (with_name name (IsClass d) scope) t (denotes.0, types) has h),
       branches_within cs scope ts types have hs,
     )

@@ -8,15 +8,16 @@ use Rattle.cool_syntax.specs.Tree.{Tree, Trees, MaybeTree, Cases, Last, More, Wi
 use Rattle.cool_syntax.specs.Tree as trees
 use Rattle.cool_classes.specs.declared.class_id.ClassId.{ClassId}
 use Rattle.cool_classes.specs.Chains.{Class}
+use Rattle.cool_classes.proofs.AlikeTables.{FindSame}
 use Rattle.cool_rules.specs.Conformance.{class_of}
 use Rattle.cool_rules.specs.Scopes.{Binding}
 use Rattle.cool_rules.specs.Typing.{formals_in_scope}
 use Rattle.cool_opt.specs.Types.{type_of}
 use Rattle.cool_opt.specs.Folding.{constant_in, number_in, truth_in, arith_by, neg_by, compare_by, not_by, is_void_by, taken_by, if_by, dispatch_by, fold, fold_all, fold_maybe, fold_cases, fold_option, fold_feature, own_scope}
-use Rattle.cool_opt.proofs.SameShapes.{SameShape, redefined_same, formal_scope_same, own_scope_same}
+use Rattle.cool_opt.proofs.SameShapes.{redefined_same, formal_scope_same, own_scope_same}
 use Rattle.cool_opt.proofs.TypesOfShapes.{bound_in, bound_same, type_same}
 
-module _ (p p' : List Class) (s : SameShape p p') (c : ClassId) where
+module _ (p p' : List Class) (s : FindSame p p') (c : ClassId) where
   dispatch_same : (k : ClassId) (at : Place) (e : Tree) (name : List ℕ) (es : Trees) → dispatch_by p' k at e name es ≡ dispatch_by p k at e name es
   dispatch_same k at e name es = λ i.
       if redefined_same p p' s k name i then trees.Dispatch at e name es

@@ -7,7 +7,6 @@ pub mod FoldedDispatches
 pub mod FoldedExpressions
 pub mod FoldedTypes
 pub mod SameShapes
-pub mod AlikeTables
 pub mod FoldedTables
 pub mod FoldedRuns
 pub mod FoldedPrograms
@@ -20,3 +19,18 @@ pub mod FoldedSizes
 pub mod FoldedWithin
 pub mod FoldedTableFits
 pub mod FoldsOfShapes
+pub mod TypesInScope
+pub mod ShrinkingFolds
+pub mod ClassesAbove
+pub mod NodesPlaced
+pub mod ShrunkSizes
+pub mod FoldedRows
+pub mod ScopesEntered
+pub mod FoldedConditionals
+pub mod PartsPlaced
+pub mod FoldedForms
+pub mod FoldedWholes
+pub mod FoldedBodies
+pub mod DefinersGrow
+pub mod ExpressionsLeft
+pub mod ReplacedExpressions

@@ -1,6 +1,5 @@
--- Tables of one shape: of the same classes, with the same parents, methods and attributes, which declare the same types. What typing and folding
--- look up in the one is what they find in the other.
-use Rattle.std.proofs.Common.{◌≡◌, ℕ, zero, suc, ◌<◌, List, [], ◌∷◌, ◌++◌, length, Option, Some, None, Bool as Truth, refl, sym, ap, ◌∙◌, subst}
+-- Tables are of one shape where look-ups find the same in both (`FindSame`): there chains, scopes, meant types, joins and methods are the same.
+use Rattle.std.proofs.Common.{◌≡◌, ℕ, zero, suc, ◌<◌, List, [], ◌∷◌, ◌++◌, map, length, Option, Some, None, Bool as Truth, refl, sym, ap, ◌∙◌, subst, arith}
 use Rattle.std.specs.Prelude.{bytes_eq, unwrap_or, option_map, is_some, if◌then◌else◌, ◌&&◌, ◌||◌}
 use Rattle.std.specs.List.{list_any}
 use Rattle.cool_syntax.specs.declared.file_tree.Formal.{Formal}
@@ -13,47 +12,36 @@ use Rattle.cool_classes.specs.declared.method.MethodRef.TheVariants.{Basic, User
 use Rattle.cool_classes.specs.declared.method.AttributeRef.{AttributeRef}
 use Rattle.cool_classes.specs.Chains.{Class, class_number, name_of, parent_of, features_of}
 use Rattle.cool_classes.specs.ClimbedChains.{climbed, above, chain}
-use Rattle.cool_classes.specs.Features.{own_method, first_of, implementation, own_attributes, attributes_of, attribute_name, formals_of, result_of}
-use Rattle.cool_classes.specs.Names.{self_type}
+use Rattle.cool_classes.specs.Features.{own_method, first_of, implementation, own_attributes, attributes_of, attribute_name, result_of}
+use Rattle.cool_classes.specs.Names.{self_type, first_named}
+use Rattle.cool_classes.proofs.AlikeTables.{FindSame}
 use Rattle.cool_rules.specs.Rules.{is_among, first_among, join_in, class_named, type_of_name, type_meant, method_of, attribute_binding, formal_binding}
 use Rattle.cool_rules.specs.Scopes.{Binding}
 use Rattle.cool_rules.specs.Typing.{formals_in_scope, attributes_in_scope, result_on}
 use Rattle.cool_opt.specs.Types.{method_in, type_of_call}
 use Rattle.cool_opt.specs.Folding.{classes_from, defines_below, is_redefined, own_scope}
 
--- what two tables have in common
-pub record SameShape (p p' : List Class) : Type 0 where
-  pub count : length p' ≡ length p
-  pub names : (c : ClassId) → name_of p' c ≡ name_of p c
-  pub parents : (c : ClassId) → parent_of p' c ≡ parent_of p c
-  pub methods : (c : ClassId) (f : List ℕ) → own_method p' c f ≡ own_method p c f
-  pub attributes : (c : ClassId) → own_attributes c 0 (features_of p' c) ≡ own_attributes c 0 (features_of p c)
-  pub formals : (m : MethodRef) → formals_of p' m ≡ formals_of p m
-  pub results : (m : MethodRef) → result_of p' m ≡ result_of p m
-  pub attribute_names : (r : AttributeRef) → attribute_name p' r ≡ attribute_name p r
-  pub classes : (name : List ℕ) → class_named p' name ≡ class_named p name
-
-pub flipped : (p p' : List Class) → SameShape p p' → SameShape p' p
-flipped p p' s = record {
-  count = sym s.count;
-  names = λ c. sym (s.names c);
-  parents = λ c. sym (s.parents c);
-  methods = λ c f. sym (s.methods c f);
-  attributes = λ c. sym (s.attributes c);
-  formals = λ m. sym (s.formals m);
-  results = λ m. sym (s.results m);
-  attribute_names = λ r. sym (s.attribute_names r);
-  classes = λ name. sym (s.classes name);
-}
+-- tables of as many classes, each with the name that it has in the other, have the same names
+names_same : (p p' : List Class) → length p' ≡ length p → ((n : ℕ) → name_of p' (record { 0 = n }) ≡ name_of p (record { 0 = n }))
+    → map (λ (d : Class). d.name) p' ≡ map (λ (d : Class). d.name) p
+names_same [] [] many same = refl
+names_same [] (d' ∷ ds') many same = absurd (omega arith)
+names_same (d ∷ ds) [] many same = absurd (omega arith)
+names_same (d ∷ ds) (d' ∷ ds') many same =
+    let rest : length ds' ≡ length ds = omega arith in
+    λ i. same zero i ∷ names_same ds ds' rest (λ n. same (suc n)) i
 
 -- two functions that agree everywhere find the same in a list
 any_same : {A : Type 0} (f g : A → Truth) (xs : List A) → ((x : A) → f x ≡ g x) → list_any f xs ≡ list_any g xs
 any_same f g [] same = refl
 any_same f g (x ∷ xs) same = ap (λ (t : Truth). t || list_any f xs) (same x) ∙ ap (λ (t : Truth). g x || t) (any_same f g xs same)
 
-module _ (p p' : List Class) (s : SameShape p p') where
+module _ (p p' : List Class) (s : FindSame p p') where
   pub within_same : (c : ClassId) → c.0 < length p → c.0 < length p'
   within_same c h = subst (λ (n : ℕ). c.0 < n) (sym s.count) h
+
+  pub within_back : (c : ClassId) → c.0 < length p' → c.0 < length p
+  within_back c h = subst (λ (n : ℕ). c.0 < n) s.count h
 
   -- Chains and what stands on them
 
@@ -85,11 +73,15 @@ module _ (p p' : List Class) (s : SameShape p p') where
 
   -- Types that names mean
 
+  pub classes_same : (name : List ℕ) → class_named p' name ≡ class_named p name
+  classes_same name =
+      ap (λ (names : List (List ℕ)). first_named 0 names name) (names_same p p' s.count (λ n. s.names (record { 0 = n })))
+
   pub meant_same : (name : List ℕ) → type_meant p' name ≡ type_meant p name
   unfolding type_meant type_of_name
   meant_same name =
       ap (λ (o : Option ClassId). unwrap_or (if bytes_eq name self_type then Some SelfType else option_map IsClass o) (IsClass (class_number 0)))
-      (s.classes name)
+      (classes_same name)
 
   pub formal_scope_same : (fs : List Formal) → formals_in_scope p' fs ≡ formals_in_scope p fs
   formal_scope_same [] = refl

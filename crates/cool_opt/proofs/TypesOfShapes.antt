@@ -6,6 +6,7 @@ use Rattle.cool_syntax.specs.Tree as trees
 use Rattle.cool_classes.specs.declared.class_id.ClassId.{ClassId}
 use Rattle.cool_classes.specs.declared.class_id.Ty.{Ty}
 use Rattle.cool_classes.specs.Chains.{Class}
+use Rattle.cool_classes.proofs.AlikeTables.{FindSame}
 use Rattle.cool_rules.specs.Conformance.{class_of}
 use Rattle.cool_rules.specs.Rules.{join_in, type_meant}
 use Rattle.cool_rules.specs.Scopes.{Binding}
@@ -13,9 +14,9 @@ use Rattle.cool_rules.specs.Typing.{with_name, object_type}
 use Rattle.cool_opt.specs.Types.{joined, type_of_call, type_of, last_type_of, cases_type_of}
 use Rattle.cool_opt.specs.Folding.{constant_in, truth_in, is_redefined}
 use Rattle.cool_opt.specs.Foldable.{IsNotTaken, IsDone, AreDone, IsMaybeDone, AreCasesDone}
-use Rattle.cool_opt.proofs.SameShapes.{SameShape, meant_same, join_same, call_same, redefined_same}
+use Rattle.cool_opt.proofs.SameShapes.{meant_same, join_same, call_same, redefined_same}
 
-module _ (p p' : List Class) (s : SameShape p p') (c : ClassId) where
+module _ (p p' : List Class) (s : FindSame p p') (c : ClassId) where
   -- a name in scope with the type that its declaration means
   abbrev pub bound_in : List Class → List ℕ → List ℕ → List Binding → List Binding
   bound_in q name declared scope = with_name name (type_meant q declared) scope

@@ -9,12 +9,13 @@ use Rattle.cool_classes.specs.declared.class_id.Ty.TheVariants.{Class as IsClass
 use Rattle.cool_classes.specs.declared.method.MethodRef.{MethodRef}
 use Rattle.cool_classes.specs.Chains.{Class, parent_of, IsChain, Below}
 use Rattle.cool_classes.specs.Features.{Denotes, attributes_of, formals_of, result_of}
+use Rattle.cool_classes.proofs.AlikeTables.{FindSame, flipped}
 use Rattle.cool_rules.specs.Conformance.{Conforms, IsJoinOfTypes, class_of}
 use Rattle.cool_rules.specs.Scopes.{Binding}
 use Rattle.cool_rules.specs.Typing.{AreArguments, IsImplementation, IsCall, IsJoinOfBranches, bool_type, int_type, object_type, with_name, attributes_in_scope, HasType, HaveTypes, HaveItems, HasInit, HaveBranches, FitsDeclared}
-use Rattle.cool_opt.proofs.SameShapes.{SameShape, flipped, within_same, implementation_same, chain_scope_same}
+use Rattle.cool_opt.proofs.SameShapes.{within_same, implementation_same, chain_scope_same}
 
-module _ (p p' : List Class) (s : SameShape p p') where
+module _ (p p' : List Class) (s : FindSame p p') where
   pub chain_kept : (ds : List ClassId) (o : Option ClassId) → IsChain p o ds → IsChain p' o ds
   chain_kept [] None h = tt
   chain_kept [] (Some c) h = absurd h
@@ -65,7 +66,7 @@ module _ (p p' : List Class) (s : SameShape p p') where
   all_conform c [] u h = tt
   all_conform c (t ∷ ts) u (h, hs) = (conforms_kept c t u h, all_conform c ts u hs)
 
-module _ (p p' : List Class) (s : SameShape p p') where
+module _ (p p' : List Class) (s : FindSame p p') where
   join_kept : (c : ClassId) (a b j : Ty) → IsJoinOfTypes p c a b j → IsJoinOfTypes p' c a b j
   join_kept c a b j h = record {
     left = conforms_kept p p' s c a j h.left;

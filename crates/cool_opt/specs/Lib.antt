@@ -1,7 +1,11 @@
 pub mod Examples
+pub mod Expressions
 pub mod Foldable
-pub mod FoldedLimits
+pub mod FoldedNodes
 pub mod Folding
 pub mod Laws
 pub mod NothingLeft
+pub mod Settings
+pub mod Shrinking
 pub mod Types
+pub mod Definers

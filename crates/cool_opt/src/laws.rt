@@ -2,12 +2,11 @@
 
 ghost use Rattle.std.specs.Prelude.{ℕ, List};
 ghost use Rattle.cool_meaning.specs.SourceRun.{run};
-ghost use Rattle.cool_opt.specs.FoldedLimits.{FoldedFits};
 ghost use Rattle.cool_opt.specs.Folding.{fold_table};
 ghost use Rattle.cool_opt.specs.Laws.{NoMoreRun};
 ghost use Rattle.cool_opt.specs.NothingLeft.{IsDoneTable};
+ghost use Rattle.cool_rules.specs.Fits.{Fits};
 ghost use Rattle.cool_rules.specs.TypedTables.{IsTypedTable};
-ghost use Rattle.cool_syntax.specs.declared.TheConstants.{MOST_FILES};
 
 use cool_rules::TypedProgram;
 
@@ -34,10 +33,10 @@ pub fn law_nothing_left(p: &TypedProgram)
     let _table = p.table();
 }
 
-/// The folded program keeps the limits of an accepted program, on classes, features, nodes, branches, names, places and bytes of string
-/// constants. Its integer constants are any numbers of 32 bits, where those of a source have 31.
+/// The folded program keeps the limits that the program keeps, on classes, features, nodes, branches, names, constants and places, in as many
+/// files.
 pub fn law_folded_fits(p: &TypedProgram)
-    ensures fits { FoldedFits (fold_table p.now) MOST_FILES }
+    ensures fits { (count : ℕ) → Fits p.now count → Fits (fold_table p.now) count }
 {
     let _table = p.table();
 }

@@ -1,10 +1,22 @@
 //! Folding: constants are computed, tests on constants decided, and a dispatch that can go to one method only is called directly.
 //!
-//! Comes in: a class table. Goes out: nothing that runs, but what a folded program is. `specs/Folding.antt` defines what becomes of each
-//! form of expression and of a table, over the types of `specs/Types.antt`; `specs/Foldable.antt` says of what nothing is left to fold. The
-//! functions here are laws.
+//! Comes in: an accepted program. Goes out: the folded program. `specs/Folding.antt` defines what becomes of each form of expression and of a
+//! table, over the types of `specs/Types.antt`; `specs/Foldable.antt` says of what nothing is left to fold. The functions `law_*` say what a
+//! folded program is.
 #![tactic(auto)]
 
+mod constant;
+mod definers;
+mod expression;
+mod feature;
+mod fold_call;
+mod fold_control;
+mod fold_operator;
 mod laws;
+mod place;
+mod program;
+mod setting;
+mod typing;
 
 pub use laws::{law_folded, law_folded_fits, law_folded_is_typed, law_nothing_left};
+pub use program::fold;

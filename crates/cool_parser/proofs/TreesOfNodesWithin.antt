@@ -81,7 +81,7 @@ made_within files ts (node.Neg at a) m h w = (w, found files ts a.0 m h)
 made_within files ts (node.Compare at op a b) m h w = (w, found files ts a.0 m h, found files ts b.0 m h)
 made_within files ts (node.Not at a) m h w = (w, found files ts a.0 m h)
 made_within files ts (node.Id at name) m h w = w
-made_within files ts (node.Int at value) m h w = w
+made_within files ts (node.Int at value) m h w = (w.0, let small = w.1 in omega arith)
 made_within files ts (node.Str at bytes) m h w = w
 made_within files ts (node.Bool at value) m h w = w
 

@@ -1,6 +1,6 @@
--- What the lexer says of its tokens, said of the tree that they make: each name is its own lexeme and no keyword, each constant keeps
--- its limit, and each place is in one of so many files.
-use Rattle.std.specs.Prelude.{ℕ, List, IfSome, codes, refl}
+-- What the lexer says of its tokens, said of the tree that they make: each name is its own lexeme and no keyword, each string keeps its
+-- limit, and each place is in one of so many files. An integer is any word: a source has those below 2 ^ 31, and folding makes the others.
+use Rattle.std.specs.Prelude.{ℕ, ◌<◌, ◌^◌, List, IfSome, codes, refl}
 use Rattle.std.specs.List.{AllByRecursion}
 use Rattle.cool_syntax.specs.declared.token.TokenKind.TheVariants as kind
 use Rattle.cool_syntax.specs.declared.type_ref.TypeRef.{TypeRef}
@@ -41,7 +41,7 @@ abbrev mutual
   IsTreeWithin files (trees.Compare at op a b) = IsPlaced files at × IsTreeWithin files a × IsTreeWithin files b
   IsTreeWithin files (trees.Not at t) = IsPlaced files at × IsTreeWithin files t
   IsTreeWithin files (trees.Id at name) = IsPlaced files at × IsObjectName name
-  IsTreeWithin files (trees.Int at value) = IsPlaced files at × IsWithinLimits (kind.Int value)
+  IsTreeWithin files (trees.Int at value) = IsPlaced files at × (value < 2 ^ 32)
   IsTreeWithin files (trees.Str at bytes) = IsPlaced files at × IsWithinLimits (kind.Str bytes)
   IsTreeWithin files (trees.Bool at value) = IsPlaced files at
 

@@ -1,0 +1,11 @@
+-- The table becomes the folded one with the expressions that are left in their places.
+use Rattle.std.proofs.Common.{length}
+use Rattle.cool_opt.specs.Folding.{fold_table}
+use Rattle.cool_opt.proofs.ReplacedExpressions.{Becomes}
+use Rattle.cool_opt.proofs.program.fold.Given as goal
+
+abbrev pub invariant-loop-expression : goal.invariant-loop-expression
+invariant-loop-expression l = Becomes l.table l.expressions.items (fold_table l.fn.p)
+
+abbrev pub decreases-loop-expression : goal.decreases-loop-expression
+decreases-loop-expression l = length l.expressions.items

@@ -1,0 +1,8 @@
+-- The expressions so far with those of the classes that are left are all.
+use Rattle.std.proofs.Common.{◌≡◌, ◌++◌, drop}
+use Rattle.cool_opt.specs.Expressions.{expressions_from}
+use Rattle.cool_opt.specs.Folding.{fold_table}
+use Rattle.cool_opt.proofs.program.folded_expressions.Given as goal
+
+abbrev pub invariant-loop-number : goal.invariant-loop-number
+invariant-loop-number l = l.all.items ++ expressions_from l.number (drop l.number (fold_table l.p)) ≡ expressions_from 0 (fold_table l.p)

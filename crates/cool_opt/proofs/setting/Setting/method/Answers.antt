@@ -1,0 +1,15 @@
+-- The nearest method on the chain is that of the chain by the table.
+use Rattle.std.proofs.Common.{ap}
+use Rattle.std.specs.Prelude.{unwrap_or}
+use Rattle.cool_classes.specs.declared.method.BasicMethod.TheVariants.{Abort}
+use Rattle.cool_classes.specs.declared.method.MethodRef.TheVariants.{Basic}
+use Rattle.cool_rules.proofs.RulesOfTables.{method_of_is}
+use Rattle.cool_opt.proofs.setting.Setting.method.Goals as goal
+
+pub returns-in-Some-clause-method : goal.returns-in-Some-clause-method
+returns-in-Some-clause-method c =
+    ap (λ o. unwrap_or o (Basic Abort)) (method_of_is c.args.self.now.table.now c.args.class c.args.name.now _ c.requires.sound.table c.requires.class c.in-Some.ensures.nearest)
+
+pub returns-in-None-clause-method : goal.returns-in-None-clause-method
+returns-in-None-clause-method c =
+    ap (λ o. unwrap_or o (Basic Abort)) (method_of_is c.args.self.now.table.now c.args.class c.args.name.now _ c.requires.sound.table c.requires.class c.in-None.ensures.nearest)
