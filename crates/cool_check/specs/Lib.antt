@@ -1,3 +1,4 @@
+pub mod Calls
 pub mod Checks
 pub mod Contexts
 pub mod Faults

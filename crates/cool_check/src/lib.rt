@@ -12,7 +12,9 @@ mod fault;
 mod feature;
 mod operator;
 mod setting;
+mod typer;
 
 pub use checking::check;
 pub use fault::{CheckAllError, CheckError, TypeFault, TypeKind};
 pub use feature::check_feature;
+pub use typer::{PlainTyper, Typer};

@@ -1,0 +1,10 @@
+-- How often a typer was called: a number that rises by one at each call, and that stands still at its last value.
+use Rattle.std.specs.Prelude.{ℕ, ◌+◌, min}
+
+-- the last value of the number
+abbrev pub last_call : ℕ
+last_call = 18446744073709551615
+
+-- the number after so many calls more
+abbrev pub called : ℕ → ℕ → ℕ
+called more before = min (before + more) last_call
