@@ -1,5 +1,6 @@
 pub mod AllItems
 pub mod DefinitionsOfTrees
+pub mod EarlyRefusals
 pub mod FindingsInARow
 pub mod LexicalFaults
 pub mod OneOrder

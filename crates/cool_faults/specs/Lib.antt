@@ -2,4 +2,5 @@ pub mod Files
 pub mod Laws
 pub mod Phases
 pub mod Texts
+pub mod Untyped
 pub mod Verdicts

@@ -6,11 +6,9 @@ ghost use Rattle.cool_faults.specs.Files.{bytes_of, total};
 ghost use Rattle.cool_faults.specs.Phases.{IsRefusedWith};
 ghost use Rattle.cool_faults.specs.Verdicts.{IsAccepted, IsVerdict};
 
-use crate::classes::class_table;
 use crate::fault::{Refusal, Verdict};
-use crate::lexing::lex_files;
-use crate::parsing::parse_files;
 use crate::typing::typed_program;
+use crate::untyped_files::untyped;
 use cool_rules::TypedProgram;
 use std::alloc::{AllocError, Global};
 
@@ -40,8 +38,6 @@ fn program(alloc: Global, files: &[Vec<u8>]) -> Result<TypedProgram, Refusal>
     requires small { total (bytes_of files.now) ≤ MOST_SOURCE_BYTES }
     ensures { MatchResult result (IsAccepted (bytes_of files.now)) (IsRefusedWith (bytes_of files.now)) }
 {
-    let lexed = lex_files(alloc, files)?;
-    let trees = parse_files(alloc, lexed.as_slice())?;
-    let classes = class_table(alloc, trees)?;
-    typed_program(alloc, classes)
+    let untyped = untyped(alloc, files)?;
+    typed_program(alloc, untyped.classes)
 }

@@ -5,8 +5,8 @@ ghost use Rattle.cool_faults.specs.declared.fault.Refusal.TheVariants as refusal
 ghost use Rattle.cool_faults.specs.Verdicts.{place_of};
 
 use cool_check::TypeFault;
-use cool_classes::ClassFault;
-use cool_lexer::LexFault;
+use cool_classes::{ClassFault, ClassTable};
+use cool_lexer::{LexFault, Lexed};
 use cool_parser::ParseFault;
 use cool_rules::TypedProgram;
 use cool_syntax::{Listed, Place};
@@ -45,6 +45,24 @@ pub enum Verdict {
     /// They are this program.
     Accepted(TypedProgram),
     /// They have these faults, in the order of files, bytes and kinds.
+    Refused(Listed<Fault>),
+}
+
+/// What files are before typing.
+#[derive(Drop)]
+pub struct Untyped {
+    /// The tokens of each file.
+    pub lexed: Vec<Lexed>,
+    /// The table of their classes.
+    pub classes: ClassTable,
+}
+
+/// What is said of files before typing.
+#[derive(Drop)]
+pub enum ClassVerdict {
+    /// They have these tokens and this table.
+    Untyped(Untyped),
+    /// They have these faults, of the lexer, of the parser, of classes or of features, in the order of files, bytes and kinds.
     Refused(Listed<Fault>),
 }
 

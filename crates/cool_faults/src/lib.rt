@@ -13,8 +13,10 @@ mod lexing;
 mod parsing;
 mod text;
 mod typing;
+mod untyped_files;
 
 pub use acceptance::accept;
-pub use fault::{Fault, Verdict};
+pub use fault::{ClassVerdict, Fault, Untyped, Verdict};
 pub use laws::{law_never_both, law_one_list, law_one_program, law_rows};
 pub use text::fault_text;
+pub use untyped_files::class_phase;

@@ -1,62 +1,22 @@
--- Each phase refuses the files, or gives the next one what it asks.
+-- The phases before typing refuse the files, or typing decides.
 use Rattle.std.proofs.Common.{◌≤◌, List, length, ap, sym, subst, arith}
-use Rattle.std.specs.List.{AllByRecursion}
 use Rattle.std.proofs.lemmas.Result.{err_from_is_err_and}
-use Rattle.cool_syntax.specs.declared.TheConstants.{MOST_FILES, MOST_SOURCE_BYTES}
-use Rattle.cool_lexer.specs.declared.lexer.Lexed.{Lexed}
+use Rattle.cool_syntax.specs.declared.TheConstants.{MOST_FILES}
 use Rattle.cool_faults.specs.Files.{bytes_of}
-use Rattle.cool_faults.specs.Phases.{AreFaultsFound, IsParsed, IsSyntactic}
-use Rattle.cool_faults.proofs.VerdictsOfPhases.{as_many_files, lexer_refuses, lexed_few, lexed_as_many, parser_refuses, files_of_slice, trees_few, classes_refuse, table_of_trees_fits, typing_decides}
+use Rattle.cool_faults.proofs.EarlyRefusals.{refused_with}
+use Rattle.cool_faults.proofs.VerdictsOfPhases.{as_many_files, files_whole, typing_decides}
 use Rattle.cool_faults.proofs.acceptance.program.Goals as goal
 
-pub returns-in_err-lexed : goal.returns-in_err-lexed
-returns-in_err-lexed c =
+pub returns-in_err-untyped : goal.returns-in_err-untyped
+returns-in_err-untyped c =
     let p = err_from_is_err_and c.from_residual.result c.from_residual.ensures.1 in
-    rw (p.1, p.2) (lexer_refuses (bytes_of c.args.files.now) c.in_err-lexed.field-0.0 c.requires.small c.in_err-lexed.ensures)
-
-pub parse_files-requires-clause-few : goal.parse_files-requires-clause-few
-parse_files-requires-clause-few c =
-    omega (arith, ap length c.as_slice.ensures.value, lexed_as_many (bytes_of c.args.files.now) c.in_ok-lexed.lexed.items c.in_ok-lexed.ensures, as_many_files c.args.files.now, c.requires.few)
-
-pub parse_files-requires-clause-small : goal.parse_files-requires-clause-small
-parse_files-requires-clause-small c =
-    subst (λ (ls : List Lexed). AllByRecursion (λ l. length l.tokens.items ≤ MOST_SOURCE_BYTES) ls) (sym c.as_slice.ensures.value)
-    (lexed_few (bytes_of c.args.files.now) c.in_ok-lexed.lexed.items c.requires.small c.in_ok-lexed.ensures)
-
-pub returns-in_err-trees : goal.returns-in_err-trees
-returns-in_err-trees c =
-    let p = err_from_is_err_and c.from_residual-in_err-trees.result c.from_residual-in_err-trees.ensures.1 in
-    rw (p.1, p.2)
-    (parser_refuses (bytes_of c.args.files.now) c.in_ok-lexed.lexed.items c.in_err-trees.field-0.0 c.requires.small c.in_ok-lexed.ensures
-    (subst (λ (ls : List Lexed). AreFaultsFound IsParsed IsSyntactic ls c.in_err-trees.field-0.0) c.as_slice.ensures.value c.in_err-trees.ensures))
-
-pub class_table-requires : goal.class_table-requires
-class_table-requires c =
-    let files = bytes_of c.args.files.now in
-    let whole = files_of_slice files c.in_ok-lexed.lexed.items c.as_slice.result.now c.in_ok-trees.trees.items c.in_ok-lexed.ensures c.as_slice.ensures.value c.in_ok-trees.ensures in
-    record { few = trees_few files c.in_ok-trees.trees.items c.requires.small whole }
-
-pub returns-in_err-classes : goal.returns-in_err-classes
-returns-in_err-classes c =
-    let files = bytes_of c.args.files.now in
-    let whole = files_of_slice files c.in_ok-lexed.lexed.items c.as_slice.result.now c.in_ok-trees.trees.items c.in_ok-lexed.ensures c.as_slice.ensures.value c.in_ok-trees.ensures in
-    let p = err_from_is_err_and c.from_residual-in_err-classes.result c.from_residual-in_err-classes.ensures.1 in
-    rw (p.1, p.2) (classes_refuse files c.in_ok-trees.trees.items c.in_err-classes.field-0.0 whole c.in_err-classes.ensures.exact c.in_err-classes.ensures.refusal c.in_err-classes.ensures.places)
-
-pub typed_program-requires : goal.typed_program-requires
-typed_program-requires c =
-    let files = bytes_of c.args.files.now in
-    let whole = files_of_slice files c.in_ok-lexed.lexed.items c.as_slice.result.now c.in_ok-trees.trees.items c.in_ok-lexed.ensures c.as_slice.ensures.value c.in_ok-trees.ensures in
-    let many : length files ≤ MOST_FILES = omega (arith, as_many_files c.args.files.now, c.requires.few) in
-    let few : MOST_FILES ≤ MOST_FILES = omega arith in
-    let e = c.in_ok-classes.ensures in
-    record { fits = table_of_trees_fits files c.in_ok-trees.trees.items c.in_ok-classes.classes MOST_FILES c.requires.small many few whole e.of e.whole e.limits }
+    rw (p.1, p.2) (refused_with (bytes_of c.args.files.now) c.in_err-untyped.field-0.0 c.in_err-untyped.ensures)
 
 pub returns : goal.returns
 returns c =
     let files = bytes_of c.args.files.now in
-    let whole = files_of_slice files c.in_ok-lexed.lexed.items c.as_slice.result.now c.in_ok-trees.trees.items c.in_ok-lexed.ensures c.as_slice.ensures.value c.in_ok-trees.ensures in
+    let u = c.in_ok-untyped.ensures in
+    let whole = files_whole files c.in_ok-untyped.untyped.lexed.items u.trees u.lexed u.parsed in
     let few : length files ≤ MOST_FILES = omega (arith, as_many_files c.args.files.now, c.requires.few) in
-    let e = c.in_ok-classes.ensures in
     let t = c.typed_program.ensures in
-    typing_decides files c.in_ok-trees.trees.items c.in_ok-classes.classes c.typed_program.result c.requires.small few whole e.of e.classes e.faultless e.whole e.limits t.program t.typed t.accepted t.exact t.refusal t.places
+    typing_decides files u.trees c.in_ok-untyped.untyped.classes c.typed_program.result c.requires.small few whole u.of u.meant (u.classes, u.features) u.table u.limits t.program t.typed t.accepted t.exact t.refusal t.places
