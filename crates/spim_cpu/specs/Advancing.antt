@@ -1,5 +1,5 @@
 -- Operations one after another: what one leads to, and where so many lead.
-use Rattle.std.specs.Prelude.{◌≡◌, refl, ℕ, zero, suc, ◌+◌, ◌-◌, ◌*◌, ◌/◌, ◌%◌, Bool, false, List, Result, Ok, Err}
+use Rattle.std.specs.Prelude.{◌≡◌, refl, ℕ, zero, suc, ◌+◌, ◌-◌, ◌*◌, ◌/◌, ◌%◌, Bool, true, false, List, [], ◌∷◌, get_or, Result, Ok, Err}
 use Rattle.mips_isa.specs.declared.address_map.TheConstants.{TEXT_START}
 use Rattle.mips_isa.specs.Bytes.{Segments}
 use Rattle.mips_isa.specs.Machine.{Core, Next, On, Call, Stop, step}
@@ -33,3 +33,13 @@ second_word = refl
 
 no_word : word_index 0x00400006 ≡ 0x80000001
 no_word = refl
+
+-- whether the word at an address has a mark that is set, of the marks of the words from the first one on
+abbrev pub is_marked : List Bool → ℕ → Bool
+is_marked marks a = get_or marks (word_index a) false
+
+second_marked : is_marked (false ∷ true ∷ []) 0x00400004 ≡ true
+second_marked = refl
+
+none_marked : is_marked (false ∷ true ∷ []) 0x00400008 ≡ false
+none_marked = refl

@@ -1,15 +1,18 @@
 //! Where a run stops.
 
-ghost use Rattle.std.specs.Prelude.{◌≡◌, ℕ, Bool};
+ghost use Rattle.std.specs.Prelude.{◌≡◌, ◌<◌, ℕ, Bool};
+ghost use Rattle.spim_cpu.specs.Advancing.{is_marked};
 
-/// A set of addresses: a run stops before the instruction at one of them.
+use crate::word_index;
+
+/// A set of addresses of words of a text: a run stops before the instruction at one of them.
 pub trait Breaks {
     /// Which addresses are in the set.
     ghost holds: { Self → ℕ → Bool };
 
-    /// Whether an address is in the set.
-    fn contains(&self, address: u32) -> bool
-        ensures { result ≡ holds self.now address };
+    /// A mark for each word of the text, from the first one on: whether its address is in the set. What has no mark is not in it.
+    fn marks(&self) -> &[bool]
+        ensures { (a : ℕ) → a < 4294967296 → holds self.now a ≡ is_marked result.now a };
 }
 
 /// No address.
@@ -22,7 +25,23 @@ impl Breaks for NoBreaks {
     ghost holds = { λ _ _. false };
 
     #[inline(always)]
-    fn contains(&self, _address: u32) -> bool {
-        false
+    fn marks(&self) -> &[bool] {
+        &[]
     }
+}
+
+/// Whether an address is in the set.
+pub fn contains<B: Breaks>(breaks: &B, address: u32) -> bool
+    ensures { result ≡ B.holds breaks.now address }
+{
+    is_marked(breaks.marks(), address)
+}
+
+/// Whether the word at an address has a mark that is set.
+#[inline(always)]
+pub(crate) fn is_marked(marks: &[bool], address: u32) -> bool
+    ensures marked { result ≡ is_marked marks.now address }
+    ensures fits { address < 4294967296 }
+{
+    marks.get(word_index(address)).is_some_and(|mark| *mark)
 }

@@ -11,6 +11,7 @@ ghost use Rattle.spim_cpu.specs.Advancing.{Goes, word_index};
 mod access;
 mod operate;
 
+use crate::breaks::is_marked;
 use crate::{Breaks, Step};
 use access::trap_of;
 use mips_isa::register::{GP, S6, S7, SP, ZERO};
@@ -137,10 +138,11 @@ impl Cpu {
         ensures goes { Goes (B.holds breaks.now) self.old.memory.text (segments self.old.memory) result (core_of self.old) (core_of self.new) }
         ensures segments { KeepsSegments self.old.memory self.new.memory }
     {
+        let marks = breaks.marks();
         let operations = self.memory.take_operations();
         let mut pc = self.pc;
         let mut left = most;
-        while left > 0 && !breaks.contains(pc) {
+        while left > 0 && !is_marked(marks, pc) {
             let Some(operation) = operations.get(word_index(pc)) else {
                 break;
             };

@@ -9,6 +9,6 @@ mod breaks;
 mod cpu;
 mod step;
 
-pub use breaks::{Breaks, NoBreaks};
+pub use breaks::{Breaks, NoBreaks, contains};
 pub use cpu::{Cpu, word_index};
 pub use step::Step;

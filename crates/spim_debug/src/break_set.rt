@@ -59,9 +59,7 @@ impl Breaks for BreakSet {
     ghost holds = { in_set };
 
     #[inline(always)]
-    fn contains(&self, address: u32) -> bool {
-        self.marks
-            .get(word_index(address))
-            .is_some_and(|mark| *mark)
+    fn marks(&self) -> &[bool] {
+        &self.marks
     }
 }

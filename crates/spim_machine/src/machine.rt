@@ -16,7 +16,7 @@ mod calls;
 use crate::{Halt, Stopped};
 use cool_ports::{Sink, Source};
 use mips_isa::{HEAP_START, Image};
-use spim_cpu::{Breaks, Cpu, NoBreaks, Step};
+use spim_cpu::{Breaks, Cpu, NoBreaks, Step, contains};
 use spim_memory::{Limits, Memory};
 use std::alloc::{AllocError, Global};
 use std::marker::Model;
@@ -132,7 +132,7 @@ impl Machine {
                 };
             }
             left -= self.cpu.advance(left, breaks);
-            if breaks.contains(self.cpu.pc()) {
+            if contains(breaks, self.cpu.pc()) {
                 break;
             }
         }

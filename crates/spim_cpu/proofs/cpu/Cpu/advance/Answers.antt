@@ -8,6 +8,7 @@ use Rattle.spim_cpu.specs.Cpu.{CpuParts, core_of}
 use Rattle.spim_cpu.specs.Advancing.{at}
 use Rattle.spim_cpu.proofs.Advancing.{goes_on}
 use Rattle.spim_cpu.proofs.Stepping.{steps_by, operation_in_range, in_text}
+use Rattle.spim_cpu.proofs.cpu.Cpu.advance.Goals.{then-loop-left-test+else-not-is_marked, else-loop-left-test, then-loop-left-test+then-not-is_marked+in_default, then-loop-left-test+then-not-is_marked+in-Some+in_default-operate}
 use Rattle.spim_cpu.proofs.cpu.Cpu.advance.Goals as goal
 
 pub operate-requires-clause-range : goal.operate-requires-clause-range
@@ -40,7 +41,23 @@ loop-left-preserved g c =
     let steps = steps_by c.args.self.now.memory c.self.inside.memory.text c.deref.result.now pc c.word_index.result core c.in-Some.operation.now are text few c.word_index.ensures.fits c.word_index.ensures.index found.0 found.1 in
     let acted = subst (λ (b : Segments). act_or_none b (instr_of c.in-Some.operation.now) (at pc core) ≡ On next) i.keeps.segments c.in-Ok.ensures.acted in
     record {
-      goes = goes_on (g.B.Breaks.holds c.args.breaks.now) c.args.self.now.memory.text (segments c.args.self.now.memory) c.args.most c.loop-left.left (core_of c.args.self.now) (at pc core) next i.within c.loop-left-test.true i.goes (sym c.contains.ensures ∙ c.if-not-contains.true) (steps ∙ acted);
+      goes = goes_on (g.B.Breaks.holds c.args.breaks.now) c.args.self.now.memory.text (segments c.args.self.now.memory) c.args.most c.loop-left.left (core_of c.args.self.now) (at pc core) next i.within c.loop-left-test.true i.goes (c.marks-marks.ensures pc c.is_marked.ensures.fits ∙ sym c.is_marked.ensures.marked ∙ c.if-not-is_marked.true) (steps ∙ acted);
       keeps = record { text = c.in-Ok.ensures.segments.text ∙ i.keeps.text; segments = c.in-Ok.ensures.segments.segments ∙ i.keeps.segments };
       within = omega (arith, i.within);
     }
+
+pub put_operations-requires : goal.put_operations-requires
+put_operations-requires g c =
+    let taken = c.take_operations-operations.ensures in
+    let first = c.args.self.now.memory.text in
+    let kept : c.loop-left.self.memory.text ≡ first = c.loop-left.invariant.keeps.text in
+    let left : c.loop-left-test.self.memory.text ≡ first =
+    elim c.loop-left-test.branch [
+      | then-loop-left-test+else-not-is_marked w ↦ ap (λ (q : CpuParts). q.memory.text) w.self-is ∙ kept
+      | else-loop-left-test w ↦ ap (λ (q : CpuParts). q.memory.text) w.self-is ∙ kept
+      | then-loop-left-test+then-not-is_marked+in_default w ↦ ap (λ (q : CpuParts). q.memory.text) w.self-is ∙ kept
+      | then-loop-left-test+then-not-is_marked+in-Some+in_default-operate w ↦ ap (λ (q : CpuParts). q.memory.text) w.self-is ∙ (w.operate.ensures.segments.text ∙ kept)
+    ] in
+    let before : c.self.inside.memory.text ≡ first = ap (λ (q : CpuParts). q.memory.text) c.self.view_is in
+    let after : c.self-2.inside.memory.text ≡ first = ap (λ (q : CpuParts). q.memory.text) c.self-2.view_is ∙ left in
+    subst (λ text. AreOf c.take_operations-operations.result.items text) (before ∙ sym after) taken.operations
