@@ -1,5 +1,5 @@
 -- What is due for files that were read, by their fault list: its lines, or what comes where it is empty.
-use Rattle.std.proofs.Common.{◌≡◌, ◌≢◌, ℕ, List, [], ◌∷◌, inl, inr, refl, ◌∙◌, ap, subst}
+use Rattle.std.proofs.Common.{◌≡◌, ◌≢◌, ℕ, Bool, List, [], ◌∷◌, inl, inr, refl, ◌∙◌, ap, subst}
 use Rattle.cool_classes.specs.Chains.{Class}
 use Rattle.cool_faults.specs.declared.fault.Fault.{Fault}
 use Rattle.cool_faults.specs.Verdicts.{IsAccepted, IsFaultList}
@@ -29,12 +29,12 @@ pub record Answers (command : Command) (names contents : List (List ℕ)) (fault
   pub compiled : (form : Form) (p : List Class) → command ≡ Build form → IsAccepted contents p → IsCompiled p names
 
 -- `run` is not `check`
-run_or_check : (limits : RunLimits) (command : Command) → Run limits ≡ command → command ≡ Check → ⊥
-run_or_check limits command a b = let same = a ∙ b in cc
+run_or_check : (limits : RunLimits) (fold : Bool) (command : Command) → Run limits fold ≡ command → command ≡ Check → ⊥
+run_or_check limits fold command a b = let same = a ∙ b in cc
 
 -- none of the three is `build`, nor `eval` one of them
-run_or_build : (limits : RunLimits) (form : Form) (command : Command) → Run limits ≡ command → command ≡ Build form → ⊥
-run_or_build limits form command a b = let same = a ∙ b in cc
+run_or_build : (limits : RunLimits) (fold : Bool) (form : Form) (command : Command) → Run limits fold ≡ command → command ≡ Build form → ⊥
+run_or_build limits fold form command a b = let same = a ∙ b in cc
 
 check_or_build : (form : Form) (command : Command) → Check ≡ command → command ≡ Build form → ⊥
 check_or_build form command a b = let same = a ∙ b in cc
@@ -60,15 +60,15 @@ answered_by_run : (r : Request) (files : FileMap) (limits : RunLimits) (found : 
     → Told r files → IsRead r command names contents → MayRefuse command → IsFaultList contents faults → Answers command names contents faults status output note
 answered_by_run r files limits found command names contents faults status output note (of_file name bytes read' is) told read may list =
     absurd (may_refuse r files command (Exec limits) names (name ∷ []) contents (bytes ∷ []) told read read' may)
-answered_by_run r files limits found command names contents faults status output note (of_program names' contents' p read' is made means bounded) told read may list =
-    let same = same_read r files (Run limits) command names' names contents' contents told read' read in
+answered_by_run r files limits found command names contents faults status output note (of_program fold names' contents' p read' is made bounded) told read may list =
+    let same = same_read r files (Run limits fold) command names' names contents' contents told read' read in
     let none : faults ≡ [] = one_list contents faults [] list (subst (λ (cs : List (List ℕ)). IsFaultList cs []) same is.list) in
-    let asked = (same_plan (plan_of r.words) (Run limits) command names' names read'.plan read.plan).0 in
+    let asked = (same_plan (plan_of r.words) (Run limits fold) command names' names read'.plan read.plan).0 in
     record {
       refused = λ some. absurd (some none);
-      checked = λ check _. absurd (run_or_check limits command asked check);
-      built = λ form q build _. absurd (run_or_build limits form command asked build);
-      compiled = λ form q build _. absurd (run_or_build limits form command asked build);
+      checked = λ check _. absurd (run_or_check limits fold command asked check);
+      built = λ form q build _. absurd (run_or_build limits fold form command asked build);
+      compiled = λ form q build _. absurd (run_or_build limits fold form command asked build);
     }
 
 -- a program that is debugged answers the empty list of `debug`

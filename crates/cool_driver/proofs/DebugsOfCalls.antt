@@ -1,5 +1,5 @@
 -- The program that a call debugs: there is one, and one script, and what is due comes of its run or of the script's fault.
-use Rattle.std.proofs.Common.{◌≡◌, ℕ, inl, inr, List, [], ◌++◌, Some, sym, ◌∙◌, subst}
+use Rattle.std.proofs.Common.{◌≡◌, ℕ, inl, inr, false, List, [], ◌++◌, Some, sym, ◌∙◌, subst}
 use Rattle.std.specs.Prelude.{Result, Ok, Err}
 use Rattle.cool_classes.specs.Chains.{Class}
 use Rattle.cool_faults.specs.Verdicts.{IsAccepted, IsRefused}
@@ -32,13 +32,14 @@ use Rattle.cool_driver.proofs.ScriptsOfCalls.{debug_plan, same_script}
 -- the words ask to take of the input
 pub debug_takes_input : (r : Request) (limits : RunLimits) (found : ImageParts) (commands : List DebugCommand) → IsDebugOf r limits found commands
     → TakesNoInput r.words → ⊥
-debug_takes_input r limits found commands is none = (none is.names limits 0).3 is.debugged.read.plan
+debug_takes_input r limits found commands is none = (none is.names limits false 0).3 is.debugged.read.plan
 
 -- where `debug` is asked for, no image runs without the debugger
 pub no_run : (r : Request) (asked limits : RunLimits) (found : ImageParts) (names : List (List ℕ)) → IsRunOf r asked found
     → plan_of r.words ≡ Some (Debug limits, names) → ⊥
 no_run r asked limits found names (of_file name bytes read is) plan = no_debug _ (Exec asked) limits _ _ tt read.plan plan
-no_run r asked limits found names (of_program names' contents p read is made means bounded) plan = no_debug _ (Run asked) limits _ _ tt read.plan plan
+no_run r asked limits found names (of_program fold names' contents p read is made bounded) plan =
+    no_debug _ (Run asked fold) limits _ _ tt read.plan plan
 
 -- the program that is debugged, its limits and its script are those of the files that were read
 record IsSame (asked limits : RunLimits) (names' names : List (List ℕ)) (p' p : List Class) (script' script bytes' bytes : List ℕ) : Type 0 where

@@ -1,5 +1,5 @@
 -- What is left to do is what is due.
-use Rattle.std.proofs.Common.{◌≡◌, ℕ, ◌-◌, ◌<◌, ◌≤◌, true, List, [], ◌∷◌, length, get_or, Some, refl, sym, ◌∙◌, ap, subst, inl, inr, eqb-true, arith}
+use Rattle.std.proofs.Common.{◌≡◌, ℕ, ◌-◌, ◌<◌, ◌≤◌, Bool, true, List, [], ◌∷◌, length, get_or, Some, refl, sym, ◌∙◌, ap, subst, inl, inr, eqb-true, arith}
 use Rattle.std.specs.Prelude.{Option, Result, Ok, Err, IfOk, String, string_bytes}
 use Rattle.std.specs.Global.{Global, Vec}
 use Rattle.cool_syntax.specs.declared.TheConstants.{MOST_FILES}
@@ -48,15 +48,15 @@ built_due r form names contents (Evaluate steps p files) read h = absurd h
 built_due r form names contents (Debug within image commands) read h = absurd h
 
 -- for files that `run` names
-run_due : (r : Request) (limits : RunLimits) (names contents : List (List ℕ)) (task : Task) → IsBounded limits → IsRead r (command.Run limits) names contents
-    → IsTaskOfRun limits names contents task → IsDue r task
-run_due r limits names contents (Tell status lines) bounded read (are, one, h) =
-    rw (one, h.2) (refused (command.Run limits) names contents h.0 read tt h.1, are, λ e. omega (arith, e))
-run_due r limits names contents (Write made) bounded read h = absurd h
-run_due r limits names contents (Execute within image) bounded read (same, h) =
-    rw same (bounded, of_program names contents h.0 read h.1 h.2 h.3 bounded)
-run_due r limits names contents (Evaluate steps p files) bounded read h = absurd h
-run_due r limits names contents (Debug within image commands) bounded read h = absurd h
+run_due : (r : Request) (limits : RunLimits) (fold : Bool) (names contents : List (List ℕ)) (task : Task) → IsBounded limits
+    → IsRead r (command.Run limits fold) names contents → IsTaskOfRun limits fold names contents task → IsDue r task
+run_due r limits fold names contents (Tell status lines) bounded read (are, one, h) =
+    rw (one, h.2) (refused (command.Run limits fold) names contents h.0 read tt h.1, are, λ e. omega (arith, e))
+run_due r limits fold names contents (Write made) bounded read h = absurd h
+run_due r limits fold names contents (Execute within image) bounded read (same, h) =
+    rw same (bounded, of_program fold names contents h.0 read h.1 h.2 bounded)
+run_due r limits fold names contents (Evaluate steps p files) bounded read h = absurd h
+run_due r limits fold names contents (Debug within image commands) bounded read h = absurd h
 
 -- for files that `eval` names
 eval_due : (r : Request) (steps : ℕ) (names contents : List (List ℕ)) (task : Task) → IsRead r (command.Eval steps) names contents
@@ -110,7 +110,7 @@ task_due : (r : Request) (asked : Command) (names contents : List (List ℕ)) (t
     → is_number_of_files asked (length names) ≡ true → IsTaskOf asked names contents task → IsDue r task
 task_due r command.Check names contents task bounded read number h = checked_due r names contents task read h
 task_due r (command.Build form) names contents task bounded read number h = built_due r form names contents task read h
-task_due r (command.Run limits) names contents task bounded read number h = run_due r limits names contents task bounded read h
+task_due r (command.Run limits fold) names contents task bounded read number h = run_due r limits fold names contents task bounded read h
 task_due r (command.Eval steps) names contents task bounded read number h = eval_due r steps names contents task read h
 task_due r (command.Exec limits) names contents task bounded read number h = exec_due r limits names contents task bounded read (eqb-true (length names) 1 number) read.held h
 task_due r (command.Debug limits) names contents task bounded read number h = absurd h

@@ -7,6 +7,7 @@ use Rattle.cool_faults.specs.Verdicts.{IsFaultList}
 use Rattle.cool_ports.specs.ShelfFiles.{FileMap}
 use Rattle.cool_driver.specs.declared.command_line.Command.{Command}
 use Rattle.cool_driver.specs.declared.command_line.Command.TheVariants.{Check, Build}
+use Rattle.cool_driver.specs.Compiled.{compiled_program}
 use Rattle.cool_driver.specs.Calls.{Request, Call, NoLess, DidNothing, Got, Told, IsRead, MayRefuse}
 use Rattle.cool_driver.specs.Ends.{Due, Writing, Ends, FailedOutput, FailedNote, FailedDebugged, RanShort, DebuggedShort}
 use Rattle.cool_driver.specs.Ends.Writing.{by_build, by_big, by_image, by_eval}
@@ -84,9 +85,14 @@ ends_found c status found calm written =
       refused_exactly = λ files command names contents faults told read may list some _ _.
           let a = answer command names contents faults files told read may list in
           ((a.refused some).0, subst (Got c.notes) (a.refused some).1 written.4);
-      compiled_exactly = λ files limits names contents p told read is _ _. findings.compiled_exactly r status files limits names contents p found told read is;
-      headline = λ files limits names contents p told read is bytes _. headline_written c status written.0 written.1 files limits names contents p written.2 written.3 told read is bytes;
-      not_run = λ limits names plan e. absurd (bounds.2 e);
+      compiled_exactly = λ files limits fold names contents p told read is _ _.
+          findings.compiled_exactly r status files limits fold names contents p found told read is;
+      headline = λ files limits fold names contents p told read is bytes _.
+          headline_written c status written.0 written.1 files limits fold names contents p p (λ image made. made.means) written.2 written.3 told read is bytes;
+      compiled_headline = λ files limits fold names contents p told read is bytes _.
+          headline_written c status written.0 written.1 files limits fold names contents p (compiled_program fold p) (λ image made. made.means_compiled)
+          written.2 written.3 told read is bytes;
+      not_run = λ limits fold names plan e. absurd (bounds.2 e);
       debugged_exactly = λ files limits names contents p script bytes commands told read is script_read says _ _.
           debugged_ends c files limits names contents p script bytes told read is script_read commands says status written.0 written.1 written.2 written.3 written.4;
       misscripted_exactly = λ files limits names contents p script bytes fault told read is script_read says _ _.
@@ -180,9 +186,12 @@ ends_write_fault c rose part input = record {
   built_exactly = λ files form names contents p told read is other _. absurd (other refl);
   built_means = λ files form names contents p told read is other _. absurd (other refl);
   refused_exactly = λ files command names contents faults told read may list some other _. absurd (other refl);
-  compiled_exactly = λ files limits names contents p told read is other _. absurd (other refl);
-  headline = λ files limits names contents p told read is bytes _. headline_failed c files limits names contents p part told read is bytes;
-  not_run = λ limits names plan e. absurd (omega arith);
+  compiled_exactly = λ files limits fold names contents p told read is other _. absurd (other refl);
+  headline = λ files limits fold names contents p told read is bytes _.
+      headline_failed c files limits fold names contents p p (λ image made. made.means) part told read is bytes;
+  compiled_headline = λ files limits fold names contents p told read is bytes _.
+      headline_failed c files limits fold names contents p (compiled_program fold p) (λ image made. made.means_compiled) part told read is bytes;
+  not_run = λ limits fold names plan e. absurd (omega arith);
   debugged_exactly = λ files limits names contents p script bytes commands told read is script_read says other _. absurd (other refl);
   misscripted_exactly = λ files limits names contents p script bytes fault told read is script_read says other _. absurd (other refl);
   debugged_headline = λ files limits names contents p script bytes commands told read is script_read says are.
@@ -221,9 +230,10 @@ ends_short c files out notes calm short = record {
   built_exactly = λ files form names contents p told read is _ other. absurd (other refl);
   built_means = λ files form names contents p told read is _ other. absurd (other refl);
   refused_exactly = λ files command names contents faults told read may list some _ other. absurd (other refl);
-  compiled_exactly = λ files limits names contents p told read is _ other. absurd (other refl);
-  headline = λ files limits names contents p told read is bytes other. absurd (other refl);
-  not_run = λ limits names plan _. not_run c limits names plan short;
+  compiled_exactly = λ files limits fold names contents p told read is _ other. absurd (other refl);
+  headline = λ files limits fold names contents p told read is bytes other. absurd (other refl);
+  compiled_headline = λ files limits fold names contents p told read is bytes other. absurd (other refl);
+  not_run = λ limits fold names plan _. not_run c limits fold names plan short;
   debugged_exactly = λ files limits names contents p script bytes commands told read is script_read says _ other. absurd (other refl);
   misscripted_exactly = λ files limits names contents p script bytes fault told read is script_read says _ other. absurd (other refl);
   debugged_headline = λ files limits names contents p script bytes commands told read is script_read says are.

@@ -1,5 +1,5 @@
 -- The program that a call evaluates: there is one, and what is due and what is written come of its run.
-use Rattle.std.proofs.Common.{◌≡◌, ℕ, ◌⊎◌, inl, inr, List, [], Some, refl, sym, ◌∙◌, ap, append-nil, subst}
+use Rattle.std.proofs.Common.{◌≡◌, ℕ, ◌⊎◌, inl, inr, false, List, [], Some, refl, sym, ◌∙◌, ap, append-nil, subst}
 use Rattle.std.specs.Prelude.{Option}
 use Rattle.cool_classes.specs.Chains.{Class}
 use Rattle.cool_faults.specs.Verdicts.{IsAccepted, IsRefused}
@@ -26,13 +26,13 @@ use Rattle.cool_driver.proofs.Findings.{no_file_fault, missing_fault, large_faul
 
 -- the words ask to take of the input
 pub evaluation_takes_input : (r : Request) (steps : ℕ) (names : List (List ℕ)) (p : List Class) → IsEvaluationOf r steps names p → TakesNoInput r.words → ⊥
-evaluation_takes_input r steps names p is none = (none names (record { heap_kib = 0; stack_kib = 0; steps = 0 }) steps).2 is.read.plan
+evaluation_takes_input r steps names p is none = (none names (record { heap_kib = 0; stack_kib = 0; steps = 0 }) false steps).2 is.read.plan
 
 -- a command that evaluates nothing
 abbrev EvaluatesNothing : Command → Type 0
 EvaluatesNothing Check = Unit {0}
 EvaluatesNothing (Build form) = Unit {0}
-EvaluatesNothing (Run limits) = Unit {0}
+EvaluatesNothing (Run limits fold) = Unit {0}
 EvaluatesNothing (Eval steps) = ⊥
 EvaluatesNothing (Exec limits) = Unit {0}
 EvaluatesNothing (Debug limits) = Unit {0}
@@ -45,7 +45,8 @@ no_eval plan a steps names others nothing p q = subst EvaluatesNothing (same_pla
 -- where `eval` is asked for, no image runs
 no_image : (r : Request) (limits : RunLimits) (found : ImageParts) (steps : ℕ) (names : List (List ℕ)) → IsRunOf r limits found → plan_of r.words ≡ Some (Eval steps, names) → ⊥
 no_image r limits found steps names (of_file name bytes read is) plan = no_eval _ (Exec limits) steps _ _ tt read.plan plan
-no_image r limits found steps names (of_program names' contents' p' read is made means bounded) plan = no_eval _ (Run limits) steps _ _ tt read.plan plan
+no_image r limits found steps names (of_program fold names' contents' p' read is made bounded) plan =
+    no_eval _ (Run limits fold) steps _ _ tt read.plan plan
 
 -- a command has one number of steps
 same_steps : (a b : ℕ) → Eval a ≡ Eval b → a ≡ b

@@ -1,5 +1,5 @@
 -- The image that a call runs: which files were read for it, and that there is one.
-use Rattle.std.proofs.Common.{◌≡◌, ℕ, inl, inr, true, false, List, [], ◌∷◌, Some, None, sym, ◌∙◌, ap, subst}
+use Rattle.std.proofs.Common.{◌≡◌, ℕ, inl, inr, Bool, true, false, List, [], ◌∷◌, Some, None, sym, ◌∙◌, ap, subst}
 use Rattle.cool_classes.specs.Chains.{Class}
 use Rattle.cool_faults.specs.Verdicts.{IsAccepted}
 use Rattle.cool_faults.proofs.OneVerdict.{one_program}
@@ -11,10 +11,9 @@ use Rattle.mips_isa.specs.ImageBounds.{ImageParts}
 use Rattle.mips_image.specs.ImageReading.{first_fault, parts_of}
 use Rattle.mips_image.specs.declared.image_error.ImageError.{ImageError}
 use Rattle.mips_image.proofs.ImagesAreRead.{no_fault, parts_read}
-use Rattle.cool_emit.specs.Programs.{program_lines}
 use Rattle.cool_driver.specs.CommandLine.{plan_of, TakesNoInput}
+use Rattle.cool_driver.specs.Compiled.{IsImageFor}
 use Rattle.cool_driver.specs.Execution.{IsAssembled, IsImageOf, IsRunnable, IsTextFault, is_text_file}
-use Rattle.cool_simulation.specs.Accord.{Means}
 use Rattle.cool_words.specs.Plans.{IsBounded}
 use Rattle.cool_words.specs.declared.plan.RunLimits.{RunLimits}
 use Rattle.cool_driver.specs.Calls.{Request, IsRead, Told}
@@ -75,12 +74,12 @@ unfit_or_runs found bytes fault binary is (inr made) =
 -- the files that were read for the image that runs
 pub read_for_run : (r : Request) (limits : RunLimits) (found : ImageParts) → IsRunOf r limits found → (command : Command) × (names : List (List ℕ)) × (contents : List (List ℕ)) × IsRead r command names contents
 read_for_run r limits found (of_file name bytes read is) = (Exec limits, name ∷ [], bytes ∷ [], read)
-read_for_run r limits found (of_program names contents p read is made means bounded) = (Run limits, names, contents, read)
+read_for_run r limits found (of_program fold names contents p read is made bounded) = (Run limits fold, names, contents, read)
 
 -- the words ask to take of the input
 pub run_takes_input : (r : Request) (limits : RunLimits) (found : ImageParts) → IsRunOf r limits found → TakesNoInput r.words → ⊥
-run_takes_input r limits found (of_file name bytes read is) none = (none (name ∷ []) limits 0).0 read.plan
-run_takes_input r limits found (of_program names contents p read is made means bounded) none = (none names limits 0).1 read.plan
+run_takes_input r limits found (of_file name bytes read is) none = (none (name ∷ []) limits false 0).0 read.plan
+run_takes_input r limits found (of_program fold names contents p read is made bounded) none = (none names limits fold 0).1 read.plan
 
 -- what runs for a file of `exec` is what the file stands for, within its limits
 pub run_of_file : (r : Request) (files : FileMap) (within limits : RunLimits) (found : ImageParts) (name bytes : List ℕ) → IsRunOf r within found → Told r files
@@ -89,28 +88,22 @@ run_of_file r files within limits found name bytes (of_file name' bytes' read' i
   same_exec within limits (same_plan (plan_of r.words) _ _ _ _ read'.plan read.plan).0,
   subst (λ (b : List ℕ). IsRunnable found b) (same_file r files _ _ _ _ _ _ told read' read) is,
 )
-run_of_file r files within limits found name bytes (of_program names' contents' p' read' is made means bounded) told read = absurd (no_run_exec _ _ _ _ _ read'.plan read.plan)
+run_of_file r files within limits found name bytes (of_program fold names' contents' p' read' is made bounded) told read =
+    absurd (no_run_exec _ _ _ _ _ _ read'.plan read.plan)
 
--- what runs for the files of `run` is the image of their program, within its limits
-pub run_of_program : (r : Request) (files : FileMap) (within limits : RunLimits) (found : ImageParts) (names contents : List (List ℕ)) (p : List Class) → IsRunOf r within found → Told r files
-    → IsRead r (Run limits) names contents → IsAccepted contents p → (within ≡ limits) × (found ≡ image_of (program_lines p names))
-run_of_program r files within limits found names contents p (of_file name' bytes' read' is) told read form = absurd (no_run_exec _ _ _ _ _ read.plan read'.plan)
-run_of_program r files within limits found names contents p (of_program names' contents' p' read' is made means bounded) told read form =
+-- what runs for the files of `run` is the image for their program, within its limits, which are in their bounds
+pub run_of_program : (r : Request) (files : FileMap) (within limits : RunLimits) (fold : Bool) (found : ImageParts)
+    (names contents : List (List ℕ)) (p : List Class) → IsRunOf r within found → Told r files → IsRead r (Run limits fold) names contents
+    → IsAccepted contents p → (within ≡ limits) × IsImageFor fold p names found × IsBounded limits
+run_of_program r files within limits fold found names contents p (of_file name' bytes' read' is) told read form =
+    absurd (no_run_exec _ _ _ _ _ _ read.plan read'.plan)
+run_of_program r files within limits fold found names contents p (of_program asked_fold names' contents' p' read' is made bounded) told read form =
     let same = same_read r files _ _ names' names contents' contents told read' read in
     let one : p' ≡ p = one_program contents p' p (subst (λ (cs : List (List ℕ)). IsAccepted cs p') same is) form in
-    let asked = same_plan (plan_of r.words) _ _ names' names read'.plan read.plan in (
-      same_run within limits asked.0,
-      made ∙ ap (λ (q : List Class). image_of (program_lines q names')) one ∙ ap (λ (ns : List (List ℕ)). image_of (program_lines p ns)) asked.1,
-    )
-
--- it means the program, and the limits are in their bounds
-pub program_meant : (r : Request) (files : FileMap) (within limits : RunLimits) (found : ImageParts) (names contents : List (List ℕ)) (p : List Class) → IsRunOf r within found → Told r files
-    → IsRead r (Run limits) names contents → IsAccepted contents p → Means found p names × IsBounded limits
-program_meant r files within limits found names contents p (of_file name' bytes' read' is) told read form = absurd (no_run_exec _ _ _ _ _ read.plan read'.plan)
-program_meant r files within limits found names contents p (of_program names' contents' p' read' is made means bounded) told read form =
-    let same = same_read r files _ _ names' names contents' contents told read' read in
-    let one : p' ≡ p = one_program contents p' p (subst (λ (cs : List (List ℕ)). IsAccepted cs p') same is) form in
-    let asked = same_plan (plan_of r.words) _ _ names' names read'.plan read.plan in (
-      subst (λ (ns : List (List ℕ)). Means found p ns) asked.1 (subst (λ (q : List Class). Means found q names') one means),
-      subst IsBounded (same_run within limits asked.0) bounded,
+    let asked = same_plan (plan_of r.words) _ _ names' names read'.plan read.plan in
+    let run = same_run within limits asked_fold fold asked.0 in (
+      run.0,
+      subst (λ (ns : List (List ℕ)). IsImageFor fold p ns found) asked.1
+          (subst (λ (q : List Class). IsImageFor fold q names' found) one (subst (λ (f : Bool). IsImageFor f p' names' found) run.1 made)),
+      subst IsBounded run.0 bounded,
     )

@@ -24,6 +24,8 @@ pub mod HexDigits
 pub mod LoadingImages
 pub mod Accords
 pub mod NamesAreTexts
+pub mod FoldedTrees
+pub mod FoldedImages
 pub mod MeantPrograms
 pub mod StoppedRuns
 pub mod HeadlineOfRuns

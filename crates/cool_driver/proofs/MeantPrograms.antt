@@ -1,10 +1,11 @@
--- The image of an accepted program means it, where the files are the sources of a call, and where they are the program of `big`.
-use Rattle.std.proofs.Common.{◌≡◌, ℕ, true, List, [], length, refl, sym, ◌∙◌, subst, arith}
+-- The image of an accepted program means it, where the files are the sources of a call, folded or not, and where they are the program of `big`.
+use Rattle.std.proofs.Common.{◌≡◌, ℕ, Bool, true, false, List, [], length, refl, sym, ◌∙◌, subst, arith}
 use Rattle.std.specs.Prelude.{String, string_bytes}
 use Rattle.std.specs.List.{AllByRecursion}
 use Rattle.std.specs.Global.{Global, Vec}
 use Rattle.std.proofs.lemmas.List.{length-map}
 use Rattle.mips_isa.specs.Assembly.{image_of}
+use Rattle.mips_isa.specs.ImageBounds.{ImageParts}
 use Rattle.cool_classes.specs.Chains.{Class}
 use Rattle.cool_faults.specs.Verdicts.{IsAccepted}
 use Rattle.cool_runtime.specs.Contents.{AreBytes}
@@ -20,11 +21,13 @@ use Rattle.cool_simulation.proofs.theorem.PrintedPrograms.{programs_read}
 use Rattle.mips_text.specs.Printing.{printed}
 use Rattle.cool_words.specs.Plans.{IsBounded, usual_limits, words_of}
 use Rattle.cool_driver.specs.Big.{big_names, AccordsWithSource}
+use Rattle.cool_driver.specs.Compiled.{compiled_program, IsImageFor}
 use Rattle.cool_driver.specs.Contents.{texts}
 use Rattle.cool_driver.specs.Ends.{IsCompiled}
 use Rattle.cool_driver.specs.Execution.{is_text_file}
 use Rattle.cool_driver.specs.Tasks.{AreSources}
 use Rattle.cool_driver.proofs.Accords.{image_accords}
+use Rattle.cool_driver.proofs.FoldedImages.{folded_means, means_source}
 use Rattle.cool_driver.proofs.NamesAreTexts.{named_texts}
 use Rattle.cool_driver.proofs.Plans.{short_names}
 
@@ -39,6 +42,26 @@ pub sources_meant : (names : List (String Global)) (contents : List (Vec ℕ)) (
 sources_meant names contents p sources is =
     images_mean (texts contents) (words_of names) p sources.bytes (named_texts names sources.named, short_names (words_of names) sources.named)
     (length-map names string_bytes ∙ (sources.each ∙ sym (length-map contents (λ (file : Vec ℕ). file.items)))) is
+
+-- their program fits so many files as there are names
+pub sources_fit : (names : List (String Global)) (contents : List (Vec ℕ)) (p : List Class) → AreSources names contents → IsAccepted (texts contents) p
+    → Fits p (length names)
+sources_fit names contents p sources is = subst (Fits p) (length-map contents (λ (file : Vec ℕ). file.items) ∙ sym sources.each) is.fits
+
+-- the image of the program that is compiled for such sources is one for their program
+pub sources_imaged : (fold : Bool) (names : List (String Global)) (contents : List (Vec ℕ)) (p : List Class) (image : ImageParts)
+    → AreSources names contents → IsAccepted (texts contents) p → Fits (compiled_program fold p) (length names)
+    → image ≡ image_of (program_lines (compiled_program fold p) (words_of names)) → IsImageFor fold p (words_of names) image
+sources_imaged false names contents p image sources is fits made =
+    let means = subst (λ (i : ImageParts). Means i p (words_of names)) (sym made) (sources_meant names contents p sources is) in
+    record { image_is = made; means_compiled = means; means = means }
+sources_imaged true names contents p image sources is fits made =
+    let short : AreFileNames (words_of names) = (named_texts names sources.named, short_names (words_of names) sources.named) in
+    let fits_words = subst (Fits (compiled_program true p)) (sym (length-map names string_bytes)) fits in
+    let means : Means image (compiled_program true p) (words_of names) =
+    subst (λ (i : ImageParts). Means i (compiled_program true p) (words_of names)) (sym made)
+    (folded_means (texts contents) (words_of names) p sources.bytes short is fits_words) in
+    record { image_is = made; means_compiled = means; means = means_source image p (words_of names) is.typed means }
 
 -- so such sources are compiled to what means their program
 pub sources_compiled : (names : List (String Global)) (contents : List (Vec ℕ)) (p : List Class) → AreSources names contents → IsAccepted (texts contents) p → IsCompiled p (words_of names)

@@ -1,5 +1,5 @@
 -- The lines of notes: none is empty, and what a task tells is what its lines are.
-use Rattle.std.proofs.Common.{◌≡◌, ◌≢◌, ℕ, ◌+◌, ◌<◌, List, [], ◌∷◌, ◌++◌, length, get_or, drop, map, inl, inr, sym, ◌∙◌, ap, append-nil, arith}
+use Rattle.std.proofs.Common.{◌≡◌, ◌≢◌, ℕ, Bool, ◌+◌, ◌<◌, List, [], ◌∷◌, ◌++◌, length, get_or, drop, map, inl, inr, sym, ◌∙◌, ap, append-nil, arith}
 use Rattle.std.specs.Prelude.{codes, decimal, Err}
 use Rattle.std.specs.Global.{Vec}
 use Rattle.std.specs.List.{concat, AllByRecursion}
@@ -89,13 +89,14 @@ built_lines form names contents faults (Debug within image commands) is h = absu
 built_lines form names contents faults (Evaluate steps p files) is h = absurd h
 
 -- the faults of files that `run` names
-pub run_lines : (limits : RunLimits) (names contents : List (List ℕ)) (faults : List Fault) (task : Task) → IsRefused contents faults → AreLinesOf names faults task
-    → IsTaskOfRun limits names contents task
-run_lines limits names contents faults (Tell status lines) is h = (are_lines lines.items _ h.1 (some_lines names faults), h.0, (faults, is, ap concat h.1))
-run_lines limits names contents faults (Write made) is h = absurd h
-run_lines limits names contents faults (Execute within image) is h = absurd h
-run_lines limits names contents faults (Debug within image commands) is h = absurd h
-run_lines limits names contents faults (Evaluate steps p files) is h = absurd h
+pub run_lines : (limits : RunLimits) (fold : Bool) (names contents : List (List ℕ)) (faults : List Fault) (task : Task)
+    → IsRefused contents faults → AreLinesOf names faults task → IsTaskOfRun limits fold names contents task
+run_lines limits fold names contents faults (Tell status lines) is h =
+    (are_lines lines.items _ h.1 (some_lines names faults), h.0, (faults, is, ap concat h.1))
+run_lines limits fold names contents faults (Write made) is h = absurd h
+run_lines limits fold names contents faults (Execute within image) is h = absurd h
+run_lines limits fold names contents faults (Debug within image commands) is h = absurd h
+run_lines limits fold names contents faults (Evaluate steps p files) is h = absurd h
 
 -- the faults of files that `eval` names
 pub eval_lines : (steps : ℕ) (names contents : List (List ℕ)) (faults : List Fault) (task : Task)

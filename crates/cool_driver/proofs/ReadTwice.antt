@@ -1,5 +1,5 @@
 -- Words have one plan, and files that were read twice are the same.
-use Rattle.std.proofs.Common.{◌≡◌, ℕ, List, [], ◌∷◌, Some, None, sym, ◌∙◌, ap, subst}
+use Rattle.std.proofs.Common.{◌≡◌, ℕ, Bool, List, [], ◌∷◌, Some, None, sym, ◌∙◌, ap, subst}
 use Rattle.std.specs.Prelude.{Option}
 use Rattle.cool_ports.specs.ShelfFiles.{FileMap}
 use Rattle.cool_words.specs.declared.plan.RunLimits.{RunLimits}
@@ -22,12 +22,13 @@ same_plan plan a b names others p q =
     (ap (λ (x : Command × List (List ℕ)). x.0) both, ap (λ (x : Command × List (List ℕ)). x.1) both)
 
 -- a plan is not both one of `run` and one of `exec`
-pub no_run_exec : (plan : Option (Command × List (List ℕ))) (a b : RunLimits) (names others : List (List ℕ)) → plan ≡ Some (Run a, names) → plan ≡ Some (Exec b, others) → ⊥
-no_run_exec plan a b names others p q = cc (same_plan plan (Run a) (Exec b) names others p q).0
+pub no_run_exec : (plan : Option (Command × List (List ℕ))) (a b : RunLimits) (fold : Bool) (names others : List (List ℕ))
+    → plan ≡ Some (Run a fold, names) → plan ≡ Some (Exec b, others) → ⊥
+no_run_exec plan a b fold names others p q = cc (same_plan plan (Run a fold) (Exec b) names others p q).0
 
--- a command has one pair of limits
-pub same_run : (a b : RunLimits) → Run a ≡ Run b → a ≡ b
-same_run a b e = cc
+-- a command has one pair of limits, and is to fold or not
+pub same_run : (a b : RunLimits) (fold other : Bool) → Run a fold ≡ Run b other → (a ≡ b) × (fold ≡ other)
+same_run a b fold other e = (cc, cc)
 
 pub same_exec : (a b : RunLimits) → Exec a ≡ Exec b → a ≡ b
 same_exec a b e = cc
@@ -39,7 +40,7 @@ same_debug a b e = cc
 abbrev pub DebugsNothing : Command → Type 0
 DebugsNothing Check = Unit {0}
 DebugsNothing (Build form) = Unit {0}
-DebugsNothing (Run limits) = Unit {0}
+DebugsNothing (Run limits fold) = Unit {0}
 DebugsNothing (Eval steps) = Unit {0}
 DebugsNothing (Exec limits) = Unit {0}
 DebugsNothing (Debug limits) = ⊥
@@ -53,7 +54,7 @@ no_debug plan a limits names others nothing p q = subst DebugsNothing (same_plan
 abbrev pub RunsNothing : Command → Type 0
 RunsNothing Check = Unit {0}
 RunsNothing (Build form) = Unit {0}
-RunsNothing (Run limits) = ⊥
+RunsNothing (Run limits fold) = ⊥
 RunsNothing (Eval steps) = Unit {0}
 RunsNothing (Exec limits) = ⊥
 RunsNothing (Debug limits) = ⊥

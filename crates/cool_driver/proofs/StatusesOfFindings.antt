@@ -1,5 +1,5 @@
 -- The status that a finding leaves, clause by clause.
-use Rattle.std.proofs.Common.{◌≡◌, ℕ, ◌<◌, ◌≤◌, ◌⊎◌, inl, inr, true, List, [], ◌∷◌, length, Some, None, refl, sym, ◌∙◌, ap, arith, subst}
+use Rattle.std.proofs.Common.{◌≡◌, ℕ, ◌<◌, ◌≤◌, ◌⊎◌, inl, inr, Bool, true, List, [], ◌∷◌, length, Some, None, refl, sym, ◌∙◌, ap, arith, subst}
 use Rattle.std.specs.Prelude.{Option, Contains}
 use Rattle.cool_syntax.specs.declared.TheConstants.{MOST_FILES}
 use Rattle.cool_classes.specs.Chains.{Class}
@@ -16,6 +16,7 @@ use Rattle.cool_words.specs.Plans.Asked.{big}
 use Rattle.spim_debug.specs.declared.script.TheConstants.{MOST_SCRIPT_BYTES}
 use Rattle.cool_driver.specs.Big.{IsBigLine}
 use Rattle.cool_driver.specs.CommandLine.{asked_for, plan_of, script_of, most_bytes}
+use Rattle.cool_driver.specs.Compiled.{compiled_program}
 use Rattle.cool_driver.specs.Execution.{IsRunnable, IsTextFault, is_text_file, run_of, status_of}
 use Rattle.cool_words.specs.declared.plan.RunLimits.{RunLimits}
 use Rattle.cool_driver.specs.Calls.{Request, IsRead, IsScriptRead, AreHeld, Told}
@@ -139,22 +140,28 @@ no_large_script r files script large bytes told held more read =
     omega (arith, read.within, more, ap length same)
 
 -- the status of the run's end, or 7, is left where `run` read files that are accepted
-pub compiled_exactly : (r : Request) (status : ℕ) (files : FileMap) (limits : RunLimits) (names contents : List (List ℕ)) (p : List Class) → Finding r status → Told r files
-    → IsRead r (Run limits) names contents → IsAccepted contents p
-    → (status ≡ 7) ⊎ (status ≡ status_of (run_of limits (image_of (program_lines p names)) r.input))
-compiled_exactly r status files limits names contents p (accepted command' names' contents' quiet read' e) told read form = absurd (runs_nothing _ _ (Run limits) _ _ quiet read'.plan read.plan)
-compiled_exactly r status files limits names contents p (faulty command' names' contents' faults' read' may is e) told read form =
+pub compiled_exactly : (r : Request) (status : ℕ) (files : FileMap) (limits : RunLimits) (fold : Bool) (names contents : List (List ℕ)) (p : List Class)
+    → Finding r status → Told r files → IsRead r (Run limits fold) names contents → IsAccepted contents p
+    → (status ≡ 7) ⊎ (status ≡ status_of (run_of limits (image_of (program_lines (compiled_program fold p) names)) r.input))
+compiled_exactly r status files limits fold names contents p (accepted command' names' contents' quiet read' e) told read form =
+    absurd (runs_nothing _ _ (Run limits fold) _ _ quiet read'.plan read.plan)
+compiled_exactly r status files limits fold names contents p (faulty command' names' contents' faults' read' may is e) told read form =
     absurd (never_both_verdicts contents p faults' form (subst (λ (cs : List (List ℕ)). IsRefused cs faults') (same_read r files _ _ _ _ _ _ told read' read) is))
-compiled_exactly r status files limits names contents p (image limits' found run ends e) told read form =
-    let (within, same) = run_of_program r files limits' limits found names contents p run told read form in
-    subst (λ w. (status ≡ 7) ⊎ (status ≡ status_of (run_of w (image_of (program_lines p names)) r.input))) within
-    (subst (λ i. (status ≡ 7) ⊎ (status ≡ status_of (run_of limits' i r.input))) same e)
-compiled_exactly r status files limits names contents p (no_image limits' name' bytes' fault read' binary is e) told read form = absurd (no_run_exec _ _ _ _ _ read.plan read'.plan)
-compiled_exactly r status files limits names contents p (bad_text limits' name' bytes' fault' read' text wrong e) told read form = absurd (no_run_exec _ _ _ _ _ read.plan read'.plan)
-compiled_exactly r status files limits names contents p (debugging limits' found commands is ends) told read form = absurd (no_debug _ (Run limits) limits' _ _ tt read.plan is.debugged.read.plan)
-compiled_exactly r status files limits names contents p (bad_script limits' names' p' script bytes fault is e) told read form = absurd (no_debug _ (Run limits) limits' _ _ tt read.plan is.read.plan)
-compiled_exactly r status files limits names contents p (no_plan none calm e) told read form = absurd (no_plan_and_plan _ _ _ none read.plan)
-compiled_exactly r status files limits names contents p (no_file command' names' plan' fault e) told read form = absurd (no_file_fault r files _ _ _ _ _ told read plan' fault)
+compiled_exactly r status files limits fold names contents p (image limits' found run ends e) told read form =
+    let (within, made, bounded) = run_of_program r files limits' limits fold found names contents p run told read form in
+    subst (λ w. (status ≡ 7) ⊎ (status ≡ status_of (run_of w (image_of (program_lines (compiled_program fold p) names)) r.input))) within
+    (subst (λ i. (status ≡ 7) ⊎ (status ≡ status_of (run_of limits' i r.input))) made.image_is e)
+compiled_exactly r status files limits fold names contents p (no_image limits' name' bytes' fault read' binary is e) told read form =
+    absurd (no_run_exec _ _ _ _ _ _ read.plan read'.plan)
+compiled_exactly r status files limits fold names contents p (bad_text limits' name' bytes' fault' read' text wrong e) told read form =
+    absurd (no_run_exec _ _ _ _ _ _ read.plan read'.plan)
+compiled_exactly r status files limits fold names contents p (debugging limits' found commands is ends) told read form =
+    absurd (no_debug _ (Run limits fold) limits' _ _ tt read.plan is.debugged.read.plan)
+compiled_exactly r status files limits fold names contents p (bad_script limits' names' p' script bytes fault is e) told read form =
+    absurd (no_debug _ (Run limits fold) limits' _ _ tt read.plan is.read.plan)
+compiled_exactly r status files limits fold names contents p (no_plan none calm e) told read form = absurd (no_plan_and_plan _ _ _ none read.plan)
+compiled_exactly r status files limits fold names contents p (no_file command' names' plan' fault e) told read form =
+    absurd (no_file_fault r files _ _ _ _ _ told read plan' fault)
 
 -- status 12 is left where `exec` read a file that stands for no image
 pub unfit_exactly : (r : Request) (status : ℕ) (files : FileMap) (limits : RunLimits) (name bytes : List ℕ) → Finding r status → Told r files → IsRead r (Exec limits) (name ∷ []) (bytes ∷ []) → ((found : ImageParts) → IsRunnable found bytes → ⊥) → status ≡ 12

@@ -61,7 +61,7 @@ pub record IsReadUpTo (r : Request) (command : Command) (name : List ℕ) (conte
 abbrev pub MayRefuse : Command → Type 0
 MayRefuse Check = Unit {0}
 MayRefuse (Build form) = Unit {0}
-MayRefuse (Run limits) = Unit {0}
+MayRefuse (Run limits fold) = Unit {0}
 MayRefuse (Eval steps) = Unit {0}
 MayRefuse (Exec limits) = ⊥
 MayRefuse (Debug limits) = Unit {0}

@@ -1,5 +1,5 @@
 -- What a command line asks for: `check FILES`, `asm FILES`, `build FILES`, `run FILES`, `exec FILE` or `debug SCRIPT FILES`, the last three within
--- limits, `eval FILES` with so many steps, or `big N`.
+-- limits, `eval FILES` with so many steps, or `big N`; `run` may ask to fold the program.
 use Rattle.std.specs.Prelude.{◌≢◌, ℕ, Bool, ◌==◌, nat_le, List, [], ◌∷◌, Option, Some, None, option_and_then}
 use Rattle.cool_syntax.specs.declared.TheConstants.{MOST_SOURCE_BYTES}
 pub use Rattle.cool_words.specs.Plans.{words_of}
@@ -21,7 +21,7 @@ abbrev pub files_asked : Asked → Option (Command × List (List ℕ))
 files_asked (check names) = Some (Check, names)
 files_asked (asm names) = Some (Build Text, names)
 files_asked (build names) = Some (Build Image, names)
-files_asked (run names limits) = Some (Run limits, names)
+files_asked (run names limits fold) = Some (Run limits fold, names)
 files_asked (eval names steps) = Some (Eval steps, names)
 files_asked (exec name limits) = Some (Exec limits, name ∷ [])
 files_asked (debug script names limits) = Some (Debug limits, names)
@@ -35,7 +35,7 @@ abbrev pub script_asked : Asked → Option (List ℕ)
 script_asked (check names) = None
 script_asked (asm names) = None
 script_asked (build names) = None
-script_asked (run names limits) = None
+script_asked (run names limits fold) = None
 script_asked (eval names steps) = None
 script_asked (exec name limits) = None
 script_asked (debug script names limits) = Some script
@@ -48,7 +48,7 @@ script_of given = option_and_then script_asked (asked_for given)
 abbrev pub is_number_of_files : Command → ℕ → Bool
 is_number_of_files Check n = nat_le 1 n
 is_number_of_files (Build form) n = nat_le 1 n
-is_number_of_files (Run limits) n = nat_le 1 n
+is_number_of_files (Run limits fold) n = nat_le 1 n
 is_number_of_files (Eval steps) n = nat_le 1 n
 is_number_of_files (Exec limits) n = n == 1
 is_number_of_files (Debug limits) n = nat_le 1 n
@@ -57,7 +57,7 @@ is_number_of_files (Debug limits) n = nat_le 1 n
 abbrev pub most_bytes : Command → ℕ
 most_bytes Check = MOST_SOURCE_BYTES
 most_bytes (Build form) = MOST_SOURCE_BYTES
-most_bytes (Run limits) = MOST_SOURCE_BYTES
+most_bytes (Run limits fold) = MOST_SOURCE_BYTES
 most_bytes (Eval steps) = MOST_SOURCE_BYTES
 most_bytes (Exec limits) = MOST_IMAGE_BYTES
 most_bytes (Debug limits) = MOST_SOURCE_BYTES
@@ -65,6 +65,6 @@ most_bytes (Debug limits) = MOST_SOURCE_BYTES
 -- the words do not ask to take of the input
 abbrev pub TakesNoInput : List (List ℕ) → Type 0
 TakesNoInput given =
-    (names : List (List ℕ)) (limits : RunLimits) (steps : ℕ)
-    → (plan_of given ≢ Some (Exec limits, names)) × (plan_of given ≢ Some (Run limits, names))
+    (names : List (List ℕ)) (limits : RunLimits) (fold : Bool) (steps : ℕ)
+    → (plan_of given ≢ Some (Exec limits, names)) × (plan_of given ≢ Some (Run limits fold, names))
     × (plan_of given ≢ Some (Eval steps, names)) × (plan_of given ≢ Some (Debug limits, names))

@@ -1,5 +1,5 @@
 -- How a call of `cool` ends: what is due for the words over the shelf's files and the input, and what came of it.
-use Rattle.std.specs.Prelude.{◌≡◌, ◌≢◌, ℕ, ◌<◌, ◌≤◌, ◌⊎◌, ◌-◌, true, false, List, [], ◌∷◌, ◌++◌, length, Contains, Some, None, Ok, Err}
+use Rattle.std.specs.Prelude.{◌≡◌, ◌≢◌, ℕ, ◌<◌, ◌≤◌, ◌⊎◌, ◌-◌, Bool, true, false, List, [], ◌∷◌, ◌++◌, length, Contains, Some, None, Ok, Err}
 use Rattle.cool_syntax.specs.declared.TheConstants.{MOST_FILES}
 use Rattle.cool_classes.specs.Chains.{Class}
 use Rattle.cool_faults.specs.declared.fault.Fault.{Fault}
@@ -29,6 +29,7 @@ use Rattle.cool_words.specs.declared.plan.RunLimits.{RunLimits}
 use Rattle.cool_words.specs.Plans.Asked.{debug, big}
 use Rattle.cool_words.specs.Plans.{IsBounded}
 use Rattle.cool_driver.specs.Big.{IsBigLine}
+use Rattle.cool_driver.specs.Compiled.{compiled_program, IsImageFor}
 use Rattle.cool_driver.specs.CommandLine.{asked_for, plan_of, script_of, most_bytes}
 use Rattle.cool_driver.specs.Notes.{refused_note, usage_note, missing_note, unread_note, too_many_note, too_large_note, read_fault_note, image_note, asm_note, script_note}
 use Rattle.cool_driver.specs.Execution.{IsAssembled, IsRunnable, IsTextFault, is_text_file, segments_within, run_of, ComesTo, left_by, status_of, note_of}
@@ -41,12 +42,12 @@ use Rattle.cool_driver.specs.declared.command_line.Command.TheVariants.{Check, B
 use Rattle.cool_driver.specs.declared.command_line.Form.{Form}
 use Rattle.cool_driver.specs.declared.command_line.Form.TheVariants.{Text, Image}
 
--- The image that a call runs over its input: that of the file of `exec`, or the one of the lines of the program that the files of `run` are,
+-- The image that a call runs over its input: that of the file of `exec`, or the one for the program that the files of `run` are, folded or not,
 -- which means the program, within limits in their bounds.
 pub data IsRunOf (r : Request) (limits : RunLimits) (image : ImageParts) : Type 0 where
   of_file : (name bytes : List ℕ) → IsRead r (Exec limits) (name ∷ []) (bytes ∷ []) → IsRunnable image bytes → IsRunOf r limits image
-  of_program : (names contents : List (List ℕ)) (p : List Class) → IsRead r (Run limits) names contents → IsAccepted contents p
-      → image ≡ image_of (program_lines p names) → Means image p names → IsBounded limits → IsRunOf r limits image
+  of_program : (fold : Bool) (names contents : List (List ℕ)) (p : List Class) → IsRead r (Run limits fold) names contents → IsAccepted contents p
+      → IsImageFor fold p names image → IsBounded limits → IsRunOf r limits image
 
 -- The program that a call evaluates with so many steps: that of the files of `eval`, which have these names.
 pub record IsEvaluationOf (r : Request) (steps : ℕ) (names : List (List ℕ)) (p : List Class) : Type 0 where
@@ -259,16 +260,22 @@ pub record Ends (c : Call) (status : ℕ) : Type 0 where
   pub refused_exactly : (files : FileMap) (command : Command) (names contents : List (List ℕ)) (faults : List Fault) → Told c.request files
       → IsRead c.request command names contents → MayRefuse command
       → IsFaultList contents faults → faults ≢ [] → Unless status ((status ≡ 1) × Got c.notes (refused_note names faults))
-  -- `run`: the status of its run's end comes where the files were read and are accepted, unless a read failed
-  pub compiled_exactly : (files : FileMap) (limits : RunLimits) (names contents : List (List ℕ)) (p : List Class) → Told c.request files
-      → IsRead c.request (Run limits) names contents → IsAccepted contents p
-      → Unless status ((status ≡ 7) ⊎ (status ≡ status_of (run_of limits (image_of (program_lines p names)) c.request.input)))
+  -- `run`: the status comes of the run's end of the program that is compiled, where the files were read and are accepted, unless a read failed
+  pub compiled_exactly : (files : FileMap) (limits : RunLimits) (fold : Bool) (names contents : List (List ℕ)) (p : List Class)
+      → Told c.request files → IsRead c.request (Run limits fold) names contents → IsAccepted contents p
+      → Unless status ((status ≡ 7)
+      ⊎ (status ≡ status_of (run_of limits (image_of (program_lines (compiled_program fold p) names)) c.request.input)))
   -- `run`: where the files were read and are accepted, the run of an image that means the program, and by it the runs of the source, unless
   -- memory ran out; and then nothing was written or taken
-  pub headline : (files : FileMap) (limits : RunLimits) (names contents : List (List ℕ)) (p : List Class) → Told c.request files
-      → IsRead c.request (Run limits) names contents → IsAccepted contents p → AreBytes c.request.input
+  pub headline : (files : FileMap) (limits : RunLimits) (fold : Bool) (names contents : List (List ℕ)) (p : List Class) → Told c.request files
+      → IsRead c.request (Run limits fold) names contents → IsAccepted contents p → AreBytes c.request.input
       → status ≢ 9 → Headline c status limits names p
-  pub not_run : (limits : RunLimits) (names : List (List ℕ)) → plan_of c.request.words ≡ Some (Run limits, names) → status ≡ 9 → DidNothing c
+  -- `run`: the same over the program that is compiled, which with `--fold` is the folded one: no meter of a run of it is greater
+  pub compiled_headline : (files : FileMap) (limits : RunLimits) (fold : Bool) (names contents : List (List ℕ)) (p : List Class)
+      → Told c.request files → IsRead c.request (Run limits fold) names contents → IsAccepted contents p → AreBytes c.request.input
+      → status ≢ 9 → Headline c status limits names (compiled_program fold p)
+  pub not_run : (limits : RunLimits) (fold : Bool) (names : List (List ℕ)) → plan_of c.request.words ≡ Some (Run limits fold, names)
+      → status ≡ 9 → DidNothing c
   -- `debug`: where the files were read and are accepted, and the script was read, the status of its run's end comes, and the notes that the script
   -- asks for and that of the end, unless a read failed; or status 12 where the script has a fault, which the note tells
   pub debugged_exactly : (files : FileMap) (limits : RunLimits) (names contents : List (List ℕ)) (p : List Class) (script bytes : List ℕ)

@@ -7,6 +7,7 @@ pub mod Execution
 pub mod Evaluation
 pub mod Debugging
 pub mod Big
+pub mod Compiled
 pub mod Calls
 pub mod Headline
 pub mod Ends

@@ -1,6 +1,6 @@
 -- What is left to do once the words and the files were read: a note, lines or an image to write, an image to run or to debug, or a program to
 -- evaluate.
-use Rattle.std.specs.Prelude.{◌≡◌, ◌≢◌, ℕ, ◌<◌, ◌≤◌, ◌⊎◌, true, false, List, [], ◌∷◌, Option, Some, None, get_or, map, length, String, Result, Ok, Err}
+use Rattle.std.specs.Prelude.{◌≡◌, ◌≢◌, ℕ, ◌<◌, ◌≤◌, ◌⊎◌, Bool, true, false, List, [], ◌∷◌, Option, Some, None, get_or, map, length, String, Result, Ok, Err}
 use Rattle.std.specs.List.{concat, list_all, AllByRecursion}
 use Rattle.std.specs.Global.{Global, Vec}
 use Rattle.cool_syntax.specs.declared.TheConstants.{MOST_FILES, MOST_SOURCE_BYTES}
@@ -33,6 +33,7 @@ use Rattle.cool_words.specs.Plans.{IsBounded, is_file_name}
 use Rattle.cool_driver.specs.CommandLine.{words_of, asked_for, plan_of}
 use Rattle.cool_driver.specs.Notes.{refused_note, missing_note, unread_note, too_large_note, image_note, asm_note, script_note}
 use Rattle.cool_driver.specs.Execution.{IsRunnable, IsTextFault, is_text_file, status_of_halt, note_of_halt}
+use Rattle.cool_driver.specs.Compiled.{IsImageFor}
 use Rattle.cool_driver.specs.Debugging.{commands_for}
 use Rattle.cool_driver.specs.Calls.{Request, SinkUse, Got, GotPart}
 use Rattle.cool_driver.specs.Ends.{Due, Writing, IsRunOf, IsDebugOf, IsEvaluationOf, IsCompiled, built_bytes}
@@ -127,16 +128,16 @@ IsTaskOfBuilt form names contents (Execute within image) = ⊥
 IsTaskOfBuilt form names contents (Evaluate steps p files) = ⊥
 IsTaskOfBuilt form names contents (Debug within image commands) = ⊥
 
--- what is left to do for files of these names that `run` names, within these limits, and that have these bytes
-abbrev pub IsTaskOfRun : RunLimits → List (List ℕ) → List (List ℕ) → Task → Type 0
-IsTaskOfRun limits names contents (Tell status lines) =
+-- what is left to do for files of these names that `run` names, within these limits, folded or not, and that have these bytes
+abbrev pub IsTaskOfRun : RunLimits → (fold : Bool) → List (List ℕ) → List (List ℕ) → Task → Type 0
+IsTaskOfRun limits fold names contents (Tell status lines) =
     AreLines lines.items × (code_of status ≡ 1)
     × ((faults : List Fault) × IsRefused contents faults × (note_of lines.items ≡ refused_note names faults))
-IsTaskOfRun limits names contents (Write made) = ⊥
-IsTaskOfRun limits names contents (Execute within image) =
-    (within ≡ limits) × ((p : List Class) × IsAccepted contents p × (image ≡ image_of (program_lines p names)) × Means image p names)
-IsTaskOfRun limits names contents (Evaluate steps p files) = ⊥
-IsTaskOfRun limits names contents (Debug within image commands) = ⊥
+IsTaskOfRun limits fold names contents (Write made) = ⊥
+IsTaskOfRun limits fold names contents (Execute within image) =
+    (within ≡ limits) × ((p : List Class) × IsAccepted contents p × IsImageFor fold p names image)
+IsTaskOfRun limits fold names contents (Evaluate steps p files) = ⊥
+IsTaskOfRun limits fold names contents (Debug within image commands) = ⊥
 
 -- what is left to do for files of these names that `eval` names, with so many steps, and that have these bytes
 abbrev pub IsTaskOfEval : ℕ → List (List ℕ) → List (List ℕ) → Task → Type 0
@@ -152,7 +153,7 @@ IsTaskOfEval steps names contents (Debug within image commands) = ⊥
 abbrev pub TakesNoScript : Command → Type 0
 TakesNoScript command.Check = Unit {0}
 TakesNoScript (command.Build form) = Unit {0}
-TakesNoScript (command.Run limits) = Unit {0}
+TakesNoScript (command.Run limits fold) = Unit {0}
 TakesNoScript (command.Eval steps) = Unit {0}
 TakesNoScript (command.Exec limits) = Unit {0}
 TakesNoScript (command.Debug limits) = ⊥
@@ -160,7 +161,7 @@ TakesNoScript (command.Debug limits) = ⊥
 abbrev pub IsTaskOf : Command → List (List ℕ) → List (List ℕ) → Task → Type 0
 IsTaskOf command.Check names contents task = IsTaskOfChecked names contents task
 IsTaskOf (command.Build form) names contents task = IsTaskOfBuilt form names contents task
-IsTaskOf (command.Run limits) names contents task = IsTaskOfRun limits names contents task
+IsTaskOf (command.Run limits fold) names contents task = IsTaskOfRun limits fold names contents task
 IsTaskOf (command.Eval steps) names contents task = IsTaskOfEval steps names contents task
 IsTaskOf (command.Debug limits) names contents task = ⊥
 IsTaskOf (command.Exec limits) names contents task = IsTaskOfFile limits (get_or names 0 []) (get_or contents 0 []) task
@@ -207,7 +208,7 @@ IsTaskOfDebug limits script bytes names contents task =
 abbrev pub HasLimits : Command → Type 0
 HasLimits command.Check = Unit {0}
 HasLimits (command.Build form) = Unit {0}
-HasLimits (command.Run limits) = IsBounded limits
+HasLimits (command.Run limits fold) = IsBounded limits
 HasLimits (command.Eval steps) = Unit {0}
 HasLimits (command.Exec limits) = IsBounded limits
 HasLimits (command.Debug limits) = IsBounded limits

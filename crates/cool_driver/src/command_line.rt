@@ -23,8 +23,8 @@ pub enum Command {
     Check,
     /// To compile them, and write that in a form.
     Build(Form),
-    /// To compile them, and run that within the limits.
-    Run(RunLimits),
+    /// To compile them, or with `fold` the folded program that they are, and run that within the limits.
+    Run { limits: RunLimits, fold: bool },
     /// To evaluate the program that they are, with so many steps.
     Eval(u64),
     /// To run the image that the one file is within the limits.
@@ -41,7 +41,7 @@ impl Command {
         match self {
             Command::Check
             | Command::Build(_)
-            | Command::Run(_)
+            | Command::Run { .. }
             | Command::Eval(_)
             | Command::Debug(_) => MOST_SOURCE_BYTES,
             Command::Exec(_) => MOST_IMAGE_BYTES,

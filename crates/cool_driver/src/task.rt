@@ -12,6 +12,7 @@ ghost use Rattle.cool_driver.specs.Execution.{is_text_file};
 ghost use Rattle.cool_rules.specs.Fits.{Fits};
 ghost use Rattle.cool_runtime.specs.Contents.{AreBytes};
 ghost use Rattle.cool_faults.specs.Files.{total};
+ghost use Rattle.cool_driver.specs.Compiled.{compiled_program};
 ghost use Rattle.cool_driver.specs.Ends.{built_bytes};
 ghost use Rattle.cool_faults.specs.Verdicts.{place_of};
 ghost use Rattle.cool_driver.specs.CommandLine.{is_number_of_files, most_bytes};
@@ -82,8 +83,9 @@ pub fn find_task<F: Shelf>(
             Plan::Run {
                 files: names,
                 limits,
+                fold,
             },
-        ) => { find_file_task(alloc, Command::Run(limits), &names, files) }
+        ) => { find_file_task(alloc, Command::Run { limits, fold }, &names, files) }
         Ok(
             Plan::Eval {
                 files: names,
@@ -175,7 +177,7 @@ fn find_content_task(
     match command {
         Command::Check => check_files(alloc, names, contents),
         Command::Build(form) => build_files(alloc, form, names, contents),
-        Command::Run(limits) => compile_files(alloc, limits, names, contents),
+        Command::Run { limits, fold } => compile_files(alloc, limits, fold, names, contents),
         Command::Eval(steps) => evaluate_files(alloc, steps, names, contents),
         Command::Debug(_) => unreachable!(),
         Command::Exec(limits) => load(alloc, limits, names[0].as_str(), &contents[0]),
@@ -240,19 +242,39 @@ pub fn refuse(alloc: Global, names: &[String], faults: &[Fault]) -> Result<Task,
     Ok(Task::Tell(Status::Refused, lines))
 }
 
-/// What is left to do to run files of these names that have these bytes, within limits.
+/// What is left to do to run files of these names that have these bytes, within limits, with `fold` as their folded program.
 fn compile_files(
     alloc: Global,
     limits: RunLimits,
+    fold: bool,
     names: &[String],
     contents: &[Vec<u8>],
 ) -> Result<Task, AllocError>
     requires sources { AreSources names.now contents.now }
-    ensures { IfOk result (IsTaskOfRun limits (words_of names.now) (texts contents.now)) }
+    ensures { IfOk result (IsTaskOfRun limits fold (words_of names.now) (texts contents.now)) }
 {
     match accept(alloc, contents)? {
-        Verdict::Accepted(program) => Ok(Task::Execute(limits, build(alloc, &program, names)?)),
+        Verdict::Accepted(program) => {
+            let compiled = compiled_program(alloc, fold, program)?;
+            Ok(Task::Execute(limits, build(alloc, &compiled, names)?))
+        }
         Verdict::Refused(faults) => refuse(alloc, names, faults.as_slice()),
+    }
+}
+
+/// The program that is compiled: with `fold` the folded one. `Err` comes only for want of memory.
+fn compiled_program(
+    alloc: Global,
+    fold: bool,
+    program: TypedProgram,
+) -> Result<TypedProgram, AllocError>
+    ensures program { IfOk result (λ compiled. compiled ≡ compiled_program fold program) }
+    ensures fits { (count : ℕ) → Fits program count → IfOk result (λ compiled. Fits compiled count) }
+{
+    if fold {
+        cool_opt::fold(alloc, program)
+    } else {
+        Ok(program)
     }
 }
 

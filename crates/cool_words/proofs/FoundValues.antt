@@ -1,12 +1,12 @@
 -- What the getters of clap's matches give, by their rows.
 use Rattle.std.proofs.Common.{◌≡◌, ◌∙◌, sym, ap, ℕ, true, false, List, Option, Some, None}
-use Rattle.std.specs.Prelude.{codes, if◌then◌else◌, option_and_then, option_map}
+use Rattle.std.specs.Prelude.{bytes_eq, codes, if◌then◌else◌, option_and_then, option_map}
 use Rattle.std.specs.Option.{option_map_or}
 use Rattle.clap.specs.Words.{Text, first_value, matched_of, raw_values, rows_of}
 use Rattle.clap.specs.declared.parser.matches.Found.{Found}
 use Rattle.clap.proofs.WalkLemmas.{first_value-rows, raw_values-rows}
 use Rattle.cool_words.specs.Numbers.{number_in}
-use Rattle.cool_words.specs.Plans.{are_file_names, file_in, files_in, if_name, if_names, is_file_name, value_in}
+use Rattle.cool_words.specs.Plans.{are_file_names, file_in, files_in, if_name, if_names, is_file_name, is_set, value_in}
 
 -- the one name that is the value of an argument is there
 name_there : (f : Found) (argument : Text) (name : Option Text) → name ≡ first_value f argument → file_in argument (rows_of f) ≡ option_and_then if_name name
@@ -44,3 +44,8 @@ names_missing f e = names_there f None e
 pub value_there : (f : Found) (name : Text) (low high : ℕ) (default : Option ℕ) (text : Option Text) → text ≡ first_value f name
     → option_map_or (number_in low high) text default ≡ value_in name low high default (rows_of f)
 value_there f name low high default text e = ap (λ o. option_map_or (number_in low high) o default) (e ∙ first_value-rows f name)
+
+-- whether a flag is set
+pub flag_there : (f : Found) (flag : Text) (text : Option Text) → text ≡ first_value f flag
+    → option_map_or (λ value. bytes_eq value (codes "true")) text false ≡ is_set flag (rows_of f)
+flag_there f flag text e = ap (λ o. option_map_or (λ value. bytes_eq value (codes "true")) o false) (e ∙ first_value-rows f flag)

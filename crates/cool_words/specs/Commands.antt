@@ -3,7 +3,7 @@ use Rattle.std.specs.Prelude.{true, [], Option, Some, None, bytes_eq, codes, if�
 use Rattle.clap.specs.Words.{App, Rule, Text, new_rule, with_rule}
 use Rattle.clap.specs.Simple.{new_shape}
 use Rattle.clap.specs.declared.builder.action.ArgAction.{ArgAction}
-use Rattle.clap.specs.declared.builder.action.ArgAction.TheVariants.{Set, Append}
+use Rattle.clap.specs.declared.builder.action.ArgAction.TheVariants.{Set, Append, SetTrue}
 use Rattle.cool_words.specs.declared.command_word.CommandWord.{CommandWord}
 use Rattle.cool_words.specs.declared.command_word.CommandWord.TheVariants.{Check, Asm, Build, Run, Eval, Exec, Debug, Big}
 
@@ -32,6 +32,10 @@ command_of word =
 abbrev pub option_rule : Text → Rule
 option_rule name = record (new_rule name) { long = Some name; action = Some Set }
 
+-- an option `--name` without a value, at most once
+abbrev pub flag_rule : Text → Rule
+flag_rule name = record (new_rule name) { long = Some name; action = Some SetTrue }
+
 -- a positional that must be there: one value, or with Append one or more
 abbrev pub positional_rule : Text → ArgAction → Rule
 positional_rule name action = record (new_rule name) { action = Some action; required = true }
@@ -53,7 +57,7 @@ bare name = record { top = record (new_shape name) { disable_help_flag = true };
 
 -- the command as clap has it
 abbrev pub app_for : CommandWord → App
-app_for Run = with_rule (with_limits (bare (codes "run"))) FILES
+app_for Run = with_rule (with_rule (with_limits (bare (codes "run"))) (flag_rule (codes "fold"))) FILES
 app_for Eval = with_rule (with_steps (bare (codes "eval"))) FILES
 app_for Exec = with_rule (with_limits (bare (codes "exec"))) (positional_rule (codes "FILE") Set)
 app_for Debug = with_rule (with_rule (with_limits (bare (codes "debug"))) (positional_rule (codes "SCRIPT") Set)) FILES

@@ -1,5 +1,5 @@
 -- What a command line asks for, if anything: clap takes its words, and its numbers and names are in bounds.
-use Rattle.std.specs.Prelude.{◌≡◌, ◌&&◌, ◌==◌, ℕ, Bool, true, false, not, List, [], ◌∷◌, length, map, nat_le, nat_lt, if◌then◌else◌, Option, Some, None, option_map, option_and_then, codes, String, string_bytes, Result, MatchResult, ⊤, refl}
+use Rattle.std.specs.Prelude.{◌≡◌, ◌&&◌, ◌==◌, ℕ, Bool, true, false, not, List, [], ◌∷◌, length, map, nat_le, nat_lt, if◌then◌else◌, Option, Some, None, option_map, option_and_then, bytes_eq, codes, String, string_bytes, Result, MatchResult, ⊤, refl}
 use Rattle.std.specs.List.{list_all, list_any, repeat}
 use Rattle.std.specs.Global.{Global}
 use Rattle.std.specs.Option.{option_map_or}
@@ -27,7 +27,7 @@ pub data Asked : Type 0 where
   check : List Text → Asked
   asm : List Text → Asked
   build : List Text → Asked
-  run : List Text → RunLimits → Asked
+  run : List Text → RunLimits → (fold : Bool) → Asked
   eval : List Text → ℕ → Asked
   exec : Text → RunLimits → Asked
   debug : Text → List Text → RunLimits → Asked
@@ -37,7 +37,7 @@ abbrev pub asked_by : Plan → Asked
 asked_by (plan.Check files) = check (words_of files.items)
 asked_by (plan.Asm files) = asm (words_of files.items)
 asked_by (plan.Build files) = build (words_of files.items)
-asked_by (plan.Run files limits) = run (words_of files.items) limits
+asked_by (plan.Run files limits fold) = run (words_of files.items) limits fold
 asked_by (plan.Eval files steps) = eval (words_of files.items) steps
 asked_by (plan.Exec file limits) = exec (string_bytes file) limits
 asked_by (plan.Debug script files limits) = debug (string_bytes script) (words_of files.items) limits
@@ -98,6 +98,12 @@ limits_in rows =
     (value_in (codes "stack") 4 65536 (Some usual_limits.stack_kib) rows))
     (value_in (codes "heap") 4 262144 (Some usual_limits.heap_kib) rows)
 
+-- ---- flags
+
+-- the flag stands among the words: clap gives it the value `true` then, and else `false`
+abbrev pub is_set : Text → List Row → Bool
+is_set flag rows = option_map_or (λ value. bytes_eq value (codes "true")) (first_of flag rows) false
+
 -- ---- plans
 
 -- what the command asks for, by what clap found
@@ -105,7 +111,8 @@ abbrev pub asked_of : CommandWord → List Row → Option Asked
 asked_of Check rows = option_map check (files_in rows)
 asked_of Asm rows = option_map asm (files_in rows)
 asked_of Build rows = option_map build (files_in rows)
-asked_of Run rows = option_and_then (λ files. option_map (run files) (limits_in rows)) (files_in rows)
+asked_of Run rows =
+    option_and_then (λ files. option_map (λ limits. run files limits (is_set (codes "fold") rows)) (limits_in rows)) (files_in rows)
 asked_of Eval rows = option_and_then (λ files. option_map (eval files) (steps_in rows)) (files_in rows)
 asked_of Exec rows = option_and_then (λ file. option_map (exec file) (limits_in rows)) (file_in (codes "FILE") rows)
 asked_of Debug rows =
@@ -133,14 +140,19 @@ on_literals = tt
 abbrev limits : ℕ → RunLimits
 limits heap_kib = record usual_limits { heap_kib = heap_kib }
 
-run_with_heap : plan_of (codes "run" ∷ codes "--heap=64" ∷ codes "hello.cl" ∷ []) ≡ Some (run (codes "hello.cl" ∷ []) (limits 64))
+run_with_heap : plan_of (codes "run" ∷ codes "--heap=64" ∷ codes "hello.cl" ∷ []) ≡ Some (run (codes "hello.cl" ∷ []) (limits 64) false)
 unfolding on_literals
 run_with_heap = refl
 
 run_of_two : plan_of (codes "run" ∷ codes "a.cl" ∷ codes "--heap" ∷ codes "0064" ∷ codes "b.cl" ∷ [])
-    ≡ Some (run (codes "a.cl" ∷ codes "b.cl" ∷ []) (limits 64))
+    ≡ Some (run (codes "a.cl" ∷ codes "b.cl" ∷ []) (limits 64) false)
 unfolding on_literals
 run_of_two = refl
+
+run_with_fold : plan_of (codes "run" ∷ codes "a.cl" ∷ codes "--fold" ∷ codes "--heap" ∷ codes "64" ∷ codes "b.cl" ∷ [])
+    ≡ Some (run (codes "a.cl" ∷ codes "b.cl" ∷ []) (limits 64) true)
+unfolding on_literals
+run_with_fold = refl
 
 eval_of_one : plan_of (codes "eval" ∷ codes "hello.cl" ∷ []) ≡ Some (eval (codes "hello.cl" ∷ []) 1000000000)
 unfolding on_literals
@@ -195,6 +207,14 @@ heap_twice : plan_of (codes "run" ∷ codes "--heap" ∷ codes "64" ∷ codes "-
 unfolding on_literals
 heap_twice = refl
 
+fold_twice : plan_of (codes "run" ∷ codes "--fold" ∷ codes "--fold" ∷ codes "hello.cl" ∷ []) ≡ None
+unfolding on_literals
+fold_twice = refl
+
+fold_with_value : plan_of (codes "run" ∷ codes "--fold=1" ∷ codes "hello.cl" ∷ []) ≡ None
+unfolding on_literals
+fold_with_value = refl
+
 steps_of_1x : plan_of (codes "run" ∷ codes "--steps" ∷ codes "1x" ∷ codes "hello.cl" ∷ []) ≡ None
 unfolding on_literals
 steps_of_1x = refl
@@ -202,6 +222,10 @@ steps_of_1x = refl
 eval_with_heap : plan_of (codes "eval" ∷ codes "--heap" ∷ codes "64" ∷ codes "hello.cl" ∷ []) ≡ None
 unfolding on_literals
 eval_with_heap = refl
+
+eval_with_fold : plan_of (codes "eval" ∷ codes "--fold" ∷ codes "hello.cl" ∷ []) ≡ None
+unfolding on_literals
+eval_with_fold = refl
 
 eval_of_no_file : plan_of (codes "eval" ∷ []) ≡ None
 unfolding on_literals
@@ -241,7 +265,7 @@ abbrev pub IsWithinBounds : Plan → Type 0
 IsWithinBounds (plan.Check files) = HasFileNames (words_of files.items)
 IsWithinBounds (plan.Asm files) = HasFileNames (words_of files.items)
 IsWithinBounds (plan.Build files) = HasFileNames (words_of files.items)
-IsWithinBounds (plan.Run files limits) = HasFileNames (words_of files.items) × IsBounded limits
+IsWithinBounds (plan.Run files limits fold) = HasFileNames (words_of files.items) × IsBounded limits
 IsWithinBounds (plan.Eval files steps) = HasFileNames (words_of files.items) × IsWithin 1 most_steps steps
 IsWithinBounds (plan.Exec file limits) = (is_file_name (string_bytes file) ≡ true) × IsBounded limits
 IsWithinBounds (plan.Debug script files limits) = (is_file_name (string_bytes script) ≡ true) × HasFileNames (words_of files.items) × IsBounded limits

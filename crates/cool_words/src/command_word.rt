@@ -2,7 +2,7 @@
 
 ghost use Rattle.std.specs.Prelude.{◌≡◌, IfOk, false};
 ghost use Rattle.clap.specs.Words.{app_of, rule_of};
-ghost use Rattle.cool_words.specs.Commands.{FILES, app_for, command_of, name_of, option_rule, positional_rule, with_limits, with_steps};
+ghost use Rattle.cool_words.specs.Commands.{FILES, app_for, command_of, flag_rule, name_of, option_rule, positional_rule, with_limits, with_steps};
 
 use clap::{Arg, ArgAction, Command};
 use std::alloc::{AllocError, Global};
@@ -61,7 +61,9 @@ impl CommandWord {
         let parser = Command::new(alloc, self.name()).disable_help_flag(true);
         match self {
             CommandWord::Check | CommandWord::Asm | CommandWord::Build => parser.arg(files(alloc)),
-            CommandWord::Run => with_limits(alloc, parser)?.arg(files(alloc)),
+            CommandWord::Run => with_limits(alloc, parser)?
+                .arg(flag(alloc, "fold"))?
+                .arg(files(alloc)),
             CommandWord::Eval => with_steps(alloc, parser)?.arg(files(alloc)),
             CommandWord::Exec => with_limits(alloc, parser)?.arg(positional(
                 alloc,
@@ -101,6 +103,14 @@ fn option<'a>(alloc: Global, name: &'a str) -> Arg<'a>
     ensures local { result.global ≡ false }
 {
     Arg::new(alloc, name).long(name).action(ArgAction::Set)
+}
+
+/// An option without a value.
+fn flag<'a>(alloc: Global, name: &'a str) -> Arg<'a>
+    ensures rule { rule_of result ≡ flag_rule name.entry.now }
+    ensures local { result.global ≡ false }
+{
+    Arg::new(alloc, name).long(name).action(ArgAction::SetTrue)
 }
 
 /// The names of files, one or more.

@@ -25,10 +25,11 @@ pub enum Plan {
     Check {
         files: Vec<String>,
     },
-    /// To compile the files and run the program within the limits.
+    /// To compile the files, or with `fold` the folded program of them, and run that within the limits.
     Run {
         files: Vec<String>,
         limits: RunLimits,
+        fold: bool,
     },
     /// To evaluate the program that the files are, with so many steps.
     Eval {

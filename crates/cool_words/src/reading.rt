@@ -3,7 +3,7 @@
 ghost use Rattle.std.specs.Prelude.{◌≡◌, IfOk, IfSome, Err, Some, None, codes, string_bytes, true};
 ghost use Rattle.clap.specs.Words.{found_of, matches_of, rows_of, fault_of};
 ghost use Rattle.cool_words.specs.Numbers.{IsWithin, number_in};
-ghost use Rattle.cool_words.specs.Plans.{Answers, HasFileNames, IsBounded, IsWithinBounds, asked_by, asked_of, file_in, files_in, is_file_name, limits_in, most_steps, plan_by, plan_of, steps_in, value_in, words_of};
+ghost use Rattle.cool_words.specs.Plans.{Answers, HasFileNames, IsBounded, IsWithinBounds, asked_by, asked_of, file_in, files_in, is_file_name, is_set, limits_in, most_steps, plan_by, plan_of, steps_in, value_in, words_of};
 
 use crate::command_word::{CommandWord, command_of};
 use crate::names::{are_file_names, copy_names, is_file_name};
@@ -88,6 +88,7 @@ fn read_matches(
         CommandWord::Run => Ok(Plan::Run {
             files: files_of(alloc, matches)?,
             limits: limits_of(matches)?,
+            fold: is_set(matches, "fold"),
         }),
         CommandWord::Eval => Ok(Plan::Eval {
             files: files_of(alloc, matches)?,
@@ -162,6 +163,16 @@ fn steps_of(matches: &ArgMatches<'_>) -> Result<u64, WordsError>
     ensures bounds { IfOk result (IsWithin 1 most_steps) }
 {
     value_of(matches, "steps", 1, MOST_STEPS, Some(USUAL_LIMITS.steps))
+}
+
+/// Whether the flag is set. clap gives it the value `true` where the words have it, and else `false`.
+fn is_set(matches: &ArgMatches<'_>, flag: &str) -> bool
+    ensures { result ≡ is_set flag.now (rows_of (found_of matches.now)) }
+{
+    match matches.get_str(flag) {
+        Some(text) => text == "true",
+        None => false,
+    }
 }
 
 /// The size of the program to write.

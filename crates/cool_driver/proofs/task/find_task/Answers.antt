@@ -36,7 +36,7 @@ returns-in-Ok-Build-clause-due g c input =
 pub returns-in-Ok-Run-clause-due : goal.returns-in-Ok-Run-clause-due
 returns-in-Ok-Run-clause-due g c input =
     let asked = rw c.in-Ok-Run.field-0-is at c.in-Ok-Run.ensures.plan in
-    let plan = plan_is (words_of c.args.words.now) _ asked ∙ ap (λ names. Some (Run c.in-Ok-Run.limits, words_of names)) (sym c.deref-in-Ok-Run.ensures.value) in
+    let plan = plan_is (words_of c.args.words.now) _ asked ∙ ap (λ names. Some (Run c.in-Ok-Run.limits c.in-Ok-Run.fold, words_of names)) (sym c.deref-in-Ok-Run.ensures.value) in
     for_ok _ _ c.find_file_task-in-Ok-Run.result (λ task h. h (words_of c.args.words.now) input plan) c.find_file_task-in-Ok-Run.ensures.due
 
 pub returns-in-Ok-Eval-clause-due : goal.returns-in-Ok-Eval-clause-due

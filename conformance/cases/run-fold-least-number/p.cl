@@ -1,0 +1,7 @@
+class Main inherits IO {
+  main() : Object { {
+    out_int(~2147483647 - 1);
+    out_string("\n");
+    out_int(~(~2147483647 - 1));
+  } };
+};
