@@ -138,7 +138,8 @@ held_from i (n ∷ ns) name j e = by (bytes_eq n name) refl (λ later. held_from
     by : (b : Bool) → bytes_eq n name ≡ b → (position_from (i + 1) ns name ≡ Some j → (k : ℕ) × (j ≡ i + 1 + k) × (slice_set ns k name ≡ ns))
         → (k : ℕ) × (j ≡ i + k) × (slice_set (n ∷ ns) k name ≡ n ∷ ns)
     by true h behind =
-        let here : ◌≡◌ {A = Option ℕ} (Some i) (Some j) = subst (λ (b : Bool). (if b then Some i else position_from (i + 1) ns name) ≡ Some j) h e in
+        let here : ◌≡◌ {A = Option ℕ} (Some i) (Some j) = subst (λ (b : Bool). (if b then Some i else position_from (i + 1) ns name) ≡ Some j) h e
+        in
         let same : i ≡ j = ap (λ (o : Option ℕ). unwrap_or o 0) here in
         (0, omega (arith, same), ap (λ (m : List ℕ). m ∷ ns) (sym ((bytes_eq-Decides n name).0 h)))
     by false h behind =
@@ -152,3 +153,24 @@ held ns name j e =
     let (k, at, same) = held_from 0 ns name j e in
     let there : k ≡ j = omega (arith, at) in
     subst (λ (m : ℕ). slice_set ns m name ≡ ns) there same
+
+-- Whether there is room is seen by the number of bytes alone
+
+set_size : (fs : List (List ℕ)) (k : ℕ) (a b : List ℕ) → length a ≡ length b → total (slice_set fs k a) ≡ total (slice_set fs k b)
+set_size [] zero a b e = refl
+set_size [] (suc k) a b e = refl
+set_size (f ∷ fs) zero a b e = ap (λ (n : ℕ). n + total fs) e
+set_size (f ∷ fs) (suc k) a b e = ap (λ (n : ℕ). length f + n) (set_size fs k a b e)
+
+placed_size : (place : Option ℕ) (fs : List (List ℕ)) (a b : List ℕ) → length a ≡ length b → total (placed place fs a) ≡ total (placed place fs b)
+placed_size None fs a b e = omega (arith, end_total fs a, end_total fs b, e)
+placed_size (Some k) fs a b e = set_size fs k a b e
+
+room_by_total : (ns fs gs : List (List ℕ)) → total fs ≡ total gs → room ns fs ≡ room ns gs
+room_by_total ns fs gs e = rw e refl
+
+pub room_by_length : (names files : List (List ℕ)) (name a b : List ℕ) → length a ≡ length b
+    → set_room names files name a ≡ set_room names files name b
+unfolding set_room
+room_by_length names files name a b e =
+    room_by_total (placed (position names name) names name) _ _ (placed_size (position names name) files a b e)

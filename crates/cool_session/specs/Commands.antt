@@ -1,6 +1,6 @@
 -- What a line of a session's input asks. Words are parted by one space.
 use Rattle.std.specs.Prelude.{◌≡◌, refl, ℕ, ◌==◌, ◌&&◌, nat_le, if◌then◌else◌, List, [], ◌∷◌, length, codes, bytes_eq, Bool, Option, Some, None}
-use Rattle.std.specs.List.{list_all}
+use Rattle.std.specs.List.{list_all, slice_split}
 use Rattle.cool_syntax.specs.Lexemes.{is_digit, value}
 
 pub data Command : Type 0 where
@@ -11,15 +11,9 @@ pub data Command : Type 0 where
   Check : Command
   Quit : Command
 
--- with a byte more at the head of the first word
-abbrev pub with_byte : ℕ → List (List ℕ) → List (List ℕ)
-with_byte b [] = (b ∷ []) ∷ []
-with_byte b (w ∷ ws) = (b ∷ w) ∷ ws
-
 -- the words of a line, which is parted at each space
 abbrev pub words_in : List ℕ → List (List ℕ)
-words_in [] = [] ∷ []
-words_in (b ∷ bs) = if b == 32 then [] ∷ words_in bs else with_byte b (words_in bs)
+words_in = slice_split (λ b. b == 32)
 
 -- a name: 1 to 255 bytes from 33 to 126
 abbrev pub is_name : List ℕ → Bool
@@ -29,39 +23,53 @@ is_name word = nat_le 1 (length word) && (nat_le (length word) 255 && list_all (
 abbrev pub is_length : List ℕ → Bool
 is_length word = nat_le 1 (length word) && (nat_le (length word) 7 && list_all is_digit word)
 
+-- what a word alone asks, and with a name, and with a name and a length
+abbrev pub alone : List ℕ → Option Command
+alone word = if bytes_eq word (codes "check") then Some Check else if bytes_eq word (codes "quit") then Some Quit else None
+
+abbrev pub with_name : List ℕ → List ℕ → Option Command
+with_name word name = if bytes_eq word (codes "drop") && is_name name then Some (Drop name) else None
+
+abbrev pub with_length : List ℕ → List ℕ → List ℕ → Option Command
+with_length word name digits =
+    if bytes_eq word (codes "file") && (is_name name && is_length digits) then Some (File name (value digits)) else None
+
 -- what words ask, where they ask anything
 abbrev pub asked : List (List ℕ) → Option Command
-asked [] = None
-asked (word ∷ []) =
-    if bytes_eq word (codes "check") then Some Check
-    else if bytes_eq word (codes "quit") then Some Quit else None
-asked (word ∷ name ∷ []) = if bytes_eq word (codes "drop") && is_name name then Some (Drop name) else None
-asked (word ∷ name ∷ digits ∷ []) =
-    if bytes_eq word (codes "file") && (is_name name && is_length digits) then Some (File name (value digits)) else None
-asked (word ∷ name ∷ digits ∷ more ∷ words) = None
+asked (word ∷ []) = alone word
+asked (word ∷ name ∷ []) = with_name word name
+asked (word ∷ name ∷ digits ∷ []) = with_length word name digits
+asked words = None
 
 -- what a line asks, its newline aside
-abbrev pub command : List ℕ → Option Command
+unfoldable pub command : List ℕ → Option Command
 command line = asked (words_in line)
 
 -- Worked examples
 file_line : command (codes "file p.cl 120") ≡ Some (File (codes "p.cl") 120)
+unfolding command
 file_line = refl
 
 drop_line : command (codes "drop p.cl") ≡ Some (Drop (codes "p.cl"))
+unfolding command
 drop_line = refl
 
 quit_line : command (codes "quit") ≡ Some Quit
+unfolding command
 quit_line = refl
 
 two_spaces : command (codes "drop  a") ≡ None
+unfolding command
 two_spaces = refl
 
 space_at_the_end : command (codes "check ") ≡ None
+unfolding command
 space_at_the_end = refl
 
 eight_digits : command (codes "file a 00000001") ≡ None
+unfolding command
 eight_digits = refl
 
 no_length : command (codes "file a") ≡ None
+unfolding command
 no_length = refl

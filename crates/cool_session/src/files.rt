@@ -1,6 +1,6 @@
 //! Files by name.
 
-ghost use Rattle.std.specs.Prelude.{◌≡◌, ◌≤◌, ◌<◌, length, unwrap_or, IfSome, IfOk, IfErr, OnOk, Ok, Err};
+ghost use Rattle.std.specs.Prelude.{◌≡◌, ◌≤◌, ◌<◌, length, replicate, unwrap_or, IfSome, IfOk, IfErr, OnOk, Ok, Err};
 ghost use Rattle.cool_syntax.specs.declared.TheConstants.{MOST_FILES, MOST_SOURCE_BYTES};
 ghost use Rattle.cool_faults.specs.Files.{bytes_of, total};
 ghost use Rattle.cool_session.specs.Files.{length_at, names_of, position, set_room};
@@ -39,12 +39,33 @@ pub(crate) fn position_to_set(
     ensures fits { OnOk result (set_room (names_of names.now) (bytes_of files.now) name.now bytes.now ≡ Ok tt) }
     ensures refused { IfErr result (λ e. set_room (names_of names.now) (bytes_of files.now) name.now bytes.now ≡ Err e) }
 {
+    place_for(names, files, name, bytes.len() as u64)
+}
+
+/// The position of a name, where there is room for its file with so many bytes, whichever they are.
+///
+/// `Err(TooMany)` comes exactly where more than 64 files would be held, and `Err(TooLarge)` where not and more than 1,048,576 bytes
+/// would.
+pub(crate) fn place_for(
+    names: &[String],
+    files: &[Vec<u8>],
+    name: &str,
+    size: u64,
+) -> Result<Option<usize>, SetError>
+    requires paired { length names.now ≡ length files.now }
+    requires few { length names.now ≤ MOST_FILES }
+    requires small { total (bytes_of files.now) ≤ MOST_SOURCE_BYTES }
+    ensures place { IfOk result (λ place. place ≡ position (names_of names.now) name.now) }
+    ensures within { IfOk result (λ place. IfSome place (λ k. k < length files.now)) }
+    ensures fits { OnOk result (set_room (names_of names.now) (bytes_of files.now) name.now (replicate size 0) ≡ Ok tt) }
+    ensures refused { IfErr result (λ e. set_room (names_of names.now) (bytes_of files.now) name.now (replicate size 0) ≡ Err e) }
+{
     let place = position(names, name);
     if place.is_none() && names.len() == MOST_FILES {
         return Err(SetError::TooMany);
     }
     let others = total(files) - length_at(files, place) as u64;
-    if bytes.len() as u64 > MOST_SOURCE_BYTES - others {
+    if size > MOST_SOURCE_BYTES - others {
         return Err(SetError::TooLarge);
     }
     Ok(place)

@@ -1,13 +1,33 @@
-//! Source files that are held by name and edited.
+//! Source files that are held by name and edited, and the conversation about them.
 //!
-//! Comes in: files, set and taken away one after another. Goes out: their names, and how many bytes they have. `specs/Files.antt` defines
-//! which files are held after an edit. `specs/Commands.antt`, `Replies.antt`, `Signatures.antt` and `Fresh.antt` define what lines ask, what
-//! is replied to a check, and which features it types anew; no code computes these.
+//! Comes in: files, set and taken away one after another, or a source of commands and a sink. Goes out: the names of the files, how many
+//! bytes they have, and their fault list, for which only those features are typed that are not kept; or the replies to the commands.
+//! `specs/Files.antt` defines which files are held after an edit, and `Fresh.antt` which features are typed. `specs/Commands.antt` defines
+//! what lines ask, `Replies.antt` what is replied to a check, `Exchanges.antt` what a session does with its input, and `Conversations.antt`
+//! what comes of it where a device fails.
 #![tactic(auto)]
 
+mod base;
+mod command;
+mod conversation;
+mod ending;
 mod error;
+mod fault_list;
 mod files;
+mod ids;
+mod input;
+mod laws;
+mod recheck;
+mod reply;
+mod runs;
+mod same_classes;
+mod same_tokens;
 mod session;
+mod typed;
 
+pub use conversation::converse;
+pub use ending::{Ending, Interruption};
 pub use error::SetError;
+pub use laws::{law_one_exchange, law_part};
+pub use reply::Reply;
 pub use session::Session;

@@ -1,13 +1,24 @@
 //! A session: the files that are edited.
 
-ghost use Rattle.std.specs.Prelude.{◌≡◌, ◌≤◌, [], length, OnOk, OnErr};
+ghost use Rattle.std.specs.Prelude.{◌≡◌, ◌≤◌, ◌<◌, [], length, replicate, None, IfOk, OnOk, OnErr};
+ghost use Rattle.std.specs.List.{AllByRecursion};
 ghost use Rattle.cool_syntax.specs.declared.TheConstants.{MOST_FILES, MOST_SOURCE_BYTES};
+ghost use Rattle.cool_syntax.specs.TokenFacts.{IsPlaced};
 ghost use Rattle.cool_faults.specs.Files.{bytes_of, total};
+ghost use Rattle.cool_faults.specs.Verdicts.{IsFaultList, place_of};
 ghost use Rattle.cool_session.specs.Files.{files_set, IsSetAnswer, length_at, names_of, names_set, position, set_room, without};
+ghost use Rattle.cool_session.specs.Fresh.{Types};
+ghost use Rattle.cool_session.specs.NewFeatures.{base_seen, calls_after, IsAskedWithin};
 
+use crate::base::Base;
 use crate::error::SetError;
-use crate::files::{position, position_to_set};
-use std::alloc::Global;
+use crate::fault_list::fault_list;
+use crate::files::{place_for, position, position_to_set};
+use crate::recheck::{renew, used};
+use crate::reply::Reply;
+use cool_check::Typer;
+use cool_faults::{ClassVerdict, class_phase};
+use std::alloc::{AllocError, Global};
 
 /// Files by name, in order: at most 64, of at most 1,048,576 bytes together.
 #[derive(Drop)]
@@ -15,6 +26,7 @@ pub struct Session {
     alloc: Global,
     names: Vec<String>,
     files: Vec<Vec<u8>>,
+    base: Option<Base>,
     ghost paired: { length names.items ≡ length files.items },
     ghost few: { length files.items ≤ MOST_FILES },
     ghost small: { total (bytes_of files.items) ≤ MOST_SOURCE_BYTES },
@@ -25,11 +37,13 @@ impl Session {
     pub fn new(alloc: Global) -> Session
         ensures names { result.names.items ≡ [] }
         ensures files { result.files.items ≡ [] }
+        ensures base { result.base ≡ None }
     {
         Session {
             alloc,
             names: Vec::new(alloc),
             files: Vec::new(alloc),
+            base: None,
         }
     }
 
@@ -53,12 +67,13 @@ impl Session {
     /// Sets the file of this name: a name that is held keeps its position, and another goes last.
     ///
     /// `Err(TooMany)` comes exactly where more than 64 files would be held, and `Err(TooLarge)` where not and more than 1,048,576 bytes
-    /// would. `Err(Memory)` comes only for want of memory. Any `Err` leaves the files as they are.
+    /// would. `Err(Memory)` comes only for want of memory. Any `Err` leaves the files as they are, and the base stays in any case.
     pub fn set_file(&mut self, name: &str, bytes: &[u8]) -> Result<(), SetError>
         ensures names { OnOk result (names_of self.new.names.items ≡ names_set (names_of self.old.names.items) name.now) }
         ensures files { OnOk result (bytes_of self.new.files.items ≡ files_set (names_of self.old.names.items) (bytes_of self.old.files.items) name.now bytes.now) }
         ensures names_kept { OnErr result (self.new.names.items ≡ self.old.names.items) }
         ensures files_kept { OnErr result (self.new.files.items ≡ self.old.files.items) }
+        ensures base { self.new.base ≡ self.old.base }
         ensures answer { IsSetAnswer (set_room (names_of self.old.names.items) (bytes_of self.old.files.items) name.now bytes.now) result }
     {
         let place = position_to_set(self.names.as_slice(), self.files.as_slice(), name, bytes)?;
@@ -80,10 +95,57 @@ impl Session {
     pub fn drop_file(&mut self, name: &str)
         ensures names { names_of self.new.names.items ≡ without (position (names_of self.old.names.items) name.now) (names_of self.old.names.items) }
         ensures files { bytes_of self.new.files.items ≡ without (position (names_of self.old.names.items) name.now) (bytes_of self.old.files.items) }
+        ensures base { self.new.base ≡ self.old.base }
     {
         if let Some(k) = position(self.names.as_slice(), name) {
             self.names.remove(k);
             self.files.remove(k);
+        }
+    }
+
+    /// Whether there is room for a file of this name with so many bytes: the answer that `set_file` gives for any bytes of that number, want
+    /// of memory aside.
+    pub fn has_room(&self, name: &str, size: u64) -> Result<(), SetError>
+        ensures { result ≡ set_room (names_of self.now.names.items) (bytes_of self.now.files.items) name.now (replicate size 0) }
+    {
+        place_for(self.names.as_slice(), self.files.as_slice(), name, size)?;
+        Ok(())
+    }
+
+    /// Checks the files as they are, of which there is one at least: their fault list, and how many features were typed anew.
+    ///
+    /// Only features are typed that are not kept of the last check that came to type any: one is kept where the signatures of all
+    /// classes are those of that check, and its tokens are those of the feature at the same position there. `Err` comes only for want of
+    /// memory, and changes nothing.
+    pub fn check<K: Typer>(&mut self, typer: &mut K) -> Result<Reply, AllocError>
+        requires { 0 < length self.old.files.items }
+        ensures names { self.new.names.items ≡ self.old.names.items }
+        ensures files { self.new.files.items ≡ self.old.files.items }
+        ensures faults { IfOk result (λ reply. IsFaultList (bytes_of self.old.files.items) reply.faults.items) }
+        ensures placed { IfOk result (λ reply. AllByRecursion (λ f. IsPlaced (length self.old.files.items) (place_of f)) reply.faults.items) }
+        ensures typed { IfOk result (λ reply. Types (bytes_of self.old.files.items) (base_seen self.old.base) reply.typed (base_seen self.new.base)) }
+        ensures asked { IfOk result (λ reply. K.calls typer.new ≡ calls_after reply.typed (K.calls typer.old)) }
+        ensures most { OnErr result (IsAskedWithin (bytes_of self.old.files.items) (base_seen self.old.base) (K.calls typer.old) (K.calls typer.new)) }
+        ensures kept { OnErr result (self.new.base ≡ self.old.base) }
+    {
+        match class_phase(self.alloc, self.files.as_slice())? {
+            ClassVerdict::Refused(faults) => Ok(Reply {
+                faults: faults.into_vec(),
+                typed: 0,
+            }),
+            ClassVerdict::Untyped(now) => {
+                let renewed = renew(self.alloc, typer, used(&self.base, &now.classes), &now)?;
+                let faults = fault_list(self.alloc, &now, renewed.faults.as_slice())?;
+                let base = Base {
+                    untyped: now,
+                    faults: renewed.faults,
+                };
+                self.base = Some(base);
+                Ok(Reply {
+                    faults,
+                    typed: renewed.asked,
+                })
+            }
         }
     }
 }

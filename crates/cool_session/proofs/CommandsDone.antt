@@ -1,0 +1,123 @@
+-- What comes of one command: it is done, or ends the session, or is cut short.
+use Rattle.std.proofs.Common.{◌≡◌, ◌⊎◌, inl, inr, ℕ, ◌<◌, Bool, true, false, List, [], ◌∷◌, ◌++◌, length, map, refl, sym, ◌∙◌, ap, subst, arith}
+use Rattle.std.specs.Prelude.{◌≢◌, ◌==◌, Option, Some, None, option_map, Result, Ok, Err, OnOk}
+use Rattle.std.specs.Result.{is_err}
+use Rattle.std.specs.List.{concat}
+use Rattle.std.specs.Global.{Vec}
+use Rattle.cool_faults.specs.declared.fault.Fault.{Fault}
+use Rattle.cool_faults.specs.Verdicts.{IsFaultList}
+use Rattle.cool_ports.specs.SinkBytes.{appended, GotPrefix}
+use Rattle.cool_ports.proofs.GettingBytes.{appended-nil}
+use Rattle.cool_session.specs.declared.command.Command as declared
+use Rattle.cool_session.specs.declared.ending.Ending.{Ending}
+use Rattle.cool_session.specs.declared.ending.Ending.TheVariants.{Over, BadCommand, EndsInFile, TooLarge}
+use Rattle.cool_session.specs.declared.ending.Interruption.{Interruption}
+use Rattle.cool_session.specs.declared.ending.Interruption.TheVariants.{ReadFault, WriteFault, Memory}
+use Rattle.cool_session.specs.declared.error.SetError.{SetError}
+use Rattle.cool_session.specs.Commands.{Command, command, File, Drop, Check, Quit}
+use Rattle.cool_session.specs.Exchanges.{Line, head, Asks, Does, sets, drops, checks, EndsAt, quits, no_command, no_file, cut, large, Begins, a_file}
+use Rattle.cool_session.specs.Fresh.{Base, Types}
+use Rattle.cool_session.specs.Held.{Held, with_file, without_file, with_base, HasRoom}
+use Rattle.cool_session.specs.Obeying.{TookFile, PutLines, Obeyed, command_of}
+use Rattle.cool_session.specs.Replies.{reply_lines}
+
+-- what is held, by its parts
+pub held_is : (names names' files files' : List (List ℕ)) (base base' : Option Base) → names ≡ names' → files ≡ files' → base ≡ base'
+    → ◌≡◌ {A = Held} (record { names = names; files = files; base = base }) (record { names = names'; files = files'; base = base' })
+held_is names names' files files' base base' p q r = rw (p, q, r) refl
+
+-- what an answer says of the room
+pub no_room : (answer room : Result (Unit {0}) SetError) → answer ≡ room → is_err answer ≡ true → room ≡ Ok tt → ⊥
+no_room (Ok u) room e h k = absurd cc
+no_room (Err x) room e h k = absurd cc
+
+pub some_room : (answer room : Result (Unit {0}) SetError) → answer ≡ room → is_err answer ≡ false → room ≡ Ok tt
+some_room (Ok u) room e h = sym e
+some_room (Err x) room e h = absurd cc
+
+module _ (number : ℕ) (h : Held) (input : List ℕ) where
+  -- no lines leave a sink as it is
+  quiet : (h' : Held) (left : List ℕ) (held : Option (List ℕ)) → Does h input [] h' left → Obeyed number h input (Ok None) h' left held held
+  quiet h' left held does = ([], does, sym (appended-nil held))
+
+  pub bad_command : (h' : Held) (left : List ℕ) (held : Option (List ℕ)) → Asks input None left
+      → Obeyed number h input (Ok (Some (BadCommand number))) h' left held held
+  bad_command h' left held ask = (no_command left ask, refl)
+
+  pub quit_command : (h' : Held) (left : List ℕ) (held : Option (List ℕ)) → Asks input (Some Quit) left
+      → Obeyed number h input (Ok (Some Over)) h' left held held
+  quit_command h' left held ask = (quits left ask, refl)
+
+  pub drop_command : (name : List ℕ) (h' : Held) (left : List ℕ) (held : Option (List ℕ)) → Asks input (Some (Drop name)) left
+      → h' ≡ without_file h name
+      → Obeyed number h input (Ok None) h' left held held
+  drop_command name h' left held ask is = rw is (quiet (without_file h name) left held (drops name left ask))
+
+  module _ (name : List ℕ) (n : ℕ) (rest : List ℕ) (ask : Asks input (Some (File name n)) rest) (h' : Held) (left : List ℕ)
+      (held : Option (List ℕ)) where
+    pub file_too_large : (HasRoom h name n → ⊥) → left ≡ rest → Obeyed number h input (Ok (Some (TooLarge number))) h' left held held
+    file_too_large full same = rw same (large name n rest ask full, refl)
+
+    pub file_cut : HasRoom h name n → (e : Interruption) → TookFile n (Err e) rest left → Obeyed number h input (Err e) h' left held held
+    file_cut room ReadFault (part, is, short) =
+        let part_asked = subst (λ (xs : List ℕ). Asks input (Some (File name n)) xs) is ask in
+        (a_file name n part part_asked room short, refl)
+    file_cut room WriteFault k = absurd k
+    file_cut room Memory k = inl refl
+
+    pub file_unended : HasRoom h name n → (length rest < n) × (left ≡ []) → Obeyed number h input (Ok (Some (EndsInFile number))) h' left held held
+    file_unended room (short, none) = rw none (cut name n rest ask room short, refl)
+
+    pub file_set : HasRoom h name n → (bytes : List ℕ) → (length bytes ≡ n) × (rest ≡ bytes ++ left) → h' ≡ with_file h name bytes
+        → Obeyed number h input (Ok None) h' left held held
+    file_set room bytes (long, is) set =
+        rw set
+        (quiet (with_file h name bytes) left held
+        (sets name bytes left
+        (subst (λ (xs : List ℕ). Asks input (Some (File name (length bytes))) xs) is
+        (subst (λ (m : ℕ). Asks input (Some (File name m)) rest) (sym long) ask))
+        (subst (λ (m : ℕ). HasRoom h name m) (sym long) room)))
+
+  module _ (left : List ℕ) (ask : Asks input (Some Check) left) (h' : Held) (before : Option (List ℕ)) where
+    pub nothing_to_check : h.files ≡ [] → Obeyed number h input (Ok (Some (BadCommand number))) h' left before before
+    nothing_to_check none = (no_file left ask none, refl)
+
+    module _ (faults : List Fault) (typed : ℕ) (base : Option Base) (some : h.files ≢ []) (list : IsFaultList h.files faults)
+        (types : Types h.files h.base typed base) (after : Option (List ℕ)) where
+      pub checked : PutLines (reply_lines h.names faults typed) (Ok tt) before after → h' ≡ with_base h base
+          → Obeyed number h input (Ok None) h' left before after
+      checked put is = rw is (reply_lines h.names faults typed, checks faults typed base left ask some list types, put)
+
+      pub check_cut : (e : Interruption) → PutLines (reply_lines h.names faults typed) (Err e) before after
+          → Obeyed number h input (Err e) h' left before after
+      check_cut ReadFault k = absurd k
+      check_cut WriteFault got = (reply_lines h.names faults typed, with_base h base, checks faults typed base left ask some list types, got)
+      check_cut Memory got = inr (reply_lines h.names faults typed, with_base h base, checks faults typed base left ask some list types, got)
+
+-- a list of no items
+pub none_of : {X : Type 0} (xs : List X) → length xs ≡ 0 → xs ≡ []
+none_of [] e = refl
+none_of (x ∷ xs) e = absurd (omega (arith, e))
+
+-- what a line asks that stands at the head of an input
+pub asks_of : (input line rest left : List ℕ) (what : Option Command) → head input ≡ Line line rest → left ≡ rest → what ≡ command line
+    → Asks input what left
+asks_of input line rest left what at same is = (line, at ∙ ap (Line line) (sym same), sym is)
+
+-- the command that was read
+pub read_as : (line : List ℕ) (answer is : Option declared.Command) → answer ≡ is → option_map command_of answer ≡ command line
+    → option_map command_of is ≡ command line
+read_as line answer is same read = subst (λ (o : Option declared.Command). option_map command_of o ≡ command line) same read
+
+pub no_items : {X : Type 0} (xs : List X) → true ≡ (length xs == 0) → xs ≡ []
+no_items [] h = refl
+no_items (x ∷ xs) h = absurd (grind (arith, h))
+
+pub some_items : {X Y Z : Type 0} (xs : List X) (ys : List Y) (f : X → Z) → length ys ≡ length xs → false ≡ (length ys == 0) → map f xs ≡ [] → ⊥
+some_items [] ys f same h e = let none : length ys ≡ 0 = same in grind (arith, none, h)
+some_items (x ∷ xs) ys f same h e = absurd cc
+
+-- what is known of an answer that is no error
+pub on_ok : {T E P : Type 0} (result : Result T E) → is_err result ≡ false → OnOk result P → P
+on_ok (Ok x) e p = p
+on_ok (Err x) e p = absurd cc

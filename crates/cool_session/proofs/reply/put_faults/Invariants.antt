@@ -1,0 +1,16 @@
+use Rattle.std.proofs.Common.{◌≡◌, map, drop}
+use Rattle.std.specs.List.{concat}
+use Rattle.cool_faults.specs.Texts.{fault_line}
+use Rattle.cool_ports.specs.SinkBytes.{GotUpTo}
+use Rattle.cool_session.specs.Files.{names_of}
+use Rattle.cool_session.proofs.reply.put_faults.Given as goal
+
+-- the lines of the faults so far were put
+abbrev pub invariant-loop-fault : goal.invariant-loop-fault
+invariant-loop-fault g l =
+    let k = g.K.Sink in
+    let line = fault_line (names_of l.names) in
+    record {
+      got : GotUpTo (k.held l.fn.sink) (concat (map line l.faults)) (concat (map line (drop l.fault-index l.faults))) (k.held l.sink);
+      no_fault : k.faults l.sink ≡ k.faults l.fn.sink;
+    }

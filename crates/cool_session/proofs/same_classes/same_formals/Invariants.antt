@@ -1,0 +1,7 @@
+-- The formals so far have the same types.
+use Rattle.std.proofs.Common.{◌≡◌, take}
+use Rattle.cool_session.specs.Signatures.{formal_types}
+use Rattle.cool_session.proofs.same_classes.same_formals.Given as goal
+
+abbrev pub invariant-loop-i : goal.invariant-loop-i
+invariant-loop-i l = formal_types (take l.i l.a) ≡ formal_types (take l.i l.b)

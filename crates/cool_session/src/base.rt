@@ -1,0 +1,26 @@
+//! What is kept of a check for the next one.
+
+ghost use Rattle.std.specs.Prelude.{◌<◌, ◌^◌, length};
+ghost use Rattle.std.specs.List.{AllByRecursion};
+ghost use Rattle.std.proofs.Props.{props};
+ghost use Rattle.cool_session.specs.KeptChecks.{HasFewTokens, IsBase};
+
+use cool_check::TypeKind;
+use cool_faults::Untyped;
+
+/// A fault of a feature: its kind, and the position of its token among those of the feature.
+#[derive(Clone, Copy)]
+pub(crate) struct KeptFault {
+    pub(crate) kind: TypeKind,
+    pub(crate) token: u32,
+}
+
+/// Files that came to be typed, and the fault of each of their features, where it has one.
+#[derive(Drop)]
+pub(crate) struct Base {
+    pub(crate) untyped: Untyped,
+    pub(crate) faults: Vec<Option<KeptFault>>,
+    ghost few: { length untyped.lexed.items < 2 ^ 32 },
+    ghost short: { AllByRecursion HasFewTokens untyped.lexed.items } by { Prim.hlevel props },
+    ghost kept: { ∥ IsBase untyped faults.items ∥₁ },
+}
