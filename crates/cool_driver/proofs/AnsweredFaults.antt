@@ -12,11 +12,11 @@ use Rattle.cool_driver.specs.Notes.{refused_note}
 use Rattle.cool_driver.specs.Calls.{Request, IsRead, MayRefuse, Told}
 use Rattle.cool_driver.specs.Ends.{Due, IsRunOf, IsDebugged, IsEvaluationOf, IsCompiled, built_bytes}
 use Rattle.cool_driver.specs.Ends.IsRunOf.{of_file, of_program}
-use Rattle.cool_driver.specs.Ends.Due.{checked, built, refused, executed, unread_input, debugged, unread_debugged, misscripted, unscripted, evaluated, unread_source, unfit, misread, summed, usage, too_many, missing, unread, too_large}
+use Rattle.cool_driver.specs.Ends.Due.{checked, built, refused, executed, unread_input, debugged, unread_debugged, misscripted, unscripted, evaluated, unread_source, unfit, misread, summed, conversed, usage, too_many, missing, unread, too_large}
 use Rattle.cool_driver.specs.declared.command_line.Command.{Command}
 use Rattle.cool_driver.specs.declared.command_line.Command.TheVariants.{Check, Build, Run, Eval, Exec, Debug}
 use Rattle.cool_driver.specs.declared.command_line.Form.{Form}
-use Rattle.cool_driver.proofs.Plans.{no_files_for_big, no_files_for_nothing}
+use Rattle.cool_driver.proofs.Plans.{no_files_for_big, no_files_for_nothing, no_files_for_session}
 use Rattle.cool_driver.proofs.ReadTwice.{same_plan, no_plan_and_plan, same_read, may_refuse}
 use Rattle.cool_driver.proofs.ScriptsOfCalls.{debug_plan}
 use Rattle.cool_driver.proofs.Findings.{no_file_fault, missing_fault, large_fault, script_fault}
@@ -159,6 +159,8 @@ answered r _ _ _ _ files command names contents faults (misread limits name byte
     absurd (may_refuse r files command (Exec limits) names (name ∷ []) contents (bytes ∷ []) told read read' may)
 answered r _ _ _ _ files command names contents faults (summed n line asked calm is) told read may list =
     absurd (no_plan_and_plan _ _ _ (no_files_for_big r.words n asked) read.plan)
+answered r _ _ _ _ files command names contents faults (conversed status output note left is due) told read may list =
+    absurd (no_plan_and_plan _ _ _ (no_files_for_session r.words is.asked) read.plan)
 answered r _ _ _ _ files command names contents faults (usage none calm) told read may list =
     absurd (no_plan_and_plan _ _ _ (no_files_for_nothing r.words none) read.plan)
 answered r _ _ _ _ files command names contents faults (too_many command' names' plan many calm) told read may list = absurd (no_file_fault r files _ _ _ _ _ told read plan (inl (many, calm)))

@@ -22,10 +22,10 @@ use Rattle.cool_driver.specs.Notes.{read_fault_note, script_note}
 use Rattle.cool_driver.specs.Calls.{Request, IsRead, IsScriptRead, Told}
 use Rattle.cool_driver.specs.Ends.{Due, IsRunOf, IsDebugged, IsDebugOf}
 use Rattle.cool_driver.specs.Ends.IsRunOf.{of_file, of_program}
-use Rattle.cool_driver.specs.Ends.Due.{checked, built, refused, executed, unread_input, debugged, unread_debugged, misscripted, unscripted, evaluated, unread_source, unfit, misread, summed, usage, too_many, missing, unread, too_large}
+use Rattle.cool_driver.specs.Ends.Due.{checked, built, refused, executed, unread_input, debugged, unread_debugged, misscripted, unscripted, evaluated, unread_source, unfit, misread, summed, conversed, usage, too_many, missing, unread, too_large}
 use Rattle.cool_driver.specs.declared.command_line.Command.TheVariants.{Check, Build, Run, Eval, Exec, Debug}
 use Rattle.cool_driver.proofs.Findings.{no_file_fault, missing_fault, large_fault, script_fault}
-use Rattle.cool_driver.proofs.Plans.{no_files_for_big, no_files_for_nothing}
+use Rattle.cool_driver.proofs.Plans.{no_files_for_big, no_files_for_nothing, no_files_for_session}
 use Rattle.cool_driver.proofs.ReadTwice.{same_plan, same_debug, no_debug, no_plan_and_plan, same_read}
 use Rattle.cool_driver.proofs.ScriptsOfCalls.{debug_plan, same_script}
 
@@ -148,6 +148,8 @@ module _ (r : Request) (files : FileMap) (limits : RunLimits) (names contents : 
   debug_due _ _ _ _ (unfit asked name bytes' fault read' binary is) = absurd (no_debug _ (Exec asked) limits _ _ tt read'.plan read.plan)
   debug_due _ _ _ _ (misread asked name bytes' fault read' text wrong) = absurd (no_debug _ (Exec asked) limits _ _ tt read'.plan read.plan)
   debug_due _ _ _ _ (summed n line asked calm is) = absurd (no_plan_and_plan _ _ _ (no_files_for_big r.words n asked) read.plan)
+  debug_due _ _ _ _ (conversed status output note left is due) =
+      absurd (no_plan_and_plan _ _ _ (no_files_for_session r.words is.asked) read.plan)
   debug_due _ _ _ _ (usage none calm) = absurd (no_plan_and_plan _ _ _ (no_files_for_nothing r.words none) read.plan)
   debug_due _ _ _ _ (too_many command' names' plan many calm) = absurd (no_file_fault r files _ _ _ _ _ told read plan (inl (many, calm)))
   debug_due _ _ _ _ (missing command' name contents' u gone) = absurd (no_file_fault r files _ _ _ _ _ told read u.plan (missing_fault u gone))

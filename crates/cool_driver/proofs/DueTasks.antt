@@ -24,7 +24,7 @@ use Rattle.cool_driver.specs.declared.command_line.Command.TheVariants as comman
 use Rattle.cool_driver.specs.declared.command_line.Form.{Form}
 use Rattle.cool_driver.specs.declared.status.Status.TheVariants as statuses
 use Rattle.cool_driver.specs.declared.task.Task.{Task}
-use Rattle.cool_driver.specs.declared.task.Task.TheVariants.{Tell, Write, Execute, Debug, Evaluate}
+use Rattle.cool_driver.specs.declared.task.Task.TheVariants.{Tell, Write, Execute, Debug, Evaluate, Converse}
 use Rattle.cool_driver.proofs.NoteLines.{line_due}
 use Rattle.cool_driver.proofs.ScriptsOfCalls.{plain_script}
 
@@ -36,6 +36,7 @@ checked_due r names contents (Write made) read h = absurd h
 checked_due r names contents (Execute within image) read h = absurd h
 checked_due r names contents (Evaluate steps p files) read h = absurd h
 checked_due r names contents (Debug within image commands) read h = absurd h
+checked_due r names contents Converse read h = absurd h
 
 -- for files that `asm` or `build` names
 built_due : (r : Request) (form : Form) (names contents : List (List ℕ)) (task : Task) → IsRead r (command.Build form) names contents
@@ -46,6 +47,7 @@ built_due r form names contents (Write made) read h = rw h.3 (built form names c
 built_due r form names contents (Execute within image) read h = absurd h
 built_due r form names contents (Evaluate steps p files) read h = absurd h
 built_due r form names contents (Debug within image commands) read h = absurd h
+built_due r form names contents Converse read h = absurd h
 
 -- for files that `run` names
 run_due : (r : Request) (limits : RunLimits) (fold : Bool) (names contents : List (List ℕ)) (task : Task) → IsBounded limits
@@ -57,6 +59,7 @@ run_due r limits fold names contents (Execute within image) bounded read (same, 
     rw same (bounded, of_program fold names contents h.0 read h.1 h.2 bounded)
 run_due r limits fold names contents (Evaluate steps p files) bounded read h = absurd h
 run_due r limits fold names contents (Debug within image commands) bounded read h = absurd h
+run_due r limits fold names contents Converse bounded read h = absurd h
 
 -- for files that `eval` names
 eval_due : (r : Request) (steps : ℕ) (names contents : List (List ℕ)) (task : Task) → IsRead r (command.Eval steps) names contents
@@ -66,6 +69,7 @@ eval_due r steps names contents (Tell status lines) read (are, one, h) =
 eval_due r steps names contents (Write made) read h = absurd h
 eval_due r steps names contents (Execute within image) read h = absurd h
 eval_due r steps names contents (Debug within image commands) read h = absurd h
+eval_due r steps names contents Converse read h = absurd h
 eval_due r steps names contents (Evaluate most p files) read (same, named, is) = rw (same, named) (record { contents = contents; read = read; accepted = is })
 
 -- for the file that `exec` names
@@ -79,6 +83,7 @@ file_due r limits name bytes (Write made) bounded read h = absurd h
 file_due r limits name bytes (Execute within image) bounded read (same, h) = rw same (bounded, of_file name bytes read h)
 file_due r limits name bytes (Evaluate steps p files) bounded read h = absurd h
 file_due r limits name bytes (Debug within image commands) bounded read h = absurd h
+file_due r limits name bytes Converse bounded read h = absurd h
 
 -- `exec` names one file
 exec_due : (r : Request) (limits : RunLimits) (names contents : List (List ℕ)) (task : Task) → IsBounded limits → IsRead r (command.Exec limits) names contents → length names ≡ 1

@@ -151,4 +151,4 @@ unfolding part_of
 ran_short c h =
     let part = part_of c end.Memory h h.comes.1 in
     ends_short c (omega (arith, h.is.debugged.read.calm)) h.counted.1 h.counted.2 h.counted.0
-    (inr (inr (part, record { stands = h.comes.0; input_calm = h.counted.0; out_calm = h.counted.1 }, h.counted.2)))
+    (inr (inr (inl (part, record { stands = h.comes.0; input_calm = h.counted.0; out_calm = h.counted.1 }, h.counted.2))))

@@ -10,7 +10,8 @@ use Rattle.cool_driver.specs.declared.command_line.Command.TheVariants.{Check, B
 use Rattle.cool_driver.specs.Compiled.{compiled_program}
 use Rattle.cool_driver.specs.Calls.{Request, Call, NoLess, DidNothing, Got, Told, IsRead, MayRefuse}
 use Rattle.cool_driver.specs.Ends.{Due, Writing, Ends, FailedOutput, FailedNote, FailedDebugged, RanShort, DebuggedShort}
-use Rattle.cool_driver.specs.Ends.Writing.{by_build, by_big, by_image, by_eval}
+use Rattle.cool_driver.specs.Sessions.{SessionShort}
+use Rattle.cool_driver.specs.Ends.Writing.{by_build, by_big, by_image, by_eval, by_session}
 use Rattle.cool_driver.proofs.HeadlineOfCalls.{headline_written, headline_failed, not_run}
 use Rattle.cool_driver.proofs.HeadlineOfDebugs.{misscripted_ends, debugged_ends, debug_written, debug_failed, debug_short}
 use Rattle.cool_driver.proofs.NotesOfTexts.{misread_note}
@@ -19,6 +20,7 @@ use Rattle.cool_driver.proofs.StatusesOfFindings as findings
 use Rattle.cool_driver.proofs.Findings.{Finding, finding_of_due, finding_below}
 use Rattle.cool_driver.proofs.EvaluationsOfCalls.{evaluated_ends, prefix_of_due, prefix_of_failed, prefix_of_short}
 use Rattle.cool_driver.proofs.ImagesOfCalls.{read_for_run}
+use Rattle.cool_driver.proofs.SessionsOfCalls.{session_written, written_exactly, session_failed, session_short}
 
 -- The counts of faults after a run of an image, or where none was made: only status 7 comes with a fault, of the input.
 pub record Calm (c : Call) (status : ℕ) : Type 0 where
@@ -111,6 +113,9 @@ ends_found c status found calm written =
       summed_exactly = λ n asked _ _.
           let due = findings.big_due r status written.0 written.1 c.left n written.2 asked in
           (due.0, written.0, due.1, written.3);
+      session_ends = λ asked. session_written c status written.0 written.1 written.2 written.3 written.4 asked;
+      session_exactly = λ replies end left asked whole _ _.
+          written_exactly c status written.0 written.1 written.2 written.3 written.4 asked replies end left whole;
       no_less = record {
         files = findings.shelf_no_less r status found;
         input = input_no_less status c.input_before c.input_after calm.input calm.read_fault;
@@ -134,6 +139,7 @@ ends_written c status output note due out notes calm rose =
 read_of : (r : Request) (bytes more left : List ℕ) → Writing r bytes more left → r.faults_after ≡ r.faults_before
 read_of r _ _ _ (by_build form names contents p read is) = read.calm
 read_of r _ _ _ (by_big n line asked calm is) = calm
+read_of r _ _ _ (by_session replies left is part) = is.calm
 read_of r _ _ _ (by_image limits image at printed is comes prints) = (read_for_run r limits image is).3.calm
 read_of r _ _ _ (by_eval steps names p kept is) = is.read.calm
 
@@ -202,6 +208,8 @@ ends_write_fault c rose part input = record {
   misread_exactly = λ files limits name bytes fault told read text wrong other _. absurd (other refl);
   executed_exactly = λ files limits name bytes image told read is other _. absurd (other refl);
   summed_exactly = λ n asked other _. absurd (other refl);
+  session_ends = session_failed c part;
+  session_exactly = λ replies end left asked whole other _. absurd (other refl);
   out_fault = λ _. refl;
   notes_fault = λ _. refl;
   input_fault = λ _. inr refl;
@@ -210,7 +218,7 @@ ends_write_fault c rose part input = record {
 
 -- memory ran out, and no device failed
 pub ends_short : (c : Call) → c.request.faults_before ≤ c.request.faults_after → c.out.faults_after ≡ c.out.faults_before → c.notes.faults_after ≡ c.notes.faults_before
-    → c.input_after ≡ c.input_before → DidNothing c ⊎ RanShort c ⊎ DebuggedShort c → Ends c 9
+    → c.input_after ≡ c.input_before → DidNothing c ⊎ RanShort c ⊎ DebuggedShort c ⊎ SessionShort c → Ends c 9
 ends_short c files out notes calm short = record {
   no_less = record { files = files; input = omega (arith, calm); out = omega (arith, out); notes = omega (arith, notes) };
   statuses = omega arith;
@@ -244,6 +252,8 @@ ends_short c files out notes calm short = record {
   misread_exactly = λ files limits name bytes fault told read text wrong _ other. absurd (other refl);
   executed_exactly = λ files limits name bytes image told read is _ other. absurd (other refl);
   summed_exactly = λ n asked _ other. absurd (other refl);
+  session_ends = λ asked. session_short c asked short;
+  session_exactly = λ replies end left asked whole _ other. absurd (other refl);
   out_fault = λ more. absurd (omega (arith, out, more));
   notes_fault = λ more. absurd (omega (arith, notes, more));
   input_fault = λ more. absurd (omega (arith, calm, more));

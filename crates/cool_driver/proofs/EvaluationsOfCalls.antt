@@ -14,12 +14,13 @@ use Rattle.cool_driver.specs.CommandLine.{plan_of, TakesNoInput}
 use Rattle.cool_driver.specs.Evaluation.{status_of_end, note_of_end, IsPartOf}
 use Rattle.cool_driver.specs.Calls.{Request, IsRead, SinkUse, Got, Call, DidNothing, Told}
 use Rattle.cool_driver.specs.Ends.{Due, Writing, IsRunOf, IsEvaluationOf, FailedOutput, FailedNote, FailedDebugged, RanShort, DebuggedShort, EndsAs}
+use Rattle.cool_driver.specs.Sessions.{SessionShort}
 use Rattle.cool_driver.specs.Ends.IsRunOf.{of_file, of_program}
-use Rattle.cool_driver.specs.Ends.Due.{checked, built, refused, executed, unread_input, debugged, unread_debugged, misscripted, unscripted, evaluated, unread_source, unfit, misread, summed, usage, too_many, missing, unread, too_large}
-use Rattle.cool_driver.specs.Ends.Writing.{by_build, by_big, by_image, by_eval}
+use Rattle.cool_driver.specs.Ends.Due.{checked, built, refused, executed, unread_input, debugged, unread_debugged, misscripted, unscripted, evaluated, unread_source, unfit, misread, summed, conversed, usage, too_many, missing, unread, too_large}
+use Rattle.cool_driver.specs.Ends.Writing.{by_build, by_big, by_image, by_eval, by_session}
 use Rattle.cool_driver.specs.declared.command_line.Command.{Command}
 use Rattle.cool_driver.specs.declared.command_line.Command.TheVariants.{Check, Build, Run, Eval, Exec, Debug}
-use Rattle.cool_driver.proofs.Plans.{no_files_for_big, no_files_for_nothing}
+use Rattle.cool_driver.proofs.Plans.{no_files_for_big, no_files_for_nothing, no_files_for_session}
 use Rattle.cool_driver.proofs.ReadTwice.{same_plan, no_plan_and_plan, same_read}
 use Rattle.cool_driver.proofs.ScriptsOfCalls.{debug_plan}
 use Rattle.cool_driver.proofs.Findings.{no_file_fault, missing_fault, large_fault}
@@ -92,6 +93,8 @@ due_by r _ output note left files steps names contents p (unread_source most nam
 due_by r _ _ _ _ files steps names contents p (unfit limits name bytes fault read' binary is) told read form = absurd (no_eval _ (Exec limits) steps _ _ tt read'.plan read.plan)
 due_by r _ _ _ _ files steps names contents p (misread limits name bytes fault read' text wrong) told read form = absurd (no_eval _ (Exec limits) steps _ _ tt read'.plan read.plan)
 due_by r _ _ _ _ files steps names contents p (summed n line asked calm is) told read form = absurd (no_plan_and_plan _ _ _ (no_files_for_big r.words n asked) read.plan)
+due_by r _ _ _ _ files steps names contents p (conversed status output note left is due) told read form =
+    absurd (no_plan_and_plan _ _ _ (no_files_for_session r.words is.asked) read.plan)
 due_by r _ _ _ _ files steps names contents p (usage none calm) told read form = absurd (no_plan_and_plan _ _ _ (no_files_for_nothing r.words none) read.plan)
 due_by r _ _ _ _ files steps names contents p (too_many command' names' plan many calm) told read form = absurd (no_file_fault r files _ _ _ _ _ told read plan (inl (many, calm)))
 due_by r _ _ _ _ files steps names contents p (missing command' name contents' u gone) told read form =
@@ -129,6 +132,8 @@ writing_by : (r : Request) (bytes more left : List ℕ) (files : FileMap) (steps
     → Told r files → IsRead r (Eval steps) names contents → IsAccepted contents p → (bytes ≡ []) × (more ≡ (source.run p names r.input steps).output)
 writing_by r _ _ _ files steps names contents p (by_build shape names' contents' p' read' is) told read form = absurd (no_eval _ (Build shape) steps _ _ tt read'.plan read.plan)
 writing_by r _ _ _ files steps names contents p (by_big n line asked calm is) told read form = absurd (no_plan_and_plan _ _ _ (no_files_for_big r.words n asked) read.plan)
+writing_by r _ _ _ files steps names contents p (by_session replies left is part) told read form =
+    absurd (no_plan_and_plan _ _ _ (no_files_for_session r.words is.asked) read.plan)
 writing_by r _ _ _ files steps names contents p (by_image limits found at printed is comes prints) told read form = absurd (no_image r limits found steps names is read.plan)
 writing_by r _ _ _ files steps names contents p (by_eval most names' p' kept is) told read form =
     (refl, ap (λ (x : source.Run). x.output) (same_run r files most steps names' names contents p' p is told read form))
@@ -151,10 +156,12 @@ prefix_of_failed c files steps names contents p (inr (inl (due, output, note, is
 prefix_of_failed c files steps names contents p (inr (inr (part, how))) told read form = absurd (no_eval _ (Debug part.limits) steps _ _ tt part.is.debugged.read.plan read.plan)
 
 -- and where memory ran out
-pub prefix_of_short : (c : Call) (files : FileMap) (steps : ℕ) (names contents : List (List ℕ)) (p : List Class) → DidNothing c ⊎ RanShort c ⊎ DebuggedShort c
+pub prefix_of_short : (c : Call) (files : FileMap) (steps : ℕ) (names contents : List (List ℕ)) (p : List Class) → DidNothing c ⊎ RanShort c ⊎ DebuggedShort c ⊎ SessionShort c
     → Told c.request files → IsRead c.request (Eval steps) names contents → IsAccepted contents p
     → GotPrefix c.out.held_before (source.run p names c.request.input steps).output c.out.held_after
 prefix_of_short c files steps names contents p (inl nothing) told read form = (_, record { front = []; cut = refl; got = nothing.0.0 })
 prefix_of_short c files steps names contents p (inr (inl (most, names', p', is, got, calm, notes, input))) told read form =
     subst (λ (x : source.Run). GotPrefix c.out.held_before x.output c.out.held_after) (same_run c.request files most steps names' names contents p' p is told read form) got
-prefix_of_short c files steps names contents p (inr (inr (part, stops, calm))) told read form = absurd (no_eval _ (Debug part.limits) steps _ _ tt part.is.debugged.read.plan read.plan)
+prefix_of_short c files steps names contents p (inr (inr (inl (part, stops, calm)))) told read form = absurd (no_eval _ (Debug part.limits) steps _ _ tt part.is.debugged.read.plan read.plan)
+prefix_of_short c files steps names contents p (inr (inr (inr short))) told read form =
+    absurd (no_plan_and_plan _ _ _ (no_files_for_session c.request.words short.asked) read.plan)

@@ -15,7 +15,7 @@ use Rattle.mips_image.specs.ImageReading.{first_fault}
 use Rattle.mips_image.specs.declared.image_error.ImageError.{ImageError}
 use Rattle.cool_meaning.specs.SourceRun as source
 use Rattle.cool_words.specs.Plans.{Asked}
-use Rattle.cool_words.specs.Plans.Asked.{debug, big}
+use Rattle.cool_words.specs.Plans.Asked.{debug, big, session}
 use Rattle.spim_debug.specs.declared.script.TheConstants.{MOST_SCRIPT_BYTES}
 use Rattle.spim_debug.specs.declared.script.DebugCommand.{DebugCommand}
 use Rattle.spim_debug.specs.declared.script.ScriptFault.{ScriptFault}
@@ -26,11 +26,15 @@ use Rattle.cool_words.specs.declared.plan.RunLimits.{RunLimits}
 use Rattle.cool_driver.specs.Calls.{Request, IsRead, IsReadUpTo, IsScriptRead, AreHeld, MayRefuse, Told}
 use Rattle.cool_driver.specs.Ends.{Due, IsRunOf, IsDebugged, IsDebugOf, IsUnreadScript}
 use Rattle.cool_driver.specs.Ends.IsUnreadScript.{missing_script, unread_script, large_script}
-use Rattle.cool_driver.specs.Ends.Due.{checked, built, refused, executed, unread_input, debugged, unread_debugged, misscripted, unscripted, evaluated, unread_source, unfit, misread, summed, usage, too_many, missing, unread, too_large}
+use Rattle.cool_driver.specs.Ends.Due.{checked, built, refused, executed, unread_input, debugged, unread_debugged, misscripted, unscripted, evaluated, unread_source, unfit, misread, summed, conversed, usage, too_many, missing, unread, too_large}
+use Rattle.cool_session.specs.declared.ending.Ending.{Ending}
+use Rattle.cool_session.specs.declared.ending.Ending.TheVariants.{Over, BadCommand, EndsInFile, TooLarge}
+use Rattle.cool_driver.specs.Sessions.{DueToSession, status_of_ending}
+use Rattle.cool_driver.specs.Sessions.DueToSession.{to_end, to_read}
 use Rattle.cool_driver.specs.declared.command_line.Command.{Command}
 use Rattle.cool_driver.specs.declared.command_line.Command.TheVariants.{Check, Build, Eval, Exec, Debug}
 use Rattle.cool_driver.proofs.HeldFiles.{held_later}
-use Rattle.cool_driver.proofs.Plans.{no_files_for_big, no_files_for_nothing}
+use Rattle.cool_driver.proofs.Plans.{no_files_for_big, no_files_for_nothing, no_files_for_session}
 use Rattle.cool_driver.proofs.ReadTwice.{same_plan, RunsNothing, held_told, files_read}
 use Rattle.cool_driver.proofs.ScriptsOfCalls.{debug_plan, debug_script, script_there}
 
@@ -79,9 +83,14 @@ script_fault {r} {command} {script} {files} {names} {limits} {note} asked why =
 abbrev pub IsRunStatus : ℕ → Type 0
 IsRunStatus status = ((end : Outcome) × (status ≡ status_of end)) ⊎ (status ≡ 7)
 
+-- a status that a session may end with
+abbrev pub IsSessionStatus : ℕ → Type 0
+IsSessionStatus status = (status ≡ 0) ⊎ (status ≡ 7) ⊎ (status ≡ 12)
+
 -- the status that is left where no files are asked about
 abbrev pub IsWithoutFiles : Option Asked → ℕ → Type 0
-IsWithoutFiles asked status = ((asked ≡ None) × (status ≡ 2)) ⊎ ((n : ℕ) × (asked ≡ Some (big n)) × (status ≡ 0))
+IsWithoutFiles asked status =
+    ((asked ≡ None) × (status ≡ 2)) ⊎ ((n : ℕ) × (asked ≡ Some (big n)) × (status ≡ 0)) ⊎ ((asked ≡ Some session) × IsSessionStatus status)
 
 -- the statuses of runs
 abbrev pub IsOneOf : ℕ → Type 0
@@ -96,7 +105,7 @@ pub data Finding (r : Request) (status : ℕ) : Type 0 where
   bad_text : (limits : RunLimits) (name bytes : List ℕ) (fault : AsmFault) → IsRead r (Exec limits) (name ∷ []) (bytes ∷ []) → is_text_file bytes ≡ true → IsTextFault bytes fault → status ≡ 12 → Finding r status
   debugging : (limits : RunLimits) (found : ImageParts) (commands : List DebugCommand) → IsDebugOf r limits found commands → IsRunStatus status → Finding r status
   bad_script : (limits : RunLimits) (names : List (List ℕ)) (p : List Class) (script bytes : List ℕ) (fault : ScriptFault) → IsDebugged r limits names p script bytes → status ≡ 12 → Finding r status
-  -- no files are asked about: `big` is asked for, or nothing
+  -- no files are asked about: `big` is asked for, or a session, or nothing
   no_plan : plan_of r.words ≡ None → r.faults_after ≡ r.faults_before → IsWithoutFiles (asked_for r.words) status → Finding r status
   no_file : (command : Command) (names : List (List ℕ)) → plan_of r.words ≡ Some (command, names) → IsFileFault r command names → status ≡ 10 → Finding r status
 
@@ -110,6 +119,17 @@ status_of_source source.Done status e = inl (one_status 0 status e)
 status_of_source (source.Failed error) status e = inr (inl (one_status 3 status e))
 status_of_source source.GoesOn status e = inr (inr (inr (inr (inl (one_status 6 status e)))))
 status_of_source source.IsStuck status e = absurd cc
+
+-- each end of a session has one of its statuses
+status_of_end_of_session : (end : Ending) → IsSessionStatus (status_of_ending end)
+status_of_end_of_session Over = inl refl
+status_of_end_of_session (BadCommand number) = inr (inr refl)
+status_of_end_of_session (EndsInFile number) = inr (inr refl)
+status_of_end_of_session (TooLarge number) = inr (inr refl)
+
+status_of_session : (input : List ℕ) (status : ℕ) (output note left : List ℕ) → DueToSession input status output note left → IsSessionStatus status
+status_of_session input _ _ _ _ (to_end replies end left whole) = status_of_end_of_session end
+status_of_session input _ _ _ _ (to_read replies left cut) = inr (inl refl)
 
 -- what is due is a finding
 pub finding_of_due : (r : Request) (status : ℕ) (output note left : List ℕ) → Due r status output note left → Finding r status
@@ -126,7 +146,9 @@ finding_of_due r status _ _ _ (evaluated steps names p _ is e) = accepted (Eval 
 finding_of_due r _ _ _ _ (unread_source steps names p output left is part) = accepted (Eval steps) names is.contents tt is.read (inr (inr (inr (inr (inr (inl refl))))))
 finding_of_due r _ _ _ _ (unfit limits name bytes fault read binary is) = no_image limits name bytes fault read binary is refl
 finding_of_due r _ _ _ _ (misread limits name bytes fault read text wrong) = bad_text limits name bytes fault read text wrong refl
-finding_of_due r _ _ _ _ (summed n line asked calm is) = no_plan (no_files_for_big r.words n asked) calm (inr (n, asked, refl))
+finding_of_due r _ _ _ _ (summed n line asked calm is) = no_plan (no_files_for_big r.words n asked) calm (inr (inl (n, asked, refl)))
+finding_of_due r status _ _ _ (conversed _ output note left is due) =
+    no_plan (no_files_for_session r.words is.asked) is.calm (inr (inr (is.asked, status_of_session r.input status output note left due)))
 finding_of_due r _ _ _ _ (usage none calm) = no_plan (no_files_for_nothing r.words none) calm (inl (none, refl))
 finding_of_due r _ _ _ _ (too_many command names plan many calm) = no_file command names plan (inl (many, calm)) refl
 finding_of_due r _ _ _ _ (missing command name contents u gone) =
@@ -175,7 +197,8 @@ finding_below r status (debugging limits' found commands is ends) =
     (below status one, λ q. not_of_run status 8 one q (inr (inr (inl refl))), λ q. not_of_run status 9 one q (inr (inr (inr (inl refl)))))
 finding_below r status (bad_script limits names p script bytes fault is e) = (omega (arith, e), λ q. omega (arith, e, q), λ q. omega (arith, e, q))
 finding_below r status (no_plan plan calm (inl e)) = (omega (arith, e.1), λ q. omega (arith, e.1, q), λ q. omega (arith, e.1, q))
-finding_below r status (no_plan plan calm (inr e)) = (omega (arith, e.2), λ q. omega (arith, e.2, q), λ q. omega (arith, e.2, q))
+finding_below r status (no_plan plan calm (inr (inl e))) = (omega (arith, e.2), λ q. omega (arith, e.2, q), λ q. omega (arith, e.2, q))
+finding_below r status (no_plan plan calm (inr (inr e))) = (omega (arith, e.1), λ q. omega (arith, e.1, q), λ q. omega (arith, e.1, q))
 finding_below r status (no_file command names plan fault e) = (omega (arith, e), λ q. omega (arith, e, q), λ q. omega (arith, e, q))
 
 -- what a told shelf lacks

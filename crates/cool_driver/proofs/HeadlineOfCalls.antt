@@ -16,13 +16,14 @@ use Rattle.cool_driver.specs.Execution.{segments_within, run_of, ComesTo, left_b
 use Rattle.cool_driver.specs.Calls.{Request, IsRead, Got, Call, DidNothing, Told}
 use Rattle.cool_driver.specs.Headline.{Headline}
 use Rattle.cool_driver.specs.Ends.{Due, Writing, FailedOutput, FailedNote, FailedDebugged, RanShort, DebuggedShort}
-use Rattle.cool_driver.specs.Ends.Due.{checked, built, refused, executed, unread_input, debugged, unread_debugged, misscripted, unscripted, evaluated, unread_source, unfit, misread, summed, usage, too_many, missing, unread, too_large}
-use Rattle.cool_driver.specs.Ends.Writing.{by_build, by_big, by_image, by_eval}
+use Rattle.cool_driver.specs.Sessions.{SessionShort}
+use Rattle.cool_driver.specs.Ends.Due.{checked, built, refused, executed, unread_input, debugged, unread_debugged, misscripted, unscripted, evaluated, unread_source, unfit, misread, summed, conversed, usage, too_many, missing, unread, too_large}
+use Rattle.cool_driver.specs.Ends.Writing.{by_build, by_big, by_image, by_eval, by_session}
 use Rattle.cool_driver.specs.declared.command_line.Command.TheVariants.{Check, Build, Run, Eval}
 use Rattle.cool_driver.proofs.EvaluationsOfCalls.{no_eval}
 use Rattle.cool_driver.proofs.Findings.{no_file_fault, missing_fault, large_fault}
 use Rattle.cool_driver.proofs.ImagesOfCalls.{run_of_program}
-use Rattle.cool_driver.proofs.Plans.{no_files_for_big, no_files_for_nothing}
+use Rattle.cool_driver.proofs.Plans.{no_files_for_big, no_files_for_nothing, no_files_for_session}
 use Rattle.cool_driver.proofs.ReadTwice.{no_plan_and_plan, same_read, runs_nothing, no_run_exec, no_debug}
 use Rattle.cool_driver.proofs.ScriptsOfCalls.{debug_plan}
 use Rattle.cool_driver.proofs.HeadlineOfRuns.{MeantRun, MeantWrite, headline_came, headline_noteless, headline_stopped}
@@ -79,6 +80,8 @@ due_comes r _ _ _ _ files limits fold names contents p q meant (misread asked na
     absurd (no_run_exec _ _ _ _ _ _ read.plan read'.plan)
 due_comes r _ _ _ _ files limits fold names contents p q meant (summed n line asked calm is) told read form =
     absurd (no_plan_and_plan _ _ _ (no_files_for_big r.words n asked) read.plan)
+due_comes r _ _ _ _ files limits fold names contents p q meant (conversed status output note left is due) told read form =
+    absurd (no_plan_and_plan _ _ _ (no_files_for_session r.words is.asked) read.plan)
 due_comes r _ _ _ _ files limits fold names contents p q meant (usage none calm) told read form =
     absurd (no_plan_and_plan _ _ _ (no_files_for_nothing r.words none) read.plan)
 due_comes r _ _ _ _ files limits fold names contents p q meant (too_many command' names' plan many calm) told read form =
@@ -108,6 +111,8 @@ writing_comes r _ _ _ files limits fold names contents p q meant (by_build shape
     absurd (runs_nothing _ (Build shape) (Run limits fold) _ _ tt read'.plan read.plan)
 writing_comes r _ _ _ files limits fold names contents p q meant (by_big n line asked calm is) told read form =
     absurd (no_plan_and_plan _ _ _ (no_files_for_big r.words n asked) read.plan)
+writing_comes r _ _ _ files limits fold names contents p q meant (by_session replies left is part) told read form =
+    absurd (no_plan_and_plan _ _ _ (no_files_for_session r.words is.asked) read.plan)
 writing_comes r _ _ _ files limits fold names contents p q meant (by_image asked found at printed is comes prints) told read form =
     let (same, made, bounded) = run_of_program r files asked limits fold found names contents p is told read form in
     record {
@@ -138,8 +143,10 @@ headline_failed c files limits fold names contents p q meant (inr (inr (part, ho
 
 -- want of memory comes of `run` before anything was done
 pub not_run : (c : Call) (limits : RunLimits) (fold : Bool) (names : List (List ℕ)) → plan_of c.request.words ≡ Some (Run limits fold, names)
-    → DidNothing c ⊎ RanShort c ⊎ DebuggedShort c → DidNothing c
+    → DidNothing c ⊎ RanShort c ⊎ DebuggedShort c ⊎ SessionShort c → DidNothing c
 not_run c limits fold names plan (inl nothing) = nothing
 not_run c limits fold names plan (inr (inl short)) = absurd (no_eval _ (Run limits fold) short.0 names short.1 tt plan short.3.read.plan)
-not_run c limits fold names plan (inr (inr (part, stops, calm))) =
+not_run c limits fold names plan (inr (inr (inl (part, stops, calm)))) =
     absurd (no_debug _ (Run limits fold) part.limits names _ tt plan part.is.debugged.read.plan)
+not_run c limits fold names plan (inr (inr (inr short))) =
+    absurd (no_plan_and_plan _ _ _ (no_files_for_session c.request.words short.asked) plan)

@@ -25,14 +25,15 @@ use Rattle.cool_driver.specs.Notes.{script_note}
 use Rattle.cool_driver.specs.Calls.{IsRead, IsScriptRead, Got, Call, DidNothing, Told}
 use Rattle.cool_driver.specs.Headline.{StopsWriting, StopsBetween, Headline, StopsShort}
 use Rattle.cool_driver.specs.Ends.{Due, FailedOutput, FailedNote, FailedDebugged, RanShort, DebuggedShort, EndsDebugged}
-use Rattle.cool_driver.specs.Ends.Writing.{by_build, by_big, by_image, by_eval}
+use Rattle.cool_driver.specs.Sessions.{SessionShort}
+use Rattle.cool_driver.specs.Ends.Writing.{by_build, by_big, by_image, by_eval, by_session}
 use Rattle.cool_driver.specs.Ends.{Writing, DebuggedPart}
 use Rattle.cool_driver.specs.declared.command_line.Command.TheVariants.{Build, Eval, Debug}
 use Rattle.cool_driver.proofs.DebugsOfCalls.{DueToDebug, no_run, image_same, debug_due}
 use Rattle.cool_driver.proofs.DebugsOfCalls.DueToDebug.{of_end, of_read, of_fault}
 use Rattle.cool_driver.proofs.HeadlineOfRuns.{MeantRun, headline_came, headline_noteless, headline_stopped, part_at}
 use Rattle.cool_driver.proofs.HeadlineOfRuns.ComesOut.{at_end, at_read}
-use Rattle.cool_driver.proofs.Plans.{no_files_for_big}
+use Rattle.cool_driver.proofs.Plans.{no_files_for_big, no_files_for_session}
 use Rattle.cool_driver.proofs.ReadTwice.{no_debug, no_plan_and_plan}
 use Rattle.cool_driver.proofs.RunsWithinLimits.{run_of-is}
 use Rattle.cool_driver.proofs.StoppedRuns.{written_between, left_between}
@@ -181,6 +182,7 @@ module _ (c : Call) (files : FileMap) (limits : RunLimits) (names contents : Lis
       no_writing : (bytes more left : List ℕ) → Writing c.request bytes more left → ⊥
       no_writing _ _ _ (by_build form names' contents' p' read' is) = no_debug _ (Build form) limits _ _ tt read'.plan read.plan
       no_writing _ _ _ (by_big n line asked calm is) = no_plan_and_plan _ _ _ (no_files_for_big c.request.words n asked) read.plan
+      no_writing _ _ _ (by_session replies left is part) = no_plan_and_plan _ _ _ (no_files_for_session c.request.words is.asked) read.plan
       no_writing _ _ _ (by_image asked found at printed is at_call prints) = no_run c.request asked limits found names is read.plan
       no_writing _ _ _ (by_eval steps names' p' kept is) = no_debug _ (Eval steps) limits _ _ tt is.read.plan read.plan
 
@@ -193,7 +195,8 @@ module _ (c : Call) (files : FileMap) (limits : RunLimits) (names contents : Lis
       debug_failed (inr (inr (part, inr (stops, rose)))) = inr (inl (part_stopped 8 part (inl refl) stops))
 
       -- memory ran out
-      pub debug_short : DidNothing c ⊎ RanShort c ⊎ DebuggedShort c → DebugHeadline c 9 limits names p
+      pub debug_short : DidNothing c ⊎ RanShort c ⊎ DebuggedShort c ⊎ SessionShort c → DebugHeadline c 9 limits names p
       debug_short (inl nothing) = inr (inr (refl, nothing))
       debug_short (inr (inl short)) = absurd (no_debug _ (Eval short.0) limits _ _ tt short.3.read.plan read.plan)
-      debug_short (inr (inr (part, stops, calm))) = inr (inl (part_stopped 9 part (inr refl) stops))
+      debug_short (inr (inr (inl (part, stops, calm)))) = inr (inl (part_stopped 9 part (inr refl) stops))
+      debug_short (inr (inr (inr short))) = absurd (no_plan_and_plan _ _ _ (no_files_for_session c.request.words short.asked) read.plan)

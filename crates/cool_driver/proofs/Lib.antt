@@ -13,6 +13,7 @@ pub mod Findings
 pub mod StatusesOfFindings
 pub mod AnsweredFaults
 pub mod EvaluationsOfCalls
+pub mod SessionsOfCalls
 pub mod EndsOfDue
 pub mod EndsOfTasks
 pub mod RunsWithinLimits
@@ -20,6 +21,7 @@ pub mod BigRuns
 pub mod EndsOfRuns
 pub mod EndsOfDebugs
 pub mod EndsOfEvaluations
+pub mod EndsOfSessions
 pub mod HexDigits
 pub mod LoadingImages
 pub mod Accords

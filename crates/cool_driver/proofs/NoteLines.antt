@@ -21,7 +21,7 @@ use Rattle.cool_driver.specs.declared.command_line.Form.{Form}
 use Rattle.cool_driver.specs.declared.status.Status.{Status}
 use Rattle.cool_driver.specs.declared.status.Status.TheVariants as statuses
 use Rattle.cool_driver.specs.declared.task.Task.{Task}
-use Rattle.cool_driver.specs.declared.task.Task.TheVariants.{Tell, Write, Execute, Debug, Evaluate}
+use Rattle.cool_driver.specs.declared.task.Task.TheVariants.{Tell, Write, Execute, Debug, Evaluate, Converse}
 use Rattle.mips_isa.specs.declared.asm_fault.AsmFault.{AsmFault}
 use Rattle.mips_image.specs.declared.image_error.ImageError.{ImageError}
 use Rattle.spim_debug.specs.declared.script.ScriptFault.{ScriptFault}
@@ -68,6 +68,7 @@ line_due r status line (Tell told lines) h some other due = rw (h.0, one_line li
 line_due r status line (Write made) h some other due = absurd h
 line_due r status line (Execute within image) h some other due = absurd h
 line_due r status line (Debug within image commands) h some other due = absurd h
+line_due r status line Converse h some other due = absurd h
 line_due r status line (Evaluate steps p files) h some other due = absurd h
 
 -- the faults of files that `check` names
@@ -76,6 +77,7 @@ checked_lines names contents faults (Tell status lines) is h = (are_lines lines.
 checked_lines names contents faults (Write made) is h = absurd h
 checked_lines names contents faults (Execute within image) is h = absurd h
 checked_lines names contents faults (Debug within image commands) is h = absurd h
+checked_lines names contents faults Converse is h = absurd h
 checked_lines names contents faults (Evaluate steps p files) is h = absurd h
 
 -- the faults of files that `asm` or `build` names
@@ -86,6 +88,7 @@ built_lines form names contents faults (Tell status lines) is h =
 built_lines form names contents faults (Write made) is h = absurd h
 built_lines form names contents faults (Execute within image) is h = absurd h
 built_lines form names contents faults (Debug within image commands) is h = absurd h
+built_lines form names contents faults Converse is h = absurd h
 built_lines form names contents faults (Evaluate steps p files) is h = absurd h
 
 -- the faults of files that `run` names
@@ -96,6 +99,7 @@ run_lines limits fold names contents faults (Tell status lines) is h =
 run_lines limits fold names contents faults (Write made) is h = absurd h
 run_lines limits fold names contents faults (Execute within image) is h = absurd h
 run_lines limits fold names contents faults (Debug within image commands) is h = absurd h
+run_lines limits fold names contents faults Converse is h = absurd h
 run_lines limits fold names contents faults (Evaluate steps p files) is h = absurd h
 
 -- the faults of files that `eval` names
@@ -105,6 +109,7 @@ eval_lines steps names contents faults (Tell status lines) is h = (are_lines lin
 eval_lines steps names contents faults (Write made) is h = absurd h
 eval_lines steps names contents faults (Execute within image) is h = absurd h
 eval_lines steps names contents faults (Debug within image commands) is h = absurd h
+eval_lines steps names contents faults Converse is h = absurd h
 eval_lines steps names contents faults (Evaluate most p files) is h = absurd h
 
 -- a file that is no image
@@ -116,6 +121,7 @@ unfit_line limits name bytes line (Tell status lines) is h =
 unfit_line limits name bytes line (Write made) is h = absurd h
 unfit_line limits name bytes line (Execute within image) is h = absurd h
 unfit_line limits name bytes line (Debug within image commands) is h = absurd h
+unfit_line limits name bytes line Converse is h = absurd h
 unfit_line limits name bytes line (Evaluate steps p files) is h = absurd h
 
 -- a text with a fault
@@ -127,6 +133,7 @@ misread_line limits name bytes line (Tell status lines) is h =
 misread_line limits name bytes line (Write made) is h = absurd h
 misread_line limits name bytes line (Execute within image) is h = absurd h
 misread_line limits name bytes line (Debug within image commands) is h = absurd h
+misread_line limits name bytes line Converse is h = absurd h
 misread_line limits name bytes line (Evaluate steps p files) is h = absurd h
 
 -- a script with a fault
@@ -139,6 +146,7 @@ script_line limits script bytes names p fault line (Tell status lines) wrong is 
 script_line limits script bytes names p fault line (Write made) wrong is h = absurd h
 script_line limits script bytes names p fault line (Execute within image) wrong is h = absurd h
 script_line limits script bytes names p fault line (Debug within image commands) wrong is h = absurd h
+script_line limits script bytes names p fault line Converse wrong is h = absurd h
 script_line limits script bytes names p fault line (Evaluate steps q files) wrong is h = absurd h
 
 -- the line at a number, in front of those after it

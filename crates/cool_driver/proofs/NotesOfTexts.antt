@@ -11,11 +11,11 @@ use Rattle.cool_driver.specs.Execution.{IsTextFault, is_text_file}
 use Rattle.cool_driver.specs.Notes.{asm_note}
 use Rattle.cool_driver.specs.Calls.{Request, IsRead, Told}
 use Rattle.cool_driver.specs.Ends.{Due}
-use Rattle.cool_driver.specs.Ends.Due.{checked, built, refused, executed, unread_input, debugged, unread_debugged, misscripted, unscripted, evaluated, unread_source, unfit, misread, summed, usage, too_many, missing, unread, too_large}
+use Rattle.cool_driver.specs.Ends.Due.{checked, built, refused, executed, unread_input, debugged, unread_debugged, misscripted, unscripted, evaluated, unread_source, unfit, misread, summed, conversed, usage, too_many, missing, unread, too_large}
 use Rattle.cool_driver.specs.declared.command_line.Command.TheVariants.{Check, Build, Eval, Exec}
 use Rattle.cool_driver.proofs.Findings.{no_file_fault, missing_fault, large_fault}
 use Rattle.cool_driver.proofs.ImagesOfCalls.{fault_or_runs, run_of_file}
-use Rattle.cool_driver.proofs.Plans.{no_files_for_big, no_files_for_nothing}
+use Rattle.cool_driver.proofs.Plans.{no_files_for_big, no_files_for_nothing, no_files_for_session}
 use Rattle.cool_driver.proofs.ReadTwice.{may_refuse, no_debug, no_plan_and_plan, runs_nothing, same_file, same_plan}
 use Rattle.cool_driver.proofs.ScriptsOfCalls.{debug_plan}
 
@@ -60,6 +60,8 @@ misread_note r _ _ _ _ files limits name bytes fault (misread limits' name' byte
     let one : fault' ≡ fault = one_text_fault bytes fault' fault here wrong in
     λ i. asm_note (named i) (one i)
 misread_note r _ _ _ _ files limits name bytes fault (summed n line asked calm is) told read text wrong = absurd (no_plan_and_plan _ _ _ (no_files_for_big r.words n asked) read.plan)
+misread_note r _ _ _ _ files limits name bytes fault (conversed status output note left is due) told read text wrong =
+    absurd (no_plan_and_plan _ _ _ (no_files_for_session r.words is.asked) read.plan)
 misread_note r _ _ _ _ files limits name bytes fault (usage none calm) told read text wrong = absurd (no_plan_and_plan _ _ _ (no_files_for_nothing r.words none) read.plan)
 misread_note r _ _ _ _ files limits name bytes fault (too_many command' names' plan many calm) told read text wrong = absurd (no_file_fault r files _ _ _ _ _ told read plan (inl (many, calm)))
 misread_note r _ _ _ _ files limits name bytes fault (missing command' name' contents' u gone) told read text wrong =

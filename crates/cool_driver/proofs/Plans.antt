@@ -5,7 +5,7 @@ use Rattle.std.specs.List.{list_any, list_all, AllByRecursion}
 use Rattle.std.proofs.lemmas.Bool.{and_parts, leb-true}
 use Rattle.cool_words.specs.Plans as words
 use Rattle.cool_words.specs.Plans.{Asked, is_file_name}
-use Rattle.cool_words.specs.Plans.Asked.{big}
+use Rattle.cool_words.specs.Plans.Asked.{big, session}
 use Rattle.cool_driver.specs.CommandLine.{asked_for, files_asked, plan_of}
 
 -- what is asked for is asked to be done with files
@@ -25,6 +25,10 @@ no_files_for_nothing given none = ap (option_and_then files_asked) none
 -- nor does `big`
 pub no_files_for_big : (given : List (List ℕ)) (n : ℕ) → asked_for given ≡ Some (big n) → plan_of given ≡ None
 no_files_for_big given n is = ap (option_and_then files_asked) is
+
+-- nor does `session`
+pub no_files_for_session : (given : List (List ℕ)) → asked_for given ≡ Some session → plan_of given ≡ None
+no_files_for_session given is = ap (option_and_then files_asked) is
 
 -- `big` is asked for with one number
 pub same_number : (asked : Option Asked) (a b : ℕ) → asked ≡ Some (big a) → asked ≡ Some (big b) → a ≡ b

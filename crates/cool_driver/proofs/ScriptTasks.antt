@@ -40,7 +40,7 @@ use Rattle.cool_driver.specs.declared.command_line.Command.{Command}
 use Rattle.cool_driver.specs.declared.command_line.Command.TheVariants as command
 use Rattle.cool_driver.specs.declared.status.Status.TheVariants as statuses
 use Rattle.cool_driver.specs.declared.task.Task.{Task}
-use Rattle.cool_driver.specs.declared.task.Task.TheVariants.{Tell, Write, Execute, Debug, Evaluate}
+use Rattle.cool_driver.specs.declared.task.Task.TheVariants.{Tell, Write, Execute, Debug, Evaluate, Converse}
 use Rattle.cool_driver.proofs.DueTasks.{many_due, stop_due}
 use Rattle.cool_driver.proofs.NoteLines.{are_lines, line_due, some_lines}
 use Rattle.cool_driver.proofs.ScriptsOfCalls.{debug_plan, debug_script, has_script}
@@ -135,6 +135,7 @@ refused_due r asked names contents faults (Tell status lines) read may is h =
 refused_due r asked names contents faults (Write made) read may is h = absurd h
 refused_due r asked names contents faults (Execute within image) read may is h = absurd h
 refused_due r asked names contents faults (Debug within image commands) read may is h = absurd h
+refused_due r asked names contents faults Converse read may is h = absurd h
 refused_due r asked names contents faults (Evaluate steps p files) read may is h = absurd h
 
 -- The program
@@ -148,6 +149,7 @@ program_due r limits script bytes names p (Tell status lines) bounded is means (
 program_due r limits script bytes names p (Write made) bounded is means h = absurd h
 program_due r limits script bytes names p (Execute within image) bounded is means h = absurd h
 program_due r limits script bytes names p (Evaluate steps q files) bounded is means h = absurd h
+program_due r limits script bytes names p Converse bounded is means h = absurd h
 program_due r limits script bytes names p (Debug within image commands) bounded is means (same, image_is, says, fits) =
     rw same (
       bounded,

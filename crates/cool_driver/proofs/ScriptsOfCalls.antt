@@ -4,7 +4,7 @@ use Rattle.std.specs.Prelude.{Option, option_and_then}
 use Rattle.cool_ports.specs.ShelfFiles.{FileMap, MayHold}
 use Rattle.cool_words.specs.declared.plan.RunLimits.{RunLimits}
 use Rattle.cool_words.specs.Plans.{Asked}
-use Rattle.cool_words.specs.Plans.Asked.{check, asm, build, run, eval, exec, debug, big}
+use Rattle.cool_words.specs.Plans.Asked.{check, asm, build, run, eval, exec, debug, big, session}
 use Rattle.cool_driver.specs.CommandLine.{asked_for, files_asked, script_asked, plan_of, script_of}
 use Rattle.cool_driver.specs.Calls.{Request, IsScriptRead, HasScript, Told}
 use Rattle.cool_driver.specs.Tasks.{TakesNoScript}
@@ -33,6 +33,7 @@ asks_for_files (Some (eval names steps)) script p q = cc
 asks_for_files (Some (exec name limits)) script p q = cc
 asks_for_files (Some (debug other names limits)) script p q = cc
 asks_for_files (Some (big n)) script p q = cc
+asks_for_files (Some session) script p q = cc
 
 pub script_has_plan : (given : List (List ℕ)) (script : List ℕ) → script_of given ≡ Some script → plan_of given ≡ None → ⊥
 script_has_plan given script p q = asks_for_files (asked_for given) script p q
@@ -50,6 +51,7 @@ asks_for_none (Some (exec name limits)) command names script plain p q = cc
 asks_for_none (Some (debug other files limits)) command names script plain p q =
     subst TakesNoScript (same_plan (Some (Debug limits, files)) command (Debug limits) names files p (λ i. Some (Debug limits, files))).0 plain
 asks_for_none (Some (big n)) command names script plain p q = cc
+asks_for_none (Some session) command names script plain p q = cc
 
 pub plain_script : (r : Request) (command : Command) (names : List (List ℕ)) → TakesNoScript command → plan_of r.words ≡ Some (command, names)
     → HasScript r

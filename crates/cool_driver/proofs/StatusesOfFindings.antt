@@ -12,7 +12,7 @@ use Rattle.mips_isa.specs.ImageBounds.{ImageParts}
 use Rattle.mips_isa.specs.declared.asm_fault.AsmFault.{AsmFault}
 use Rattle.cool_emit.specs.Programs.{program_lines}
 use Rattle.cool_words.specs.Plans.{Asked}
-use Rattle.cool_words.specs.Plans.Asked.{big}
+use Rattle.cool_words.specs.Plans.Asked.{big, session}
 use Rattle.spim_debug.specs.declared.script.TheConstants.{MOST_SCRIPT_BYTES}
 use Rattle.cool_driver.specs.Big.{IsBigLine}
 use Rattle.cool_driver.specs.CommandLine.{asked_for, plan_of, script_of, most_bytes}
@@ -22,11 +22,11 @@ use Rattle.cool_words.specs.declared.plan.RunLimits.{RunLimits}
 use Rattle.cool_driver.specs.Calls.{Request, IsRead, IsScriptRead, AreHeld, Told}
 use Rattle.cool_driver.specs.Ends.{Due, IsUnreadScript}
 use Rattle.cool_driver.specs.Ends.IsUnreadScript.{missing_script, unread_script, large_script}
-use Rattle.cool_driver.specs.Ends.Due.{checked, built, refused, executed, unread_input, debugged, unread_debugged, misscripted, unscripted, evaluated, unread_source, unfit, misread, summed, usage, too_many, missing, unread, too_large}
+use Rattle.cool_driver.specs.Ends.Due.{checked, built, refused, executed, unread_input, debugged, unread_debugged, misscripted, unscripted, evaluated, unread_source, unfit, misread, summed, conversed, usage, too_many, missing, unread, too_large}
 use Rattle.cool_driver.specs.declared.command_line.Command.{Command}
 use Rattle.cool_driver.specs.declared.command_line.Command.TheVariants.{Run, Exec}
 use Rattle.cool_driver.proofs.HeldFiles.{held_same, none_missing}
-use Rattle.cool_driver.proofs.Plans.{same_number, no_files_for_big, no_files_for_nothing}
+use Rattle.cool_driver.proofs.Plans.{same_number, no_files_for_big, no_files_for_nothing, no_files_for_session}
 use Rattle.cool_driver.proofs.ReadTwice.{same_plan, no_run_exec, no_debug, runs_nothing, no_plan_and_plan, files_read, same_read, same_file, may_refuse}
 use Rattle.cool_driver.proofs.ScriptsOfCalls.{debug_plan, script_has_plan, script_there}
 use Rattle.cool_driver.proofs.ImagesOfCalls.{fault_or_runs, one_runnable, unfit_or_runs, read_for_run, run_of_file, run_of_program}
@@ -36,6 +36,12 @@ use Rattle.cool_driver.proofs.Findings.Finding.{accepted, faulty, image, no_imag
 -- one thing is asked for, or nothing
 asks_twice : (asked : Option Asked) (n : ℕ) → asked ≡ None → asked ≡ Some (big n) → ⊥
 asks_twice asked n p q = cc
+
+pub big_or_session : (asked : Option Asked) (n : ℕ) → asked ≡ Some session → asked ≡ Some (big n) → ⊥
+big_or_session asked n p q = cc
+
+pub nothing_or_session : (asked : Option Asked) → asked ≡ None → asked ≡ Some session → ⊥
+nothing_or_session asked p q = cc
 
 -- status 2 is left only where nothing is asked for
 pub usage_only : (r : Request) (status : ℕ) → Finding r status → status ≡ 2 → asked_for r.words ≡ None
@@ -47,7 +53,8 @@ usage_only r status (bad_text limits' name' bytes' fault' read' text wrong e) q 
 usage_only r status (debugging limits' found commands is ends) q = absurd (not_of_run status 2 (run_status status ends) q (inr (inl refl)))
 usage_only r status (bad_script limits' names' p' script bytes fault is e) q = absurd (omega (arith, e, q))
 usage_only r status (no_plan plan calm (inl e)) q = e.0
-usage_only r status (no_plan plan calm (inr e)) q = absurd (omega (arith, e.2, q))
+usage_only r status (no_plan plan calm (inr (inl e))) q = absurd (omega (arith, e.2, q))
+usage_only r status (no_plan plan calm (inr (inr e))) q = absurd (omega (arith, e.1, q))
 usage_only r status (no_file command' names' plan' fault e) q = absurd (omega (arith, e, q))
 
 -- and always there
@@ -60,7 +67,8 @@ usage_exactly r status (bad_text limits' name' bytes' fault' read' text wrong e)
 usage_exactly r status (debugging limits' found commands is ends) gone = absurd (no_plan_and_plan _ _ _ (no_files_for_nothing r.words gone) is.debugged.read.plan)
 usage_exactly r status (bad_script limits' names' p' script bytes fault is e) gone = absurd (no_plan_and_plan _ _ _ (no_files_for_nothing r.words gone) is.read.plan)
 usage_exactly r status (no_plan plan calm (inl e)) gone = e.1
-usage_exactly r status (no_plan plan calm (inr e)) gone = absurd (asks_twice _ _ gone e.1)
+usage_exactly r status (no_plan plan calm (inr (inl e))) gone = absurd (asks_twice _ _ gone e.1)
+usage_exactly r status (no_plan plan calm (inr (inr e))) gone = absurd (nothing_or_session _ gone e.0)
 usage_exactly r status (no_file command' names' plan' fault e) gone = absurd (no_plan_and_plan _ _ _ (no_files_for_nothing r.words gone) plan')
 
 -- files that were read are not too many
@@ -254,6 +262,7 @@ big_due r _ _ _ _ n (unread_source steps names p output left is part) asked = ab
 big_due r _ _ _ _ n (unfit limits name bytes fault read binary is) asked = absurd (no_plan_and_plan _ _ _ (no_files_for_big r.words n asked) read.plan)
 big_due r _ _ _ _ n (misread limits name bytes fault read text wrong) asked = absurd (no_plan_and_plan _ _ _ (no_files_for_big r.words n asked) read.plan)
 big_due r _ _ _ _ n (summed m line asks calm is) asked = (refl, subst (λ (k : ℕ). IsBigLine k line) (same_number _ m n asks asked) is)
+big_due r _ _ _ _ n (conversed status output note left is due) asked = absurd (big_or_session _ n is.asked asked)
 big_due r _ _ _ _ n (usage none calm) asked = absurd (asks_twice _ n none asked)
 big_due r _ _ _ _ n (too_many command names plan many calm) asked = absurd (no_plan_and_plan _ _ _ (no_files_for_big r.words n asked) plan)
 big_due r _ _ _ _ n (missing command name contents u gone) asked = absurd (no_plan_and_plan _ _ _ (no_files_for_big r.words n asked) u.plan)

@@ -1,11 +1,11 @@
 -- What a command line asks for: `check FILES`, `asm FILES`, `build FILES`, `run FILES`, `exec FILE` or `debug SCRIPT FILES`, the last three within
--- limits, `eval FILES` with so many steps, or `big N`; `run` may ask to fold the program.
+-- limits, `eval FILES` with so many steps, `big N`, or `session`; `run` may ask to fold the program.
 use Rattle.std.specs.Prelude.{◌≢◌, ℕ, Bool, ◌==◌, nat_le, List, [], ◌∷◌, Option, Some, None, option_and_then}
 use Rattle.cool_syntax.specs.declared.TheConstants.{MOST_SOURCE_BYTES}
 pub use Rattle.cool_words.specs.Plans.{words_of}
 use Rattle.cool_words.specs.Plans as words
 use Rattle.cool_words.specs.Plans.{Asked}
-use Rattle.cool_words.specs.Plans.Asked.{check, asm, build, run, eval, exec, debug, big}
+use Rattle.cool_words.specs.Plans.Asked.{check, asm, build, run, eval, exec, debug, big, session}
 use Rattle.cool_words.specs.declared.plan.RunLimits.{RunLimits}
 use Rattle.cool_driver.specs.declared.TheConstants.{MOST_IMAGE_BYTES}
 use Rattle.cool_driver.specs.declared.command_line.Command.{Command}
@@ -16,7 +16,7 @@ use Rattle.cool_driver.specs.declared.command_line.Form.TheVariants.{Text, Image
 unfoldable pub asked_for : List (List ℕ) → Option Asked
 asked_for given = words.plan_of given
 
--- the command about files that is asked for, and these files; `big` is about none
+-- the command about files that is asked for, and these files; `big` and `session` are about none
 abbrev pub files_asked : Asked → Option (Command × List (List ℕ))
 files_asked (check names) = Some (Check, names)
 files_asked (asm names) = Some (Build Text, names)
@@ -26,6 +26,7 @@ files_asked (eval names steps) = Some (Eval steps, names)
 files_asked (exec name limits) = Some (Exec limits, name ∷ [])
 files_asked (debug script names limits) = Some (Debug limits, names)
 files_asked (big n) = None
+files_asked session = None
 
 abbrev pub plan_of : List (List ℕ) → Option (Command × List (List ℕ))
 plan_of given = option_and_then files_asked (asked_for given)
@@ -40,6 +41,7 @@ script_asked (eval names steps) = None
 script_asked (exec name limits) = None
 script_asked (debug script names limits) = Some script
 script_asked (big n) = None
+script_asked session = None
 
 abbrev pub script_of : List (List ℕ) → Option (List ℕ)
 script_of given = option_and_then script_asked (asked_for given)
@@ -67,4 +69,4 @@ abbrev pub TakesNoInput : List (List ℕ) → Type 0
 TakesNoInput given =
     (names : List (List ℕ)) (limits : RunLimits) (fold : Bool) (steps : ℕ)
     → (plan_of given ≢ Some (Exec limits, names)) × (plan_of given ≢ Some (Run limits fold, names))
-    × (plan_of given ≢ Some (Eval steps, names)) × (plan_of given ≢ Some (Debug limits, names))
+    × (plan_of given ≢ Some (Eval steps, names)) × (plan_of given ≢ Some (Debug limits, names)) × (asked_for given ≢ Some session)

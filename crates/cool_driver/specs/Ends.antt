@@ -1,5 +1,6 @@
 -- How a call of `cool` ends: what is due for the words over the shelf's files and the input, and what came of it.
 use Rattle.std.specs.Prelude.{◌≡◌, ◌≢◌, ℕ, ◌<◌, ◌≤◌, ◌⊎◌, ◌-◌, Bool, true, false, List, [], ◌∷◌, ◌++◌, length, Contains, Some, None, Ok, Err}
+use Rattle.std.specs.List.{concat}
 use Rattle.cool_syntax.specs.declared.TheConstants.{MOST_FILES}
 use Rattle.cool_classes.specs.Chains.{Class}
 use Rattle.cool_faults.specs.declared.fault.Fault.{Fault}
@@ -26,7 +27,9 @@ use Rattle.cool_meaning.specs.SourceRun as source
 use Rattle.cool_runtime.specs.Contents.{AreBytes}
 use Rattle.cool_simulation.specs.Accord.{Means}
 use Rattle.cool_words.specs.declared.plan.RunLimits.{RunLimits}
-use Rattle.cool_words.specs.Plans.Asked.{debug, big}
+use Rattle.cool_session.specs.declared.ending.Ending.{Ending}
+use Rattle.cool_session.specs.Exchanges.{Exchange, Part}
+use Rattle.cool_words.specs.Plans.Asked.{debug, big, session}
 use Rattle.cool_words.specs.Plans.{IsBounded}
 use Rattle.cool_driver.specs.Big.{IsBigLine}
 use Rattle.cool_driver.specs.Compiled.{compiled_program, IsImageFor}
@@ -37,6 +40,7 @@ use Rattle.cool_driver.specs.Debugging.{commands_for, debug_notes}
 use Rattle.cool_driver.specs.Evaluation.{status_of_end, note_of_end, IsPartOf}
 use Rattle.cool_driver.specs.Calls.{Request, AreHeld, IsRead, IsReadUpTo, IsScriptRead, MayRefuse, Got, GotPart, Call, NoLess, DidNothing, Told, Unless}
 use Rattle.cool_driver.specs.Headline.{EndsAsImage, StopsWriting, StopsBetween, Headline, StopsShort}
+use Rattle.cool_driver.specs.Sessions.{IsSession, DueToSession, SessionShort, SessionEnds, EndsAsSession}
 use Rattle.cool_driver.specs.declared.command_line.Command.{Command}
 use Rattle.cool_driver.specs.declared.command_line.Command.TheVariants.{Check, Build, Run, Eval, Exec, Debug}
 use Rattle.cool_driver.specs.declared.command_line.Form.{Form}
@@ -141,6 +145,8 @@ pub data Due (r : Request) : ℕ → List ℕ → List ℕ → List ℕ → Type
   -- `big`: its line
   summed : (n : ℕ) (line : List ℕ) → asked_for r.words ≡ Some (big n) → r.faults_after ≡ r.faults_before → IsBigLine n line
       → Due r 0 line [] r.input
+  -- `session`: what is due for the session that the input is
+  conversed : (status : ℕ) (output note left : List ℕ) → IsSession r → DueToSession r.input status output note left → Due r status output note left
   -- all
   usage : asked_for r.words ≡ None → r.faults_after ≡ r.faults_before → Due r 2 [] usage_note r.input
   too_many : (command : Command) (names : List (List ℕ)) → plan_of r.words ≡ Some (command, names) → MOST_FILES < length names
@@ -164,6 +170,8 @@ pub data Writing (r : Request) : List ℕ → List ℕ → List ℕ → Type 0 w
   -- the run of the image comes to a call that prints these bytes
   by_image : (limits : RunLimits) (image : ImageParts) (at : State) (printed : List ℕ) → IsRunOf r limits image
       → ComesTo limits image r.input at → call (segments_within limits image) at ≡ print at printed → Writing r at.output printed at.input
+  -- the replies of a session to the commands that were read
+  by_session : (replies : List (List ℕ)) (left : List ℕ) → IsSession r → Part r.input replies left → Writing r [] (concat replies) left
   -- what the run of the source writes; at least what it leaves of the input is left
   by_eval : (steps : ℕ) (names : List (List ℕ)) (p : List Class) (kept : List ℕ) → IsEvaluationOf r steps names p
       → Writing r [] (source.run p names r.input steps).output (kept ++ (source.run p names r.input steps).left)
@@ -224,8 +232,8 @@ pub record Ends (c : Call) (status : ℕ) : Type 0 where
   -- status 8: a write failed
   pub write_fault : status ≡ 8 → Rose c.out.faults_before c.out.faults_after ⊎ Rose c.notes.faults_before c.notes.faults_after
   pub prefixes : status ≡ 8 → FailedOutput c ⊎ FailedNote c ⊎ FailedDebugged c
-  -- status 9: nothing was written or taken, but where `eval` or the debugger ran
-  pub want_of_memory : status ≡ 9 → DidNothing c ⊎ RanShort c ⊎ DebuggedShort c
+  -- status 9: nothing was written or taken, but where `eval`, the debugger or a session ran
+  pub want_of_memory : status ≡ 9 → DidNothing c ⊎ RanShort c ⊎ DebuggedShort c ⊎ SessionShort c
   -- status 7 comes only where the input failed
   pub read_fault : status ≡ 7 → Rose c.input_before c.input_after
   -- status 2 comes where the words ask for nothing, and only there
@@ -313,6 +321,12 @@ pub record Ends (c : Call) (status : ℕ) : Type 0 where
   -- `big`: status 0, and its line, come where the words ask for it
   pub summed_exactly : (n : ℕ) → asked_for c.request.words ≡ Some (big n)
       → Unless status ((status ≡ 0) × (line : List ℕ) × IsBigLine n line × Got c.out line)
+  -- `session`: it goes as the session over its input, whatever the status
+  pub session_ends : asked_for c.request.words ≡ Some session → SessionEnds c status
+  -- and where the input is a session that comes to its end, the status, the output and the note of that end come, and what it leaves of the
+  -- input is left, unless a read failed
+  pub session_exactly : (replies : List (List ℕ)) (end : Ending) (left : List ℕ) → asked_for c.request.words ≡ Some session
+      → Exchange c.request.input replies end left → Unless status ((status ≡ 7) ⊎ EndsAsSession c status replies end left)
   -- no fault is passed over, and none is taken back
   pub no_less : NoLess c
   pub out_fault : c.out.faults_before < c.out.faults_after → status ≡ 8

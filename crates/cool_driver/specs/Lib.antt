@@ -10,5 +10,6 @@ pub mod Big
 pub mod Compiled
 pub mod Calls
 pub mod Headline
+pub mod Sessions
 pub mod Ends
 pub mod Tasks

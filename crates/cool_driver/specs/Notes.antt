@@ -15,6 +15,8 @@ use Rattle.mips_isa.specs.declared.asm_fault.AsmFault.{AsmFault}
 use Rattle.spim_debug.specs.declared.script.ScriptKind.{ScriptKind}
 use Rattle.spim_debug.specs.declared.script.ScriptKind.TheVariants.{B1, B2}
 use Rattle.spim_debug.specs.declared.script.ScriptFault.{ScriptFault}
+use Rattle.cool_session.specs.declared.ending.Ending.{Ending}
+use Rattle.cool_session.specs.declared.ending.Ending.TheVariants.{Over, BadCommand, EndsInFile, TooLarge}
 use Rattle.mips_image.specs.declared.image_error.ImageError.{ImageError}
 use Rattle.mips_image.specs.declared.image_error.ImageError.TheVariants.{Memory, I1, I2, I3, I4, I5}
 
@@ -92,6 +94,22 @@ script_note name fault = name ++ (codes ":" ++ (decimal fault.line ++ (codes ": 
 label_in_line_3 : script_note (codes "steps.txt") (record { kind = B2; line = 3 }) ≡ codes "steps.txt:3: B2: unknown label\n"
 unfolding decimals.digits
 label_in_line_3 = refl
+
+-- the command of a session with this number, and what is wrong with it
+abbrev pub command_note : ℕ → List ℕ → List ℕ
+command_note number words = codes "session:" ++ (decimal number ++ (codes ": " ++ (words ++ codes "\n")))
+
+-- the end of a session
+abbrev pub ending_note : Ending → List ℕ
+ending_note Over = []
+ending_note (BadCommand number) = command_note number (codes "B3: bad command")
+ending_note (EndsInFile number) = command_note number (codes "B4: input ends in a file")
+ending_note (TooLarge number) = command_note number (codes "B5: session too large")
+
+-- a worked example
+second_command : ending_note (TooLarge 2) ≡ codes "session:2: B5: session too large\n"
+unfolding decimals.digits
+second_command = refl
 
 abbrev pub trap_words : TrapKind → List ℕ
 trap_words BadAddress = codes "bad address"

@@ -1,5 +1,5 @@
--- What is left to do once the words and the files were read: a note, lines or an image to write, an image to run or to debug, or a program to
--- evaluate.
+-- What is left to do once the words and the files were read: a note, lines or an image to write, an image to run or to debug, a program to
+-- evaluate, or a session to hold.
 use Rattle.std.specs.Prelude.{◌≡◌, ◌≢◌, ℕ, ◌<◌, ◌≤◌, ◌⊎◌, Bool, true, false, List, [], ◌∷◌, Option, Some, None, get_or, map, length, String, Result, Ok, Err}
 use Rattle.std.specs.List.{concat, list_all, AllByRecursion}
 use Rattle.std.specs.Global.{Global, Vec}
@@ -36,6 +36,7 @@ use Rattle.cool_driver.specs.Execution.{IsRunnable, IsTextFault, is_text_file, s
 use Rattle.cool_driver.specs.Compiled.{IsImageFor}
 use Rattle.cool_driver.specs.Debugging.{commands_for}
 use Rattle.cool_driver.specs.Calls.{Request, SinkUse, Got, GotPart}
+use Rattle.cool_driver.specs.Sessions.{IsSession}
 use Rattle.cool_driver.specs.Ends.{Due, Writing, IsRunOf, IsDebugOf, IsEvaluationOf, IsCompiled, built_bytes}
 use Rattle.cool_driver.specs.Contents.{texts}
 use Rattle.cool_driver.specs.declared.command_line.Command.{Command}
@@ -44,7 +45,7 @@ use Rattle.cool_driver.specs.declared.command_line.Form.{Form}
 use Rattle.cool_driver.specs.declared.status.Status.{Status}
 use Rattle.cool_driver.specs.declared.status.Status.TheVariants as statuses
 use Rattle.cool_driver.specs.declared.task.Task.{Task}
-use Rattle.cool_driver.specs.declared.task.Task.TheVariants.{Tell, Write, Execute, Debug, Evaluate}
+use Rattle.cool_driver.specs.declared.task.Task.TheVariants.{Tell, Write, Execute, Debug, Evaluate, Converse}
 
 abbrev pub code_of : Status → ℕ
 code_of statuses.Done = 0
@@ -105,6 +106,7 @@ IsTaskOfFile limits name bytes (Write made) = ⊥
 IsTaskOfFile limits name bytes (Execute within image) = (within ≡ limits) × IsRunnable image bytes
 IsTaskOfFile limits name bytes (Evaluate steps p files) = ⊥
 IsTaskOfFile limits name bytes (Debug within image commands) = ⊥
+IsTaskOfFile limits name bytes Converse = ⊥
 
 -- what is left to do for files of these names that `check` names and that have these bytes
 abbrev pub IsTaskOfChecked : List (List ℕ) → List (List ℕ) → Task → Type 0
@@ -116,6 +118,7 @@ IsTaskOfChecked names contents (Write made) = ⊥
 IsTaskOfChecked names contents (Execute within image) = ⊥
 IsTaskOfChecked names contents (Evaluate steps p files) = ⊥
 IsTaskOfChecked names contents (Debug within image commands) = ⊥
+IsTaskOfChecked names contents Converse = ⊥
 
 -- what is left to do to write the program of files of these names that have these bytes, in a form
 abbrev pub IsTaskOfBuilt : Form → List (List ℕ) → List (List ℕ) → Task → Type 0
@@ -127,6 +130,7 @@ IsTaskOfBuilt form names contents (Write made) =
 IsTaskOfBuilt form names contents (Execute within image) = ⊥
 IsTaskOfBuilt form names contents (Evaluate steps p files) = ⊥
 IsTaskOfBuilt form names contents (Debug within image commands) = ⊥
+IsTaskOfBuilt form names contents Converse = ⊥
 
 -- what is left to do for files of these names that `run` names, within these limits, folded or not, and that have these bytes
 abbrev pub IsTaskOfRun : RunLimits → (fold : Bool) → List (List ℕ) → List (List ℕ) → Task → Type 0
@@ -138,6 +142,7 @@ IsTaskOfRun limits fold names contents (Execute within image) =
     (within ≡ limits) × ((p : List Class) × IsAccepted contents p × IsImageFor fold p names image)
 IsTaskOfRun limits fold names contents (Evaluate steps p files) = ⊥
 IsTaskOfRun limits fold names contents (Debug within image commands) = ⊥
+IsTaskOfRun limits fold names contents Converse = ⊥
 
 -- what is left to do for files of these names that `eval` names, with so many steps, and that have these bytes
 abbrev pub IsTaskOfEval : ℕ → List (List ℕ) → List (List ℕ) → Task → Type 0
@@ -148,6 +153,7 @@ IsTaskOfEval steps names contents (Write made) = ⊥
 IsTaskOfEval steps names contents (Execute within image) = ⊥
 IsTaskOfEval steps names contents (Evaluate most p files) = (most ≡ steps) × (words_of files.items ≡ names) × IsAccepted contents p
 IsTaskOfEval steps names contents (Debug within image commands) = ⊥
+IsTaskOfEval steps names contents Converse = ⊥
 
 -- the command takes no script beside its files
 abbrev pub TakesNoScript : Command → Type 0
@@ -173,6 +179,7 @@ IsLine status line (Write made) = ⊥
 IsLine status line (Execute within image) = ⊥
 IsLine status line (Evaluate steps p files) = ⊥
 IsLine status line (Debug within image commands) = ⊥
+IsLine status line Converse = ⊥
 
 -- a line for each fault of files of these names
 abbrev pub AreLinesOf : List (List ℕ) → List Fault → Task → Type 0
@@ -181,6 +188,7 @@ AreLinesOf names faults (Write made) = ⊥
 AreLinesOf names faults (Execute within image) = ⊥
 AreLinesOf names faults (Evaluate steps p files) = ⊥
 AreLinesOf names faults (Debug within image commands) = ⊥
+AreLinesOf names faults Converse = ⊥
 
 -- one line for a file or a script of this name that was not read
 abbrev pub IsUnreadLine : List ℕ → ShelfFault → Task → Type 0
@@ -194,6 +202,7 @@ IsTaskOfScript limits script bytes names p (Tell status lines) =
 IsTaskOfScript limits script bytes names p (Write made) = ⊥
 IsTaskOfScript limits script bytes names p (Execute within image) = ⊥
 IsTaskOfScript limits script bytes names p (Evaluate steps q files) = ⊥
+IsTaskOfScript limits script bytes names p Converse = ⊥
 IsTaskOfScript limits script bytes names p (Debug within image commands) =
     (within ≡ limits) × (image ≡ image_of (program_lines p names)) × (commands_for p names bytes ≡ Ok commands.items)
     × IsScriptFor image.text commands.items
@@ -221,6 +230,7 @@ IsDue r (Execute limits image) = IsBounded limits × IsRunOf r limits image
 IsDue r (Debug limits image commands) =
     IsBounded limits × IsScriptFor image.text commands.items × IsDebugOf r limits image commands.items
 IsDue r (Evaluate steps p files) = IsEvaluationOf r steps (words_of files.items) p
+IsDue r Converse = IsSession r
 
 -- what is left to do for any words that name these files for this command, over a shelf of these files, and for any input
 abbrev pub IsFileTask : Option FileMap → ℕ → ℕ → Command → List (List ℕ) → Task → Type 0
@@ -237,6 +247,10 @@ IsDebugTask files before after limits script names task =
 -- Bytes were written, a note or an image, and this status answered, or the write failed.
 abbrev pub Noted : SinkUse → List ℕ → Status → Status → Type 0
 Noted s bytes status answered = ((answered ≡ status) × Got s bytes) ⊎ ((answered ≡ statuses.WriteFault) × GotPart s [] bytes)
+
+-- The same, unless memory ran out before anything was written.
+abbrev pub NotedIfMade : SinkUse → List ℕ → Status → Status → Type 0
+NotedIfMade s bytes status answered = Noted s bytes status answered ⊎ ((answered ≡ statuses.Memory) × Got s [])
 
 -- How a machine halted was noted, and its status answered, or the write of the note failed.
 abbrev pub HaltNoted : SinkUse → Halt → Status → Type 0

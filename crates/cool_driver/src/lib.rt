@@ -3,15 +3,16 @@
 //! Comes in: words, files, input. Goes out: output, notes and a status. It meets `specs/Ends.antt`.
 #![tactic(auto)]
 
-ghost use Rattle.std.specs.Prelude.{◌≡◌, ◌⊎◌, ℕ, List, Bool, false};
+ghost use Rattle.std.specs.Prelude.{◌≡◌, ◌⊎◌, ℕ, List, Bool, Some, false};
 ghost use Rattle.cool_ports.specs.Answers.{Leaves};
 ghost use Rattle.cool_ports.specs.Counts.{Rose};
 ghost use Rattle.cool_ports.specs.SinkBytes.{appended, GotPrefix};
 ghost use Rattle.cool_ports.specs.Taking.{Took};
-ghost use Rattle.cool_driver.specs.CommandLine.{words_of, TakesNoInput};
+ghost use Rattle.cool_driver.specs.CommandLine.{words_of, asked_for, TakesNoInput};
 ghost use Rattle.cool_driver.specs.Notes.{usage_note};
 ghost use Rattle.cool_driver.specs.Ends.{Ends};
 ghost use Rattle.cool_driver.specs.Limits.{AreLimits};
+ghost use Rattle.cool_words.specs.Plans.Asked.{session};
 
 mod big;
 mod command_line;
@@ -22,6 +23,7 @@ mod growing_sink;
 mod notes;
 mod reading;
 mod script;
+mod session;
 mod status;
 mod task;
 mod writing;
@@ -31,6 +33,7 @@ use debugging::debug_image;
 use evaluation::evaluate_program;
 use execution::execute;
 use notes::{BAD_COMMAND_LINE, tell_lines};
+use session::hold_session;
 pub use status::Status;
 use std::alloc::{AllocError, Global};
 use task::{Task, find_task};
@@ -57,11 +60,14 @@ pub fn cool<F: Shelf, I: Source, O: Sink, E: Sink>(
     // The shelf keeps its files.
     ensures files { F.files files.new ≡ F.files files.old }
 
-    // Only `run`, `exec`, `debug` and `eval` take of the input.
+    // Only `run`, `exec`, `debug`, `eval` and `session` take of the input.
     ensures input { TakesNoInput (words_of words.now) → input.new ≡ input.old }
 
     // What it takes of the input: bytes, and then perhaps the answer that nothing is left, once.
     ensures taken { (ended : Bool) × Took false ended (I.past input.old) (I.past input.new) (I.left input.old) (I.left input.new) }
+
+    // Where a read cuts a session short, the source had not answered its end.
+    ensures unended { asked_for (words_of words.now) ≡ Some session → result ≡ 7 → (I.past input.new).ends ≡ (I.past input.old).ends }
 
     // How it ends, by its status, for any input that begins with what it took, and is no more than that where the end was
     // answered.
@@ -101,6 +107,7 @@ pub fn cool<F: Shelf, I: Source, O: Sink, E: Sink>(
         Ok(Task::Evaluate(steps, program, names)) => {
             evaluate_program(alloc, steps, &program, &names, input, out, notes)
         }
+        Ok(Task::Converse) => hold_session(alloc, input, out, notes),
     };
     status.code()
 }

@@ -2,7 +2,7 @@
 
 ghost use Rattle.std.specs.Prelude.{◌≡◌, ◌≢◌, ◌+◌, ◌<◌, ◌≤◌, ◌++◌, length, IfOk, Some, string_bytes};
 ghost use Rattle.arrayvec.specs.ArrayString.{array_string_len};
-ghost use Rattle.cool_driver.specs.Notes.{asm_note, asm_words, digits, image_note, script_note, script_words, trap_words, trap_note};
+ghost use Rattle.cool_driver.specs.Notes.{asm_note, asm_words, digits, image_note, script_note, script_words, command_note, trap_words, trap_note};
 ghost use Rattle.cool_driver.specs.Tasks.{AreLines, Noted, fault_note, note_of};
 
 use crate::status::Status;
@@ -164,6 +164,13 @@ fn script_words(kind: ScriptKind) -> &'static str
         ScriptKind::B1 => "B1: bad script line",
         ScriptKind::B2 => "B2: unknown label",
     }
+}
+
+/// The note of the command of a session that has this number.
+pub fn command_note(alloc: Global, number: u64, words: &str) -> Result<String, AllocError>
+    ensures { IfOk result (λ note. string_bytes note ≡ command_note number words.now) }
+{
+    format!(in alloc; "session:{number}: {words}\n")
 }
 
 /// The note of a file that is no image.

@@ -33,7 +33,7 @@ pub enum Status {
     FileFault = 10,
     /// The machine trapped.
     Trapped = 11,
-    /// The file is no image.
+    /// The file, the script or the input of a session has a fault.
     Unfit = 12,
 }
 

@@ -53,6 +53,8 @@ pub enum Task {
     Debug(RunLimits, Image, Vec<DebugCommand>),
     /// To evaluate this program over the input with so many steps. Its files have these names.
     Evaluate(u64, TypedProgram, Vec<String>),
+    /// To do what the commands in the input say.
+    Converse,
 }
 
 /// What is left to do for a command line. `Err` comes only for want of memory.
@@ -104,6 +106,7 @@ pub fn find_task<F: Shelf>(
             },
         ) => find_debug_task(alloc, limits, script.as_str(), &names, files),
         Ok(Plan::Big { n }) => Ok(Task::Write(big_line(alloc, n)?.into_bytes())),
+        Ok(Plan::Session) => Ok(Task::Converse),
         Err(WordsError::Usage) => tell_usage(alloc),
         Err(WordsError::Memory) => Err(AllocError),
     }

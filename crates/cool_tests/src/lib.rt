@@ -21,4 +21,6 @@ mod routines;
 #[cfg(test)]
 mod runs;
 #[cfg(test)]
+mod sessions;
+#[cfg(test)]
 mod trees;

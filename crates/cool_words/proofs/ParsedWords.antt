@@ -10,7 +10,7 @@ use Rattle.clap.specs.declared.parser.matches.ArgMatches.{ArgMatches}
 use Rattle.cool_words.specs.Commands.{app_for}
 use Rattle.cool_words.specs.Plans.{asked_of, is_accepted, plan_by}
 use Rattle.cool_words.specs.declared.command_word.CommandWord.{CommandWord}
-use Rattle.cool_words.specs.declared.command_word.CommandWord.TheVariants.{Check, Asm, Build, Run, Eval, Exec, Debug, Big}
+use Rattle.cool_words.specs.declared.command_word.CommandWord.TheVariants.{Check, Asm, Build, Run, Eval, Exec, Debug, Big, Session}
 
 -- clap's clauses speak of each command
 simple_and_free : (command : CommandWord) → is_simple_and_free (app_for command) ≡ true
@@ -22,6 +22,7 @@ simple_and_free Eval = refl
 simple_and_free Exec = refl
 simple_and_free Debug = refl
 simple_and_free Big = refl
+simple_and_free Session = refl
 
 simple : (command : CommandWord) → is_simple (app_for command) ≡ true
 simple Check = refl
@@ -32,6 +33,7 @@ simple Eval = refl
 simple Exec = refl
 simple Debug = refl
 simple Big = refl
+simple Session = refl
 
 -- words that clap takes ask for what its matches ask for
 pub plan_of_matches : (app : App) (command : CommandWord) (words : List Text) (m : ArgMatches) → app ≡ app_for command → HasMatchesOf app words m

@@ -5,7 +5,7 @@ use Rattle.clap.specs.Simple.{new_shape}
 use Rattle.clap.specs.declared.builder.action.ArgAction.{ArgAction}
 use Rattle.clap.specs.declared.builder.action.ArgAction.TheVariants.{Set, Append, SetTrue}
 use Rattle.cool_words.specs.declared.command_word.CommandWord.{CommandWord}
-use Rattle.cool_words.specs.declared.command_word.CommandWord.TheVariants.{Check, Asm, Build, Run, Eval, Exec, Debug, Big}
+use Rattle.cool_words.specs.declared.command_word.CommandWord.TheVariants.{Check, Asm, Build, Run, Eval, Exec, Debug, Big, Session}
 
 abbrev pub name_of : CommandWord → Text
 name_of Check = codes "check"
@@ -16,6 +16,7 @@ name_of Eval = codes "eval"
 name_of Exec = codes "exec"
 name_of Debug = codes "debug"
 name_of Big = codes "big"
+name_of Session = codes "session"
 
 abbrev pub command_of : Text → Option CommandWord
 command_of word =
@@ -26,7 +27,8 @@ command_of word =
     else (if bytes_eq word (codes "eval") then Some Eval
     else (if bytes_eq word (codes "exec") then Some Exec
     else (if bytes_eq word (codes "debug") then Some Debug
-    else (if bytes_eq word (codes "big") then Some Big else None)))))))
+    else (if bytes_eq word (codes "big") then Some Big
+    else (if bytes_eq word (codes "session") then Some Session else None))))))))
 
 -- an option `--name`, which takes one value, at most once
 abbrev pub option_rule : Text → Rule
@@ -62,4 +64,5 @@ app_for Eval = with_rule (with_steps (bare (codes "eval"))) FILES
 app_for Exec = with_rule (with_limits (bare (codes "exec"))) (positional_rule (codes "FILE") Set)
 app_for Debug = with_rule (with_rule (with_limits (bare (codes "debug"))) (positional_rule (codes "SCRIPT") Set)) FILES
 app_for Big = with_rule (bare (codes "big")) (positional_rule (codes "N") Set)
+app_for Session = bare (codes "session")
 app_for command = with_rule (bare (name_of command)) FILES

@@ -11,7 +11,7 @@ use Rattle.clap.specs.Words.{Row, Text, all_of, first_of, matches_of, fault_of}
 use Rattle.cool_words.specs.Commands.{app_for, command_of}
 use Rattle.cool_words.specs.Numbers.{IsWithin, number_in}
 use Rattle.cool_words.specs.declared.command_word.CommandWord.{CommandWord}
-use Rattle.cool_words.specs.declared.command_word.CommandWord.TheVariants.{Check, Asm, Build, Run, Eval, Exec, Debug, Big}
+use Rattle.cool_words.specs.declared.command_word.CommandWord.TheVariants.{Check, Asm, Build, Run, Eval, Exec, Debug, Big, Session}
 use Rattle.cool_words.specs.declared.plan.RunLimits.{RunLimits}
 use Rattle.cool_words.specs.declared.plan.Plan.{Plan}
 use Rattle.cool_words.specs.declared.plan.Plan.TheVariants as plan
@@ -32,6 +32,7 @@ pub data Asked : Type 0 where
   exec : Text → RunLimits → Asked
   debug : Text → List Text → RunLimits → Asked
   big : ℕ → Asked
+  session : Asked
 
 abbrev pub asked_by : Plan → Asked
 asked_by (plan.Check files) = check (words_of files.items)
@@ -42,6 +43,7 @@ asked_by (plan.Eval files steps) = eval (words_of files.items) steps
 asked_by (plan.Exec file limits) = exec (string_bytes file) limits
 asked_by (plan.Debug script files limits) = debug (string_bytes script) (words_of files.items) limits
 asked_by (plan.Big n) = big n
+asked_by plan.Session = session
 
 -- ---- names and limits
 
@@ -118,6 +120,7 @@ asked_of Exec rows = option_and_then (λ file. option_map (exec file) (limits_in
 asked_of Debug rows =
     option_and_then (λ script. option_and_then (λ files. option_map (debug script files) (limits_in rows)) (files_in rows)) (file_in (codes "SCRIPT") rows)
 asked_of Big rows = option_map big (value_in (codes "N") 1 300 None rows)
+asked_of Session rows = Some session
 
 -- clap finds no fault in the words, of which the first is the command's
 abbrev pub is_accepted : CommandWord → List Text → Bool
@@ -184,6 +187,10 @@ size_of_300 : plan_of (codes "big" ∷ codes "300" ∷ []) ≡ Some (big 300)
 unfolding on_literals
 size_of_300 = refl
 
+session_alone : plan_of (codes "session" ∷ []) ≡ Some session
+unfolding on_literals
+session_alone = refl
+
 -- and of what asks for nothing
 no_words : plan_of [] ≡ None
 no_words = refl
@@ -231,6 +238,18 @@ eval_of_no_file : plan_of (codes "eval" ∷ []) ≡ None
 unfolding on_literals
 eval_of_no_file = refl
 
+session_with_word : plan_of (codes "session" ∷ codes "p.cl" ∷ []) ≡ None
+unfolding on_literals
+session_with_word = refl
+
+session_with_steps : plan_of (codes "session" ∷ codes "--steps=9" ∷ []) ≡ None
+unfolding on_literals
+session_with_steps = refl
+
+session_with_hyphens : plan_of (codes "session" ∷ codes "--" ∷ codes "p.cl" ∷ []) ≡ None
+unfolding on_literals
+session_with_hyphens = refl
+
 debug_of_no_file : plan_of (codes "debug" ∷ codes "steps.txt" ∷ []) ≡ None
 unfolding on_literals
 debug_of_no_file = refl
@@ -270,3 +289,4 @@ IsWithinBounds (plan.Eval files steps) = HasFileNames (words_of files.items) × 
 IsWithinBounds (plan.Exec file limits) = (is_file_name (string_bytes file) ≡ true) × IsBounded limits
 IsWithinBounds (plan.Debug script files limits) = (is_file_name (string_bytes script) ≡ true) × HasFileNames (words_of files.items) × IsBounded limits
 IsWithinBounds (plan.Big n) = IsWithin 1 300 n
+IsWithinBounds plan.Session = Unit {0}

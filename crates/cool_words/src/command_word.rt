@@ -18,6 +18,7 @@ pub enum CommandWord {
     Exec,
     Debug,
     Big,
+    Session,
 }
 
 /// The command of this name.
@@ -33,6 +34,7 @@ pub(crate) fn command_of(word: &str) -> Option<CommandWord>
         "exec" => Some(CommandWord::Exec),
         "debug" => Some(CommandWord::Debug),
         "big" => Some(CommandWord::Big),
+        "session" => Some(CommandWord::Session),
         _ => None,
     }
 }
@@ -51,6 +53,7 @@ impl CommandWord {
             CommandWord::Exec => "exec",
             CommandWord::Debug => "debug",
             CommandWord::Big => "big",
+            CommandWord::Session => "session",
         }
     }
 
@@ -76,6 +79,7 @@ impl CommandWord {
                     .arg(files(alloc))
             }
             CommandWord::Big => parser.arg(positional(alloc, "N", ArgAction::Set)),
+            CommandWord::Session => Ok(parser),
         }
     }
 }

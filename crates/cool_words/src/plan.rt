@@ -59,4 +59,6 @@ pub enum Plan {
     Big {
         n: u32,
     },
+    /// To tell the faults of files after edits, as the input says.
+    Session,
 }

@@ -106,6 +106,7 @@ fn read_matches(
         CommandWord::Big => Ok(Plan::Big {
             n: size_of(matches)?,
         }),
+        CommandWord::Session => Ok(Plan::Session),
     }
 }
 

@@ -6,8 +6,10 @@ use Rattle.cool_driver.proofs.EndsOfTasks.{note_ends, written_ends}
 use Rattle.cool_driver.proofs.DebugsOfCalls.{debug_takes_input}
 use Rattle.cool_driver.proofs.EvaluationsOfCalls.{evaluation_takes_input}
 use Rattle.cool_driver.proofs.ImagesOfCalls.{run_takes_input}
+use Rattle.cool_driver.proofs.SessionsOfCalls.{session_takes_input, no_run_in_session, no_debug_in_session, no_evaluation_in_session}
+use Rattle.cool_driver.proofs.EndsOfSessions.{read_fault_of_seven}
 use Rattle.cool_driver.proofs.cool.Goals as goal
-use Rattle.cool_driver.proofs.cool.Goals.{in-Err, in-Ok-Tell, in-Ok-Write, in-Ok-Execute, in-Ok-Debug, in-Ok-Evaluate}
+use Rattle.cool_driver.proofs.cool.Goals.{in-Err, in-Ok-Tell, in-Ok-Write, in-Ok-Execute, in-Ok-Debug, in-Ok-Evaluate, in-Ok-Converse}
 
 -- no line is empty
 pub tell_lines-status-requires : goal.tell_lines-status-requires
@@ -42,6 +44,9 @@ returns-clause-input g c none =
       | in-Ok-Evaluate w ↦
           let due = rw w.in-Ok-Evaluate.field-0-is at (w.in-Ok-Evaluate.ensures.due []) in
           absurd (evaluation_takes_input _ _ _ _ due none)
+      | in-Ok-Converse w ↦
+          let due = rw w.in-Ok-Converse.field-0-is at (w.in-Ok-Converse.ensures.due []) in
+          absurd (session_takes_input _ due none)
     ]
 
 pub returns-clause-ends : goal.returns-clause-ends
@@ -73,6 +78,10 @@ returns-clause-ends g c given rest leaves =
           let here = rw w.input-is at leaves in
           let due = rw (w.in-Ok-Evaluate.field-0-is, ← w.deref-in-Ok-Evaluate.ensures.value) at (w.in-Ok-Evaluate.ensures.due given) in
           rw (c.code.ensures, w.status-is, w.out-is, w.notes-is, w.input-is) (w.evaluate_program-status.ensures.ends _ rest due here)
+      | in-Ok-Converse w ↦
+          let here = rw w.input-is at leaves in
+          let due = rw w.in-Ok-Converse.field-0-is at (w.in-Ok-Converse.ensures.due given) in
+          rw (c.code.ensures, w.status-is, w.out-is, w.notes-is, w.input-is) (w.hold_session-status.ensures.ends _ rest due here)
     ]
 
 pub returns-clause-taken : goal.returns-clause-taken
@@ -84,6 +93,28 @@ returns-clause-taken g c =
       | in-Ok-Execute w ↦ rw w.input-is w.execute-status.ensures.taken
       | in-Ok-Debug w ↦ rw w.input-is w.debug_image-status.ensures.taken
       | in-Ok-Evaluate w ↦ rw w.input-is w.evaluate_program-status.ensures.taken
+      | in-Ok-Converse w ↦ rw w.input-is w.hold_session-status.ensures.taken
+    ]
+
+-- where a read cut a session short, the end was not answered
+pub returns-clause-unended : goal.returns-clause-unended
+returns-clause-unended g c asked seven =
+    elim c.match-find_task.branch [
+      | in-Err w ↦ rw w.input-is refl
+      | in-Ok-Tell w ↦ rw w.input-is refl
+      | in-Ok-Write w ↦ rw w.input-is refl
+      | in-Ok-Execute w ↦
+          let due = rw w.in-Ok-Execute.field-0-is at (w.in-Ok-Execute.ensures.due []) in
+          absurd (no_run_in_session _ _ _ due.1 asked)
+      | in-Ok-Debug w ↦
+          let due = rw w.in-Ok-Debug.field-0-is at (w.in-Ok-Debug.ensures.due []) in
+          absurd (no_debug_in_session _ _ _ _ due.2 asked)
+      | in-Ok-Evaluate w ↦
+          let due = rw w.in-Ok-Evaluate.field-0-is at (w.in-Ok-Evaluate.ensures.due []) in
+          absurd (no_evaluation_in_session _ _ _ _ due asked)
+      | in-Ok-Converse w ↦
+          let status = rw (c.code.ensures, w.status-is) at seven in
+          rw w.input-is (w.hold_session-status.ensures.unended (read_fault_of_seven _ status))
     ]
 
 pub returns-clause-limits : goal.returns-clause-limits

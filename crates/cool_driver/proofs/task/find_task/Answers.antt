@@ -70,6 +70,11 @@ returns-in_ok-big_line-in-Ok-Big-clause-due g c input =
     let is = c.in_ok-big_line-in-Ok-Big.ensures in
     rw c.into_bytes.ensures.value (summed _ _ asked refl is, by_big _ _ asked refl is)
 
+-- a session is asked for, and no file was looked for
+pub returns-in-Ok-Session-clause-due : goal.returns-in-Ok-Session-clause-due
+returns-in-Ok-Session-clause-due g c input =
+    record { asked = asked_is (words_of c.args.words.now) ∙ (rw c.in-Ok-Session.field-0-is at c.in-Ok-Session.ensures.plan); calm = refl }
+
 -- without a plan the usage is due
 pub returns-in-Err-Usage-clause-due : goal.returns-in-Err-Usage-clause-due
 returns-in-Err-Usage-clause-due g c input =
