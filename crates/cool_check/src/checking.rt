@@ -43,8 +43,8 @@ pub fn check(alloc: Global, t: ClassTable) -> Result<TypedProgram, CheckAllError
     Err(CheckAllError::Faults(Listed::new(in_order(faults))))
 }
 
-/// The faults in the order of files, bytes, kinds and lines.
-fn in_order(mut faults: Vec<TypeFault>) -> Vec<TypeFault>
+/// Typing faults in the order of files, bytes, kinds and lines. It takes no memory.
+pub fn in_order(mut faults: Vec<TypeFault>) -> Vec<TypeFault>
     ensures permutation { IsPermutation faults.items result.items }
     ensures order { AreInOrder standing_of result.items }
     ensures length { length result.items ≡ length faults.items }

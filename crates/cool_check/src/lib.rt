@@ -14,7 +14,7 @@ mod operator;
 mod setting;
 mod typer;
 
-pub use checking::check;
+pub use checking::{check, in_order};
 pub use fault::{CheckAllError, CheckError, TypeFault, TypeKind};
 pub use feature::check_feature;
 pub use typer::{PlainTyper, Typer};

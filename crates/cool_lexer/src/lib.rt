@@ -24,3 +24,4 @@ pub use cool_syntax::LexKind;
 pub use error::{LexError, LexFault};
 pub use laws::{law_always_one, law_never_both, law_one_cutting, law_one_first_fault};
 pub use lexer::{Lexed, lex};
+pub use run::{depth_after, ends_run};

@@ -32,8 +32,8 @@ impl Run {
     }
 }
 
-/// The depth after a token.
-fn depth_after(token: &TokenKind, depth: u32) -> u32
+/// How deep tokens stand in braces and cases after one more token.
+pub fn depth_after(token: &TokenKind, depth: u32) -> u32
     requires { depth + 1 < 2 ^ 32 }
     ensures { result ≡ depth_after token.now depth }
 {
@@ -44,8 +44,9 @@ fn depth_after(token: &TokenKind, depth: u32) -> u32
     }
 }
 
-/// Whether the next token is the first of a run: after a brace that opens a class, and after a semicolon of a class's own level.
-fn ends_run(token: &TokenKind, depth: u32) -> bool
+/// Whether the next token is the first of a run, at the depth before this one: after a brace that opens a class, and after a semicolon of a
+/// class's own level.
+pub fn ends_run(token: &TokenKind, depth: u32) -> bool
     ensures { result ≡ ends_run token.now depth }
 {
     match token {

@@ -232,7 +232,8 @@ fn same_leaf(a: &Expr, b: &Expr) -> bool
     }
 }
 
-fn same_name(a: &Name, b: &Name) -> bool
+/// Whether two names are one.
+pub fn same_name(a: &Name, b: &Name) -> bool
     ensures same { IsTrue result ↔ (a.now ≡ b.now) }
 {
     a.as_slice() == b.as_slice()

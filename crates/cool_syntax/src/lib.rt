@@ -23,7 +23,7 @@ mod written;
 mod written_file;
 
 pub use body::Body;
-pub use comparison::same_expr;
+pub use comparison::{same_expr, same_name};
 pub use copy::copy_expr;
 pub use expr::{Branch, Expr};
 pub use file_tree::{AttributeDef, ClassDef, Feature, FileTree, Formal, MethodDef};
