@@ -68,7 +68,7 @@ pub enum ClassVerdict {
 
 /// Why files are no program.
 #[derive(Drop)]
-pub(crate) enum Refusal {
+pub enum Refusal {
     /// Want of memory.
     Memory,
     /// The faults of the first phase that finds any, in the order of files, bytes and kinds.

@@ -10,11 +10,11 @@ use crate::findings::Findings;
 use cool_lexer::{LexError, Lexed, lex};
 use std::alloc::Global;
 
-/// The tokens of each file.
+/// The tokens of each file (the Cool manual, section 10). There are at most 64 files, and they have at most 1,048,576 bytes together.
 ///
 /// `Err(Faults(..))` comes where a file has a lexical fault: it holds the first one of each such file, in the order of files.
 /// `Err(Memory)` comes only for want of memory.
-pub(crate) fn lex_files(alloc: Global, files: &[Vec<u8>]) -> Result<Vec<Lexed>, Refusal>
+pub fn lex_files(alloc: Global, files: &[Vec<u8>]) -> Result<Vec<Lexed>, Refusal>
     requires few { length files.now ≤ MOST_FILES }
     requires small { total (bytes_of files.now) ≤ MOST_SOURCE_BYTES }
     ensures { MatchResult result (λ all. AreFound IsLexed IsLexical 0 (bytes_of files.now) all.items []) (AreFaultsFound IsLexed IsLexical (bytes_of files.now)) }

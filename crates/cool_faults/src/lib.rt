@@ -16,7 +16,9 @@ mod typing;
 mod untyped_files;
 
 pub use acceptance::accept;
-pub use fault::{ClassVerdict, Fault, Untyped, Verdict};
+pub use fault::{ClassVerdict, Fault, Refusal, Untyped, Verdict};
 pub use laws::{law_never_both, law_one_list, law_one_program, law_rows};
+pub use lexing::lex_files;
 pub use text::fault_text;
+pub use typing::of_typing;
 pub use untyped_files::class_phase;

@@ -39,8 +39,8 @@ pub(crate) fn typed_program(alloc: Global, classes: ClassTable) -> Result<TypedP
     }
 }
 
-/// The faults as faults of files. `Err` comes only for want of memory.
-fn of_typing(alloc: Global, faults: &[TypeFault]) -> Result<Vec<Fault>, AllocError>
+/// Typing faults as faults of files. `Err` comes only for want of memory.
+pub fn of_typing(alloc: Global, faults: &[TypeFault]) -> Result<Vec<Fault>, AllocError>
     ensures { IfOk result (λ all. all.items ≡ map phase.Typing faults.now) }
 {
     faults
