@@ -1,39 +1,16 @@
--- Tables that differ in bodies and initial values alone: what is looked up in the one is what is found in the other.
-use Rattle.std.proofs.Common.{◌≡◌, ℕ, zero, suc, ◌+◌, List, [], ◌∷◌, map, length, take, Option, Some, refl, sym, ap, arith}
+-- Tables that differ in bodies, initial values and places alone: what is looked up in the one is what is found in the other.
+use Rattle.std.proofs.Common.{◌≡◌, ℕ, zero, suc, ◌+◌, List, [], ◌∷◌, length, take, Option, Some, refl, sym, ap, arith}
 use Rattle.std.specs.Prelude.{slice_get, bytes_eq, nat_lt, option_map, if◌then◌else◌}
 use Rattle.std.specs.List.{AllByRecursion}
 use Rattle.cool_syntax.specs.declared.file_tree.Feature.{Feature}
 use Rattle.cool_syntax.specs.declared.file_tree.Feature.TheVariants.{Method, Attribute}
-use Rattle.cool_syntax.specs.declared.file_tree.Formal.{Formal}
-use Rattle.cool_syntax.specs.declared.type_ref.TypeRef.{TypeRef}
 use Rattle.cool_classes.specs.declared.class_id.ClassId.{ClassId}
 use Rattle.cool_classes.specs.declared.method.AttributeRef.{AttributeRef}
 use Rattle.cool_classes.specs.declared.method.MethodRef.{MethodRef}
 use Rattle.cool_classes.specs.declared.method.MethodRef.TheVariants.{Basic, User}
+use Rattle.cool_classes.specs.Declarations.{DeclareSame, AllDeclareSame, AreAlike, AreAllAlike}
 use Rattle.cool_classes.specs.Chains.{Class, class_at, name_of, parent_of, features_of}
 use Rattle.cool_classes.specs.Features.{method_among, basic_methods, user_method, first_method, is_method_named, own_method, own_attributes, name_in, attribute_name, formals_in, formals_of, result_in, result_of}
-
--- two features declare the same
-abbrev pub DeclareSame : Feature → Feature → Type 0
-DeclareSame (Method m) (Method m') = (m'.name ≡ m.name) × (m'.formals ≡ m.formals) × (m'.result ≡ m.result)
-DeclareSame (Method m) (Attribute a) = ⊥
-DeclareSame (Attribute a) (Method m) = ⊥
-DeclareSame (Attribute a) (Attribute a') = (a'.name ≡ a.name) × (a'.declared ≡ a.declared)
-
-abbrev pub AllDeclareSame : List Feature → List Feature → Type 0
-AllDeclareSame [] [] = Unit {0}
-AllDeclareSame [] (x' ∷ xs') = ⊥
-AllDeclareSame (x ∷ xs) [] = ⊥
-AllDeclareSame (x ∷ xs) (x' ∷ xs') = DeclareSame x x' × AllDeclareSame xs xs'
-
-abbrev pub AreAlike : Class → Class → Type 0
-AreAlike d d' = (d'.name ≡ d.name) × (d'.parent ≡ d.parent) × AllDeclareSame d.features d'.features
-
-abbrev pub AreAllAlike : List Class → List Class → Type 0
-AreAllAlike [] [] = Unit {0}
-AreAllAlike [] (d' ∷ ds') = ⊥
-AreAllAlike (d ∷ ds) [] = ⊥
-AreAllAlike (d ∷ ds) (d' ∷ ds') = AreAlike d d' × AreAllAlike ds ds'
 
 -- what look-ups find in two tables is the same
 pub record FindSame (p p' : List Class) : Type 0 where
@@ -90,10 +67,10 @@ record GotAlike (o o' : Option Feature) : Type 0 where
 
 declared_alike : (x x' : Feature) → DeclareSame x x' → GotAlike (Some x) (Some x')
 declared_alike (Method m) (Method m') h =
-    record { name = h.0; formals = ap (map (λ (f : Formal). f.declared.name)) h.1; result = ap (λ (t : TypeRef). t.name) h.2 }
+    record { name = h.0; formals = h.1; result = h.2 }
 declared_alike (Method m) (Attribute a) h = absurd h
 declared_alike (Attribute a) (Method m) h = absurd h
-declared_alike (Attribute a) (Attribute a') h = record { name = h.0; formals = refl; result = ap (λ (t : TypeRef). t.name) h.1 }
+declared_alike (Attribute a) (Attribute a') h = record { name = h.0; formals = refl; result = h.1 }
 
 got_alike : (xs xs' : List Feature) (i : ℕ) → AllDeclareSame xs xs' → GotAlike (slice_get xs i) (slice_get xs' i)
 got_alike [] [] i h = record { name = refl; formals = refl; result = refl }

@@ -1,45 +1,51 @@
--- Of tables that differ in bodies and initial values alone, the one is whole and keeps the rules of classes where the other is and does.
+-- Of tables that differ in bodies, initial values and places alone, the one is whole and keeps the rules of classes where the other is and does.
 use Rattle.std.proofs.Common.{◌≡◌, ℕ, suc, ◌<◌, List, [], ◌∷◌, ◌++◌, map, length, take, Option, Some, None, refl, sym, ap, ◌∙◌, subst}
 use Rattle.std.specs.Prelude.{codes}
 use Rattle.std.specs.List.{AllByRecursion}
+use Rattle.std.proofs.lemmas.List.{length-map}
 use Rattle.cool_syntax.specs.declared.file_tree.Feature.{Feature}
 use Rattle.cool_syntax.specs.declared.file_tree.Feature.TheVariants.{Method, Attribute}
 use Rattle.cool_syntax.specs.declared.file_tree.Formal.{Formal}
-use Rattle.cool_syntax.specs.declared.type_ref.TypeRef.{TypeRef}
 use Rattle.cool_classes.specs.declared.class_id.ClassId.{ClassId}
 use Rattle.cool_classes.specs.declared.class_id.Ty.{Ty}
 use Rattle.cool_classes.specs.declared.class_id.Ty.TheVariants.{Class as IsClass, SelfType}
 use Rattle.cool_classes.specs.declared.method.AttributeRef.{AttributeRef}
 use Rattle.cool_classes.specs.declared.method.MethodRef.{MethodRef}
+use Rattle.cool_classes.specs.Declarations.{DeclareSame, AllDeclareSame, AreAllAlike, formal_types}
 use Rattle.cool_classes.specs.Chains.{Class, parent_of, features_of, IsChain}
 use Rattle.cool_classes.specs.Features.{own_method, first_of, implementation, attributes_of, attribute_name, Denotes}
 use Rattle.cool_classes.specs.LawfulTables.{HasDifferentFormals, method_names, HasMain, IsLawful}
 use Rattle.cool_classes.specs.Limits.{AreDifferent}
 use Rattle.cool_classes.specs.Tables.{IsClassName, IsTypeName, IsTyped, IsTable, IsGrounded, basic_classes}
-use Rattle.cool_classes.proofs.AlikeTables.{DeclareSame, AllDeclareSame, AreAllAlike, FindSame, flipped, features_alike, find_same, first_alike_classes, bare_same}
+use Rattle.cool_classes.proofs.AlikeTables.{FindSame, flipped, features_alike, find_same, first_alike_classes, bare_same}
+
+-- formals of the same types are as many
+as_many_formals : (fs fs' : List Formal) → formal_types fs' ≡ formal_types fs → length fs ≡ length fs'
+as_many_formals fs fs' same =
+    sym (length-map fs (λ (f : Formal). f.declared.name)) ∙ (ap length (sym same) ∙ length-map fs' (λ (f : Formal). f.declared.name))
 
 -- Chains and what stands on them
 
 module _ (p p' : List Class) (s : FindSame p p') where
-  within_same : (c : ClassId) → c.0 < length p → c.0 < length p'
+  pub within_same : (c : ClassId) → c.0 < length p → c.0 < length p'
   within_same c h = subst (λ (n : ℕ). c.0 < n) (sym s.count) h
 
-  within_back : (c : ClassId) → c.0 < length p' → c.0 < length p
+  pub within_back : (c : ClassId) → c.0 < length p' → c.0 < length p
   within_back c h = subst (λ (n : ℕ). c.0 < n) s.count h
 
-  chain_kept : (ds : List ClassId) (o : Option ClassId) → IsChain p o ds → IsChain p' o ds
+  pub chain_kept : (ds : List ClassId) (o : Option ClassId) → IsChain p o ds → IsChain p' o ds
   chain_kept [] None h = tt
   chain_kept [] (Some c) h = absurd h
   chain_kept (d ∷ ds) None h = absurd h
   chain_kept (d ∷ ds) (Some c) (is, rest) =
       (is, subst (λ (o : Option ClassId). IsChain p' o ds) (sym (s.parents c)) (chain_kept ds (parent_of p c) rest))
 
-  implementation_same : (ds : List ClassId) (f : List ℕ) → implementation p' ds f ≡ implementation p ds f
+  pub implementation_same : (ds : List ClassId) (f : List ℕ) → implementation p' ds f ≡ implementation p ds f
   implementation_same [] f = refl
   implementation_same (d ∷ ds) f =
       ap (λ (o : Option MethodRef). first_of o (implementation p' ds f)) (s.methods d f) ∙ ap (first_of (own_method p d f)) (implementation_same ds f)
 
-  attributes_same : (ds : List ClassId) → attributes_of p' ds ≡ attributes_of p ds
+  pub attributes_same : (ds : List ClassId) → attributes_of p' ds ≡ attributes_of p ds
   attributes_same [] = refl
   attributes_same (d ∷ ds) = λ i. attributes_same ds i ++ s.attributes d i
 
@@ -49,17 +55,21 @@ module _ (p p' : List Class) (s : FindSame p p') where
 
   -- Types that names mean
 
-  denotes_kept : (name : List ℕ) (t : Ty) → Denotes p name t → Denotes p' name t
+  pub denotes_kept : (name : List ℕ) (t : Ty) → Denotes p name t → Denotes p' name t
   denotes_kept name (IsClass c) (within, is) = (within_same c within, s.names c ∙ is)
   denotes_kept name SelfType h = h
 
   class_name_kept : (name : List ℕ) → IsClassName p name → IsClassName p' name
   class_name_kept name (c, within, is) = (c, within_same c within, s.names c ∙ is)
 
-  class_names_kept : (fs : List Formal) → AllByRecursion (λ (f : Formal). IsClassName p f.declared.name) fs
-      → AllByRecursion (λ (f : Formal). IsClassName p' f.declared.name) fs
-  class_names_kept [] h = tt
-  class_names_kept (f ∷ fs) (h, hs) = (class_name_kept f.declared.name h, class_names_kept fs hs)
+  class_names_kept : (fs fs' : List Formal) → formal_types fs' ≡ formal_types fs
+      → AllByRecursion (λ (f : Formal). IsClassName p f.declared.name) fs → AllByRecursion (λ (f : Formal). IsClassName p' f.declared.name) fs'
+  class_names_kept fs [] same h = tt
+  class_names_kept [] (f' ∷ fs') same h = absurd cc
+  class_names_kept (f ∷ fs) (f' ∷ fs') same (h, hs) =
+      let named : f'.declared.name ≡ f.declared.name = cc in
+      let rest : formal_types fs' ≡ formal_types fs = cc in
+      (subst (IsClassName p') (sym named) (class_name_kept f.declared.name h), class_names_kept fs fs' rest hs)
 
   type_name_kept : (name : List ℕ) → IsTypeName p name → IsTypeName p' name
   type_name_kept name (t, denotes) = (t, denotes_kept name t denotes)
@@ -67,15 +77,15 @@ module _ (p p' : List Class) (s : FindSame p p') where
   -- The features of a class
 
   typed_kept : (x x' : Feature) → DeclareSame x x' → IsTyped p x → IsTyped p' x'
-  typed_kept (Method m) (Method m') (named, formals, result) (few, types, type) = (
-    subst (λ (fs : List Formal). length fs < 4294967296) (sym formals) few,
-    subst (AllByRecursion (λ (f : Formal). IsClassName p' f.declared.name)) (sym formals) (class_names_kept m.formals types),
-    subst (λ (t : TypeRef). IsTypeName p' t.name) (sym result) (type_name_kept m.result.name type),
+  typed_kept (Method m) (Method m') (named, formals, result, names) (few, types, type) = (
+    subst (λ (n : ℕ). n < 4294967296) (as_many_formals m.formals m'.formals formals) few,
+    class_names_kept m.formals m'.formals formals types,
+    subst (IsTypeName p') (sym result) (type_name_kept m.result.name type),
   )
   typed_kept (Method m) (Attribute a) h typed = absurd h
   typed_kept (Attribute a) (Method m) h typed = absurd h
   typed_kept (Attribute a) (Attribute a') (named, declared) type =
-      subst (λ (t : TypeRef). IsTypeName p' t.name) (sym declared) (type_name_kept a.declared.name type)
+      subst (IsTypeName p') (sym declared) (type_name_kept a.declared.name type)
 
   all_typed_kept : (xs xs' : List Feature) → AllDeclareSame xs xs' → AllByRecursion (IsTyped p) xs → AllByRecursion (IsTyped p') xs'
   all_typed_kept [] [] h typed = tt
@@ -84,8 +94,7 @@ module _ (p p' : List Class) (s : FindSame p p') where
   all_typed_kept (x ∷ xs) (x' ∷ xs') (h, hs) (typed, all) = (typed_kept x x' h typed, all_typed_kept xs xs' hs all)
 
 different_kept : (x x' : Feature) → DeclareSame x x' → HasDifferentFormals x → HasDifferentFormals x'
-different_kept (Method m) (Method m') (named, formals, result) different =
-    subst (λ (fs : List Formal). AreDifferent (map (λ (f : Formal). f.name) fs)) (sym formals) different
+different_kept (Method m) (Method m') (named, formals, result, names) different = subst AreDifferent (sym names) different
 different_kept (Method m) (Attribute a) h different = absurd h
 different_kept (Attribute a) (Method m) h different = absurd h
 different_kept (Attribute a) (Attribute a') h different = tt

@@ -1,5 +1,6 @@
--- What a swap of a body leaves: the classes that the entries are seen as, and all that they must be.
-use Rattle.std.proofs.Common.{◌≡◌, ℕ, zero, suc, ◌+◌, ◌<◌, List, [], ◌∷◌, map, length, get_or, set, Some, None, refl, sym, ap, ◌∙◌, subst}
+-- What a swap of a body or of a feature leaves: the classes that the entries are seen as, and all that they must be.
+use Rattle.std.proofs.Common.{◌≡◌, ℕ, zero, suc, ◌+◌, ◌<◌, List, [], ◌∷◌, map, length, get_or, set, Option, Some, None, refl, sym, ap, ◌∙◌, subst}
+use Rattle.std.specs.Prelude.{slice_get}
 use Rattle.std.specs.Global.{Vec}
 use Rattle.cool_syntax.specs.declared.file_tree.Feature.{Feature}
 use Rattle.cool_syntax.specs.declared.file_tree.Feature.TheVariants.{Method, Attribute}
@@ -7,13 +8,14 @@ use Rattle.cool_syntax.specs.Tree.{Tree}
 use Rattle.cool_classes.specs.declared.class_id.ClassId.{ClassId}
 use Rattle.cool_classes.specs.declared.entry.Entry.{Entry}
 use Rattle.cool_classes.specs.declared.own_names.OwnNames.{OwnNames}
-use Rattle.cool_classes.specs.Bodies.{with_body, changed_at, with_body_at}
+use Rattle.cool_classes.specs.Bodies.{with_body, changed_at, with_body_at, with_feature_at}
 use Rattle.cool_classes.specs.Chains.{Class, class_number, features_of}
-use Rattle.cool_classes.specs.Entries.{classes, as_class, depth_at, entry_with_body, no_entry}
+use Rattle.cool_classes.specs.Entries.{classes, as_class, depth_at, entry_changed, entry_with_body, entry_with_feature, no_entry}
 use Rattle.cool_classes.specs.FirstNames.{FindsFirst, shown_names, method_name, attribute_name}
 use Rattle.cool_classes.specs.OwnNames.{AreOwn, IsIndexed}
 use Rattle.cool_classes.specs.Tables.{IsGrounded}
-use Rattle.cool_classes.proofs.AlikeTables.{DeclareSame, AllDeclareSame, AreAllAlike, features_alike}
+use Rattle.cool_classes.specs.Declarations.{DeclareSame, IsDeclaredBy, AllDeclareSame, AreAllAlike}
+use Rattle.cool_classes.proofs.AlikeTables.{features_alike}
 use Rattle.cool_classes.proofs.AlikeTablesKept.{table_kept, grounded_kept, lawful_kept}
 
 -- Lists with one item changed
@@ -31,24 +33,35 @@ length_changed f (x ∷ xs) (suc k) = ap suc (length_changed f xs k)
 
 -- Entries and the classes that they are seen as
 
+-- a table with the feature at an index of a class changed
+abbrev changed_table : List Class → ℕ → ℕ → (Feature → Feature) → List Class
+changed_table p n k f = changed_at n (λ (d : Class). record d { features = changed_at k f d.features }) p
+
+seen_changed : (es : List Entry) (n k : ℕ) (f : Feature → Feature) → classes (changed_at n (entry_changed k f) es) ≡ changed_table (classes es) n k f
+seen_changed [] n k f = refl
+seen_changed (e ∷ es) zero k f = refl
+seen_changed (e ∷ es) (suc n) k f = ap (λ (ds : List Class). as_class e ∷ ds) (seen_changed es n k f)
+
 pub seen_with_body : (es : List Entry) (n k : ℕ) (t : Tree)
     → classes (changed_at n (entry_with_body k t) es) ≡ with_body_at (classes es) (class_number n) k t
-seen_with_body [] n k t = refl
-seen_with_body (e ∷ es) zero k t = refl
-seen_with_body (e ∷ es) (suc n) k t = ap (λ (ds : List Class). as_class e ∷ ds) (seen_with_body es n k t)
+seen_with_body es n k t = seen_changed es n k (with_body t)
 
-depth_same : (es : List Entry) (n k m : ℕ) (t : Tree)
-    → (get_or (changed_at n (entry_with_body k t) es) m no_entry).depth ≡ (get_or es m no_entry).depth
-depth_same [] n k m t = refl
-depth_same (e ∷ es) zero k zero t = refl
-depth_same (e ∷ es) zero k (suc m) t = refl
-depth_same (e ∷ es) (suc n) k zero t = refl
-depth_same (e ∷ es) (suc n) k (suc m) t = depth_same es n k m t
+pub seen_with_feature : (es : List Entry) (n k : ℕ) (x : Feature)
+    → classes (changed_at n (entry_with_feature k x) es) ≡ with_feature_at (classes es) (class_number n) k x
+seen_with_feature es n k x = seen_changed es n k (λ (y : Feature). x)
 
--- A table with another body is like the one before
+depth_same : (es : List Entry) (n k m : ℕ) (f : Feature → Feature)
+    → (get_or (changed_at n (entry_changed k f) es) m no_entry).depth ≡ (get_or es m no_entry).depth
+depth_same [] n k m f = refl
+depth_same (e ∷ es) zero k zero f = refl
+depth_same (e ∷ es) zero k (suc m) f = refl
+depth_same (e ∷ es) (suc n) k zero f = refl
+depth_same (e ∷ es) (suc n) k (suc m) f = depth_same es n k m f
+
+-- A table with another feature that declares the same is like the one before
 
 declare_self : (x : Feature) → DeclareSame x x
-declare_self (Method m) = (refl, refl, refl)
+declare_self (Method m) = (refl, refl, refl, refl)
 declare_self (Attribute a) = (refl, refl)
 
 all_declare_self : (xs : List Feature) → AllDeclareSame xs xs
@@ -56,22 +69,44 @@ all_declare_self [] = tt
 all_declare_self (x ∷ xs) = (declare_self x, all_declare_self xs)
 
 declare_with : (t : Tree) (x : Feature) → DeclareSame x (with_body t x)
-declare_with t (Method m) = (refl, refl, refl)
+declare_with t (Method m) = (refl, refl, refl, refl)
 declare_with t (Attribute a) = (refl, refl)
 
-all_declare_with : (t : Tree) (k : ℕ) (xs : List Feature) → AllDeclareSame xs (changed_at k (with_body t) xs)
-all_declare_with t k [] = tt
-all_declare_with t zero (x ∷ xs) = (declare_with t x, all_declare_self xs)
-all_declare_with t (suc k) (x ∷ xs) = (declare_self x, all_declare_with t k xs)
+-- a change keeps what the feature at an index declares
+abbrev Keeps : (Feature → Feature) → Option Feature → Type 0
+Keeps f None = Unit {0}
+Keeps f (Some x) = DeclareSame x (f x)
+
+all_declare_changed : (f : Feature → Feature) (k : ℕ) (xs : List Feature) → Keeps f (slice_get xs k) → AllDeclareSame xs (changed_at k f xs)
+all_declare_changed f k [] h = tt
+all_declare_changed f zero (x ∷ xs) h = (h, all_declare_self xs)
+all_declare_changed f (suc k) (x ∷ xs) h = (declare_self x, all_declare_changed f k xs h)
 
 all_alike_self : (ds : List Class) → AreAllAlike ds ds
 all_alike_self [] = tt
 all_alike_self (d ∷ ds) = ((refl, refl, all_declare_self d.features), all_alike_self ds)
 
+alike_changed : (p : List Class) (n k : ℕ) (f : Feature → Feature) → Keeps f (slice_get (features_of p (class_number n)) k)
+    → AreAllAlike p (changed_table p n k f)
+alike_changed [] n k f h = tt
+alike_changed (d ∷ ds) zero k f h = ((refl, refl, all_declare_changed f k d.features h), all_alike_self ds)
+alike_changed (d ∷ ds) (suc n) k f h = ((refl, refl, all_declare_self d.features), alike_changed ds n k f h)
+
+keeps_with : (t : Tree) (o : Option Feature) → Keeps (with_body t) o
+keeps_with t None = tt
+keeps_with t (Some x) = declare_with t x
+
 pub alike_with_body : (p : List Class) (n k : ℕ) (t : Tree) → AreAllAlike p (with_body_at p (class_number n) k t)
-alike_with_body [] n k t = tt
-alike_with_body (d ∷ ds) zero k t = ((refl, refl, all_declare_with t k d.features), all_alike_self ds)
-alike_with_body (d ∷ ds) (suc n) k t = ((refl, refl, all_declare_self d.features), alike_with_body ds n k t)
+alike_with_body p n k t = alike_changed p n k (with_body t) (keeps_with t (slice_get (features_of p (class_number n)) k))
+
+keeps_declared : (x : Feature) (o : Option Feature) → IsDeclaredBy x o → Keeps (λ (y : Feature). x) o
+keeps_declared x None h = tt
+keeps_declared x (Some y) h = h
+
+pub alike_with_feature : (p : List Class) (n k : ℕ) (x : Feature) → IsDeclaredBy x (slice_get (features_of p (class_number n)) k)
+    → AreAllAlike p (with_feature_at p (class_number n) k x)
+alike_with_feature p n k x h =
+    alike_changed p n k (λ (y : Feature). x) (keeps_declared x (slice_get (features_of p (class_number n)) k) h)
 
 -- Names
 
@@ -107,27 +142,26 @@ own_kept own xs xs' alike h = record {
 
 -- Tables
 
-module _ (es : List Entry) (n k : ℕ) (t : Tree) where
+module _ (es : List Entry) (n k : ℕ) (f : Feature → Feature) (keeps : Keeps f (slice_get (features_of (classes es) (class_number n)) k)) where
   abbrev new : List Entry
-  new = changed_at n (entry_with_body k t) es
+  new = changed_at n (entry_changed k f) es
 
   alike_new : AreAllAlike (classes es) (classes new)
-  alike_new = subst (AreAllAlike (classes es)) (sym (seen_with_body es n k t)) (alike_with_body (classes es) n k t)
+  alike_new = subst (AreAllAlike (classes es)) (sym (seen_changed es n k f)) (alike_changed (classes es) n k f keeps)
 
   grounded_new : IsGrounded (classes es) (depth_at es) → IsGrounded (classes new) (depth_at new)
   grounded_new g =
       let kept = grounded_kept (classes es) (classes new) alike_new (depth_at es) g in
-      let same : (c : ClassId) → depth_at new c ≡ depth_at es c = λ c. depth_same es n k c.0 t in
+      let same : (c : ClassId) → depth_at new c ≡ depth_at es c = λ c. depth_same es n k c.0 f in
       record {
         above = λ c q within is.
             let h = kept.above c q within is in (h.0, same c ∙ (h.1 ∙ ap (λ (m : ℕ). m + 1) (sym (same q))));
         top = λ c within none. let h = kept.top c within none in (h.0, same c ∙ h.1);
       }
 
-  -- the entries are still those of a whole table that keeps the rules, and their names are those that they were
-  pub indexed_with_body : (named : List (Vec ℕ × ℕ)) (all : List OwnNames) → IsIndexed es named all → IsIndexed new named all
-  indexed_with_body named all h =
-      let long = length_changed (entry_with_body k t) es n in
+  indexed_changed : (named : List (Vec ℕ × ℕ)) (all : List OwnNames) → IsIndexed es named all → IsIndexed new named all
+  indexed_changed named all h =
+      let long = length_changed (entry_changed k f) es n in
       record {
         whole = record { table = table_kept (classes es) (classes new) alike_new h.whole.table; grounded = grounded_new h.whole.grounded };
         lawful = lawful_kept (classes es) (classes new) alike_new h.lawful;
@@ -140,3 +174,13 @@ module _ (es : List Entry) (n k : ℕ) (t : Tree) where
               (h.own.own c d (subst (λ (m : ℕ). c < m) long within));
         };
       }
+
+-- the entries are still those of a whole table that keeps the rules, and their names are those that they were
+pub indexed_with_body : (es : List Entry) (n k : ℕ) (t : Tree) (named : List (Vec ℕ × ℕ)) (all : List OwnNames) → IsIndexed es named all
+    → IsIndexed (changed_at n (entry_with_body k t) es) named all
+indexed_with_body es n k t = indexed_changed es n k (with_body t) (keeps_with t (slice_get (features_of (classes es) (class_number n)) k))
+
+pub indexed_with_feature : (es : List Entry) (n k : ℕ) (x : Feature) → IsDeclaredBy x (slice_get (features_of (classes es) (class_number n)) k)
+    → (named : List (Vec ℕ × ℕ)) (all : List OwnNames) → IsIndexed es named all → IsIndexed (changed_at n (entry_with_feature k x) es) named all
+indexed_with_feature es n k x h =
+    indexed_changed es n k (λ (y : Feature). x) (keeps_declared x (slice_get (features_of (classes es) (class_number n)) k) h)

@@ -1,5 +1,5 @@
 -- The expressions of features, which are the bodies of methods and the initial values of attributes (the Cool manual, sections 5 and 6),
--- and tables with another expression in the place of one.
+-- and tables with another expression or another feature in the place of one.
 use Rattle.std.specs.Prelude.{ℕ, zero, suc, List, [], ◌∷◌, slice_get, Option, Some, None, option_map, codes, ◌≡◌, refl}
 use Rattle.cool_syntax.specs.declared.file_tree.Feature.{Feature}
 use Rattle.cool_syntax.specs.declared.file_tree.Feature.TheVariants.{Method, Attribute}
@@ -34,6 +34,10 @@ changed_at (suc k) f (x ∷ xs) = x ∷ changed_at k f xs
 -- a table with another expression in the place of that of the feature at an index of a class
 abbrev pub with_body_at : List Class → ClassId → ℕ → Tree → List Class
 with_body_at p c k t = changed_at c.0 (λ (d : Class). record d { features = changed_at k (with_body t) d.features }) p
+
+-- a table with another feature at an index of a class
+abbrev pub with_feature_at : List Class → ClassId → ℕ → Feature → List Class
+with_feature_at p c k x = changed_at c.0 (λ (d : Class). record d { features = changed_at k (λ (y : Feature). x) d.features }) p
 
 -- Worked examples: in a class with one feature, the body of a method is exchanged, and an attribute without a value still has none.
 abbrev one : Feature → List Class

@@ -1,5 +1,6 @@
 -- How the entries of a table are seen: as classes, with the number of classes above each.
 use Rattle.std.specs.Prelude.{◌≡◌, ℕ, List, [], map, get_or, Option, Some, None, refl}
+use Rattle.cool_syntax.specs.declared.file_tree.Feature.{Feature}
 use Rattle.cool_syntax.specs.Tree.{Tree}
 use Rattle.cool_classes.specs.declared.class_id.ClassId.{ClassId}
 use Rattle.cool_classes.specs.declared.entry.Entry.{Entry}
@@ -13,9 +14,15 @@ as_class e = record { name = e.name; parent = e.parent; features = e.features }
 abbrev pub classes : List Entry → List Class
 classes es = map as_class es
 
--- an entry with another expression in the place of that of the feature at an index
+-- an entry with the feature at an index changed, with another expression in its place, and with another feature in its place
+abbrev pub entry_changed : ℕ → (Feature → Feature) → Entry → Entry
+entry_changed k f e = record e { features = changed_at k f e.features }
+
 abbrev pub entry_with_body : ℕ → Tree → Entry → Entry
-entry_with_body k t e = record e { features = changed_at k (with_body t) e.features }
+entry_with_body k t = entry_changed k (with_body t)
+
+abbrev pub entry_with_feature : ℕ → Feature → Entry → Entry
+entry_with_feature k x = entry_changed k (λ (y : Feature). x)
 
 abbrev pub no_entry : Entry
 no_entry = record { name = []; parent = None; depth = 0; features = [] }

@@ -5,6 +5,7 @@ pub mod ClassFaults
 pub mod ClassRows
 pub mod ClimbedChains
 pub mod Cycles
+pub mod Declarations
 pub mod Definitions
 pub mod Depths
 pub mod Entries

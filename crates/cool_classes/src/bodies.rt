@@ -1,8 +1,10 @@
 //! The expressions of features: the bodies of methods and the initial values of attributes.
 
 ghost use Rattle.std.specs.Prelude.{◌≡◌, ◌<◌, Some, length, IsSome};
+ghost use Rattle.std.specs.List.{slice_get};
 ghost use Rattle.cool_classes.specs.Bodies.{body_in, body_at, with_body, changed_at, with_body_at};
-ghost use Rattle.cool_classes.specs.Entries.{classes, entry_with_body};
+ghost use Rattle.cool_classes.specs.Chains.{features_of};
+ghost use Rattle.cool_classes.specs.Entries.{classes, entry_with_body, entry_with_feature};
 
 use crate::class_id::ClassId;
 use crate::entry::Entry;
@@ -26,6 +28,26 @@ pub(crate) fn swap_body(
     let entry = &mut entries[c.0 as usize];
     let mut features = replace(&mut entry.features, Listed::new(Vec::new(alloc))).into_vec();
     let before = exchange(&mut features[feature as usize], body);
+    entry.features = Listed::new(features);
+    before
+}
+
+/// Puts a feature in the place of one of a class, counted from 0, and gives the one that was there. It takes no memory.
+pub(crate) fn swap_feature(
+    alloc: Global,
+    entries: &mut [Entry],
+    c: ClassId,
+    index: u32,
+    feature: Feature,
+) -> Feature
+    requires within { c.0 < length entries.old }
+    requires has { IsSome (slice_get (features_of (classes entries.old) c) index) }
+    ensures gave { slice_get (features_of (classes entries.old) c) index ≡ Some result }
+    ensures now { entries.new ≡ changed_at c.0 (entry_with_feature index feature) entries.old }
+{
+    let entry = &mut entries[c.0 as usize];
+    let mut features = replace(&mut entry.features, Listed::new(Vec::new(alloc))).into_vec();
+    let before = replace(&mut features[index as usize], feature);
     entry.features = Listed::new(features);
     before
 }

@@ -2,9 +2,10 @@
 
 ghost use Rattle.std.specs.Prelude.{◌≡◌, ◌+◌, ◌<◌, ◌↔◌, IsTrue, IfSome, IfNone, IfOk, Some, List, [], length, get_or, IsSome};
 ghost use Rattle.cool_classes.specs.declared.class_id.ClassId as number;
-ghost use Rattle.cool_classes.specs.Bodies.{body_at, with_body_at};
+ghost use Rattle.cool_classes.specs.Bodies.{body_at, with_body_at, with_feature_at};
+ghost use Rattle.cool_classes.specs.Declarations.{IsDeclaredBy};
 ghost use Rattle.cool_classes.specs.Chains.{IsChain, Below, IsJoin, name_of, parent_of, features_of};
-ghost use Rattle.std.specs.List.{AllByRecursion};
+ghost use Rattle.std.specs.List.{AllByRecursion, slice_get};
 ghost use Rattle.cool_classes.specs.Features.{implementation, attributes_of, attribute_name, attribute_type, HasAttribute, HasMethod, Denotes, formals_of, result_of};
 ghost use Rattle.cool_classes.specs.LawfulTables.{IsLawful};
 ghost use Rattle.cool_classes.specs.Tables.{IsTable, IsWholeTable, IsNamed};
@@ -213,5 +214,17 @@ impl ClassTable {
     {
         let alloc = *self.entries.allocator();
         bodies::swap_body(alloc, &mut self.entries, c, feature, body)
+    }
+
+    /// Puts a feature in the place of one of a class, counted from 0, and gives the one that was there. Both declare the same: only places, the
+    /// body and the initial value may differ. It takes no memory.
+    pub fn swap_feature(&mut self, c: ClassId, index: u32, feature: Feature) -> Feature
+        requires within { c.0 < length self.old }
+        requires same { IsDeclaredBy feature (slice_get (features_of self.old c) index) }
+        ensures gave { slice_get (features_of self.old c) index ≡ Some result }
+        ensures now { self.new ≡ with_feature_at self.old c index feature }
+    {
+        let alloc = *self.entries.allocator();
+        bodies::swap_feature(alloc, &mut self.entries, c, index, feature)
     }
 }

@@ -29,8 +29,7 @@ use Rattle.cool_opt.proofs.FoldedSizes.{folded_most}
 use Rattle.cool_opt.proofs.FoldedTableIsTyped.{each_folded}
 use Rattle.cool_opt.proofs.FoldedTables.{folded_shape, features_folded}
 use Rattle.cool_opt.proofs.FoldedWithin.{folded_within}
-use Rattle.cool_opt.proofs.SameShapes.{within_back, implementation_same, attributes_same}
-use Rattle.cool_opt.proofs.TypingOfShapes.{chain_kept}
+use Rattle.cool_classes.proofs.AlikeTablesKept.{within_back, implementation_same, attributes_same, chain_kept}
 
 -- Counts of classes, attributes and methods
 

@@ -17,7 +17,8 @@ use Rattle.cool_opt.specs.Foldable.{IsDone}
 use Rattle.cool_opt.specs.NothingLeft.{IsDoneFeature, IsDoneTable}
 use Rattle.cool_opt.proofs.FoldedFeatures.{FoldsInit, FoldsFeature, feature_folds}
 use Rattle.cool_opt.proofs.FoldedTables.{folded_alike, folded_shape, features_folded, feature_at}
-use Rattle.cool_opt.proofs.SameShapes.{within_back, formal_scope_same, own_scope_same}
+use Rattle.cool_classes.proofs.AlikeTablesKept.{within_back}
+use Rattle.cool_opt.proofs.SameShapes.{formal_scope_same, own_scope_same}
 use Rattle.cool_opt.proofs.TypesOfShapes.{still_done}
 use Rattle.cool_opt.proofs.TypingOfShapes.{declared_kept}
 

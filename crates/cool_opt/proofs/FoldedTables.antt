@@ -8,16 +8,18 @@ use Rattle.cool_classes.specs.declared.method.MethodRef.TheVariants.{User}
 use Rattle.cool_classes.specs.Chains.{Class, class_number, class_at, nothing, features_of}
 use Rattle.cool_classes.specs.ClimbedChains.{chain}
 use Rattle.cool_classes.specs.Features.{attributes_of}
-use Rattle.cool_classes.proofs.AlikeTables.{AllDeclareSame, AreAllAlike, FindSame, find_same}
+use Rattle.cool_classes.specs.Declarations.{AllDeclareSame, AreAllAlike}
+use Rattle.cool_classes.proofs.AlikeTables.{FindSame, find_same}
 use Rattle.cool_opt.specs.Folding.{fold_feature, fold_from, fold_table}
 use Rattle.cool_opt.proofs.FoldedCalls.{SameTables}
-use Rattle.cool_opt.proofs.SameShapes.{chain_same, implementation_same, attributes_same, classes_same}
+use Rattle.cool_classes.proofs.AlikeTablesKept.{implementation_same, attributes_same}
+use Rattle.cool_opt.proofs.SameShapes.{chain_same, classes_same}
 
 -- Folding changes bodies and initial values alone
 
 features_alike : (p : List Class) (c : ClassId) (fs : List Feature) → AllDeclareSame fs (map (fold_feature p c) fs)
 features_alike p c [] = tt
-features_alike p c (Method m ∷ fs) = ((refl, refl, refl), features_alike p c fs)
+features_alike p c (Method m ∷ fs) = ((refl, refl, refl, refl), features_alike p c fs)
 features_alike p c (Attribute a ∷ fs) = ((refl, refl), features_alike p c fs)
 
 classes_alike : (p : List Class) (k : ℕ) (ds : List Class) → AreAllAlike ds (fold_from p k ds)

@@ -15,6 +15,7 @@ use Rattle.cool_classes.specs.ClimbedChains.{climbed, above, chain}
 use Rattle.cool_classes.specs.Features.{own_method, first_of, implementation, own_attributes, attributes_of, attribute_name, result_of}
 use Rattle.cool_classes.specs.Names.{self_type, first_named}
 use Rattle.cool_classes.proofs.AlikeTables.{FindSame}
+use Rattle.cool_classes.proofs.AlikeTablesKept.{implementation_same, attributes_same}
 use Rattle.cool_rules.specs.Rules.{is_among, first_among, join_in, class_named, type_of_name, type_meant, method_of, attribute_binding, formal_binding}
 use Rattle.cool_rules.specs.Scopes.{Binding}
 use Rattle.cool_rules.specs.Typing.{formals_in_scope, attributes_in_scope, result_on}
@@ -37,12 +38,6 @@ any_same f g [] same = refl
 any_same f g (x ∷ xs) same = ap (λ (t : Truth). t || list_any f xs) (same x) ∙ ap (λ (t : Truth). g x || t) (any_same f g xs same)
 
 module _ (p p' : List Class) (s : FindSame p p') where
-  pub within_same : (c : ClassId) → c.0 < length p → c.0 < length p'
-  within_same c h = subst (λ (n : ℕ). c.0 < n) (sym s.count) h
-
-  pub within_back : (c : ClassId) → c.0 < length p' → c.0 < length p
-  within_back c h = subst (λ (n : ℕ). c.0 < n) s.count h
-
   -- Chains and what stands on them
 
   climbed_same : (n : ℕ) (o : Option ClassId) → climbed n p' o ≡ climbed n p o
@@ -59,17 +54,6 @@ module _ (p p' : List Class) (s : FindSame p p') where
   pub chain_same : (c : ClassId) → chain p' c ≡ chain p c
   unfolding chain
   chain_same c = ap (λ (ds : List ClassId). c ∷ ds) (above_same c)
-
-  pub implementation_same : (ds : List ClassId) (f : List ℕ) → implementation p' ds f ≡ implementation p ds f
-  implementation_same [] f = refl
-  implementation_same (d ∷ ds) f =
-      ap (λ (o : Option MethodRef). first_of o (implementation p' ds f)) (s.methods d f) ∙ ap (first_of (own_method p d f)) (implementation_same ds f)
-
-  pub attributes_same : (ds : List ClassId) → attributes_of p' ds ≡ attributes_of p ds
-  attributes_same [] = refl
-  attributes_same (d ∷ ds) =
-      ap (λ (rs : List AttributeRef). rs ++ own_attributes d 0 (features_of p' d)) (attributes_same ds)
-      ∙ ap (λ (rs : List AttributeRef). attributes_of p ds ++ rs) (s.attributes d)
 
   -- Types that names mean
 
@@ -103,7 +87,7 @@ module _ (p p' : List Class) (s : FindSame p p') where
 
   -- the attributes of the classes of a chain, in scope
   pub chain_scope_same : (ds : List ClassId) → attributes_in_scope p' (attributes_of p' ds) ≡ attributes_in_scope p (attributes_of p ds)
-  chain_scope_same ds = ap (attributes_in_scope p') (attributes_same ds) ∙ attributes_scope_same (attributes_of p ds)
+  chain_scope_same ds = ap (attributes_in_scope p') (attributes_same p p' s ds) ∙ attributes_scope_same (attributes_of p ds)
 
   pub own_scope_same : (c : ClassId) → own_scope p' c ≡ own_scope p c
   own_scope_same c = ap (λ (ds : List ClassId). attributes_in_scope p' (attributes_of p' ds)) (chain_same c) ∙ chain_scope_same (chain p c)
@@ -121,7 +105,7 @@ module _ (p p' : List Class) (s : FindSame p p') where
   unfolding method_of
   method_in_same c name =
       ap (λ (o : Option MethodRef). unwrap_or o (Basic Abort))
-      (ap (λ (ds : List ClassId). implementation p' ds name) (chain_same c) ∙ implementation_same (chain p c) name)
+      (ap (λ (ds : List ClassId). implementation p' ds name) (chain_same c) ∙ implementation_same p p' s (chain p c) name)
 
   pub call_same : (c : ClassId) (receiver : Ty) (name : List ℕ) → type_of_call p' c receiver name ≡ type_of_call p c receiver name
   call_same c receiver name =

@@ -13,18 +13,12 @@ use Rattle.cool_classes.proofs.AlikeTables.{FindSame, flipped}
 use Rattle.cool_rules.specs.Conformance.{Conforms, IsJoinOfTypes, class_of}
 use Rattle.cool_rules.specs.Scopes.{Binding}
 use Rattle.cool_rules.specs.Typing.{AreArguments, IsImplementation, IsCall, IsJoinOfBranches, bool_type, int_type, object_type, with_name, attributes_in_scope, HasType, HaveTypes, HaveItems, HasInit, HaveBranches, FitsDeclared}
-use Rattle.cool_opt.proofs.SameShapes.{within_same, implementation_same, chain_scope_same}
+use Rattle.cool_classes.proofs.AlikeTablesKept.{within_same, implementation_same, chain_kept, denotes_kept}
+use Rattle.cool_opt.proofs.SameShapes.{chain_scope_same}
 
 module _ (p p' : List Class) (s : FindSame p p') where
-  pub chain_kept : (ds : List ClassId) (o : Option ClassId) → IsChain p o ds → IsChain p' o ds
-  chain_kept [] None h = tt
-  chain_kept [] (Some c) h = absurd h
-  chain_kept (d ∷ ds) None h = absurd h
-  chain_kept (d ∷ ds) (Some c) (is, rest) =
-      (is, subst (λ (o : Option ClassId). IsChain p' o ds) (sym (s.parents c)) (chain_kept ds (parent_of p c) rest))
-
   below_kept : (a b : ClassId) → Below p a b → Below p' a b
-  below_kept a b (ds, is, there) = (ds, chain_kept ds (Some a) is, there)
+  below_kept a b (ds, is, there) = (ds, chain_kept p p' s ds (Some a) is, there)
 
   conforms_kept : (c : ClassId) (t u : Ty) → Conforms p c t u → Conforms p' c t u
   conforms_kept c SelfType SelfType h = tt
@@ -32,19 +26,15 @@ module _ (p p' : List Class) (s : FindSame p p') where
   conforms_kept c (IsClass a) SelfType h = absurd h
   conforms_kept c (IsClass a) (IsClass b) h = below_kept a b h
 
-  pub denotes_kept : (name : List ℕ) (t : Ty) → Denotes p name t → Denotes p' name t
-  denotes_kept name (IsClass c) (within, is) = (within_same p p' s c within, s.names c ∙ is)
-  denotes_kept name SelfType h = h
-
   arguments_kept : (c : ClassId) (ts : List Ty) (formals : List (List ℕ)) → AreArguments p c ts formals → AreArguments p' c ts formals
   arguments_kept c [] [] h = tt
   arguments_kept c [] (formal ∷ formals) h = absurd h
   arguments_kept c (t ∷ ts) [] h = absurd h
   arguments_kept c (t ∷ ts) (formal ∷ formals) ((u, denotes, conforms), h) =
-      ((u, denotes_kept formal u denotes, conforms_kept c t u conforms), arguments_kept c ts formals h)
+      ((u, denotes_kept p p' s formal u denotes, conforms_kept c t u conforms), arguments_kept c ts formals h)
 
   implementation_kept : (k : ClassId) (name : List ℕ) (m : MethodRef) → IsImplementation p k name m → IsImplementation p' k name m
-  implementation_kept k name m (ds, is, found) = (ds, chain_kept ds (Some k) is, implementation_same p p' s ds name ∙ found)
+  implementation_kept k name m (ds, is, found) = (ds, chain_kept p p' s ds (Some k) is, implementation_same p p' s ds name ∙ found)
 
   call_kept : (c k : ClassId) (name : List ℕ) (receiver : Ty) (given : List Ty) (type : Ty) → IsCall p c k name receiver given type
       → IsCall p' c k name receiver given type
@@ -57,7 +47,7 @@ module _ (p p' : List Class) (s : FindSame p p') where
         (arguments_kept c given (formals_of p call.method) call.arguments);
     declared =
         subst (λ (n : List ℕ). Denotes p' n call.result) (sym (s.results call.method))
-        (denotes_kept (result_of p call.method) call.result call.declared);
+        (denotes_kept p p' s (result_of p call.method) call.result call.declared);
     is = call.is;
   }
 
