@@ -19,8 +19,9 @@ use Rattle.cool_emit.specs.Programs.{IsBuildable, program_lines}
 use Rattle.cool_simulation.specs.Accord.{Limits, Inside, IsFailed, Accord, Accords, Means}
 use Rattle.cool_simulation.specs.ByteStrings.{ClassesHaveBytes}
 use Rattle.cool_simulation.specs.Theorem.{AreFileNames}
+use Rattle.cool_simulation.proofs.theorem.AcceptedTexts.{trees_bytes}
 use Rattle.cool_simulation.proofs.theorem.AcceptedWritable.{accepted_writable}
-use Rattle.cool_simulation.proofs.theorem.BytesOfPrograms.{classes_bytes, definitions_bytes, table_bytes}
+use Rattle.cool_simulation.proofs.theorem.BytesOfPrograms.{definitions_bytes, table_bytes}
 use Rattle.cool_simulation.proofs.theorem.Simulated.{typed_images_mean}
 use Rattle.cool_simulation.proofs.theorem.TextsOfTrees.{program_texts}
 use Rattle.mips_isa.specs.Assembly.{image_of}
@@ -30,14 +31,6 @@ use Rattle.mips_isa.specs.Run.{run_image}
 use Rattle.cool_driver.proofs.FoldedTrees.{each_writable, each_has_bytes}
 
 -- The folded program of accepted files
-
-trees_bytes : (file : ℕ) (files : List (List ℕ)) (trees : List FileTree) → AllByRecursion AreBytes files → AreTrees file files trees
-    → AllByRecursion (λ (t : FileTree). ClassesHaveBytes t.classes) trees
-trees_bytes file [] [] h are = tt
-trees_bytes file [] (t ∷ ts) h are = absurd are
-trees_bytes file (bytes ∷ files) [] h are = absurd are
-trees_bytes file (bytes ∷ files) (t ∷ ts) h are =
-    (classes_bytes file bytes are.0.tokens t.classes h.0 are.0.lexes are.0.parses, trees_bytes (file + 1) files ts h.1 are.1)
 
 -- its image means it, where it fits
 pub folded_means : (files names : List (List ℕ)) (p : List Class) → AllByRecursion AreBytes files → AreFileNames names → IsAccepted files p

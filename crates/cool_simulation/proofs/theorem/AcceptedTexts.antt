@@ -10,7 +10,8 @@ use Rattle.cool_emit.specs.Programs.{program_constants, IsBuildable}
 use Rattle.cool_simulation.specs.ByteStrings.{ClassesHaveBytes}
 use Rattle.cool_simulation.proofs.theorem.BytesOfPrograms.{classes_bytes, definitions_bytes, texts_meant}
 
-trees_bytes : (file : ℕ) (files : List (List ℕ)) (trees : List FileTree) → AllByRecursion AreBytes files → AreTrees file files trees → AllByRecursion (λ (t : FileTree). ClassesHaveBytes t.classes) trees
+-- the trees of files of bytes have bytes
+pub trees_bytes : (file : ℕ) (files : List (List ℕ)) (trees : List FileTree) → AllByRecursion AreBytes files → AreTrees file files trees → AllByRecursion (λ (t : FileTree). ClassesHaveBytes t.classes) trees
 trees_bytes file [] [] h are = tt
 trees_bytes file [] (t ∷ ts) h are = absurd are
 trees_bytes file (bytes ∷ files) [] h are = absurd are
