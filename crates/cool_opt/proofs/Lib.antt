@@ -34,3 +34,4 @@ pub mod FoldedBodies
 pub mod DefinersGrow
 pub mod ExpressionsLeft
 pub mod ReplacedExpressions
+pub mod PartsOfForms

@@ -2,6 +2,8 @@ pub mod Examples
 pub mod Expressions
 pub mod Foldable
 pub mod FoldedNodes
+pub mod Forms
+pub mod PlacedForms
 pub mod Folding
 pub mod Laws
 pub mod NothingLeft

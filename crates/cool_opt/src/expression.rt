@@ -11,8 +11,9 @@ ghost use Rattle.cool_opt.specs.FoldedNodes.{Folds, FoldsAll};
 ghost use Rattle.cool_opt.specs.Settings.{tree_of_node, trees_of, HaveTypes, IsReady, IsSound};
 
 use crate::constant::Constant;
-use crate::fold_call::fold_call;
-use crate::fold_control::{fold_binding, fold_control};
+use crate::fold_binding::{fold_case, fold_let};
+use crate::fold_call::{fold_dispatch, fold_static};
+use crate::fold_control::{fold_block, fold_if, fold_while};
 use crate::fold_operator::{fold_binary, fold_unary};
 use crate::place::{Found, Parts, place, place_constant};
 use crate::setting::Setting;
@@ -23,6 +24,10 @@ use cool_syntax::{Name, Node, NodeId};
 use std::alloc::AllocError;
 
 /// Folds the expression at this number.
+///
+/// It calls itself once for each level of an expression. So that a level takes little of the process's stack, each form has a function of
+/// its own, which is not inlined and keeps no node and no copy while a part is folded. These are made afterwards, by a function that places
+/// the form and calls no folding.
 #[cycle(folding)]
 pub(crate) fn fold<'a>(
     setting: &Setting<'a, '_>,
@@ -37,13 +42,13 @@ pub(crate) fn fold<'a>(
 {
     let node = setting.body.node(id);
     match node {
-        Node::Dispatch { .. } | Node::StaticDispatch { .. } => fold_call(
-            setting, scope, nodes, id, node,
-        ),
-        Node::Let { .. } | Node::Case { .. } => fold_binding(setting, scope, nodes, id, node),
-        Node::If { .. } | Node::While { .. } | Node::Block { .. } => fold_control(
-            setting, scope, nodes, id, node,
-        ),
+        Node::Dispatch { .. } => fold_dispatch(setting, scope, nodes, id, node),
+        Node::StaticDispatch { .. } => fold_static(setting, scope, nodes, id, node),
+        Node::Let { .. } => fold_let(setting, scope, nodes, id, node),
+        Node::Case { .. } => fold_case(setting, scope, nodes, id, node),
+        Node::If { .. } => fold_if(setting, scope, nodes, id, node),
+        Node::While { .. } => fold_while(setting, scope, nodes, id, node),
+        Node::Block { .. } => fold_block(setting, scope, nodes, id, node),
         Node::Assign { .. } | Node::IsVoid { .. } | Node::Neg { .. } | Node::Not { .. } => {
             fold_unary(setting, scope, nodes, id, node)
         }
@@ -57,6 +62,7 @@ pub(crate) fn fold<'a>(
 }
 
 /// Folds a name, a constant or a new object: it stays.
+#[inline(never)]
 fn fold_leaf<'a>(
     setting: &Setting<'a, '_>,
     scope: &Scope<'a>,
@@ -124,8 +130,9 @@ pub(crate) fn fold_within<'a>(
     Ok(found)
 }
 
-/// Folds some expressions, in order.
+/// Folds some expressions, in order. It is inlined, so that a level of a block or of arguments has no frame more.
 #[cycle(folding)]
+#[inline(always)]
 pub(crate) fn fold_all<'a>(
     setting: &Setting<'a, '_>,
     scope: &mut Scope<'a>,

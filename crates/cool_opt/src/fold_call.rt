@@ -2,30 +2,31 @@
 
 ghost use Rattle.std.specs.Prelude.{◌≡◌, ◌+◌, ◌-◌, ◌<◌, ◌^◌, length, OnOk};
 ghost use Rattle.std.specs.List.{AllByRecursion};
-ghost use Rattle.cool_syntax.specs.NodeGroups.{IsCall};
-ghost use Rattle.cool_syntax.specs.NodeLists.{tree_at, HasPartsBelow};
-ghost use Rattle.cool_syntax.specs.Tree.{tree_size};
-ghost use Rattle.cool_syntax.specs.Tree as trees;
-ghost use Rattle.cool_opt.specs.FoldedNodes.{Folds};
+ghost use Rattle.cool_syntax.specs.NodeLists.{HasPartsBelow};
+ghost use Rattle.cool_syntax.specs.Tree.{tree_size, trees_size};
+ghost use Rattle.cool_opt.specs.FoldedNodes.{Folds, FoldsAll};
+ghost use Rattle.cool_opt.specs.Forms.{IsDispatch, IsStaticDispatch};
 ghost use Rattle.cool_opt.specs.Settings.{tree_of_node, trees_of, IsReady};
 
 use crate::expression::{fold, fold_all};
-use crate::place::{Found, place};
+use crate::place::{Found, Parts};
+use crate::place_form::{place_dispatch, place_static};
 use crate::setting::Setting;
-use cool_rules::{Scope, class_of};
-use cool_syntax::{Listed, Name, Node, NodeId, Place, TypeRef};
+use cool_rules::Scope;
+use cool_syntax::{Node, NodeId};
 use std::alloc::AllocError;
 
-/// Folds a dispatch: a direct call where no class below the receiver's defines the method anew. Its parts have numbers below this one.
+/// Folds a dispatch: to a direct call, where no class below the receiver's defines the method anew. Its parts have numbers below this one.
 #[cycle(folding)]
-pub(crate) fn fold_call<'a>(
+#[inline(never)]
+pub(crate) fn fold_dispatch<'a>(
     setting: &Setting<'a, '_>,
     scope: &mut Scope<'a>,
     nodes: &mut Vec<Node>,
     id: NodeId,
     node: &'a Node,
 ) -> Result<Found<'a>, AllocError>
-    requires group { IsCall node.now }
+    requires form { IsDispatch node.now }
     requires parts { HasPartsBelow id.0 node.now }
     requires ready { IsReady setting.now scope.old id.0 }
     requires room { length nodes.old.items + tree_size (tree_of_node setting.now node.now) < 2 ^ 32 - 1 }
@@ -33,97 +34,57 @@ pub(crate) fn fold_call<'a>(
     ensures folded { Folds setting.now scope.old (tree_of_node setting.now node.now) nodes.old.items nodes.new.items result }
 {
     match node {
-        Node::Dispatch {
-            at,
-            receiver,
-            name,
-            args,
-        } => fold_dispatch(setting, scope, nodes, id, *at, *receiver, name, args),
-        Node::StaticDispatch {
-            at,
-            receiver,
-            class,
-            name,
-            args,
-        } => fold_static(setting, scope, nodes, id, *at, *receiver, class, name, args),
+        Node::Dispatch { receiver, args, .. } => {
+            let object = fold(setting, scope, nodes, *receiver)?;
+            let parts = fold_args(setting, scope, nodes, id, args.as_slice())?;
+            place_dispatch(setting, nodes, node, &object, parts)
+        }
         _ => unreachable!(),
     }
 }
 
-/// Folds a dispatch of these parts: to a direct call, where no class below the receiver's defines the method anew.
+/// Folds a dispatch to the method of a class that it names. Its parts have numbers below this one.
 #[cycle(folding)]
-fn fold_dispatch<'a>(
+#[inline(never)]
+pub(crate) fn fold_static<'a>(
     setting: &Setting<'a, '_>,
     scope: &mut Scope<'a>,
     nodes: &mut Vec<Node>,
-    end: NodeId,
-    at: Place,
-    receiver: NodeId,
-    name: &'a Name,
-    args: &'a Listed<NodeId>,
+    id: NodeId,
+    node: &'a Node,
 ) -> Result<Found<'a>, AllocError>
-    requires parts { (receiver.0 < end.0) × AllByRecursion (λ item. item.0 < end.0) args.now }
-    requires ready { IsReady setting.now scope.old end.0 }
-    requires room { length nodes.old.items + tree_size (trees.Dispatch at (tree_at setting.now.body.now receiver) name.now (trees_of setting.now args.now)) < 2 ^ 32 - 1 }
+    requires form { IsStaticDispatch node.now }
+    requires parts { HasPartsBelow id.0 node.now }
+    requires ready { IsReady setting.now scope.old id.0 }
+    requires room { length nodes.old.items + tree_size (tree_of_node setting.now node.now) < 2 ^ 32 - 1 }
     ensures scope { OnOk result (scope.new ≡ scope.old) }
-    ensures folded { Folds setting.now scope.old (trees.Dispatch at (tree_at setting.now.body.now receiver) name.now (trees_of setting.now args.now)) nodes.old.items nodes.new.items result }
+    ensures folded { Folds setting.now scope.old (tree_of_node setting.now node.now) nodes.old.items nodes.new.items result }
 {
-    let object = fold(setting, scope, nodes, receiver)?;
-    let args = Listed::new(fold_all(setting, scope, nodes, end, args.as_slice())?.ids);
-    let class = class_of(setting.class, object.ty);
-    let ty = setting.called(class, object.ty, name);
-    let copy = name.copy(setting.alloc)?;
-    if setting.is_redefined(class, name) {
-        let made = Node::Dispatch {
-            at,
-            receiver: object.id,
-            name: copy,
-            args,
-        };
-        return place(nodes, made, ty);
+    match node {
+        Node::StaticDispatch { receiver, args, .. } => {
+            let object = fold(setting, scope, nodes, *receiver)?;
+            let parts = fold_args(setting, scope, nodes, id, args.as_slice())?;
+            place_static(setting, nodes, node, &object, parts)
+        }
+        _ => unreachable!(),
     }
-    let named = setting.table.name(class).copy(setting.alloc)?;
-    let made = Node::StaticDispatch {
-        at,
-        receiver: object.id,
-        class: TypeRef { name: named, at },
-        name: copy,
-        args,
-    };
-    place(nodes, made, ty)
 }
 
-/// Folds a dispatch to the method of a class, of these parts.
+/// Folds arguments, in order. It is not inlined, so that a level of a receiver does not take the stack that arguments need.
 #[cycle(folding)]
-fn fold_static<'a>(
+#[inline(never)]
+fn fold_args<'a>(
     setting: &Setting<'a, '_>,
     scope: &mut Scope<'a>,
     nodes: &mut Vec<Node>,
     end: NodeId,
-    at: Place,
-    receiver: NodeId,
-    class: &'a TypeRef,
-    name: &'a Name,
-    args: &'a Listed<NodeId>,
-) -> Result<Found<'a>, AllocError>
-    requires parts { (receiver.0 < end.0) × AllByRecursion (λ item. item.0 < end.0) args.now }
+    args: &[NodeId],
+) -> Result<Parts, AllocError>
+    requires args { AllByRecursion (λ item. item.0 < end.0) args.now }
     requires ready { IsReady setting.now scope.old end.0 }
-    requires room { length nodes.old.items + tree_size (trees.StaticDispatch at (tree_at setting.now.body.now receiver) class.now name.now (trees_of setting.now args.now)) < 2 ^ 32 - 1 }
+    requires room { length nodes.old.items + trees_size (trees_of setting.now args.now) < 2 ^ 32 - 1 }
     ensures scope { OnOk result (scope.new ≡ scope.old) }
-    ensures folded { Folds setting.now scope.old (trees.StaticDispatch at (tree_at setting.now.body.now receiver) class.now name.now (trees_of setting.now args.now)) nodes.old.items nodes.new.items result }
+    ensures folded { FoldsAll setting.now scope.old (trees_of setting.now args.now) nodes.old.items nodes.new.items result }
 {
-    let object = fold(setting, scope, nodes, receiver)?;
-    let args = Listed::new(fold_all(setting, scope, nodes, end, args.as_slice())?.ids);
-    let meant = class_of(setting.class, setting.meant(&class.name));
-    let ty = setting.called(meant, object.ty, name);
-    let class = class.copy(setting.alloc)?;
-    let name = name.copy(setting.alloc)?;
-    let made = Node::StaticDispatch {
-        at,
-        receiver: object.id,
-        class,
-        name,
-        args,
-    };
-    place(nodes, made, ty)
+    fold_all(setting, scope, nodes, end, args)
 }

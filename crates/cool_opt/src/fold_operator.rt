@@ -7,9 +7,10 @@ ghost use Rattle.cool_syntax.specs.Tree.{tree_size};
 ghost use Rattle.cool_opt.specs.FoldedNodes.{Folds};
 ghost use Rattle.cool_opt.specs.Settings.{tree_of_node, IsReady};
 
-use crate::constant::{compared, complemented, computed, negated, voided};
 use crate::expression::fold;
-use crate::place::{Found, place, place_number, place_truth};
+use crate::form::{left_operand, operand, right_operand};
+use crate::place::Found;
+use crate::place_operator::{place_binary, place_unary};
 use crate::setting::Setting;
 use cool_rules::Scope;
 use cool_syntax::{Node, NodeId};
@@ -17,6 +18,7 @@ use std::alloc::AllocError;
 
 /// Folds an assignment, `isvoid`, `~` or `not`, whose part has a number below this one.
 #[cycle(folding)]
+#[inline(never)]
 pub(crate) fn fold_unary<'a>(
     setting: &Setting<'a, '_>,
     scope: &mut Scope<'a>,
@@ -32,47 +34,13 @@ pub(crate) fn fold_unary<'a>(
     ensures folded { Folds setting.now scope.old (tree_of_node setting.now node.now) nodes.old.items nodes.new.items result }
 {
     let start = nodes.len();
-    match node {
-        Node::Assign { at, name, value } => {
-            let part = fold(setting, scope, nodes, *value)?;
-            let name = name.copy(setting.alloc)?;
-            let made = Node::Assign {
-                at: *at,
-                name,
-                value: part.id,
-            };
-            place(nodes, made, part.ty)
-        }
-        Node::IsVoid { at, value } => {
-            let part = fold(setting, scope, nodes, *value)?;
-            let made = Node::IsVoid {
-                at: *at,
-                value: part.id,
-            };
-            place_truth(nodes, start, made, *at, voided(part.constant))
-        }
-        Node::Neg { at, value } => {
-            let part = fold(setting, scope, nodes, *value)?;
-            let made = Node::Neg {
-                at: *at,
-                value: part.id,
-            };
-            place_number(nodes, start, made, *at, negated(part.constant))
-        }
-        Node::Not { at, value } => {
-            let part = fold(setting, scope, nodes, *value)?;
-            let made = Node::Not {
-                at: *at,
-                value: part.id,
-            };
-            place_truth(nodes, start, made, *at, complemented(part.constant))
-        }
-        _ => unreachable!(),
-    }
+    let part = fold(setting, scope, nodes, operand(node))?;
+    place_unary(setting, nodes, start, node, &part)
 }
 
 /// Folds arithmetic or a comparison, whose parts have numbers below this one.
 #[cycle(folding)]
+#[inline(never)]
 pub(crate) fn fold_binary<'a>(
     setting: &Setting<'a, '_>,
     scope: &mut Scope<'a>,
@@ -88,41 +56,7 @@ pub(crate) fn fold_binary<'a>(
     ensures folded { Folds setting.now scope.old (tree_of_node setting.now node.now) nodes.old.items nodes.new.items result }
 {
     let start = nodes.len();
-    match node {
-        Node::Arith {
-            at,
-            op,
-            left,
-            right,
-        } => {
-            let first = fold(setting, scope, nodes, *left)?;
-            let second = fold(setting, scope, nodes, *right)?;
-            let made = Node::Arith {
-                at: *at,
-                op: *op,
-                left: first.id,
-                right: second.id,
-            };
-            let number = computed(*op, first.constant, second.constant);
-            place_number(nodes, start, made, *at, number)
-        }
-        Node::Compare {
-            at,
-            op,
-            left,
-            right,
-        } => {
-            let first = fold(setting, scope, nodes, *left)?;
-            let second = fold(setting, scope, nodes, *right)?;
-            let made = Node::Compare {
-                at: *at,
-                op: *op,
-                left: first.id,
-                right: second.id,
-            };
-            let truth = compared(*op, first.constant, second.constant);
-            place_truth(nodes, start, made, *at, truth)
-        }
-        _ => unreachable!(),
-    }
+    let left = fold(setting, scope, nodes, left_operand(node))?;
+    let right = fold(setting, scope, nodes, right_operand(node))?;
+    place_binary(setting, nodes, start, node, &left, &right)
 }

@@ -1,6 +1,6 @@
 //! Placing nodes after others, and what is answered of an expression whose nodes were placed.
 
-ghost use Rattle.std.specs.Prelude.{◌≡◌, ◌∷◌, ◌++◌, ◌-◌, ◌+◌, ◌<◌, ◌≤◌, ◌^◌, [], None, length, IfOk, OnOk};
+ghost use Rattle.std.specs.Prelude.{◌≡◌, ◌∷◌, ◌++◌, ◌-◌, ◌+◌, ◌<◌, ◌≤◌, ◌^◌, [], None, length, take, IfOk, OnOk};
 ghost use Rattle.cool_rules.specs.Typing.{bool_type, int_type};
 ghost use Rattle.cool_opt.specs.FoldedNodes.{number_constant, truth_constant, with_number, with_truth};
 
@@ -29,6 +29,14 @@ pub(crate) struct Parts {
 pub(crate) struct Branches {
     pub(crate) branches: Vec<NodeBranch>,
     pub(crate) joined: Ty,
+}
+
+/// Takes the nodes from this number on away. It is not inlined, since it keeps a node on the stack.
+#[inline(never)]
+pub(crate) fn cut(nodes: &mut Vec<Node>, start: usize)
+    ensures { nodes.new.items ≡ take start nodes.old.items }
+{
+    nodes.truncate(start);
 }
 
 /// Places the node of an expression of this type after its parts.

@@ -19,23 +19,29 @@ decreases-fold_operator::fold_unary l = 8 * l.id.0 + 3
 abbrev pub decreases-fold_operator::fold_binary : goal.decreases-fold_operator::fold_binary
 decreases-fold_operator::fold_binary l = 8 * l.id.0 + 3
 
-abbrev pub decreases-fold_call::fold_call : goal.decreases-fold_call::fold_call
-decreases-fold_call::fold_call l = 8 * l.id.0 + 3
-
 abbrev pub decreases-fold_call::fold_dispatch : goal.decreases-fold_call::fold_dispatch
-decreases-fold_call::fold_dispatch l = 8 * l.end.0 + 2
+decreases-fold_call::fold_dispatch l = 8 * l.id.0 + 3
 
 abbrev pub decreases-fold_call::fold_static : goal.decreases-fold_call::fold_static
-decreases-fold_call::fold_static l = 8 * l.end.0 + 2
+decreases-fold_call::fold_static l = 8 * l.id.0 + 3
 
-abbrev pub decreases-fold_control::fold_control : goal.decreases-fold_control::fold_control
-decreases-fold_control::fold_control l = 8 * l.id.0 + 3
+abbrev pub decreases-fold_call::fold_args : goal.decreases-fold_call::fold_args
+decreases-fold_call::fold_args l = 8 * l.end.0 + 1
 
-abbrev pub decreases-fold_control::fold_binding : goal.decreases-fold_control::fold_binding
-decreases-fold_control::fold_binding l = 8 * l.id.0 + 3
+abbrev pub decreases-fold_control::fold_while : goal.decreases-fold_control::fold_while
+decreases-fold_control::fold_while l = 8 * l.id.0 + 3
+
+abbrev pub decreases-fold_control::fold_block : goal.decreases-fold_control::fold_block
+decreases-fold_control::fold_block l = 8 * l.id.0 + 3
 
 abbrev pub decreases-fold_control::fold_if : goal.decreases-fold_control::fold_if
-decreases-fold_control::fold_if l = 8 * l.id.0 + 2
+decreases-fold_control::fold_if l = 8 * l.id.0 + 3
+
+abbrev pub decreases-fold_binding::fold_let : goal.decreases-fold_binding::fold_let
+decreases-fold_binding::fold_let l = 8 * l.id.0 + 3
+
+abbrev pub decreases-fold_binding::fold_case : goal.decreases-fold_binding::fold_case
+decreases-fold_binding::fold_case l = 8 * l.id.0 + 3
 
 abbrev pub decreases-expression::fold_within : goal.decreases-expression::fold_within
 decreases-expression::fold_within l = 8 * l.body.0 + 5
@@ -43,11 +49,11 @@ decreases-expression::fold_within l = 8 * l.body.0 + 5
 abbrev pub decreases-expression::fold_all : goal.decreases-expression::fold_all
 decreases-expression::fold_all l = 8 * l.end.0
 
-abbrev pub decreases-fold_control::fold_option : goal.decreases-fold_control::fold_option
-decreases-fold_control::fold_option l = 8 * l.end.0
+abbrev pub decreases-fold_binding::fold_option : goal.decreases-fold_binding::fold_option
+decreases-fold_binding::fold_option l = 8 * l.end.0
 
-abbrev pub decreases-fold_control::fold_branches : goal.decreases-fold_control::fold_branches
-decreases-fold_control::fold_branches l = 8 * l.end.0
+abbrev pub decreases-fold_binding::fold_branches : goal.decreases-fold_binding::fold_branches
+decreases-fold_binding::fold_branches l = 8 * l.end.0
 
 abbrev pub invariant-expression::fold_all-loop-item : goal.invariant-expression::fold_all-loop-item
 invariant-expression::fold_all-loop-item l = record {
@@ -69,8 +75,8 @@ invariant-expression::fold_all-loop-item l = record {
   below : AllByRecursion (λ item. item.0 < l.fn.end.0) (drop l.item-index l.items);
 }
 
-abbrev pub invariant-fold_control::fold_branches-loop-branch : goal.invariant-fold_control::fold_branches-loop-branch
-invariant-fold_control::fold_branches-loop-branch l = record {
+abbrev pub invariant-fold_binding::fold_branches-loop-branch : goal.invariant-fold_binding::fold_branches-loop-branch
+invariant-fold_binding::fold_branches-loop-branch l = record {
   scope : l.scope ≡ l.fn.scope;
   joined : IfSome l.joined (IsType l.setting.table.now);
   typed : cases_type_of l.setting.table.now l.setting.class l.fn.scope l.joined
