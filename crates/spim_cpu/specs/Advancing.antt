@@ -1,5 +1,5 @@
 -- Operations one after another: what one leads to, and where so many lead.
-use Rattle.std.specs.Prelude.{◌≡◌, refl, ℕ, zero, suc, ◌+◌, ◌-◌, ◌*◌, ◌/◌, ◌%◌, Bool, true, false, List, [], ◌∷◌, get_or, Result, Ok, Err}
+use Rattle.std.specs.Prelude.{◌≡◌, refl, ℕ, zero, suc, ◌+◌, ◌-◌, ◌*◌, ◌/◌, ◌%◌, nat_lt, not, ◌||◌, Bool, true, false, List, [], ◌∷◌, get_or, Option, Some, None, Result, Ok, Err}
 use Rattle.mips_isa.specs.declared.address_map.TheConstants.{TEXT_START}
 use Rattle.mips_isa.specs.Bytes.{Segments}
 use Rattle.mips_isa.specs.Machine.{Core, Next, On, Call, Stop, step}
@@ -43,3 +43,16 @@ second_marked = refl
 
 none_marked : is_marked (false ∷ true ∷ []) 0x00400008 ≡ false
 none_marked = refl
+
+-- whether the word at an address has a mark that is set, of marks or none
+abbrev pub has_mark : Option (List Bool) → ℕ → Bool
+has_mark None a = false
+has_mark (Some marks) a = is_marked marks a
+
+-- a number that is no address of 32 bits
+abbrev pub is_past : ℕ → Bool
+is_past a = not (nat_lt a 4294967296)
+
+-- such a number, or an address whose word has a mark that is set
+abbrev pub is_stop : List Bool → ℕ → Bool
+is_stop marks a = is_past a || is_marked marks a

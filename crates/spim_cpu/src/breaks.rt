@@ -1,7 +1,8 @@
 //! Where a run stops.
 
 ghost use Rattle.std.specs.Prelude.{◌≡◌, ◌<◌, ℕ, Bool};
-ghost use Rattle.spim_cpu.specs.Advancing.{is_marked};
+ghost use Rattle.std.specs.Option.{option_copied};
+ghost use Rattle.spim_cpu.specs.Advancing.{is_marked, has_mark};
 
 use crate::word_index;
 
@@ -10,9 +11,10 @@ pub trait Breaks {
     /// Which addresses are in the set.
     ghost holds: { Self → ℕ → Bool };
 
-    /// A mark for each word of the text, from the first one on: whether its address is in the set. What has no mark is not in it.
-    fn marks(&self) -> &[bool]
-        ensures { (a : ℕ) → a < 4294967296 → holds self.now a ≡ is_marked result.now a };
+    /// A mark for each word of the text, from the first one on: whether its address is in the set. What has no mark is not in it, and
+    /// `None` is that no address is.
+    fn marks(&self) -> Option<&[bool]>
+        ensures { (a : ℕ) → a < 4294967296 → holds self.now a ≡ has_mark (option_copied result) a };
 }
 
 /// No address.
@@ -25,8 +27,8 @@ impl Breaks for NoBreaks {
     ghost holds = { λ _ _. false };
 
     #[inline(always)]
-    fn marks(&self) -> &[bool] {
-        &[]
+    fn marks(&self) -> Option<&[bool]> {
+        None
     }
 }
 
@@ -34,12 +36,13 @@ impl Breaks for NoBreaks {
 pub fn contains<B: Breaks>(breaks: &B, address: u32) -> bool
     ensures { result ≡ B.holds breaks.now address }
 {
-    is_marked(breaks.marks(), address)
+    breaks
+        .marks()
+        .is_some_and(|marks| is_marked(marks, address))
 }
 
 /// Whether the word at an address has a mark that is set.
-#[inline(always)]
-pub(crate) fn is_marked(marks: &[bool], address: u32) -> bool
+fn is_marked(marks: &[bool], address: u32) -> bool
     ensures marked { result ≡ is_marked marks.now address }
     ensures fits { address < 4294967296 }
 {

@@ -6,12 +6,11 @@ ghost use Rattle.mips_isa.specs.Machine as machine;
 ghost use Rattle.mips_isa.specs.Run.{start_core};
 ghost use Rattle.spim_memory.specs.Memory.{segments, bytes_of, IsLimits};
 ghost use Rattle.spim_cpu.specs.Cpu.{core_of, KeepsSegments, Stepped};
-ghost use Rattle.spim_cpu.specs.Advancing.{Goes, word_index};
+ghost use Rattle.spim_cpu.specs.Advancing.{Goes, word_index, is_past, is_stop};
 
 mod access;
 mod operate;
 
-use crate::breaks::is_marked;
 use crate::{Breaks, Step};
 use access::trap_of;
 use mips_isa::register::{GP, S6, S7, SP, ZERO};
@@ -38,6 +37,12 @@ impl Model for Cpu {
 
     ghost invariant = { λ c. IsCpu c.registers };
 }
+
+/// A caller of `operate`: the loop that stops at no address.
+struct Freely;
+
+/// A caller of `operate`: the loop that stops at marks.
+struct ToMark;
 
 /// The index of the word of the text at an address; where no word is, so large a number that the text has no such word.
 #[inline(always)]
@@ -133,20 +138,65 @@ impl Cpu {
     /// answers how many.
     ///
     /// It may stop earlier.
+    #[inline(never)]
     pub fn advance<B: Breaks>(&mut self, most: u64, breaks: &B) -> u64
         ensures most { result ≤ most }
         ensures goes { Goes (B.holds breaks.now) self.old.memory.text (segments self.old.memory) result (core_of self.old) (core_of self.new) }
         ensures segments { KeepsSegments self.old.memory self.new.memory }
     {
-        let marks = breaks.marks();
+        match breaks.marks() {
+            None => self.advance_freely(most),
+            Some(marks) => self.advance_to_mark(most, marks),
+        }
+    }
+
+    /// Executes at most so many instructions, up to the first one that is a system call or traps, and answers how many.
+    ///
+    /// It may stop earlier.
+    #[inline(never)]
+    fn advance_freely(&mut self, most: u64) -> u64
+        ensures most { result ≤ most }
+        ensures goes { Goes is_past self.old.memory.text (segments self.old.memory) result (core_of self.old) (core_of self.new) }
+        ensures segments { KeepsSegments self.old.memory self.new.memory }
+    {
         let operations = self.memory.take_operations();
         let mut pc = self.pc;
         let mut left = most;
-        while left > 0 && !is_marked(marks, pc) {
+        while left > 0 {
             let Some(operation) = operations.get(word_index(pc)) else {
                 break;
             };
-            let Ok(next) = self.operate::<B>(operation, pc) else {
+            let Ok(next) = self.operate::<Freely>(operation, pc) else {
+                break;
+            };
+            pc = next;
+            left -= 1;
+        }
+        self.pc = pc;
+        self.memory.put_operations(operations);
+        most - left
+    }
+
+    /// Executes at most so many instructions, up to the first one that is a system call, traps, or has a mark that is set or none,
+    /// and answers how many.
+    ///
+    /// It may stop earlier.
+    #[inline(never)]
+    fn advance_to_mark(&mut self, most: u64, marks: &[bool]) -> u64
+        ensures most { result ≤ most }
+        ensures goes { Goes (is_stop marks.now) self.old.memory.text (segments self.old.memory) result (core_of self.old) (core_of self.new) }
+        ensures segments { KeepsSegments self.old.memory self.new.memory }
+    {
+        let operations = self.memory.take_operations();
+        let marked = operations.len().min(marks.len());
+        let mut pc = self.pc;
+        let mut left = most;
+        while left > 0 {
+            let index = word_index(pc);
+            if index >= marked || marks[index] {
+                break;
+            }
+            let Ok(next) = self.operate::<ToMark>(&operations[index], pc) else {
                 break;
             };
             pc = next;

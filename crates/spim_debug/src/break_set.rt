@@ -9,18 +9,22 @@ use spim_cpu::{Breaks, word_index};
 use std::alloc::{AllocError, Global};
 use std::marker::Model;
 
-/// Break addresses: a mark for each word of a text. A contract sees the marks.
+/// Break addresses: a mark for each word of a text, and how many marks are set. A contract sees the marks.
 #[derive(Drop)]
 pub struct BreakSet {
     marks: Vec<bool>,
+    count: usize,
 }
 
 impl Model for BreakSet {
-    ghost use Rattle.std.specs.Prelude.{List, Bool};
+    ghost use Rattle.std.specs.Prelude.{◌≡◌, List, Bool};
+    ghost use Rattle.std.specs.List.{count_by};
 
     ghost Value = { List Bool };
 
     ghost view = { λ s. s.marks.items };
+
+    ghost invariant = { λ s. s.count ≡ count_by (λ mark. mark) s.marks.items };
 }
 
 impl BreakSet {
@@ -31,6 +35,7 @@ impl BreakSet {
     {
         Ok(BreakSet {
             marks: vec![in alloc; false; words]?,
+            count: 0,
         })
     }
 
@@ -40,7 +45,11 @@ impl BreakSet {
         ensures held { (a : ℕ) → in_set self.new a ≡ (address == a || in_set self.old a) }
         ensures size { length self.new ≡ length self.old }
     {
-        self.marks[word_index(address)] = true;
+        let index = word_index(address);
+        if !self.marks[index] {
+            self.count += 1;
+        }
+        self.marks[index] = true;
     }
 
     /// Takes an address of a word of the text out of the set.
@@ -49,7 +58,11 @@ impl BreakSet {
         ensures held { (a : ℕ) → in_set self.new a ≡ (not (address == a) && in_set self.old a) }
         ensures size { length self.new ≡ length self.old }
     {
-        self.marks[word_index(address)] = false;
+        let index = word_index(address);
+        if self.marks[index] {
+            self.count -= 1;
+        }
+        self.marks[index] = false;
     }
 }
 
@@ -59,7 +72,10 @@ impl Breaks for BreakSet {
     ghost holds = { in_set };
 
     #[inline(always)]
-    fn marks(&self) -> &[bool] {
-        &self.marks
+    fn marks(&self) -> Option<&[bool]> {
+        if self.count == 0 {
+            return None;
+        }
+        Some(&self.marks)
     }
 }
