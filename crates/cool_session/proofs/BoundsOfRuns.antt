@@ -93,7 +93,7 @@ ended_stands : (all : List Token) (file : ℕ) (k : TokenKind) (run : Run) → S
 ended_stands all file (kind.Sign sign.Semi) run h = (h, tt)
 ended_stands all file _ run h = tt
 
-stand : (all : List Token) (file d start at : ℕ) (ts : List Token) → start ≤ at → drop at all ≡ ts
+pub stand : (all : List Token) (file d start at : ℕ) (ts : List Token) → start ≤ at → drop at all ≡ ts
     → AllByRecursion (Stands all file) (bounds_from file d start at ts)
 stand all file d start at [] le h = tt
 stand all file d start at (t ∷ ts) le h =

@@ -24,8 +24,7 @@ use Rattle.cool_faults.specs.declared.fault.Fault.{Fault}
 use Rattle.cool_faults.specs.declared.fault.Fault.TheVariants.{Typing}
 use Rattle.cool_faults.specs.declared.fault.Untyped.{Untyped}
 use Rattle.cool_faults.specs.Files.{total}
-use Rattle.cool_faults.specs.Phases.{IsLexed, IsLexical}
-use Rattle.cool_faults.specs.Untyped.{IsUntyped}
+use Rattle.cool_faults.specs.Phases.{AreFound, IsLexed, IsLexical}
 use Rattle.cool_faults.specs.Verdicts.{AreTrees, IsFaultList, faultless, faulty, of_typing}
 use Rattle.cool_faults.proofs.FindingsInARow.{all_found}
 use Rattle.cool_faults.proofs.OneVerdict.{one_trees}
@@ -33,31 +32,40 @@ use Rattle.cool_faults.proofs.OrderOfFaults.{typing_in_order}
 use Rattle.cool_faults.proofs.SyntaxFaults.{tokens_few, as_many}
 use Rattle.cool_session.specs.declared.base.Base.{Base as KeptBase}
 use Rattle.cool_session.specs.declared.base.KeptFault.{KeptFault}
-use Rattle.cool_session.specs.Bases.{View, view, views, parent_in, table_signature, table_signatures, seen}
-use Rattle.cool_session.specs.FeatureTokens.{kinds}
+use Rattle.cool_session.specs.Bases.{View, view, views, parent_in, table_signature, table_signatures, tokens_of, seen}
+use Rattle.cool_session.specs.FeatureTokens.{kinds, runs_of}
 use Rattle.cool_session.specs.Fresh.{Base, HaveFeatures, AreTyped, IsFresh, first, signed_anew, edited, Types, typed, untyped}
-use Rattle.cool_session.specs.KeptChecks.{HasFewTokens, AreKept, IsBase}
-use Rattle.cool_session.specs.KeptFaults.{faults_kept, AreFaultsOf}
+use Rattle.cool_session.specs.KeptChecks.{HasFewTokens, IsRead, results_of, IsBase}
+use Rattle.cool_session.specs.KeptFaults.{faults_kept, AreFaultsOf, AreKeptOf}
 use Rattle.cool_session.specs.NewFeatures.{runs_seen, kinds_seen, AreNew, DifferBy, IsUsed, base_seen, IsAskedAtMost, IsAskedWithin}
 use Rattle.cool_session.specs.Signatures.{ClassSignature, features_in, signatures}
 use Rattle.cool_session.proofs.ChecksAfterEdits.{typing_faults_kept}
 use Rattle.cool_session.proofs.FeaturesKept.{base_as_many}
 use Rattle.cool_session.proofs.NewFeaturesCounted.{differ, differ_by}
+use Rattle.cool_session.proofs.ReadFiles.{views_read}
 use Rattle.cool_session.proofs.TablesOfSignatures.{class_same, views_same}
-use Rattle.cool_session.proofs.TypedFiles.{are_typed, signed, trees_are}
+use Rattle.cool_session.proofs.TypedFiles.{are_typed, trees_are}
 
 -- Files are few, and so are their tokens
 
-pub few_files : (files : List (List ℕ)) (u : Untyped) → IsUntyped files u → length files ≤ MOST_FILES → length u.lexed.items < 4294967296
-few_files files u h few = omega (arith, few, as_many IsLexed 0 files u.lexed.items (all_found IsLexed IsLexical h.lexed refl))
+pub few_lexed : (files : List (List ℕ)) (ls : List Lexed) → AreFound IsLexed IsLexical 0 files ls [] → length files ≤ MOST_FILES
+    → length ls < 4294967296
+few_lexed files ls h few = omega (arith, few, as_many IsLexed 0 files ls (all_found IsLexed IsLexical h refl))
 
 all_short : (ls : List Lexed) → AllByRecursion (λ (l : Lexed). length l.tokens.items ≤ MOST_SOURCE_BYTES) ls → AllByRecursion HasFewTokens ls
 all_short [] h = tt
 all_short (l ∷ ls) (h, hs) = (omega (arith, h), all_short ls hs)
 
-pub short_files : (files : List (List ℕ)) (u : Untyped) → IsUntyped files u → total files ≤ MOST_SOURCE_BYTES
-    → AllByRecursion HasFewTokens u.lexed.items
-short_files files u h small = all_short u.lexed.items (tokens_few 0 files u.lexed.items (all_found IsLexed IsLexical h.lexed refl) small)
+pub short_lexed : (files : List (List ℕ)) (ls : List Lexed) → AreFound IsLexed IsLexical 0 files ls [] → total files ≤ MOST_SOURCE_BYTES
+    → AllByRecursion HasFewTokens ls
+short_lexed files ls h small = all_short ls (tokens_few 0 files ls (all_found IsLexed IsLexical h refl) small)
+
+pub few_files : (files : List (List ℕ)) (ls : List Lexed) (p : List Class) → IsRead files ls p → length files ≤ MOST_FILES → length ls < 4294967296
+few_files files ls p h few = few_lexed files ls h.lexed few
+
+pub short_files : (files : List (List ℕ)) (ls : List Lexed) (p : List Class) → IsRead files ls p → total files ≤ MOST_SOURCE_BYTES
+    → AllByRecursion HasFewTokens ls
+short_files files ls p h small = short_lexed files ls h.lexed small
 
 -- Files come to be typed in one way
 
@@ -103,19 +111,20 @@ signed_alike p q same (d ∷ ds) (e ∷ es) h =
 pub signatures_of_views : (p q : List Class) → views p ≡ views q → table_signatures p ≡ table_signatures q
 signatures_of_views p q same = signed_alike p q same (drop 5 p) (drop 5 q) (dropped 5 p ∙ (ap (drop 5) same ∙ sym (dropped 5 q)))
 
-views_of_signatures : (files others : List (List ℕ)) (u v : Untyped) → IsUntyped files u → IsUntyped others v
-    → table_signatures u.classes ≡ table_signatures v.classes → views u.classes ≡ views v.classes
-views_of_signatures files others u v h g same =
-    ap views h.meant
-    ∙ (views_same (definitions g.trees) (definitions h.trees) (sym (signed files u h) ∙ (same ∙ signed others v g)) ∙ sym (ap views g.meant))
+views_of_signatures : (files others : List (List ℕ)) (ls ms : List Lexed) (p q : List Class) → IsRead files ls p → IsRead others ms q
+    → table_signatures p ≡ table_signatures q → views p ≡ views q
+views_of_signatures files others ls ms p q h g same =
+    views_read files ls p h
+    ∙ (views_same (definitions g.trees) (definitions h.trees) (sym h.signed ∙ (same ∙ g.signed)) ∙ sym (views_read others ms q g))
 
 -- What is fresh
 
-other_signatures : (b : KeptBase) (files : List (List ℕ)) (now : Untyped) → IsUntyped files now → views b.untyped.classes ≢ views now.classes
-    → (seen b.untyped).signatures ≢ (seen now).signatures
+other_signatures : (b : KeptBase) (files : List (List ℕ)) (now : Untyped) → IsRead files now.lexed.items now.classes
+    → views b.untyped.classes ≢ views now.classes → (seen b.untyped).signatures ≢ (seen now).signatures
 other_signatures b files now h other same =
     ∥∥₁_elim b.kept (λ x y. absurd x)
-    (λ (k : IsBase b.untyped b.faults.items). other (views_of_signatures k.files files b.untyped now k.untyped h same))
+    (λ (k : IsBase b.untyped b.faults.items).
+    other (views_of_signatures k.files files b.untyped.lexed.items now.lexed.items b.untyped.classes now.classes k.base.read h same))
 
 take_whole : {X : Type 0} (xs : List X) (n : ℕ) → length xs ≡ n → take n xs ≡ xs
 take_whole [] zero h = refl
@@ -134,7 +143,7 @@ none_left : {X : Type 0} (xs : List X) → IsPermutation xs [] → xs ≡ []
 none_left [] h = refl
 none_left (x ∷ xs) h = absurd (omega (arith, length_permutation (x ∷ xs) [] h))
 
-module _ (files : List (List ℕ)) (now : Untyped) (h : IsUntyped files now) where
+module _ (files : List (List ℕ)) (now : Untyped) (h : IsRead files now.lexed.items now.classes) where
   kinds_many : (b : KeptBase) → views b.untyped.classes ≡ views now.classes → length (kinds_seen b.untyped) ≡ length (kinds_seen now)
   kinds_many b same =
       length-map (runs_seen b.untyped) kinds
@@ -204,32 +213,30 @@ module _ (files : List (List ℕ)) (now : Untyped) (h : IsUntyped files now) whe
   asked_within base used before after is asked =
       record { number = asked.number; asked = asked.asked; most = λ n now t. most_fresh base used asked.number n now is asked.most t }
 
-  -- the fault list, by what is kept
-  pub listed : (kept : List (Option KeptFault)) (faults : List Fault) → AreKept now kept → AreFaultsOf (faults_kept (runs_seen now) kept) faults
-      → IsFaultList files faults
-  listed kept faults are f = subst (IsFaultList files) (sym f.is) (by f.types f.moved f.order)
-    where
-      found : typing_faults now.classes ≡ faults_kept (runs_seen now) kept
-      found = typing_faults_kept now.classes (runs_seen now) kept are
+-- the fault list, by what is kept
+pub listed : (files : List (List ℕ)) (ls : List Lexed) (p : List Class) (h : IsRead files ls p) (kept : List (Option KeptFault))
+    (faults : List Fault) → AreKeptOf (runs_of (tokens_of ls)) (results_of h.trees) kept
+    → AreFaultsOf (faults_kept (runs_of (tokens_of ls)) kept) faults → IsFaultList files faults
+listed files ls p h kept faults are f = subst (IsFaultList files) (sym f.is) (by f.types f.moved f.order)
+  where
+    meant : typing_faults (classes_meant (definitions h.trees)) ≡ faults_kept (runs_of (tokens_of ls)) kept
+    meant = typing_faults_kept (classes_meant (definitions h.trees)) (runs_of (tokens_of ls)) kept are
 
-      meant : typing_faults (classes_meant (definitions h.trees)) ≡ faults_kept (runs_seen now) kept
-      meant = ap typing_faults (sym h.meant) ∙ found
+    trees : AreTrees 0 files h.trees
+    trees = trees_are files ls p h
 
-      trees : AreTrees 0 files h.trees
-      trees = trees_are files now h
-
-      by : (types : List TypeFault) → IsPermutation (faults_kept (runs_seen now) kept) types → AreInOrder standing_of types
-          → IsFaultList files (map Typing types)
-      by [] moved order = faultless (record {
-        trees = h.trees;
-        are_trees = trees;
-        classes = h.classes;
-        features = h.features;
-        typing = meant ∙ none_left (faults_kept (runs_seen now) kept) moved;
-      })
-      by (t ∷ types) moved order =
-          faulty (map Typing (t ∷ types)) (λ e. absurd (omega (arith, ap length e)))
-          (of_typing h.trees trees h.classes h.features
-          (subst (λ (fs : List TypeFault). IsPermutation (map Typing fs) (map Typing (t ∷ types))) (sym meant)
-          (IsPermutation-map Typing (faults_kept (runs_seen now) kept) (t ∷ types) moved)))
-          (typing_in_order (t ∷ types) order)
+    by : (types : List TypeFault) → IsPermutation (faults_kept (runs_of (tokens_of ls)) kept) types → AreInOrder standing_of types
+        → IsFaultList files (map Typing types)
+    by [] moved order = faultless (record {
+      trees = h.trees;
+      are_trees = trees;
+      classes = h.classes;
+      features = h.features;
+      typing = meant ∙ none_left (faults_kept (runs_of (tokens_of ls)) kept) moved;
+    })
+    by (t ∷ types) moved order =
+        faulty (map Typing (t ∷ types)) (λ e. absurd (omega (arith, ap length e)))
+        (of_typing h.trees trees h.classes h.features
+        (subst (λ (fs : List TypeFault). IsPermutation (map Typing fs) (map Typing (t ∷ types))) (sym meant)
+        (IsPermutation-map Typing (faults_kept (runs_of (tokens_of ls)) kept) (t ∷ types) moved)))
+        (typing_in_order (t ∷ types) order)

@@ -1,6 +1,6 @@
 -- Over tables of the same signatures, features of the same tokens, places aside, are checked with the same result: both are typed, or both
 -- have a fault of one kind at the token of one position. So what is kept of the one is what is to be kept of the other.
-use Rattle.std.proofs.Common.{◌≡◌, ◌≢◌, ◌⊎◌, inl, inr, ℕ, zero, suc, ◌+◌, ◌<◌, List, [], ◌∷◌, ◌++◌, map, length, get_or, drop, Option, Some, None, IfSome, Bool, true, false, if◌then◌else◌, Ok, Err, refl, sym, ap, ◌∙◌, subst, arith}
+use Rattle.std.proofs.Common.{◌≡◌, ◌≢◌, ◌⊎◌, inl, inr, ℕ, zero, suc, ◌+◌, ◌<◌, List, [], ◌∷◌, map, length, get_or, drop, Option, Some, None, IfSome, Bool, true, false, if◌then◌else◌, Ok, Err, refl, sym, ap, ◌∙◌, subst, arith}
 use Rattle.std.specs.Prelude.{nat_eq}
 use Rattle.std.specs.Option.{option_map}
 use Rattle.std.proofs.lemmas.Bool.{eq-eqb}
@@ -9,7 +9,6 @@ use Rattle.std.proofs.lemmas.List.{length-map}
 use Rattle.cool_syntax.specs.declared.place.Place.{Place}
 use Rattle.cool_syntax.specs.declared.token.Token.{Token}
 use Rattle.cool_syntax.specs.declared.token.TokenKind.{TokenKind}
-use Rattle.cool_syntax.specs.declared.token.Sign.TheVariants as sign
 use Rattle.cool_syntax.specs.declared.file_tree.ClassDef.{ClassDef}
 use Rattle.cool_syntax.specs.declared.file_tree.Feature.{Feature}
 use Rattle.cool_syntax.specs.declared.file_tree.Feature.TheVariants.{Method, Attribute}
@@ -18,7 +17,6 @@ use Rattle.cool_syntax.specs.declared.file_tree.AttributeDef.{AttributeDef}
 use Rattle.cool_syntax.specs.Tree.{Tree}
 use Rattle.cool_syntax.specs.ConcreteTrees.{NoParent, Heading, NoFeature, Another, NoClass, Class}
 use Rattle.cool_syntax.specs.Grammar.{Parses}
-use Rattle.cool_syntax.specs.Readings.{symbol, heading_reading}
 use Rattle.cool_syntax.specs.TokenFacts.{AreRising}
 use Rattle.cool_classes.specs.declared.class_id.ClassId.{ClassId}
 use Rattle.cool_classes.specs.declared.class_id.Ty.{Ty}
@@ -35,6 +33,7 @@ use Rattle.cool_session.specs.Bases.{view}
 use Rattle.cool_session.specs.declared.base.KeptFault.{KeptFault}
 use Rattle.cool_session.specs.KeptFaults.{place_of_token, result_kept, IsKeptOf}
 use Rattle.cool_session.specs.FeatureTokens.{kinds, ParsesFeature}
+use Rattle.cool_session.specs.OneFeature.{class_of_one, nowhere}
 use Rattle.cool_session.specs.Signatures.{signatures}
 use Rattle.cool_session.proofs.RenamedTrees.{renamed_token, renamed_type, renamed_tree, renamed_formal, renamed_feature, feature_renamed}
 use Rattle.cool_session.proofs.RenamedChecks.{renamed_result, then_renamed, expect_renamed, checked_renamed}
@@ -78,19 +77,12 @@ module _ (f : Place → Place) (p p' : List TableClass) (same : map view p' ≡ 
 
 -- Tokens are one feature at most
 
-nowhere : Place
-nowhere = record { file = 0; line = 0; byte = 0 }
-
 heading : Heading
 heading = record { mark = nowhere; name = []; at = nowhere; parent = NoParent; lbrace = nowhere }
 
--- the tokens of a class of one feature of these tokens
-class_of_one : List Token → List Token
-class_of_one tokens = heading_reading heading ++ tokens ++ symbol sign.RBrace nowhere ∷ symbol sign.Semi nowhere ∷ []
-
 class_parses : (tokens : List Token) (x : Feature) → ParsesFeature tokens x
     → Parses (class_of_one tokens) (record { name = []; at = nowhere; parent = None; features = x ∷ [] } ∷ [])
-unfolding nowhere heading class_of_one
+unfolding heading
 class_parses tokens x h = (
   Class NoClass heading (Another NoFeature h.feature) nowhere nowhere,
   (tt, (tt, h.shaped)),
@@ -113,7 +105,7 @@ not_same a b h = grind (arith, eqb_tells a b, h)
 
 -- The renaming that takes the places of some tokens to those of others
 
-abbrev renaming : Place → List Token → List Token → Place → Place
+abbrev pub renaming : Place → List Token → List Token → Place → Place
 renaming d [] us at = d
 renaming d (t ∷ ts) [] at = d
 renaming d (t ∷ ts) (u ∷ us) at = if nat_eq t.at.byte at.byte then u.at else renaming d ts us at

@@ -11,6 +11,8 @@ use Rattle.cool_syntax.specs.declared.file_tree.Feature.{Feature}
 use Rattle.cool_lexer.specs.declared.lexer.Lexed.{Lexed}
 use Rattle.cool_classes.specs.declared.class_id.ClassId.{ClassId}
 use Rattle.cool_classes.specs.Chains.{Class, class_number, class_at, features_of}
+use Rattle.cool_classes.specs.ClassFaults.{classes_meant}
+use Rattle.cool_classes.specs.Definitions.{definitions}
 use Rattle.cool_check.specs.declared.fault.TypeFault.{TypeFault}
 use Rattle.cool_check.specs.FirstFaults.{Checked}
 use Rattle.cool_check.specs.TypingFaults.{feature_checked}
@@ -23,13 +25,14 @@ use Rattle.cool_session.specs.declared.runs.Run.{Run}
 use Rattle.cool_session.specs.Bases.{view, tokens_of}
 use Rattle.cool_session.specs.FeatureTokens.{IsFeature, AreFeatures, kinds, runs_of}
 use Rattle.cool_session.specs.Ids.{ids_in, ids_from, ids}
-use Rattle.cool_session.specs.KeptChecks.{HasFewTokens, IsBase}
+use Rattle.cool_session.specs.KeptChecks.{HasFewTokens, IsRead, IsBase, results_of}
 use Rattle.cool_session.specs.KeptFaults.{IsKeptOf, Member, members_from, members, member_checked, results, AreKeptOf, fault_kept, faults_kept, place_of_token}
 use Rattle.cool_session.specs.NewFeatures.{runs_seen, kinds_seen, IsKeptAt}
 use Rattle.cool_session.specs.Runs.{bounds_of, file_tokens, IsWithin, run_tokens}
 use Rattle.cool_session.proofs.BoundsOfRuns.{tokens_of_bounds, bounds_within}
 use Rattle.cool_session.proofs.ChecksAfterEdits.{member_features, member_classes_same, kept_at}
 use Rattle.cool_session.proofs.KeptOnce.{kept_prop}
+use Rattle.cool_session.proofs.ReadFiles.{own_features, read_of, views_read}
 use Rattle.cool_session.proofs.TypedFiles.{are_features}
 
 -- Names of features
@@ -146,7 +149,11 @@ many_points p [] (m ∷ ms) h = absurd h
 many_points p (id ∷ is) [] h = absurd h
 many_points p (id ∷ is) (m ∷ ms) (h, hs) = ap suc (many_points p is ms hs)
 
-many_runs : (runs : List (List Token)) (xs : List Feature) → AreFeatures runs xs → length runs ≡ length xs
+-- as many as features
+pub ids_many : (p : List Class) → length (ids p) ≡ length (members p)
+ids_many p = many_points p (ids p) (members p) (points_from p 0 p refl)
+
+pub many_runs : (runs : List (List Token)) (xs : List Feature) → AreFeatures runs xs → length runs ≡ length xs
 many_runs [] [] h = refl
 many_runs [] (x ∷ xs) h = absurd h
 many_runs (run ∷ runs) [] h = absurd h
@@ -166,7 +173,7 @@ pub many_ids : (files : List (List ℕ)) (u : Untyped) → IsUntyped files u
     → (length (runs_seen u) ≡ length (ids u.classes)) × (length (results u.classes) ≡ length (ids u.classes))
 many_ids files u h =
     let points = many_points u.classes (ids u.classes) (members u.classes) (points_from u.classes 0 u.classes refl) in (
-      many_runs (runs_seen u) (member_features (members u.classes)) (are_features files u h)
+      many_runs (runs_seen u) (member_features (members u.classes)) (own_features files u h)
           ∙ (length-map (members u.classes) (λ (m : Member). m.feature) ∙ sym points),
       length-map (members u.classes) (member_checked u.classes) ∙ sym points,
     )
@@ -196,7 +203,8 @@ many_bounds files runs is =
 -- Bases
 
 pub base_many : (u : Untyped) (faults : List (Option KeptFault)) → ∥ IsBase u faults ∥₁ → length faults ≡ length (runs_seen u)
-base_many u faults base = ∥∥₁_elim base (hlevel props) (λ (b : IsBase u faults). many_kept (runs_seen u) (results u.classes) faults b.kept)
+base_many u faults base =
+    ∥∥₁_elim base (hlevel props) (λ (b : IsBase u faults). many_kept (runs_seen u) (results_of b.base.read.trees) faults b.base.kept)
 
 pub base_kept : (u : Untyped) (faults : List (Option KeptFault)) (files : List (List ℕ)) (now : Untyped) → ∥ IsBase u faults ∥₁ → IsUntyped files now
     → map view now.classes ≡ map view u.classes → (i : ℕ) → i < length (runs_seen now)
@@ -204,23 +212,35 @@ pub base_kept : (u : Untyped) (faults : List (Option KeptFault)) (files : List (
     → IsKeptOf (get_or (runs_seen now) i []) (get_or (results now.classes) i (Ok tt)) (get_or faults i None)
 base_kept u faults files now base h same i less alike =
     ∥∥₁_elim base (kept_prop (get_or (runs_seen now) i []) (get_or (results now.classes) i (Ok tt)) (get_or faults i None))
-    (λ (b : IsBase u faults). kept_at u.classes now.classes same (runs_seen u) (runs_seen now) faults i (are_features b.files u b.untyped)
-    (are_features files now h) b.kept less alike)
+    (λ (b : IsBase u faults).
+    let read = b.base.read in
+    kept_at (classes_meant (definitions read.trees)) now.classes (same ∙ views_read b.files u.lexed.items u.classes read) (runs_seen u)
+    (runs_seen now) faults i (are_features b.files u.lexed.items u.classes read) (own_features files now h) b.base.kept less alike)
+
+-- there are as many features as names of classes of features
+features_many : (runs : List (List Token)) (p : List Class) → AreFeatures runs (member_features (members p))
+    → length runs ≡ length (map (λ (m : Member). m.class) (members p))
+features_many runs p h =
+    many_runs runs (member_features (members p)) h
+    ∙ (length-map (members p) (λ (m : Member). m.feature) ∙ sym (length-map (members p) (λ (m : Member). m.class)))
+
+-- files whose tables have the same classes have as many features
+pub as_many_features : (files others : List (List ℕ)) (ls ms : List Lexed) (p q : List Class) → IsRead files ls p → IsRead others ms q
+    → map view p ≡ map view q → length (runs_of (tokens_of ls)) ≡ length (runs_of (tokens_of ms))
+as_many_features files others ls ms p q h g same =
+    let before = classes_meant (definitions h.trees) in
+    let now = classes_meant (definitions g.trees) in
+    let seen : map view before ≡ map view now = sym (views_read files ls p h) ∙ (same ∙ views_read others ms q g) in
+    features_many (runs_of (tokens_of ls)) before (are_features files ls p h)
+    ∙ (ap length (member_classes_same now before seen) ∙ sym (features_many (runs_of (tokens_of ms)) now (are_features others ms q g)))
 
 -- the features of a base are as many as those of a table of the same classes
 pub base_as_many : (u : Untyped) (faults : List (Option KeptFault)) (files : List (List ℕ)) (now : Untyped) → ∥ IsBase u faults ∥₁
-    → IsUntyped files now
-    → map view u.classes ≡ map view now.classes → length (runs_seen u) ≡ length (runs_seen now)
+    → IsRead files now.lexed.items now.classes → map view u.classes ≡ map view now.classes → length (runs_seen u) ≡ length (runs_seen now)
 base_as_many u faults files now base h same =
     ∥∥₁_elim base (hlevel props)
     (λ (b : IsBase u faults).
-    members_many b.files u b.untyped ∙ (ap length (member_classes_same now.classes u.classes same) ∙ sym (members_many files now h)))
-  where
-    members_many : (fs : List (List ℕ)) (v : Untyped) → IsUntyped fs v
-        → length (runs_seen v) ≡ length (map (λ (m : Member). m.class) (members v.classes))
-    members_many fs v g =
-        many_runs (runs_seen v) (member_features (members v.classes)) (are_features fs v g)
-        ∙ (length-map (members v.classes) (λ (m : Member). m.feature) ∙ sym (length-map (members v.classes) (λ (m : Member). m.class)))
+    as_many_features b.files files u.lexed.items now.lexed.items u.classes now.classes b.base.read h same)
 
 -- a position, whichever value stands for none
 pub default_same : {X : Type 0} (xs : List X) (i : ℕ) (d e : X) → i < length xs → get_or xs i d ≡ get_or xs i e
@@ -272,7 +292,7 @@ module _ (files : List (List ℕ)) (now : Untyped) (h : IsUntyped files now) (ba
   pub position_before : (i : ℕ) → i < length (runs_seen now) → (b : Bor Base) → base ≡ Some b → i < length (runs_seen b.now.untyped)
   position_before i less b is =
       let classes = of_some (λ (b : Bor Base). map view b.now.untyped.classes ≡ map view now.classes) base b is same in
-      subst (λ (n : ℕ). i < n) (sym (base_as_many b.now.untyped b.now.faults.items files now b.now.kept h classes)) less
+      subst (λ (n : ℕ). i < n) (sym (base_as_many b.now.untyped b.now.faults.items files now b.now.kept (read_of files now h) classes)) less
 
   pub run_before : (before : List Run) (i : ℕ) → IfSome base (λ (b : Bor Base). before ≡ bounds_of 0 b.now.untyped.lexed.items)
       → i < length (runs_seen now) → IfSome base (λ (b : Bor Base). i < length before)

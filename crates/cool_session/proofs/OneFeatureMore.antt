@@ -24,7 +24,7 @@ use Rattle.cool_session.specs.NewFeatures.{runs_seen, kinds_seen, IsKeptAt, IsNe
 use Rattle.cool_session.specs.Runs.{bounds_of, IsWithin, run_tokens}
 use Rattle.cool_session.proofs.FeaturesKept.{IsMemberAt, member_at, many_ids, as_many_runs, run_within, run_seen, run_short, run_before, position_before, kept_before, kept_one_more}
 use Rattle.cool_session.proofs.NewFeaturesCounted.{seen_at, new_kept, new_asked}
-use Rattle.cool_session.proofs.TypedFiles.{are_features}
+use Rattle.cool_session.proofs.ReadFiles.{own_features}
 use Rattle.cool_session.proofs.TyperAsked.{next_call, asked_at_most}
 
 module _ (files : List (List ℕ)) (now : Untyped) (h : IsUntyped files now) (base : Option (Bor Base))
@@ -102,7 +102,7 @@ module _ (files : List (List ℕ)) (now : Untyped) (h : IsUntyped files now) (ba
     kept_where_asked id more kept is answer before =
         let m = member_here id is in
         let own : IsFeature tokens m.feature =
-        subst (λ (ts : List Token). IsFeature ts m.feature) (sym here) (m.own (runs_seen now) (are_features files now h)) in
+        subst (λ (ts : List Token). IsFeature ts m.feature) (sym here) (m.own (runs_seen now) (own_features files now h)) in
         let kept_so : IsKeptOf (get_or (runs_seen now) i []) (feature_checked now.classes id.class m.feature) kept =
         subst (λ (ts : List Token). IsKeptOf ts (feature_checked now.classes id.class m.feature) kept) here (answer m.feature m.there own) in
         kept_one_more (runs_seen now) (results now.classes) more i kept in_seen in_results before

@@ -1,8 +1,7 @@
 -- Each fault of a reply stands in one of the files, since the tokens of the files do.
-use Rattle.std.proofs.Common.{ℕ, zero, suc, ◌+◌, ◌<◌, ◌≤◌, Bool, true, false, if◌then◌else◌, List, [], ◌∷◌, ◌++◌, length, map, get_or, Option, Some, None, refl, sym, subst, arith}
+use Rattle.std.proofs.Common.{ℕ, zero, suc, ◌+◌, ◌<◌, ◌≤◌, Bool, true, false, if◌then◌else◌, List, [], ◌∷◌, ◌++◌, length, map, Option, Some, None, refl, sym, subst, arith}
 use Rattle.std.specs.List.{AllByRecursion}
 use Rattle.std.proofs.ByRecursion.{All-append}
-use Rattle.cool_syntax.specs.declared.place.Place.{Place}
 use Rattle.cool_syntax.specs.declared.token.Token.{Token}
 use Rattle.cool_syntax.specs.declared.token.TokenKind.{TokenKind}
 use Rattle.cool_syntax.specs.declared.token.TokenKind.TheVariants as kind
@@ -10,20 +9,19 @@ use Rattle.cool_syntax.specs.declared.token.Sign.TheVariants as sign
 use Rattle.cool_syntax.specs.LexicalStructure.{depth_after, ends_run}
 use Rattle.cool_syntax.specs.TokenFacts.{AreWithinLimits, IsPlaced}
 use Rattle.cool_lexer.specs.declared.lexer.Lexed.{Lexed}
+use Rattle.cool_classes.specs.Chains.{Class}
 use Rattle.cool_classes.proofs.AllOfLists.{all_permuted}
 use Rattle.cool_check.specs.declared.fault.TypeFault.{TypeFault}
 use Rattle.cool_faults.specs.declared.fault.Fault.{Fault}
 use Rattle.cool_faults.specs.declared.fault.Fault.TheVariants.{Typing}
-use Rattle.cool_faults.specs.declared.fault.Untyped.{Untyped}
 use Rattle.cool_faults.specs.Phases.{IsLexed, IsLexical}
-use Rattle.cool_faults.specs.Untyped.{IsUntyped}
 use Rattle.cool_faults.specs.Verdicts.{place_of}
 use Rattle.cool_faults.proofs.FindingsInARow.{AllFound, all_found}
 use Rattle.cool_session.specs.declared.base.KeptFault.{KeptFault}
 use Rattle.cool_session.specs.Bases.{tokens_of}
 use Rattle.cool_session.specs.FeatureTokens.{run_ended, runs_from, runs_of}
+use Rattle.cool_session.specs.KeptChecks.{IsRead}
 use Rattle.cool_session.specs.KeptFaults.{AreFaultsOf, fault_kept, faults_kept, place_of_token}
-use Rattle.cool_session.specs.NewFeatures.{runs_seen}
 
 -- tokens that stand in one of so many files
 abbrev AreThere : ℕ → List Token → Type 0
@@ -91,11 +89,13 @@ typing_there : (n : ℕ) (fs : List TypeFault) → FaultsAreThere n fs → AllBy
 typing_there n [] h = tt
 typing_there n (f ∷ fs) (h, hs) = (h, typing_there n fs hs)
 
-pub listed_there : (files : List (List ℕ)) (u : Untyped) → IsUntyped files u → 0 < length files → (kept : List (Option KeptFault)) (faults : List Fault)
-    → AreFaultsOf (faults_kept (runs_seen u) kept) faults → AllByRecursion (λ (f : Fault). IsPlaced (length files) (place_of f)) faults
-listed_there files u h some kept faults of =
+pub listed_there : (files : List (List ℕ)) (ls : List Lexed) (p : List Class) → IsRead files ls p → 0 < length files
+    → (kept : List (Option KeptFault)) (faults : List Fault) → AreFaultsOf (faults_kept (runs_of (tokens_of ls)) kept) faults
+    → AllByRecursion (λ (f : Fault). IsPlaced (length files) (place_of f)) faults
+listed_there files ls p h some kept faults of =
     let n = length files in
-    let runs = files_there n 0 files u.lexed.items (all_found IsLexed IsLexical h.lexed refl) (omega arith) in
-    let found = all_kept_there n (runs_seen u) kept some runs in
+    let runs = files_there n 0 files ls (all_found IsLexed IsLexical h.lexed refl) (omega arith) in
+    let found = all_kept_there n (runs_of (tokens_of ls)) kept some runs in
     subst (AllByRecursion (λ (f : Fault). IsPlaced n (place_of f))) (sym of.is)
-    (typing_there n of.types (all_permuted (λ (f : TypeFault). IsPlaced n f.at) (faults_kept (runs_seen u) kept) of.types of.moved found))
+    (typing_there n of.types
+    (all_permuted (λ (f : TypeFault). IsPlaced n f.at) (faults_kept (runs_of (tokens_of ls)) kept) of.types of.moved found))

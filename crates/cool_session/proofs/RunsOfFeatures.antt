@@ -27,25 +27,40 @@ abbrev Leads : ℕ → List Token → List Token → ℕ → List Token → List
 Leads d run ts e now found = (rest : List Token) → runs_from d run (ts ++ rest) ≡ found ++ runs_from e now rest
 
 -- no run ends among them
-abbrev Passes : ℕ → List Token → ℕ → Type 0
-Passes d ts e = (run : List Token) → Leads d run ts e (run ++ ts) []
+abbrev pub Walks : ℕ → List Token → ℕ → Type 0
+Walks d [] e = d ≡ e
+Walks d (t ∷ ts) e = (ends_run t.kind d ≡ false) × Walks (depth_after t.kind d) ts e
+
+pub record Passes (d : ℕ) (ts : List Token) (e : ℕ) : Type 0 where
+  pub walks : Walks d ts e
 
 passes_none : (d : ℕ) → Passes d [] d
-passes_none d run rest = ap (λ (ts : List Token). runs_from d ts rest) (sym (append-nil run))
+passes_none d = record { walks = refl }
+
+walks_both : (d e g : ℕ) (a b : List Token) → Walks d a e → Walks e b g → Walks d (a ++ b) g
+walks_both d e g [] b first second = subst (λ (n : ℕ). Walks n b g) (sym first) second
+walks_both d e g (t ∷ a) b (on, first) second = (on, walks_both (depth_after t.kind d) e g a b first second)
 
 both : (d e g : ℕ) (a b : List Token) → Passes d a e → Passes e b g → Passes d (a ++ b) g
-both d e g a b first second run rest =
-    ap (runs_from d run) (append_assoc a b rest)
-    ∙ (first run (b ++ rest) ∙ (second (run ++ a) rest ∙ ap (λ (ts : List Token). runs_from g ts rest) (append_assoc run a b)))
+both d e g a b first second = record { walks = walks_both d e g a b first.walks second.walks }
 
 step : (d e : ℕ) (t : Token) → ends_run t.kind d ≡ false → depth_after t.kind d ≡ e → Passes d (t ∷ []) e
-step d e t goes_on depth run rest =
-    ap (λ (b : Bool). if b then run_ended t.kind (run ++ t ∷ []) ++ runs_from (depth_after t.kind d) [] rest
-    else runs_from (depth_after t.kind d) (run ++ t ∷ []) rest) goes_on
-    ∙ ap (λ (n : ℕ). runs_from n (run ++ t ∷ []) rest) depth
+step d e t goes_on depth = record { walks = (goes_on, depth) }
 
 after : (d e g : ℕ) (t : Token) (ts : List Token) → Passes d (t ∷ []) e → Passes e ts g → Passes d (t ∷ ts) g
 after d e g t ts = both d e g (t ∷ []) ts
+
+walks_lead : (d e : ℕ) (ts : List Token) → Walks d ts e → (run : List Token) → Leads d run ts e (run ++ ts) []
+walks_lead d e [] same run rest = λ i. runs_from (same i) (sym (append-nil run) i) rest
+walks_lead d e (t ∷ ts) (on, more) run rest =
+    ap (λ (b : Bool). if b then run_ended t.kind (run ++ t ∷ []) ++ runs_from (depth_after t.kind d) [] (ts ++ rest)
+    else runs_from (depth_after t.kind d) (run ++ t ∷ []) (ts ++ rest)) on
+    ∙ (walks_lead (depth_after t.kind d) e ts more (run ++ t ∷ []) rest
+    ∙ ap (λ (now : List Token). runs_from e now rest) (append_assoc run (t ∷ []) ts))
+
+-- tokens among which no run ends join the run that goes on
+leads_of : (d e : ℕ) (ts : List Token) → Passes d ts e → (run : List Token) → Leads d run ts e (run ++ ts) []
+leads_of d e ts h = walks_lead d e ts h.walks
 
 not_same : (a b : ℕ) → a ≢ b → nat_eq a b ≡ false
 not_same a b h = grind (arith, eqb_tells a b, h)
@@ -212,23 +227,41 @@ signature_passes s =
     (after 1 1 2 (symbol sign.Colon s.colon) _ (step 1 1 _ refl refl)
     (after 1 1 2 (type s.result) _ (step 1 1 _ refl refl) (step 1 2 (symbol sign.LBrace s.lbrace) refl refl))))))
 
--- a run at the level of a class's features, which a semicolon ends
-ends : (ts whole : List Token) (semi : Place) → ts ++ symbol sign.Semi semi ∷ [] ≡ whole → Passes 1 ts 1 → Leads 1 [] whole 1 [] (whole ∷ [])
-ends ts whole semi same h =
-    subst (λ (us : List Token). Leads 1 [] us 1 [] (us ∷ [])) same
-    (λ rest. ap (runs_from 1 []) (append_assoc ts (symbol sign.Semi semi ∷ []) rest) ∙ h [] (symbol sign.Semi semi ∷ rest))
+-- tokens of the level of a class's features, and the semicolon after them
+pub record Ends (whole : List Token) : Type 0 where
+  pub inner : List Token
+  pub semi : Place
+  pub same : inner ++ symbol sign.Semi semi ∷ [] ≡ whole
+  pub passes : Passes 1 inner 1
+
+pub feature_ends : (e : ConcreteFeature) → Ends (feature_reading e)
+feature_ends (Method s body rbrace semi) =
+    record {
+      inner = (signature_reading s ++ reading body) ++ symbol sign.RBrace rbrace ∷ [];
+      semi = semi;
+      same = append_assoc (signature_reading s ++ reading body) (symbol sign.RBrace rbrace ∷ []) (symbol sign.Semi semi ∷ []);
+      passes = both 1 2 1 (signature_reading s ++ reading body) _
+          (both 1 2 2 (signature_reading s) _ (signature_passes s) (passes body 2 (omega arith)))
+          (step 2 1 (symbol sign.RBrace rbrace) refl refl);
+    }
+feature_ends (Attribute v semi) = record { inner = variable_reading v; semi = semi; same = refl; passes = variable_passes 1 v }
+feature_ends (Initialized v arrow e semi) =
+    record {
+      inner = variable_reading v ++ symbol sign.Arrow arrow ∷ reading e;
+      semi = semi;
+      same = refl;
+      passes = both 1 1 1 (variable_reading v) _ (variable_passes 1 v)
+          (after 1 1 1 (symbol sign.Arrow arrow) _ (step 1 1 _ refl refl) (passes e 1 (omega arith)));
+    }
+
+ends_lead : (whole : List Token) → Ends whole → Leads 1 [] whole 1 [] (whole ∷ [])
+ends_lead whole h =
+    subst (λ (us : List Token). Leads 1 [] us 1 [] (us ∷ [])) h.same
+    (λ rest. ap (runs_from 1 []) (append_assoc h.inner (symbol sign.Semi h.semi ∷ []) rest)
+    ∙ leads_of 1 1 h.inner h.passes [] (symbol sign.Semi h.semi ∷ rest))
 
 feature_leads : (e : ConcreteFeature) → Leads 1 [] (feature_reading e) 1 [] (feature_reading e ∷ [])
-feature_leads (Method s body rbrace semi) =
-    ends ((signature_reading s ++ reading body) ++ symbol sign.RBrace rbrace ∷ []) _ semi
-    (append_assoc (signature_reading s ++ reading body) (symbol sign.RBrace rbrace ∷ []) (symbol sign.Semi semi ∷ []))
-    (both 1 2 1 (signature_reading s ++ reading body) _ (both 1 2 2 (signature_reading s) _ (signature_passes s) (passes body 2 (omega arith)))
-    (step 2 1 (symbol sign.RBrace rbrace) refl refl))
-feature_leads (Attribute v semi) = ends (variable_reading v) _ semi refl (variable_passes 1 v)
-feature_leads (Initialized v arrow e semi) =
-    ends (variable_reading v ++ symbol sign.Arrow arrow ∷ reading e) _ semi refl
-    (both 1 1 1 (variable_reading v) _ (variable_passes 1 v)
-    (after 1 1 1 (symbol sign.Arrow arrow) _ (step 1 1 _ refl refl) (passes e 1 (omega arith))))
+feature_leads e = ends_lead (feature_reading e) (feature_ends e)
 
 lead : (d e g : ℕ) (run now later a b : List Token) (found more : List (List Token))
     → Leads d run a e now found → Leads e now b g later more → Leads d run (a ++ b) g later (found ++ more)
@@ -236,7 +269,7 @@ lead d e g run now later a b found more first second rest =
     ap (runs_from d run) (append_assoc a b rest)
     ∙ (first (b ++ rest) ∙ (ap (λ (runs : List (List Token)). found ++ runs) (second rest) ∙ sym (append_assoc found more (runs_from g later rest))))
 
-feature_runs : Features → List (List Token)
+unfoldable pub feature_runs : Features → List (List Token)
 feature_runs NoFeature = []
 feature_runs (Another before e) = feature_runs before ++ feature_reading e ∷ []
 
@@ -253,15 +286,28 @@ parent_passes : (p : Parent) → Passes 0 (parent_reading p) 0
 parent_passes NoParent = passes_none 0
 parent_passes (Inherits at class) = after 0 0 0 (word key.Inherits at) _ (step 0 0 _ refl refl) (step 0 0 (type class) refl refl)
 
+-- the tokens of the head of a class before its brace
+abbrev pub heading_front : Heading → List Token
+heading_front h = word key.Class h.mark ∷ type (record { name = h.name; at = h.at }) ∷ parent_reading h.parent
+
+pub heading_passes : (h : Heading) → Passes 0 (heading_front h) 0
+heading_passes h =
+    after 0 0 0 (word key.Class h.mark) _ (step 0 0 _ refl refl)
+    (after 0 0 0 (type (record { name = h.name; at = h.at })) _ (step 0 0 _ refl refl) (parent_passes h.parent))
+
 heading_leads : (h : Heading) (run : List Token) → Leads 0 run (heading_reading h) 1 [] []
 heading_leads h run =
-    let first = word key.Class h.mark ∷ type (record { name = h.name; at = h.at }) ∷ parent_reading h.parent in
-    let passed : Passes 0 first 0 =
-    after 0 0 0 (word key.Class h.mark) _ (step 0 0 _ refl refl)
-    (after 0 0 0 (type (record { name = h.name; at = h.at })) _ (step 0 0 _ refl refl) (parent_passes h.parent)) in
-    λ rest. ap (runs_from 0 run) (append_assoc first (symbol sign.LBrace h.lbrace ∷ []) rest) ∙ passed run (symbol sign.LBrace h.lbrace ∷ rest)
+    λ rest. ap (runs_from 0 run) (append_assoc (heading_front h) (symbol sign.LBrace h.lbrace ∷ []) rest)
+    ∙ leads_of 0 0 (heading_front h) (heading_passes h) run (symbol sign.LBrace h.lbrace ∷ rest)
 
-file_runs : Classes → List (List Token)
+-- the tokens after the features of a class
+abbrev pub closed : Place → Place → List Token
+closed rbrace semi = symbol sign.RBrace rbrace ∷ symbol sign.Semi semi ∷ []
+
+pub closing : (rbrace semi : Place) → Passes 1 (closed rbrace semi) 0
+closing rbrace semi = after 1 0 0 (symbol sign.RBrace rbrace) _ (step 1 0 _ refl refl) (step 0 0 (symbol sign.Semi semi) refl refl)
+
+unfoldable pub file_runs : Classes → List (List Token)
 file_runs NoClass = []
 file_runs (Class before h fs rbrace semi) = file_runs before ++ feature_runs fs
 
@@ -270,20 +316,17 @@ unfolding file_runs
 file_leads NoClass run = (run, λ rest. refl)
 file_leads (Class before h fs rbrace semi) run =
     let (now, first) = file_leads before run in
-    let closed = symbol sign.RBrace rbrace ∷ symbol sign.Semi semi ∷ [] in
-    let closing : Passes 1 closed 0 =
-    after 1 0 0 (symbol sign.RBrace rbrace) _ (step 1 0 _ refl refl) (step 0 0 (symbol sign.Semi semi) refl refl) in
     let headed = lead 0 0 1 run now [] (file_reading before) (heading_reading h) (file_runs before) [] first (heading_leads h now) in
     let all = lead 0 1 1 run [] [] (file_reading before ++ heading_reading h) (features_reading fs) (file_runs before ++ [])
     (feature_runs fs) headed (features_lead fs) in
-    let whole = lead 0 1 0 run [] closed (file_reading before ++ heading_reading h ++ features_reading fs) closed
-    ((file_runs before ++ []) ++ feature_runs fs) [] all (closing []) in (
-      closed,
-      subst (Leads 0 run (file_reading (Class before h fs rbrace semi)) 0 closed)
+    let whole = lead 0 1 0 run [] (closed rbrace semi) (file_reading before ++ heading_reading h ++ features_reading fs)
+    (closed rbrace semi) ((file_runs before ++ []) ++ feature_runs fs) [] all (leads_of 1 0 (closed rbrace semi) (closing rbrace semi) []) in (
+      closed rbrace semi,
+      subst (Leads 0 run (file_reading (Class before h fs rbrace semi)) 0 (closed rbrace semi))
           (append-nil _ ∙ ap (λ (runs : List (List Token)). runs ++ feature_runs fs) (append-nil (file_runs before))) whole,
     )
 
-file_has_runs : (f : Classes) → runs_in (file_reading f) ≡ file_runs f
+pub file_has_runs : (f : Classes) → runs_in (file_reading f) ≡ file_runs f
 file_has_runs f =
     let (now, leads) = file_leads f [] in
     ap (runs_from 0 []) (sym (append-nil (file_reading f))) ∙ (leads [] ∙ append-nil (file_runs f))
@@ -307,7 +350,7 @@ rising_parts file low [] b h = (tt, lower file low 0 b (omega arith) h)
 rising_parts file low (t ∷ a) b (in_file, later, h) =
     let (left, right) = rising_parts file (t.at.byte + 1) a b h in ((in_file, later, left), right)
 
-features_are : (file : ℕ) (fs : Features) → AreShapedFeatures fs → AreRising file 0 (features_reading fs)
+pub features_are : (file : ℕ) (fs : Features) → AreShapedFeatures fs → AreRising file 0 (features_reading fs)
     → AreFeatures (feature_runs fs) (plain_features fs)
 unfolding feature_runs
 features_are file NoFeature shaped rising = tt

@@ -1,6 +1,6 @@
 -- Files that come to be typed: their runs of tokens are the features of their table, and what is seen of them is what `AreTyped` says. Files
 -- that are refused before do not come to be typed.
-use Rattle.std.proofs.Common.{◌≡◌, ◌≢◌, ℕ, ◌+◌, List, [], ◌∷◌, ◌++◌, map, drop, Option, Some, None, Bool, true, false, if◌then◌else◌, refl, sym, ap, ◌∙◌, subst, arith, codes}
+use Rattle.std.proofs.Common.{◌≡◌, ◌≢◌, ℕ, ◌+◌, List, [], ◌∷◌, ◌++◌, map, Bool, true, false, if◌then◌else◌, refl, sym, ap, ◌∙◌, subst, arith}
 use Rattle.std.specs.List.{AllByRecursion}
 use Rattle.std.specs.List.Sorted.{IsPermutation}
 use Rattle.std.proofs.lemmas.List.{map-append}
@@ -9,33 +9,30 @@ use Rattle.cool_syntax.specs.declared.token.Token.{Token}
 use Rattle.cool_syntax.specs.declared.token.TokenKind.{TokenKind}
 use Rattle.cool_syntax.specs.declared.token.TokenKind.TheVariants as kind
 use Rattle.cool_syntax.specs.declared.token.Sign.TheVariants as sign
-use Rattle.cool_syntax.specs.declared.type_ref.TypeRef.{TypeRef}
-use Rattle.cool_syntax.specs.declared.file_tree.ClassDef.{ClassDef}
 use Rattle.cool_syntax.specs.declared.file_tree.FileTree.{FileTree}
 use Rattle.cool_syntax.specs.LexicalStructure.{depth_after, ends_run}
 use Rattle.cool_lexer.specs.declared.lexer.Lexed.{Lexed}
-use Rattle.cool_classes.specs.declared.class_id.ClassId.{ClassId}
-use Rattle.cool_classes.specs.Chains.{Class, name_of}
-use Rattle.cool_classes.specs.Definitions.{definitions, InheritsAs, AreDefinedBy}
+use Rattle.cool_classes.specs.Chains.{Class}
+use Rattle.cool_classes.specs.Definitions.{definitions}
 use Rattle.cool_classes.specs.declared.fault.ClassFault.{ClassFault}
-use Rattle.cool_classes.specs.ClassFaults.{feature_phase, HasClassPhase}
+use Rattle.cool_classes.specs.ClassFaults.{classes_meant, feature_phase, HasClassPhase}
 use Rattle.cool_classes.proofs.AllOfLists.{all_permuted}
 use Rattle.cool_classes.proofs.RowsExact.{no_phase}
 use Rattle.cool_check.specs.declared.fault.TypeFault.{TypeFault}
 use Rattle.cool_faults.specs.declared.fault.Fault.{Fault}
 use Rattle.cool_faults.specs.declared.fault.Fault.TheVariants.{Class as OfClasses, Typing}
 use Rattle.cool_faults.specs.declared.fault.Untyped.{Untyped}
-use Rattle.cool_faults.specs.Phases.{IsLexed, IsLexical, IsParsed, IsSyntactic}
-use Rattle.cool_faults.specs.Untyped.{IsUntyped, IsEarly, IsRefusedEarly}
+use Rattle.cool_faults.specs.Phases.{IsLexed, IsLexical}
+use Rattle.cool_faults.specs.Untyped.{IsEarly, IsRefusedEarly}
 use Rattle.cool_faults.specs.Verdicts.{AreTrees, IsPhase, of_lexer, of_parser, of_classes, of_features, of_typing, IsFaultList, faultless, faulty}
 use Rattle.cool_faults.proofs.FindingsInARow.{AllFound, all_found}
 use Rattle.cool_faults.proofs.OneVerdict.{one_trees, no_lexical, no_syntactic}
-use Rattle.cool_faults.proofs.SyntaxFaults.{wholes_of, are_trees}
-use Rattle.cool_session.specs.Bases.{parent_in, table_signature, table_signatures, tokens_of, seen}
+use Rattle.cool_session.specs.Bases.{tokens_of, seen}
 use Rattle.cool_session.specs.FeatureTokens.{AreFeatures, kinds, run_ended, runs_from, runs_in, runs_of, features_of_all}
 use Rattle.cool_session.specs.Fresh.{Base, HaveFeatures, AreTyped}
+use Rattle.cool_session.specs.KeptChecks.{AreTreesOf, IsRead}
 use Rattle.cool_session.specs.KeptFaults.{members}
-use Rattle.cool_session.specs.Signatures.{feature_signature, parent_name, signatures, feature_ended, features_from}
+use Rattle.cool_session.specs.Signatures.{feature_ended, features_from}
 use Rattle.cool_session.proofs.ChecksAfterEdits.{member_features, features_of_table}
 use Rattle.cool_session.proofs.RunsOfFeatures.{features_joined, all_joined, runs_are_features}
 
@@ -45,7 +42,7 @@ ended_kinds : (k : TokenKind) (run : List Token) → map kinds (run_ended k run)
 ended_kinds (kind.Sign sign.Semi) run = refl
 ended_kinds _ run = refl
 
-runs_kinds : (d : ℕ) (run ts : List Token) → map kinds (runs_from d run ts) ≡ features_from d (kinds run) (kinds ts)
+pub runs_kinds : (d : ℕ) (run ts : List Token) → map kinds (runs_from d run ts) ≡ features_from d (kinds run) (kinds ts)
 runs_kinds d run [] = refl
 runs_kinds d run (t ∷ ts) = by (ends_run t.kind d) (λ e now. runs_kinds e now ts)
   where
@@ -65,28 +62,10 @@ runs_kinds d run (t ∷ ts) = by (ends_run t.kind d) (λ e now. runs_kinds e now
         behind (depth_after t.kind d) (run ++ t ∷ [])
         ∙ ap (λ (ks : List TokenKind). features_from (depth_after t.kind d) ks (kinds ts)) one_more
 
--- The signatures of a table
-
-parent_seen : (p : List Class) (o : Option TypeRef) (q : Option ClassId) → name_of p (record { 0 = 0 }) ≡ codes "Object" → InheritsAs p o q
-    → parent_name o ≡ parent_in p q
-parent_seen p None q object is = sym (ap (parent_in p) is ∙ object)
-parent_seen p (Some r) None object is = absurd is
-parent_seen p (Some r) (Some q) object (within, named) = sym named
-
-signatures_seen : (p : List Class) (ds : List ClassDef) (cs : List Class) → name_of p (record { 0 = 0 }) ≡ codes "Object" → AreDefinedBy p ds cs
-    → signatures ds ≡ map (table_signature p) cs
-signatures_seen p [] [] object h = refl
-signatures_seen p [] (c ∷ cs) object h = absurd h
-signatures_seen p (d ∷ ds) [] object h = absurd h
-signatures_seen p (d ∷ ds) (c ∷ cs) object ((named, features, parent), hs) =
-    λ i.
-    record { name = sym named i; parent = parent_seen p d.parent c.parent object parent i; features = map feature_signature (sym features i) }
-    ∷ signatures_seen p ds cs object hs i
-
 -- Files, one after the other
 
 features_found : (file : ℕ) (files : List (List ℕ)) (ls : List Lexed) (ts : List FileTree) → AllFound IsLexed file files ls
-    → AllFound IsParsed file ls ts → AreFeatures (runs_of (tokens_of ls)) (features_of_all (definitions ts))
+    → AreTreesOf file ls ts → AreFeatures (runs_of (tokens_of ls)) (features_of_all (definitions ts))
 features_found file [] [] [] h g = tt
 features_found file [] [] (t ∷ ts) h g = absurd g
 features_found file [] (l ∷ ls) ts h g = absurd h
@@ -96,6 +75,18 @@ features_found file (bytes ∷ files) (l ∷ ls) (t ∷ ts) (h, hs) (g, gs) =
     subst (AreFeatures (runs_in l.tokens.items ++ runs_of (tokens_of ls))) (sym (all_joined t.classes (definitions ts)))
     (features_joined (runs_in l.tokens.items) (runs_of (tokens_of ls)) (features_of_all t.classes) (features_of_all (definitions ts))
     (runs_are_features file l.tokens.items t.classes h.rising g.whole) (features_found (file + 1) files ls ts hs gs))
+
+trees_found : (file : ℕ) (files : List (List ℕ)) (ls : List Lexed) (ts : List FileTree) → AllFound IsLexed file files ls
+    → AreTreesOf file ls ts → AreTrees file files ts
+trees_found file [] [] [] h g = tt
+trees_found file [] [] (t ∷ ts) h g = absurd g
+trees_found file [] (l ∷ ls) ts h g = absurd h
+trees_found file (bytes ∷ files) [] ts h g = absurd h
+trees_found file (bytes ∷ files) (l ∷ ls) [] h g = absurd g
+trees_found file (bytes ∷ files) (l ∷ ls) (t ∷ ts) (h, hs) (g, gs) = (
+  record { number = g.number; tokens = l.tokens.items; lexes = h.lexes; parses = g.whole },
+  trees_found (file + 1) files ls ts hs gs,
+)
 
 tokens_found : (file : ℕ) (files : List (List ℕ)) (ls : List Lexed) → AllFound IsLexed file files ls
     → HaveFeatures file files (map kinds (runs_of (tokens_of ls)))
@@ -111,37 +102,28 @@ tokens_found file (bytes ∷ files) (l ∷ ls) (h, hs) = (
   subst (λ (n : ℕ). HaveFeatures n files (map kinds (runs_of (tokens_of ls)))) (omega arith) (tokens_found (file + 1) files ls hs),
 )
 
-module _ (files : List (List ℕ)) (u : Untyped) (h : IsUntyped files u) where
-  lexed : AllFound IsLexed 0 files u.lexed.items
+module _ (files : List (List ℕ)) (ls : List Lexed) (p : List Class) (h : IsRead files ls p) where
+  lexed : AllFound IsLexed 0 files ls
   lexed = all_found IsLexed IsLexical h.lexed refl
 
-  parsed : AllFound IsParsed 0 u.lexed.items h.trees
-  parsed = all_found IsParsed IsSyntactic h.parsed refl
-
-  -- the runs of their tokens are the features of their table
-  pub are_features : AreFeatures (runs_of (tokens_of u.lexed.items)) (member_features (members u.classes))
+  -- the runs of their tokens are the features of their exact table
+  pub are_features : AreFeatures (runs_of (tokens_of ls)) (member_features (members (classes_meant (definitions h.trees))))
   are_features =
-      subst (AreFeatures (runs_of (tokens_of u.lexed.items)))
-      (sym (ap (λ (p : List Class). member_features (members p)) h.meant ∙ features_of_table (definitions h.trees)))
-      (features_found 0 files u.lexed.items h.trees lexed parsed)
-
-  pub signed : table_signatures u.classes ≡ signatures (definitions h.trees)
-  signed =
-      sym (signatures_seen u.classes (definitions h.trees) (drop 5 u.classes) (ap (λ (p : List Class). name_of p (record { 0 = 0 })) h.meant) h.of)
+      subst (AreFeatures (runs_of (tokens_of ls))) (sym (features_of_table (definitions h.trees))) (features_found 0 files ls h.trees lexed h.parsed)
 
   pub trees_are : AreTrees 0 files h.trees
-  trees_are = are_trees 0 files h.trees (wholes_of 0 files u.lexed.items h.trees lexed parsed)
+  trees_are = trees_found 0 files ls h.trees lexed h.parsed
 
-  -- they come to be typed
-  pub are_typed : AreTyped files (seen u)
-  are_typed = record {
-    trees = h.trees;
-    are_trees = trees_are;
-    classes = h.classes;
-    features = h.features;
-    signed = signed;
-    tokens = tokens_found 0 files u.lexed.items lexed;
-  }
+-- they come to be typed
+pub are_typed : (files : List (List ℕ)) (u : Untyped) → IsRead files u.lexed.items u.classes → AreTyped files (seen u)
+are_typed files u h = record {
+  trees = h.trees;
+  are_trees = trees_are files u.lexed.items u.classes h;
+  classes = h.classes;
+  features = h.features;
+  signed = h.signed;
+  tokens = tokens_found 0 files u.lexed.items (lexed files u.lexed.items u.classes h);
+}
 
 -- Files that are refused before do not come to be typed
 

@@ -6,8 +6,8 @@ ghost use Rattle.cool_syntax.specs.LexicalStructure.{depth_after, ends_run};
 ghost use Rattle.cool_session.specs.KeptChecks.{HasFewTokens};
 ghost use Rattle.cool_session.specs.Runs.{bounds_ended, bounds_in, bounds_of, IsWithin, run_tokens};
 
-use cool_lexer::Lexed;
-use cool_syntax::{Key, Sign, Token, TokenKind};
+use cool_lexer::{Lexed, depth_after, ends_run};
+use cool_syntax::{Sign, Token, TokenKind};
 use std::alloc::{AllocError, Global};
 
 /// The tokens of a feature: those of a file from one position up to another.
@@ -58,29 +58,6 @@ fn add_ended(kind: &TokenKind, run: Run, runs: &mut Vec<Run>) -> Result<(), Allo
         runs.push(run)?;
     }
     Ok(())
-}
-
-/// The depth after a token.
-fn depth_after(kind: &TokenKind, depth: u32) -> u32
-    requires { depth + 1 < 2 ^ 32 }
-    ensures { result ≡ depth_after kind.now depth }
-{
-    match kind {
-        TokenKind::Sign(Sign::LBrace) | TokenKind::Key(Key::Case) => depth + 1,
-        TokenKind::Sign(Sign::RBrace) | TokenKind::Key(Key::Esac) => depth.saturating_sub(1),
-        _ => depth,
-    }
-}
-
-/// Whether the next token is the first of a run: after a brace that opens a class, and after a semicolon of a class's own level.
-fn ends_run(kind: &TokenKind, depth: u32) -> bool
-    ensures { result ≡ ends_run kind.now depth }
-{
-    match kind {
-        TokenKind::Sign(Sign::LBrace) => depth == 0,
-        TokenKind::Sign(Sign::Semi) => depth == 1,
-        _ => false,
-    }
 }
 
 /// The tokens of a feature.

@@ -6,7 +6,7 @@ ghost use Rattle.cool_session.specs.Bases.{view, views};
 ghost use Rattle.cool_session.specs.Signatures.{feature_signature, formal_types};
 
 use cool_classes::{ClassId, ClassTable};
-use cool_syntax::{Feature, Formal, Name};
+use cool_syntax::{Feature, Formal, same_name};
 
 /// Whether the classes of two tables have the same names and parents, and features of the same signatures.
 pub(crate) fn same_classes(a: &ClassTable, b: &ClassTable) -> bool
@@ -34,12 +34,6 @@ fn same_class(a: &ClassTable, b: &ClassTable, c: ClassId) -> bool
         && same_features(a.features(c), b.features(c))
 }
 
-fn same_name(a: &Name, b: &Name) -> bool
-    ensures same { IsTrue result ↔ (a.now ≡ b.now) }
-{
-    a.as_slice() == b.as_slice()
-}
-
 fn same_parent(a: Option<ClassId>, b: Option<ClassId>) -> bool
     ensures same { IsTrue result ↔ (a ≡ b) }
 {
@@ -64,7 +58,8 @@ fn same_features(a: &[Feature], b: &[Feature]) -> bool
     true
 }
 
-fn same_feature(a: &Feature, b: &Feature) -> bool
+/// Whether two features have the same signature.
+pub(crate) fn same_feature(a: &Feature, b: &Feature) -> bool
     ensures same { IsTrue result ↔ (feature_signature a.now ≡ feature_signature b.now) }
 {
     match (a, b) {

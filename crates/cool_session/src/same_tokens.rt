@@ -21,7 +21,7 @@ pub(crate) fn same_tokens(a: &[Token], b: &[Token]) -> bool
 }
 
 /// Whether two lexemes are one.
-fn same_kind(a: &TokenKind, b: &TokenKind) -> bool
+pub(crate) fn same_kind(a: &TokenKind, b: &TokenKind) -> bool
     ensures same { IsTrue result ↔ (a.now ≡ b.now) }
 {
     match (a, b) {

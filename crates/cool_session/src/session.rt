@@ -1,6 +1,6 @@
 //! A session: the files that are edited.
 
-ghost use Rattle.std.specs.Prelude.{◌≡◌, ◌≤◌, ◌<◌, [], length, replicate, None, IfOk, OnOk, OnErr};
+ghost use Rattle.std.specs.Prelude.{◌≡◌, ◌≤◌, ◌<◌, [], length, replicate, None, IfOk, IfSome, IfNone, OnOk, OnErr};
 ghost use Rattle.std.specs.List.{AllByRecursion};
 ghost use Rattle.cool_syntax.specs.declared.TheConstants.{MOST_FILES, MOST_SOURCE_BYTES};
 ghost use Rattle.cool_syntax.specs.TokenFacts.{IsPlaced};
@@ -8,12 +8,15 @@ ghost use Rattle.cool_faults.specs.Files.{bytes_of, total};
 ghost use Rattle.cool_faults.specs.Verdicts.{IsFaultList, place_of};
 ghost use Rattle.cool_session.specs.Files.{files_set, IsSetAnswer, length_at, names_of, names_set, position, set_room, without};
 ghost use Rattle.cool_session.specs.Fresh.{Types};
+ghost use Rattle.cool_session.specs.PresentFiles.{IsOfPresent};
 ghost use Rattle.cool_session.specs.NewFeatures.{base_seen, calls_after, IsAskedWithin};
 
 use crate::base::Base;
+use crate::edited::recheck;
 use crate::error::SetError;
 use crate::fault_list::fault_list;
 use crate::files::{place_for, position, position_to_set};
+use crate::known::known;
 use crate::recheck::{renew, used};
 use crate::reply::Reply;
 use cool_check::Typer;
@@ -27,9 +30,11 @@ pub struct Session {
     names: Vec<String>,
     files: Vec<Vec<u8>>,
     base: Option<Base>,
+    is_current: bool,
     ghost paired: { length names.items ≡ length files.items },
     ghost few: { length files.items ≤ MOST_FILES },
     ghost small: { total (bytes_of files.items) ≤ MOST_SOURCE_BYTES },
+    ghost current: { ∥ IsOfPresent is_current (bytes_of files.items) base ∥₁ },
 }
 
 impl Session {
@@ -44,6 +49,7 @@ impl Session {
             names: Vec::new(alloc),
             files: Vec::new(alloc),
             base: None,
+            is_current: false,
         }
     }
 
@@ -79,11 +85,15 @@ impl Session {
         let place = position_to_set(self.names.as_slice(), self.files.as_slice(), name, bytes)?;
         let file = Vec::from_slice(self.alloc, bytes)?;
         match place {
-            Some(k) => self.files[k] = file,
+            Some(k) => {
+                self.is_current = false;
+                self.files[k] = file;
+            }
             None => {
                 let name = String::from_str(self.alloc, name)?;
                 self.names.reserve(1)?;
                 self.files.reserve(1)?;
+                self.is_current = false;
                 self.names.push(name).unwrap();
                 self.files.push(file).unwrap();
             }
@@ -98,6 +108,7 @@ impl Session {
         ensures base { self.new.base ≡ self.old.base }
     {
         if let Some(k) = position(self.names.as_slice(), name) {
+            self.is_current = false;
             self.names.remove(k);
             self.files.remove(k);
         }
@@ -128,6 +139,50 @@ impl Session {
         ensures most { OnErr result (IsAskedWithin (bytes_of self.old.files.items) (base_seen self.old.base) (K.calls typer.old) (K.calls typer.new)) }
         ensures kept { OnErr result (self.new.base ≡ self.old.base) }
     {
+        match self.check_by_base(typer)? {
+            Some(reply) => Ok(reply),
+            None => self.check_anew(typer),
+        }
+    }
+
+    /// Checks the files where no more than one feature, which declares what it declared, was edited since the last check that came to type
+    /// any. `None` comes elsewhere, and changes nothing. `Err` comes only for want of memory, and changes nothing.
+    fn check_by_base<K: Typer>(&mut self, typer: &mut K) -> Result<Option<Reply>, AllocError>
+        requires { 0 < length self.old.files.items }
+        ensures names { self.new.names.items ≡ self.old.names.items }
+        ensures files { self.new.files.items ≡ self.old.files.items }
+        ensures faults { IfOk result (λ reply. IfSome reply (λ r. IsFaultList (bytes_of self.old.files.items) r.faults.items)) }
+        ensures placed { IfOk result (λ reply. IfSome reply (λ r. AllByRecursion (λ f. IsPlaced (length self.old.files.items) (place_of f)) r.faults.items)) }
+        ensures typed { IfOk result (λ reply. IfSome reply (λ r. Types (bytes_of self.old.files.items) (base_seen self.old.base) r.typed (base_seen self.new.base))) }
+        ensures asked { IfOk result (λ reply. IfSome reply (λ r. K.calls typer.new ≡ calls_after r.typed (K.calls typer.old))) }
+        ensures other { IfOk result (λ reply. IfNone reply (self.new.base ≡ self.old.base)) }
+        ensures unasked { IfOk result (λ reply. IfNone reply (K.calls typer.new ≡ K.calls typer.old)) }
+        ensures most { OnErr result (IsAskedWithin (bytes_of self.old.files.items) (base_seen self.old.base) (K.calls typer.old) (K.calls typer.new)) }
+        ensures kept { OnErr result (self.new.base ≡ self.old.base) }
+    {
+        let Some(base) = &mut self.base else {
+            return Ok(None);
+        };
+        if self.is_current {
+            return Ok(Some(known(self.alloc, base)?));
+        }
+        let reply = recheck(self.alloc, typer, base, self.files.as_slice())?;
+        self.is_current = reply.is_some();
+        Ok(reply)
+    }
+
+    /// Checks the files from their bytes on; features are kept as `check` says.
+    fn check_anew<K: Typer>(&mut self, typer: &mut K) -> Result<Reply, AllocError>
+        requires { 0 < length self.old.files.items }
+        ensures names { self.new.names.items ≡ self.old.names.items }
+        ensures files { self.new.files.items ≡ self.old.files.items }
+        ensures faults { IfOk result (λ reply. IsFaultList (bytes_of self.old.files.items) reply.faults.items) }
+        ensures placed { IfOk result (λ reply. AllByRecursion (λ f. IsPlaced (length self.old.files.items) (place_of f)) reply.faults.items) }
+        ensures typed { IfOk result (λ reply. Types (bytes_of self.old.files.items) (base_seen self.old.base) reply.typed (base_seen self.new.base)) }
+        ensures asked { IfOk result (λ reply. K.calls typer.new ≡ calls_after reply.typed (K.calls typer.old)) }
+        ensures most { OnErr result (IsAskedWithin (bytes_of self.old.files.items) (base_seen self.old.base) (K.calls typer.old) (K.calls typer.new)) }
+        ensures kept { OnErr result (self.new.base ≡ self.old.base) }
+    {
         match class_phase(self.alloc, self.files.as_slice())? {
             ClassVerdict::Refused(faults) => Ok(Reply {
                 faults: faults.into_vec(),
@@ -135,12 +190,17 @@ impl Session {
             }),
             ClassVerdict::Untyped(now) => {
                 let renewed = renew(self.alloc, typer, used(&self.base, &now.classes), &now)?;
-                let faults = fault_list(self.alloc, &now, renewed.faults.as_slice())?;
+                let faults = fault_list(
+                    self.alloc,
+                    now.lexed.as_slice(),
+                    renewed.faults.as_slice(),
+                )?;
                 let base = Base {
                     untyped: now,
                     faults: renewed.faults,
                 };
                 self.base = Some(base);
+                self.is_current = true;
                 Ok(Reply {
                     faults,
                     typed: renewed.asked,

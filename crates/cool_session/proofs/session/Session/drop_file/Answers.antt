@@ -1,6 +1,7 @@
 -- Without a name and its file, as many of both are left, and no more bytes.
 use Rattle.std.proofs.Common.{◌≡◌, ◌<◌, map, length, string_bytes, Some, ap, sym, ◌∙◌, arith}
 use Rattle.std.specs.Prelude.{remove}
+use Rattle.std.proofs.lemmas.Grind.{merely}
 use Rattle.cool_faults.specs.Files.{bytes_of}
 use Rattle.cool_session.specs.Files.{position}
 use Rattle.cool_session.proofs.FilesSet.{removed_length, removed_less, removed_map}
@@ -21,6 +22,7 @@ invariant_of-self c =
       paired = omega (arith, names_left, files_left, removed_length names k named, removed_length files k filed, c.args.self.now.paired);
       few = omega (arith, files_left, removed_length files k filed, c.args.self.now.few);
       small = rw bytes (omega (arith, removed_less (bytes_of files) k, c.args.self.now.small));
+      current = merely tt;
     }
 
 pub returns-in-Some-clause-names : goal.returns-in-Some-clause-names

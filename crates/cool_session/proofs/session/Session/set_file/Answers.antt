@@ -2,6 +2,7 @@
 use Rattle.std.proofs.Common.{rules, ◌≡◌, ◌+◌, ◌++◌, [], ◌∷◌, map, length, string_bytes, Some, None, ap, sym, ◌∙◌, arith}
 use Rattle.std.specs.Prelude.{slice_set}
 use Rattle.std.proofs.lemmas.List.{length-map, length-set, map-append, map-set}
+use Rattle.std.proofs.lemmas.Grind.{merely}
 use Rattle.cool_faults.specs.Files.{bytes_of}
 use Rattle.cool_session.specs.Files.{position}
 use Rattle.cool_session.proofs.FilesSet.{end_length, fits, held}
@@ -22,6 +23,7 @@ invariant_of-self-in-Some c =
       paired = omega (arith, length-set files c.in-Some.k c.in_ok-file.file, c.args.self.now.paired);
       few = omega (arith, length-set files c.in-Some.k c.in_ok-file.file, c.args.self.now.few);
       small = rw bytes room.1;
+      current = merely tt;
     }
 
 pub invariant_of-self-in-None : goal.invariant_of-self-in-None
@@ -44,6 +46,7 @@ invariant_of-self-in-None c =
       paired = omega (arith, names_long, files_long, c.args.self.now.paired);
       few = omega (arith, files_long, end_length (map string_bytes names) c.args.name.now, length-map names string_bytes, c.args.self.now.paired, room.0);
       small = rw bytes room.1;
+      current = merely tt;
     }
 
 pub returns-in-Some-clause-names : goal.returns-in-Some-clause-names
