@@ -21,3 +21,8 @@ abbrev pub IsLonger : Option FileMap → List ℕ → ℕ → ℕ → ℕ → Ty
 IsLonger None name most before after = Rose before after
 IsLonger (Some files) name most before after =
     (bytes : List ℕ) × (files name ≡ Some bytes) × (most < length bytes) × (after ≡ before)
+
+-- Memory ran out: no fault rose, or the shelf does not tell and one rose.
+abbrev pub IsWanting : Option FileMap → ℕ → ℕ → Type 0
+IsWanting None before after = Rose before after
+IsWanting (Some files) before after = after ≡ before

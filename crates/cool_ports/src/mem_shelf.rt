@@ -2,7 +2,7 @@
 
 ghost use Rattle.std.specs.Prelude.{◌≡◌, ℕ, ◌<◌, ◌≤◌, ◌^◌, ◌⊎◌, ◌↔◌, List, IfOk, IsErrOf, OnOk, OnErr, Some, vec_len, if◌then◌else◌, bytes_eq};
 ghost use Rattle.cool_ports.specs.Counts.{GoesOn, Rose};
-ghost use Rattle.cool_ports.specs.ShelfFiles.{MayHold, IsMissing, IsLonger};
+ghost use Rattle.cool_ports.specs.ShelfFiles.{MayHold, IsMissing, IsLonger, IsWanting};
 ghost use Rattle.cool_ports.specs.MemoryObjects.{no_faults, IsToFail, called, faulted, failing_at};
 
 use crate::fault_schedule::FaultSchedule;
@@ -72,6 +72,7 @@ impl Shelf for MemShelf {
         ensures missing { IsErrOf result ShelfFault.Missing → IsMissing (Some (file_of self.old)) name.now (schedule_of self.old).faults (schedule_of self.new).faults }
         ensures too_large { IsErrOf result ShelfFault.TooLarge → IsLonger (Some (file_of self.old)) name.now most (schedule_of self.old).faults (schedule_of self.new).faults }
         ensures failed { IsErrOf result ShelfFault.Failed → Rose (schedule_of self.old).faults (schedule_of self.new).faults }
+        ensures memory { IsErrOf result ShelfFault.Memory → IsWanting (Some (file_of self.old)) (schedule_of self.old).faults (schedule_of self.new).faults }
         ensures kept { Some (file_of self.new) ≡ Some (file_of self.old) }
         ensures count { GoesOn (schedule_of self.old).faults (schedule_of self.new).faults }
         ensures counted { IsErrOf result ShelfFault.Failed ⊎ (schedule_of self.new ≡ called (schedule_of self.old)) }

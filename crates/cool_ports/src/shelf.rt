@@ -2,7 +2,7 @@
 
 ghost use Rattle.std.specs.Prelude.{◌≡◌, ℕ, ◌<◌, ◌≤◌, ◌^◌, vec_len, IfOk, OnOk, IsErrOf, Option};
 ghost use Rattle.cool_ports.specs.Counts.{GoesOn, Rose};
-ghost use Rattle.cool_ports.specs.ShelfFiles.{FileMap, MayHold, IsMissing, IsLonger};
+ghost use Rattle.cool_ports.specs.ShelfFiles.{FileMap, MayHold, IsMissing, IsLonger, IsWanting};
 
 use std::alloc::Global;
 
@@ -31,7 +31,8 @@ pub trait Shelf {
     ///
     /// `Missing` comes exactly where the told map lacks the name and the call did not fail, `TooLarge` exactly where
     /// the told file is longer than `most` and the call did not fail. Where the map is not told, both come only where
-    /// the count of faults rose, and so does `Failed` always.
+    /// the count of faults rose, and so does `Failed` always. `Memory` comes only for want of memory: where the map is told
+    /// the count did not rise, and else it rose.
     fn read(&mut self, alloc: Global, name: &str, most: u64) -> Result<Vec<u8>, ShelfFault>
         requires { most < 2 ^ 40 }
         ensures read { IfOk result (λ bytes. MayHold (files self.old) name.now bytes.items) }
@@ -40,6 +41,7 @@ pub trait Shelf {
         ensures missing { IsErrOf result ShelfFault.Missing → IsMissing (files self.old) name.now (faults self.old) (faults self.new) }
         ensures too_large { IsErrOf result ShelfFault.TooLarge → IsLonger (files self.old) name.now most (faults self.old) (faults self.new) }
         ensures failed { IsErrOf result ShelfFault.Failed → Rose (faults self.old) (faults self.new) }
+        ensures memory { IsErrOf result ShelfFault.Memory → IsWanting (files self.old) (faults self.old) (faults self.new) }
         ensures kept { files self.new ≡ files self.old }
         ensures count { GoesOn (faults self.old) (faults self.new) };
 }
