@@ -14,7 +14,8 @@ use Rattle.mips_isa.specs.ImageBounds.{ImageParts}
 use Rattle.mips_isa.specs.Lines.{Name, Line}
 use Rattle.mips_isa.specs.Assembly.{Position, start_position, start_name, after_line, place_in, place_from, place_of, has, address_or_zero, text_from, bytes_from, fault_or, second_pass}
 use Rattle.mips_asm.specs.Parts.{statement_fault, last_fault, IsError, IsWordPlace, IsImageOrFault}
-use Rattle.mips_asm.proofs.Assembled.{Assembled, filled, using_is}
+use Rattle.mips_asm.specs.SecondPasses.{Assembled, filled}
+use Rattle.mips_asm.proofs.Assembled.{using_is}
 
 -- a label in text is the address of a word
 
@@ -80,23 +81,3 @@ image_at_end place all number text bytes g image are left none is =
 pub answer_at_end : (place : Name → Option Place) (all : List Line) (number : ℕ) (text bytes : List ℕ) (g : Segment) (result : Result ImageParts AsmError) → place ≡ place_of all → Assembled place all [] number text bytes g → OnOk result (last_fault place (length text) ≡ None) → IfOk result (λ image. image ≡ record { entry = address_or_zero (place start_name); text = text; bytes = bytes }) → IfErr result (IsError number (last_fault place (length text))) → IsImageOrFault all result
 answer_at_end place all number text bytes g (Ok image) are left none is error = image_at_end place all number text bytes g image are left none is
 answer_at_end place all number text bytes g (Err e) are left none is error = fault_at_end place all number text bytes g e are left error
-
--- the lines that are left begin with the one at the index
-pub first_of_left : (A : Type 0) (f : A → Line) (place : Name → Option Place) (all : List Line) (xs : List A) (i : ℕ) (x : A) (number : ℕ) (text bytes : List ℕ) (g : Segment) → i < length xs → x ≡ get_or xs i x → Assembled place all (map f (drop i xs)) number text bytes g → Assembled place all (f x ∷ map f (drop (i + 1) xs)) number text bytes g
-first_of_left A f place all xs i x number text bytes g h is left =
-    let P : List A → Type 0 = λ list. Assembled place all (map f list) number text bytes g in
-    let here : drop i xs ≡ x ∷ drop (i + 1) xs = drop-cons xs i x h ∙ ap (λ y. y ∷ drop (suc i) xs) (sym is) ∙ ap (λ n. x ∷ drop n xs) (sym (add-one i)) in
-    subst P here left
-
--- no line is left
-pub none_left : (A : Type 0) (f : A → Line) (place : Name → Option Place) (all : List Line) (xs : List A) (i : ℕ) (text bytes : List ℕ) (g : Segment) → i ≡ length xs → Assembled place all (map f (drop i xs)) (i + 1) text bytes g → Assembled place all [] (length xs + 1) text bytes g
-none_left A f place all xs i text bytes g is left =
-    let P : ℕ → Type 0 = λ n. Assembled place all (map f (drop n xs)) (n + 1) text bytes g in
-    let Q : List A → Type 0 = λ list. Assembled place all (map f list) (length xs + 1) text bytes g in
-    subst Q (drop-length xs) (subst P is left)
-
--- the same fault, as a result
-pub answer_at_line : (place : Name → Option Place) (all : List Line) (line : Line) (rest : List Line) (number : ℕ) (text bytes : List ℕ) (g : Segment) (e : AsmError) (result : Result ImageParts AsmError) → place ≡ place_of all → Assembled place all (line ∷ rest) number text bytes g → IsError number (statement_fault place (length text) line.statement) e → result ≡ Err e → IsImageOrFault all result
-answer_at_line place all line rest number text bytes g e result are left h is =
-    let P : Result ImageParts AsmError → Type 0 = λ r. IsImageOrFault all r in
-    subst P (sym is) (fault_at_line place all line rest number text bytes g e are left h)

@@ -19,6 +19,7 @@ use Rattle.mips_isa.specs.Assembly as assembly
 use Rattle.mips_isa.specs.Assembly.{Need, need, Position, start_position, up, after_need, after_line, padding, words_of_instruction, need_of_data, need_of_directive, expansion, instructions, order_branch, bytes_of_data, item_bytes, item_value, four_bytes, address_or_zero, text_from, bytes_from, is_too_large, is_wrong, any_twice, defining_fault, fault_or, first_pass, second_pass, using_fault, any_without_place, used, reaches, instruction_reaches, names_of_instruction, offset, branch_reaches, jump_reaches}
 use Rattle.mips_asm.specs.Completing.{segment_after_need}
 use Rattle.mips_asm.specs.TextWords.{words_needed}
+use Rattle.mips_asm.specs.SecondPasses.{Assembled, filled}
 use Rattle.mips_asm.specs.Parts.{instruction_fault, statement_fault, target_fault, found, words_of_statement, bytes_of_statement, zeros}
 
 -- How much a statement adds
@@ -105,9 +106,6 @@ up_in_parts : (unit n size : ℕ) → 1 ≤ unit → up unit n + size ≡ n + (u
 up_in_parts unit n size h = let from = up_from unit n h in omega arith
 
 -- the position after a need
-
-abbrev pub filled : ℕ → ℕ → Segment → Position
-filled words bytes segment = record { words = words; bytes = bytes; segment = segment }
 
 same_position : (w x b c : ℕ) (g : Segment) → w ≡ x → b ≡ c → filled w b g ≡ filled x c g
 same_position w x b c g e f = cc
@@ -201,18 +199,6 @@ small p e =
     (at_most 66060288 p.words both.0, at_most 268435456 p.bytes both.1)
 
 -- Lines, one after another
-
--- Of all lines these are left, the first of them with this number, and the others were assembled to this text and these bytes.
-pub record Assembled (place : Name → Option Place) (all : List Line) (rest : List Line) (number : ℕ) (text bytes : List ℕ) (segment : Segment) : Type 0 where
-  pub ranges : AreInRange rest
-  pub seen : List Name
-  pub from : ℕ
-  pub first : first_pass seen (filled (length text) (length bytes) segment) from rest ≡ None
-  pub fault : second_pass place (filled (length text) (length bytes) segment) number rest ≡ second_pass place start_position 1 all
-  pub text_is : text ++ text_from (λ name. address_or_zero (place name)) (filled (length text) (length bytes) segment) rest ≡ text_from (λ name. address_or_zero (place name)) start_position all
-  pub bytes_is : bytes ++ bytes_from (λ name. address_or_zero (place name)) (filled (length text) (length bytes) segment) rest ≡ bytes_from (λ name. address_or_zero (place name)) start_position all
-  pub words_fit : length text ≤ 66060288
-  pub bytes_fit : length bytes ≤ 268435456
 
 -- none is assembled yet
 pub none_assembled : (place : Name → Option Place) (all : List Line) → AreInRange all → first_pass [] start_position 1 all ≡ None → Assembled place all all 1 [] [] Text

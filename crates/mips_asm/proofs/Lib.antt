@@ -3,6 +3,8 @@ pub mod LabelTables
 pub mod LoopRests
 pub mod FirstPasses
 pub mod LinePlaces
+pub mod PlacesOfMarks
+pub mod LinesLeft
 pub mod Completions
 pub mod Targets
 pub mod ItemsLeft

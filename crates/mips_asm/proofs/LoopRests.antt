@@ -1,6 +1,8 @@
 -- What a loop over a list has left.
-use Rattle.std.proofs.Common.{◌≡◌, ℕ, zero, suc, ◌+◌, ◌<◌, List, [], ◌∷◌, length, drop, get_or, ap, sym, ◌∙◌, Option, Some, None, is_some, false, refl, true≢false, arith, nat_lt, IfSome, slice_get}
+use Rattle.std.proofs.Common.{◌≡◌, ℕ, zero, suc, ◌+◌, ◌<◌, List, [], ◌∷◌, length, drop, get_or, ap, sym, ◌∙◌, Option, Some, None, is_some, false, refl, true≢false, arith, nat_lt, IfSome, slice_get, subst}
 use Rattle.std.specs.Option.{option_copied}
+use Rattle.mips_isa.specs.declared.line.Line as declared_line
+use Rattle.mips_isa.specs.Lines.{line_of, lines_of, IsInRange, AreInRange}
 use Rattle.std.proofs.lemmas.Option.{slice_get_past, slice_get-get_or}
 use Rattle.std.proofs.lemmas.Bool.{ltb-false}
 use borrow.Author.Tests.{ltb-true}
@@ -30,3 +32,14 @@ pub copied_there : {X : Type 0} (r : Option (Bor X)) (xs : List X) (i : ℕ) →
     → option_copied r ≡ slice_get xs i
 copied_there None xs i some at = sym (slice_get_past xs i (ltb-false i (length xs) (sym some)))
 copied_there (Some x) xs i some at = ap Some at ∙ sym (slice_get-get_or xs i x.now (ltb-true i (length xs) (sym some)))
+
+-- the numbers of the lines from an index on are in their ranges
+ranges_rest : (lines : List declared_line.Line) (k : ℕ) → AreInRange (lines_of lines) → AreInRange (lines_of (drop k lines))
+ranges_rest lines zero h = h
+ranges_rest [] (suc k) h = tt
+ranges_rest (line ∷ rest) (suc k) h = ranges_rest rest k h.1
+
+-- and so are those of the line at it
+pub line_in_range : (lines : List declared_line.Line) (k : ℕ) (line : declared_line.Line) (rest : List declared_line.Line) → drop k lines ≡ line ∷ rest
+    → AreInRange (lines_of lines) → IsInRange (line_of line).statement
+line_in_range lines k line rest here h = (subst (λ (ls : List declared_line.Line). AreInRange (lines_of ls)) here (ranges_rest lines k h)).0

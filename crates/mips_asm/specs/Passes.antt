@@ -1,26 +1,21 @@
--- The passes of the assembler: positions, places and the table of labels of lines.
-use Rattle.std.specs.Prelude.{◌≡◌, ℕ, zero, suc, ◌+◌, ◌*◌, ◌<◌, ◌≤◌, true, false, List, [], ◌∷◌, ◌++◌, map, Option, None, Some, Result, Ok, Err, Vec}
-use Rattle.std.specs.Global.{Global}
-use denote.Ref.{Bor}
-use Rattle.mips_isa.specs.declared.line.Line as declared_line
+-- What the first pass of the assembler finds: positions, items of data, and the table of labels.
+use Rattle.std.specs.Prelude.{◌≡◌, ℕ, zero, suc, ◌+◌, ◌*◌, ◌<◌, ◌≤◌, ◌&&◌, not, is_some, bytes_eq, Bool, true, false, List, [], ◌∷◌, ◌++◌, length, map, Option, None, Some, Result, Ok, Err}
+use Rattle.std.specs.Global.{Vec}
+use Rattle.std.specs.Map.{lookup}
 use Rattle.mips_isa.specs.declared.asm_fault.AsmError.{AsmError}
 use Rattle.mips_isa.specs.declared.asm_fault.AsmError.TheVariants.{Memory, Fault}
 use Rattle.mips_isa.specs.declared.asm_fault.AsmKind.TheVariants.{A5}
-use Rattle.mips_isa.specs.declared.place.Place.{Place}
 use Rattle.mips_isa.specs.declared.place.Segment.{Segment}
 use Rattle.mips_isa.specs.declared.place.Segment.TheVariants.{Text, Data}
 use Rattle.mips_isa.specs.declared.address_map.TheConstants.{TEXT_START, DATA_START, MOST_TEXT_WORDS, MOST_DATA_BYTES}
-use Rattle.mips_isa.specs.ImageBounds.{ImageParts}
-use Rattle.mips_isa.specs.Lines.{Name, Line, line_of}
-use Rattle.mips_isa.specs.Assembly.{Position, Need, Nothing, Words, Item, Switch, Padding, start_position, after_line, place_in, first_pass, place_of, image_of_all, fault_of_all, defining_fault, is_too_large, any_twice, after_need}
+use Rattle.mips_isa.specs.Lines.{Name, Line}
+use Rattle.mips_isa.specs.Assembly.{Position, Need, Nothing, Words, Item, Switch, Padding, need, start_position, start_name, main_name, after_line, up, first_pass, place_of, defining_fault, is_too_large, any_twice, after_need}
 use Rattle.mips_asm.specs.Places.{LabelParts, places_of}
+use Rattle.mips_asm.specs.declared.mark.Mark.{Mark}
+use Rattle.mips_asm.specs.declared.mark.Mark.TheVariants.{InText, BeforeItem}
 use Rattle.mips_asm.specs.declared.position.Position as declared_position
 use Rattle.mips_asm.specs.declared.position.Need as declared_need
 use Rattle.mips_asm.specs.declared.position.Need.TheVariants as needs
-
--- how lines behind references are seen
-abbrev pub seen_lines : List (Bor declared_line.Line) → List Line
-seen_lines = map (λ line. line_of line.now)
 
 abbrev pub position_of : declared_position.Position → Position
 position_of p = record { words = p.words; bytes = p.bytes; segment = p.segment }
@@ -52,74 +47,80 @@ abbrev pub IsAfter : declared_need.Need → declared_position.Position → Optio
 IsAfter need p None = is_too_large (after_need (need_of need) (position_of p)) ≡ true
 IsAfter need p (Some next) = (position_of next ≡ after_need (need_of need) (position_of p)) × (is_too_large (position_of next) ≡ false) × Fits next.words next.bytes
 
--- the position before each line, and after the last one
-abbrev pub positions_from : Position → List Line → List Position
-positions_from p [] = p ∷ []
-positions_from p (line ∷ rest) = p ∷ positions_from (after_line line p) rest
-
 -- the position before the line at an index
 abbrev pub position_at : Position → ℕ → List Line → Position
 position_at p zero lines = p
 position_at p (suc k) [] = p
 position_at p (suc k) (line ∷ rest) = position_at (after_line line p) k rest
 
--- the place of a label before an item
-abbrev pub placed : Segment → ℕ → ℕ → Place
-placed Text words item = record { segment = Text; address = TEXT_START + 4 * words }
-placed Data words item = record { segment = Data; address = DATA_START + item }
+-- the position after lines
+abbrev pub after_lines : Position → List Line → Position
+after_lines p [] = p
+after_lines p (line ∷ rest) = after_lines (after_line line p) rest
 
--- the place of a label of each line
-abbrev pub places_from : Position → List Line → List Place
-places_from p [] = []
-places_from p (line ∷ rest) = place_in p.segment p (line ∷ rest) ∷ places_from (after_line line p) rest
+-- the address at which the item of a statement that needs this begins, if there is one, after so many bytes of data
+abbrev pub item_in : Need → ℕ → List ℕ
+item_in Nothing bytes = []
+item_in (Words n) bytes = []
+item_in (Item unit size) bytes = (DATA_START + up unit bytes) ∷ []
+item_in (Switch segment) bytes = []
+item_in (Padding unit) bytes = []
 
--- each label of a line, with a number
-abbrev pub numbered : ℕ → List Name → List (Name × ℕ)
-numbered number = map (λ name. (name, number))
+-- the address of each item of data
+abbrev pub items_from : Position → List Line → List ℕ
+items_from p [] = []
+items_from p (line ∷ rest) = item_in (need line.statement) p.bytes ++ items_from (after_line line p) rest
 
--- each label of lines, with the index of its line, where lines are counted from a number
-abbrev pub table_from : ℕ → List Line → List (Name × ℕ)
-table_from number [] = []
-table_from number (line ∷ rest) = numbered number line.labels ++ table_from (suc number) rest
+-- where a label stands in a segment, after so many words of text and so many items of data
+abbrev pub mark_in : Segment → ℕ → ℕ → Mark
+mark_in Text words items = InText (TEXT_START + 4 * words)
+mark_in Data words items = BeforeItem items
 
--- the names of a table of names behind references
-abbrev pub shown : List (Bor Name × ℕ) → List (Name × ℕ)
-shown = map (λ entry. (entry.0.now, entry.1))
+-- each label of a line, with where it stands
+abbrev pub marked : Mark → List Name → List (Name × Mark)
+marked mark = map (λ name. (name, mark))
 
-abbrev pub names_of : List (Name × ℕ) → List Name
+-- each label of lines, with where it stands, after so many items of data
+abbrev pub table_from : Position → ℕ → List Line → List (Name × Mark)
+table_from p items [] = []
+table_from p items (line ∷ rest) =
+    marked (mark_in p.segment p.words items) line.labels
+    ++ table_from (after_line line p) (items + length (item_in (need line.statement) p.bytes)) rest
+
+-- the names of a table of names in vectors
+abbrev pub shown : List (Vec ℕ × Mark) → List (Name × Mark)
+shown = map (λ entry. (entry.0.items, entry.1))
+
+abbrev pub names_of : List (Name × Mark) → List Name
 names_of = map (λ entry. entry.0)
 
+-- a label stands in text, if there is one
+abbrev pub marks_text : Option Mark → Bool
+marks_text None = false
+marks_text (Some (InText address)) = true
+marks_text (Some (BeforeItem number)) = false
+
+-- `__start` is not in a table, and `main` is, as a label of text
+abbrev pub is_lacking : List (Name × Mark) → Bool
+is_lacking table = not (is_some (lookup (bytes_eq start_name) table)) && marks_text (lookup (bytes_eq main_name) table)
+
 -- the labels of a line are put into a table, unless one is there already
-abbrev pub Defines : List (Name × ℕ) → List Name → ℕ → ℕ → Result Unit AsmError → List (Name × ℕ) → Type 0
-Defines old labels index number (Ok done) new = (any_twice (names_of old) labels ≡ false) × (new ≡ old ++ numbered index labels)
-Defines old labels index number (Err Memory) new = Unit {0}
-Defines old labels index number (Err (Fault fault)) new = (any_twice (names_of old) labels ≡ true) × (fault ≡ record { kind = A5; line = number })
+abbrev pub Defines : List (Name × Mark) → List Name → Mark → ℕ → Result Unit AsmError → List (Name × Mark) → Type 0
+Defines old labels mark number (Ok done) new = (any_twice (names_of old) labels ≡ false) × (new ≡ old ++ marked mark labels)
+Defines old labels mark number (Err Memory) new = Unit {0}
+Defines old labels mark number (Err (Fault fault)) new = (any_twice (names_of old) labels ≡ true) × (fault ≡ record { kind = A5; line = number })
 
 -- one line of the first pass, with the table before and after it
-abbrev pub Steps : List (Name × ℕ) → declared_position.Position → Line → ℕ → Result declared_position.Position AsmError → List (Name × ℕ) → Type 0
-Steps old p line index (Ok next) new =
+abbrev pub Steps : List (Name × Mark) → declared_position.Position → Line → Mark → ℕ → Result declared_position.Position AsmError → List (Name × Mark) → Type 0
+Steps old p line mark number (Ok next) new =
     (defining_fault (names_of old) (position_of p) line ≡ None) × (position_of next ≡ after_line line (position_of p))
-    × (new ≡ old ++ numbered index line.labels) × Fits next.words next.bytes
-Steps old p line index (Err Memory) new = Unit {0}
-Steps old p line index (Err (Fault fault)) new =
-    (defining_fault (names_of old) (position_of p) line ≡ Some fault.kind) × (fault.line ≡ suc index)
-
--- the first pass, with the table after it
-abbrev pub Passes : List Line → Result (Vec declared_position.Position Global) AsmError → List (Name × ℕ) → Type 0
-Passes lines (Ok positions) table =
-    (first_pass [] start_position 1 lines ≡ None) × (map position_of positions.items ≡ positions_from start_position lines)
-    × (table ≡ table_from 0 lines)
-Passes lines (Err Memory) table = Unit {0}
-Passes lines (Err (Fault fault)) table = first_pass [] start_position 1 lines ≡ Some fault
+    × (new ≡ old ++ marked mark line.labels) × Fits next.words next.bytes
+Steps old p line mark number (Err Memory) new = Unit {0}
+Steps old p line mark number (Err (Fault fault)) new =
+    (defining_fault (names_of old) (position_of p) line ≡ Some fault.kind) × (fault.line ≡ number)
 
 -- the labels of lines, or the first fault of the first pass
 abbrev pub FindsLabels : List Line → Result LabelParts AsmError → Type 0
 FindsLabels lines (Ok labels) = (first_pass [] start_position 1 lines ≡ None) × (places_of labels ≡ place_of lines)
 FindsLabels lines (Err Memory) = Unit {0}
 FindsLabels lines (Err (Fault fault)) = first_pass [] start_position 1 lines ≡ Some fault
-
--- What assembling answers for lines that are already completed.
-abbrev pub AssemblesAll : List Line → Result ImageParts AsmError → Type 0
-AssemblesAll lines (Ok image) = (fault_of_all lines ≡ None) × (image ≡ image_of_all lines)
-AssemblesAll lines (Err Memory) = Unit {0}
-AssemblesAll lines (Err (Fault fault)) = fault_of_all lines ≡ Some fault

@@ -1,8 +1,8 @@
 //! The lines that are added where `main` is defined, and `__start` is not.
 
-ghost use Rattle.std.specs.Prelude.{◌≡◌, ◌&&◌, ◌++◌, not, is_some, IfOk, pos};
-ghost use Rattle.mips_isa.specs.Lines.{line_of, lines_of, statement_of, Instruction, Plain};
-ghost use Rattle.mips_isa.specs.Assembly.{has, need, place_of, in_text, start_name, main_name, added_lines, completed, unlabelled};
+ghost use Rattle.std.specs.Prelude.{◌≡◌, ◌&&◌, [], not, is_some, if◌then◌else◌, IfOk, pos};
+ghost use Rattle.mips_isa.specs.Lines.{line_of, lines_of, statement_of, AreInRange, Instruction, Plain};
+ghost use Rattle.mips_isa.specs.Assembly.{has, need, place_of, in_text, start_name, main_name, added_lines, unlabelled};
 ghost use Rattle.mips_isa.specs.declared.instr.Instr.TheVariants.{Imm};
 ghost use Rattle.mips_isa.specs.declared.instr.ImmOp.TheVariants.{Ori};
 ghost use Rattle.mips_isa.specs.declared.place.Segment.TheVariants.{Text};
@@ -18,11 +18,12 @@ use std::alloc::{AllocError, Global};
 /// The words of text of the lines that complete lines.
 pub const ADDED_WORDS: u32 = 3;
 
-/// The lines that complete lines: a call of `main` and an exit, or none.
-pub fn missing_lines(alloc: Global, lines: &[Line]) -> Result<Vec<Line>, AllocError>
-    ensures { IfOk result (λ added. lines_of lines.now ++ lines_of added.items ≡ completed (lines_of lines.now)) }
+/// The lines that complete lines that lack a start: a call of `main` and an exit. Others need none.
+pub fn added_lines(alloc: Global, is_lacking: bool) -> Result<Vec<Line>, AllocError>
+    ensures lines { IfOk result (λ added. lines_of added.items ≡ (if is_lacking then added_lines else [])) }
+    ensures ranges { IfOk result (λ added. AreInRange (lines_of added.items)) }
 {
-    if lacks_start(lines) {
+    if is_lacking {
         start_lines(alloc)
     } else {
         Ok(Vec::new(alloc))

@@ -2,7 +2,7 @@
 
 ghost use Rattle.std.specs.Prelude.{◌≡◌, ◌+◌, ◌-◌, ◌*◌, ◌/◌, ◌<◌, ◌≤◌, MatchOption, true, false};
 ghost use Rattle.mips_isa.specs.Lines.{statement_of, instruction_of, data_item_of, directive_of, IsInRange, IsDirectiveInRange};
-ghost use Rattle.mips_isa.specs.Assembly.{need, words_of_instruction, need_of_data, need_of_directive, after_need, is_wrong, item_or, up};
+ghost use Rattle.mips_isa.specs.Assembly.{need, words_of_instruction, need_of_data, need_of_directive, after_need, is_wrong, up};
 ghost use Rattle.mips_asm.specs.Passes.{position_of, need_of, IsSmall, Fits, IsAfter};
 
 use mips_isa::{
@@ -99,7 +99,7 @@ fn need_of_directive(directive: &AsmDirective) -> Need
 }
 
 /// A number filled up to a multiple of a unit.
-fn up_to_multiple(unit: u32, number: u32) -> u32
+pub fn up_to_multiple(unit: u32, number: u32) -> u32
     requires unit { (0 < unit) × (unit ≤ 4096) }
     requires number { number ≤ MOST_DATA_BYTES }
     ensures exact { result ≡ up unit number }
@@ -180,17 +180,4 @@ fn after_words(position: Position, count: u32) -> Option<Position>
         bytes: position.bytes,
         segment: position.segment,
     })
-}
-
-/// Where an item of a statement that needs this begins, or else another place.
-pub fn place_of_item(need: Need, position: Position, other: u32) -> u32
-    requires fits { Fits position.words position.bytes }
-    ensures exact { result ≡ item_or (need_of need) (position_of position) other }
-    ensures bound { other ≤ MOST_DATA_BYTES + 4 → result ≤ MOST_DATA_BYTES + 4 }
-{
-    match need {
-        Need::WordItems(_) => up_to_multiple(4, position.bytes),
-        Need::Bytes(_) => up_to_multiple(1, position.bytes),
-        Need::Nothing | Need::Words(_) | Need::Switch(_) | Need::Padding(_) => other,
-    }
 }

@@ -1,24 +1,43 @@
-//! The second pass of the assembler.
+//! The second pass: it assembles lines.
 
-ghost use Rattle.std.specs.Prelude.{◌≡◌, ◌≤◌, ◌<◌, ◌+◌, ◌*◌, [], ◌++◌, List, length, map, replicate, Option, Some, None, OnOk, IfOk, IfErr};
+ghost use Rattle.std.specs.Prelude.{◌≡◌, ◌≤◌, ◌<◌, ◌+◌, ◌*◌, [], ◌∷◌, ◌++◌, List, length, map, replicate, Option, Some, None, OnOk, IfOk, IfErr};
 ghost use Rattle.std.specs.List.{AllByRecursion};
 ghost use Rattle.mips_isa.specs.Words.{word_of, InRange};
-ghost use Rattle.mips_isa.specs.Lines.{line_of, statement_of, instruction_of, directive_of, IsInRange, IsInstructionInRange, IsDirectiveInRange, AreInRange};
-ghost use Rattle.mips_isa.specs.Assembly.{expansion, address_or_zero, need, need_of_directive, first_pass, start_position, start_name, place_of};
+ghost use Rattle.mips_isa.specs.Lines as statements;
+ghost use Rattle.mips_isa.specs.Lines.{line_of, lines_of, statement_of, instruction_of, directive_of, IsInRange, IsInstructionInRange, IsDirectiveInRange, AreInRange};
+ghost use Rattle.mips_isa.specs.Assembly.{expansion, address_or_zero, need, need_of_directive, start_name, Assembles};
 ghost use Rattle.mips_asm.specs.Places.{places_of};
 ghost use Rattle.mips_asm.specs.Completing.{segment_after_need};
 ghost use Rattle.mips_asm.specs.Parts.{expanded, instruction_fault, target_in, target_address, IsError, statement_fault, words_of_statement, bytes_of_statement, zeros, last_fault, IsWordPlace, IsImageOrFault};
+ghost use Rattle.mips_asm.specs.SecondPasses.{IsLeft, IsNext, HasLeft, IsDue};
 ghost use Rattle.mips_isa.specs.declared.asm_fault.AsmError.TheVariants.{Memory};
+ghost use Rattle.mips_isa.specs.declared.place.Segment.TheVariants.{Text};
 
 use crate::expansion::{Expansion, expand};
 use crate::items::{add_item, align, fault};
 use crate::labels::Labels;
 use crate::target::{Target, is_of_text, may_reach, target_of};
 use mips_isa::{
-    AsmDirective, AsmError, AsmInstr, AsmKind, DATA_START, Image, Line, MOST_DATA_BYTES,
+    AsmDirective, AsmError, AsmFault, AsmInstr, AsmKind, DATA_START, Image, Line, MOST_DATA_BYTES,
     MOST_TEXT_WORDS, Segment, Statement, TEXT_START, encode,
 };
 use std::alloc::{AllocError, Global};
+
+/// The second pass over lines, which may come in parts: it assembles them. The lines are those of the first pass, in the same order.
+#[derive(Drop)]
+pub struct SecondPass {
+    labels: Labels,
+    added: Vec<Line>,
+    assembly: Assembly,
+}
+
+/// What lines are assembled to so far; the number of the next line, from 1, and the first fault.
+#[derive(Debug, Drop)]
+struct Assembly {
+    output: Output,
+    number: usize,
+    fault: Option<AsmFault>,
+}
 
 /// What lines are assembled to so far, and the segment that is open.
 #[derive(Debug, Drop)]
@@ -28,25 +47,100 @@ struct Output {
     segment: Segment,
 }
 
-/// The image of lines whose labels have these places, or the first fault of the second pass.
-///
-/// Lines are counted from 1. A fault on a line whose number has no 32 bits is reported as want of memory.
-pub fn second_pass(alloc: Global, lines: &[&Line], labels: &Labels) -> Result<Image, AsmError>
-    requires few { length lines.now < 4294967300 }
-    requires ranges { AreInRange (map (λ line. line_of line.now) lines.now) }
-    requires first { first_pass [] start_position 1 (map (λ line. line_of line.now) lines.now) ≡ None }
-    requires places { places_of labels.now ≡ place_of (map (λ line. line_of line.now) lines.now) }
-    ensures { IsImageOrFault (map (λ line. line_of line.now) lines.now) result }
-{
-    let mut output = Output {
-        text: Vec::new(alloc),
-        bytes: Vec::new(alloc),
-        segment: Segment::Text,
-    };
-    for (index, line) in lines.iter().enumerate() {
-        output.add(labels, &line.statement, index + 1)?;
+impl SecondPass {
+    /// The second pass before any line, by the labels of all lines, and with lines to add behind the others.
+    pub(crate) fn new(alloc: Global, labels: Labels, added: Vec<Line>) -> Self
+        ensures labels { result.labels ≡ labels }
+        ensures added { result.added.items ≡ added.items }
+        ensures text { result.assembly.output.text.items ≡ [] }
+        ensures bytes { result.assembly.output.bytes.items ≡ [] }
+        ensures segment { result.assembly.output.segment ≡ Text }
+        ensures number { result.assembly.number ≡ 1 }
+        ensures fault { result.assembly.fault ≡ None }
+    {
+        SecondPass {
+            labels,
+            added,
+            assembly: Assembly {
+                output: Output {
+                    text: Vec::new(alloc),
+                    bytes: Vec::new(alloc),
+                    segment: Segment::Text,
+                },
+                number: 1,
+                fault: None,
+            },
+        }
     }
-    output.finish(labels, lines.len() + 1)
+
+    /// Takes the next lines. A fault of theirs is kept for `finish`. `Err` comes only for want of memory.
+    pub fn take(&mut self, lines: &[Line]) -> Result<(), AllocError>
+        requires due { IsDue self.old (lines_of lines.now) }
+        requires ranges { AreInRange (lines_of lines.now) }
+        ensures { (all rest : List statements.Line) → HasLeft self.old all (lines_of lines.now ++ rest) → OnOk result (HasLeft self.new all rest) }
+    {
+        self.assembly.take(&self.labels, lines)
+    }
+
+    /// The image, once all lines were taken, or their first fault: a name without a place (A6), or a target that is too far or not in
+    /// text (A7); after the last line, that `__start` is no label of a word (A6). `Memory` comes only for want of memory.
+    pub fn finish(mut self) -> Result<Image, AsmError>
+        requires done { (all : List statements.Line) × HasLeft self all [] }
+        ensures { (all : List statements.Line) → HasLeft self all [] → Assembles all result }
+    {
+        self.assembly.take(&self.labels, &self.added)?;
+        self.assembly.finish(&self.labels)
+    }
+}
+
+impl Assembly {
+    /// Assembles the next lines.
+    fn take(&mut self, labels: &Labels, lines: &[Line]) -> Result<(), AllocError>
+        requires next { IsNext (places_of labels.now) self.old (lines_of lines.now) }
+        requires ranges { AreInRange (lines_of lines.now) }
+        ensures { (all rest : List statements.Line) → IsLeft (places_of labels.now) all (lines_of lines.now ++ rest) self.old → OnOk result (IsLeft (places_of labels.now) all rest self.new) }
+    {
+        for line in lines {
+            self.take_line(labels, line)?;
+        }
+        Ok(())
+    }
+
+    /// Assembles the next line. After a fault nothing is left to do.
+    fn take_line(&mut self, labels: &Labels, line: &Line) -> Result<(), AllocError>
+        requires next { IsNext (places_of labels.now) self.old (line_of line.now ∷ []) }
+        requires range { IsInRange (statement_of line.now.statement) }
+        ensures { (all rest : List statements.Line) → IsLeft (places_of labels.now) all (line_of line.now ∷ rest) self.old → OnOk result (IsLeft (places_of labels.now) all rest self.new) }
+    {
+        if self.fault.is_some() {
+            return Ok(());
+        }
+        let Some(number) = self.number.checked_add(1) else {
+            return Err(AllocError);
+        };
+        match self.output.add(labels, &line.statement, self.number) {
+            Ok(()) => {
+                self.number = number;
+                Ok(())
+            }
+            Err(AsmError::Memory) => Err(AllocError),
+            Err(AsmError::Fault(fault)) => {
+                self.fault = Some(fault);
+                Ok(())
+            }
+        }
+    }
+
+    /// The image after the last line, or the first fault.
+    fn finish(self, labels: &Labels) -> Result<Image, AsmError>
+        requires next { IsNext (places_of labels.now) self [] }
+        ensures { (all : List statements.Line) → IsLeft (places_of labels.now) all [] self → IsImageOrFault all result }
+    {
+        if let Some(fault) = self.fault {
+            return Err(AsmError::Fault(fault));
+        }
+        self.output.finish(labels, self.number)
+    }
 }
 
 impl Output {

@@ -5,7 +5,6 @@ ghost use Rattle.mips_isa.specs.Lines.{lines_of, AreInRange};
 ghost use Rattle.mips_isa.specs.Assembly.{fault_of, place_of, start_name};
 ghost use Rattle.mips_asm.specs.TextLabels.{text_label, address_of, address_or_start};
 
-use crate::add_lines;
 use crate::completing::{ADDED_WORDS, lacks_start, segment_of};
 use crate::labels::Labels;
 use crate::text_words::{words_before, words_in};
@@ -77,12 +76,12 @@ impl TextEnd {
 
 /// The labels of words of the text of lines. A contract sees the address of each name.
 #[derive(Drop)]
-pub struct TextLabels<'a> {
-    labels: Labels<'a>,
+pub struct TextLabels {
+    labels: Labels,
     text: TextEnd,
 }
 
-impl<'a> Model for TextLabels<'a> {
+impl Model for TextLabels {
     ghost use Rattle.mips_asm.specs.TextLabels.{TextLabelParts};
 
     ghost Value = { TextLabelParts };
@@ -90,18 +89,16 @@ impl<'a> Model for TextLabels<'a> {
     ghost view = { λ t. record { labels = t.labels; start = t.text.start; end = t.text.end } };
 }
 
-impl<'a> TextLabels<'a> {
+impl TextLabels {
     /// The labels of lines that have an image, to look up many names. `Err` comes only for want of memory.
-    pub fn find(alloc: Global, lines: &'a [Line]) -> Result<Self, AllocError>
+    pub fn find(alloc: Global, lines: &[Line]) -> Result<Self, AllocError>
         requires few { length lines.now < 4294967292 }
         requires ranges { AreInRange (lines_of lines.now) }
         requires image { fault_of (lines_of lines.now) ≡ None }
         ensures { IfOk result (λ labels. (name : List ℕ) → address_of labels name ≡ text_label (lines_of lines.now) name) }
     {
         let text = TextEnd::find(lines);
-        let mut seen = Vec::new(alloc);
-        add_lines(&mut seen, lines)?;
-        match Labels::find(alloc, &seen) {
+        match Labels::find(alloc, lines) {
             Ok(labels) => Ok(TextLabels { labels, text }),
             Err(AsmError::Memory) => Err(AllocError),
             Err(AsmError::Fault(_)) => unreachable!(),

@@ -1,0 +1,17 @@
+-- All lines are one part.
+use Rattle.std.proofs.Common.{List, [], append-nil, sym, subst}
+use Rattle.mips_isa.specs.Lines.{Line, lines_of}
+use Rattle.mips_asm.specs.SecondPasses.{HasLeft}
+use Rattle.mips_asm.proofs.assemble.Goals as goal
+
+pub finish-requires-2 : goal.finish-requires-2
+finish-requires-2 c =
+    let lines = lines_of c.args.lines.now in
+    let begun = c.in_ok-second.ensures lines c.requires.ranges (c.in_ok-take.ensures [] c.new-first.ensures) in
+    record { done = (lines, c.in_ok-take-2.ensures lines [] (subst (HasLeft c.in_ok-second.second lines) (sym (append-nil lines)) begun)) }
+
+pub returns : goal.returns
+returns c =
+    let lines = lines_of c.args.lines.now in
+    let begun = c.in_ok-second.ensures lines c.requires.ranges (c.in_ok-take.ensures [] c.new-first.ensures) in
+    c.finish-2.ensures lines (c.in_ok-take-2.ensures lines [] (subst (HasLeft c.in_ok-second.second lines) (sym (append-nil lines)) begun))
