@@ -20,7 +20,8 @@ use Rattle.spim_debug.specs.Notes.{registers_note, memory_note, listed_from, wor
 use Rattle.spim_debug.specs.Obeying.{Stands}
 
 -- with other break addresses it stands where it stood
-with_breaks : (d : Debuggee) (p : Progress) (first : Option (List ℕ)) (x : Debugger) (left held : Option (List ℕ)) (marks : List Bool) (breaks : List ℕ) → Stands d p first x left held
+with_breaks : (d : Debuggee) (p : Progress) (first : Option (List ℕ)) (x : Debugger) (left held : Option (List ℕ))
+    (marks : List Bool) (breaks : List ℕ) → Stands d p first x left held
     → ((a : ℕ) → in_set marks a ≡ is_break breaks a) → Stands d (record p { breaks = breaks }) first (record x { breaks = marks }) left held
 with_breaks d p first x left held marks breaks st agree = record {
   text = st.text;
@@ -33,18 +34,22 @@ with_breaks d p first x left held marks breaks st agree = record {
   breaks = agree;
 }
 
-pub stands_broken : (d : Debuggee) (p : Progress) (first : Option (List ℕ)) (x : Debugger) (left held : Option (List ℕ)) (marks : List Bool) (address : ℕ) → Stands d p first x left held
-    → ((a : ℕ) → in_set marks a ≡ (address == a || in_set x.breaks a)) → Stands d (moves d (commands.Break address) p) first (record x { breaks = marks }) left held
+pub stands_broken : (d : Debuggee) (p : Progress) (first : Option (List ℕ)) (x : Debugger) (left held : Option (List ℕ))
+    (marks : List Bool) (address : ℕ) → Stands d p first x left held
+    → ((a : ℕ) → in_set marks a ≡ (address == a || in_set x.breaks a))
+    → Stands d (moves d (commands.Break address) p) first (record x { breaks = marks }) left held
 stands_broken d p first x left held marks address st set =
     with_breaks d p first x left held marks (address ∷ p.breaks) st (λ a. set a ∙ ap (λ (b : Bool). address == a || b) (st.breaks a))
 
 -- an address that is taken away is none of those that are left
-deleted_first : (address a b : ℕ) (all kept : List ℕ) → is_break kept a ≡ (not (address == a) && is_break all a) → (b ≡ address) ⊎ (b ≡ address → ⊥)
+deleted_first : (address a b : ℕ) (all kept : List ℕ) → is_break kept a ≡ (not (address == a) && is_break all a)
+    → (b ≡ address) ⊎ (b ≡ address → ⊥)
     → is_break (cond (not (b == address)) (b ∷ kept) kept) a ≡ (not (address == a) && (b == a || is_break all a))
 deleted_first address a b all kept is (inl same) = grind (arith, is, same)
 deleted_first address a b all kept is (inr other) = grind (arith, is, other)
 
-deleted : (address a : ℕ) (breaks : List ℕ) → is_break (filter (λ other. not (other == address)) breaks) a ≡ (not (address == a) && is_break breaks a)
+deleted : (address a : ℕ) (breaks : List ℕ)
+    → is_break (filter (λ other. not (other == address)) breaks) a ≡ (not (address == a) && is_break breaks a)
 deleted address a [] = none (not (address == a))
   where
     none : (b : Bool) → false ≡ (b && false)
@@ -52,35 +57,44 @@ deleted address a [] = none (not (address == a))
     none false = refl
 deleted address a (b ∷ breaks) = deleted_first address a b breaks (filter (λ other. not (other == address)) breaks) (deleted address a breaks) (cases_eq b address)
 
-pub stands_deleted : (d : Debuggee) (p : Progress) (first : Option (List ℕ)) (x : Debugger) (left held : Option (List ℕ)) (marks : List Bool) (address : ℕ) → Stands d p first x left held
-    → ((a : ℕ) → in_set marks a ≡ (not (address == a) && in_set x.breaks a)) → Stands d (moves d (commands.Delete address) p) first (record x { breaks = marks }) left held
+pub stands_deleted : (d : Debuggee) (p : Progress) (first : Option (List ℕ)) (x : Debugger) (left held : Option (List ℕ))
+    (marks : List Bool) (address : ℕ) → Stands d p first x left held
+    → ((a : ℕ) → in_set marks a ≡ (not (address == a) && in_set x.breaks a))
+    → Stands d (moves d (commands.Delete address) p) first (record x { breaks = marks }) left held
 stands_deleted d p first x left held marks address st set =
     with_breaks d p first x left held marks (filter (λ other. not (other == address)) p.breaks) st
     (λ a. set a ∙ ap (λ (b : Bool). not (address == a) && b) (st.breaks a) ∙ sym (deleted address a p.breaks))
 
 -- the notes of the other commands, by the debugger's parts
-pub registers_text : (d : Debuggee) (p : Progress) (first : Option (List ℕ)) (x : Debugger) (left held : Option (List ℕ)) (bytes : List ℕ) → Stands d p first x left held → bytes ≡ registers_note (core_of x.machine.cpu)
+pub registers_text : (d : Debuggee) (p : Progress) (first : Option (List ℕ)) (x : Debugger) (left held : Option (List ℕ))
+    (bytes : List ℕ) → Stands d p first x left held → bytes ≡ registers_note (core_of x.machine.cpu)
     → concat (notes d commands.Regs p.executed) ≡ bytes
 registers_text d p first x left held bytes st is =
     append-nil (registers_note (state_in (outcome d p.executed)).core) ∙ ap (λ (c : Core). registers_note c) (sym st.state.core) ∙ sym is
 
-pub memory_text : (d : Debuggee) (p : Progress) (first : Option (List ℕ)) (x : Debugger) (left held : Option (List ℕ)) (a : ℕ) (bytes : List ℕ) → Stands d p first x left held
-    → bytes ≡ memory_note (segments x.machine.cpu.memory) (bytes_of x.machine.cpu.memory) a → concat (notes d (commands.Show a) p.executed) ≡ bytes
+pub memory_text : (d : Debuggee) (p : Progress) (first : Option (List ℕ)) (x : Debugger) (left held : Option (List ℕ)) (a : ℕ)
+    (bytes : List ℕ) → Stands d p first x left held
+    → bytes ≡ memory_note (segments x.machine.cpu.memory) (bytes_of x.machine.cpu.memory) a
+    → concat (notes d (commands.Show a) p.executed) ≡ bytes
 memory_text d p first x left held a bytes st is =
     append-nil (memory_note d.segments (state_in (outcome d p.executed)).core.memory a) ∙ ap (λ (c : Core). memory_note d.segments c.memory a) (sym st.state.core)
     ∙ ap (λ (b : Segments). memory_note b (bytes_of x.machine.cpu.memory) a) (sym st.segments) ∙ sym is
 
-pub listed_text : (d : Debuggee) (p : Progress) (first : Option (List ℕ)) (x : Debugger) (left held : Option (List ℕ)) (a n : ℕ) (text : List ℕ) → Stands d p first x left held → x.machine.cpu.memory.text ≡ text
+pub listed_text : (d : Debuggee) (p : Progress) (first : Option (List ℕ)) (x : Debugger) (left held : Option (List ℕ)) (a n : ℕ)
+    (text : List ℕ) → Stands d p first x left held → x.machine.cpu.memory.text ≡ text
     → concat (notes d (commands.List a n) p.executed) ≡ concat (listed_from a (words_from text a n))
 listed_text d p first x left held a n text st is = ap (λ (t : List ℕ). concat (listed_from a (words_from t a n))) (sym st.text ∙ is)
 
 -- a command that has no note, and one whose note was put
-pub stayed : (d : Debuggee) (p : Progress) (first : Option (List ℕ)) (x : Debugger) (left held noted : Option (List ℕ)) (c told : DebugCommand) → c ≡ told → notes d told (moves d told p).executed ≡ [] → Stands d (moves d told p) first x left held
+pub stayed : (d : Debuggee) (p : Progress) (first : Option (List ℕ)) (x : Debugger) (left held noted : Option (List ℕ))
+    (c told : DebugCommand) → c ≡ told → notes d told (moves d told p).executed ≡ [] → Stands d (moves d told p) first x left held
     → Stands d (moves d c p) first x left held × (noted ≡ appended noted (concat (notes d c (moves d c p).executed)))
 stayed d p first x left held noted c told is none st =
     subst (λ (k : DebugCommand). Stands d (moves d k p) first x left held × (noted ≡ appended noted (concat (notes d k (moves d k p).executed)))) (sym is)
     (st, sym (appended-nil noted) ∙ ap (λ (ns : List (List ℕ)). appended noted (concat ns)) (sym none))
 
 -- of an input of which nothing was taken, all is left
-pub left_as : (d : Debuggee) (p : Progress) (first : Option (List ℕ)) (x : Debugger) (past : Past) (input rest : List ℕ) (held : Option (List ℕ)) → Leaves past past input rest → Stands d p first x (Some input) held → Stands d p first x (Some rest) held
+pub left_as : (d : Debuggee) (p : Progress) (first : Option (List ℕ)) (x : Debugger) (past : Past) (input rest : List ℕ)
+    (held : Option (List ℕ)) → Leaves past past input rest → Stands d p first x (Some input) held
+    → Stands d p first x (Some rest) held
 left_as d p first x past input rest held leaves st = subst (λ (l : List ℕ). Stands d p first x (Some l) held) (sym (leaves_same past input rest leaves)) st

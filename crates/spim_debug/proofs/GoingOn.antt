@@ -14,7 +14,7 @@ use Rattle.spim_machine.specs.declared.halt.Halt.TheVariants as halts
 use Rattle.spim_machine.specs.declared.halt.Stopped.{Stopped}
 use Rattle.spim_machine.specs.Machine.{MachineParts, IsIn, halted_by}
 use Rattle.spim_machine.specs.Ends.{Ran}
-use Rattle.spim_machine.specs.Counting.{moved, UnlessFault, RanTo}
+use Rattle.spim_machine.specs.Counting.{moved, executed_in, RanTo}
 use Rattle.mips_isa.proofs.RunsInParts.{run_sum}
 use Rattle.spim_machine.proofs.CountsOfRuns.{moved_within}
 use Rattle.spim_machine.proofs.RunsWithoutBreaks.{ran_without_breaks}
@@ -39,7 +39,8 @@ abbrev pub after_run : Debugger → MachineParts → ℕ → Debugger
 after_run x m count = record x { machine = m; executed = x.executed + count }
 
 -- it stands where the run's outcome is
-stands_at : (d : Debuggee) (p q : Progress) (first : Option (List ℕ)) (x : Debugger) (m : MachineParts) (count : ℕ) (left held left' held' : Option (List ℕ)) (o : Outcome)
+stands_at : (d : Debuggee) (p q : Progress) (first : Option (List ℕ)) (x : Debugger) (m : MachineParts) (count : ℕ)
+    (left held left' held' : Option (List ℕ)) (o : Outcome)
     → Stands d p first x left held → KeepsSegments x.machine.cpu.memory m.cpu.memory
     → q.executed ≡ p.executed + count → q.breaks ≡ p.breaks → count ≤ d.budget - p.executed
     → outcome d q.executed ≡ o → IsIn first (state_in o) m left' held' → m.halted ≡ halted_in o
@@ -56,7 +57,8 @@ stands_at d p q first x m count left held left' held' o st keeps on same fits is
 }
 
 -- a call that failed in it is one in which the whole run fails
-fails_so : (d : Debuggee) (p : Progress) (first : Option (List ℕ)) (halt : Halt) (m : MachineParts) (left held : Option (List ℕ)) (n : ℕ) → halt ≢ halts.StepLimit → p.executed + n ≤ d.budget
+fails_so : (d : Debuggee) (p : Progress) (first : Option (List ℕ)) (halt : Halt) (m : MachineParts) (left held : Option (List ℕ))
+    (n : ℕ) → halt ≢ halts.StepLimit → p.executed + n ≤ d.budget
     → Ran d.text d.segments (p.executed + n) d.start first halt m left held → StandsAtEnd d halt first left held
 fails_so d p first halt m left held n other fits ran =
     let all : p.executed + n + (d.budget - (p.executed + n)) ≡ d.budget = omega (arith, fits) in
@@ -73,9 +75,11 @@ span_fits : (most room count : ℕ) → count ≤ min most room → count ≤ ro
 span_fits most room count fits = grind (arith, fits)
 
 -- it stands after a run that led on
-stands_run : (d : Debuggee) (p : Progress) (breaks : ℕ → Bool) (most : ℕ) (first : Option (List ℕ)) (x : Debugger) (m : MachineParts) (executed : ℕ) (left held left' held' : Option (List ℕ)) (s : State) (o : Outcome)
+stands_run : (d : Debuggee) (p : Progress) (breaks : ℕ → Bool) (most : ℕ) (first : Option (List ℕ)) (x : Debugger)
+    (m : MachineParts) (executed : ℕ) (left held left' held' : Option (List ℕ)) (s : State) (o : Outcome)
     → Stands d p first x left held → KeepsSegments x.machine.cpu.memory m.cpu.memory → outcome d p.executed ≡ Running s
-    → run d.text d.segments (moved breaks d.text d.segments (span d p most) s) s ≡ o → executed ≡ moved breaks d.text d.segments (span d p most) s
+    → run d.text d.segments (moved breaks d.text d.segments (span d p most) s) s ≡ o
+    → executed ≡ moved breaks d.text d.segments (span d p most) s
     → IsIn first (state_in o) m left' held' → m.halted ≡ halted_in o
     → Stands d (go_on d breaks most p) first (after_run x m executed) left' held'
 stands_run d p breaks most first x m executed left held left' held' s o st keeps is ends count state halted =
@@ -88,9 +92,11 @@ stands_run d p breaks most first x m executed left held left' held' s o st keeps
     state halted
 
 -- it fails in a run from where it stood
-fails_run : (d : Debuggee) (p : Progress) (breaks : ℕ → Bool) (most : ℕ) (first : Option (List ℕ)) (x : Debugger) (halt : Halt) (m : MachineParts) (left held left' held' : Option (List ℕ)) (s : State)
+fails_run : (d : Debuggee) (p : Progress) (breaks : ℕ → Bool) (most : ℕ) (first : Option (List ℕ)) (x : Debugger) (halt : Halt)
+    (m : MachineParts) (left held left' held' : Option (List ℕ)) (s : State)
     → halt ≢ halts.StepLimit → Stands d p first x left held → outcome d p.executed ≡ Running s
-    → Ran d.text d.segments (moved breaks d.text d.segments (span d p most) s) s first halt m left' held' → Fails d p ((go_on d breaks most p).executed - p.executed) first halt left' held'
+    → Ran d.text d.segments (moved breaks d.text d.segments (span d p most) s) s first halt m left' held'
+    → Fails d p ((go_on d breaks most p).executed - p.executed) first halt left' held'
 fails_run d p breaks most first x halt m left held left' held' s other st is ran =
     let run_count : ℕ = moved breaks d.text d.segments (span d p most) s in
     let fits : run_count ≤ d.budget - p.executed = span_fits most (d.budget - p.executed) run_count (moved_within breaks d.text d.segments (span d p most) s) in
@@ -103,10 +109,12 @@ fails_run d p breaks most first x halt m left held left' held' s other st is ran
     }
 
 -- from a state in which the run goes on
-went_running : (d : Debuggee) (p : Progress) (breaks : ℕ → Bool) (most : ℕ) (first : Option (List ℕ)) (x : Debugger) (halt : Halt) (m : MachineParts) (executed : ℕ) (left held left' held' : Option (List ℕ)) (s : State)
+went_running : (d : Debuggee) (p : Progress) (breaks : ℕ → Bool) (most : ℕ) (first : Option (List ℕ)) (x : Debugger) (halt : Halt)
+    (m : MachineParts) (executed : ℕ) (left held left' held' : Option (List ℕ)) (s : State)
     → Stands d p first x left held → KeepsSegments x.machine.cpu.memory m.cpu.memory → outcome d p.executed ≡ Running s
-    → Ran d.text d.segments (moved breaks d.text d.segments (span d p most) s) s first halt m left' held'
-    → UnlessFault halt (executed ≡ moved breaks d.text d.segments (span d p most) s) → m.halted ≡ halted_by halt
+    → (ran : Ran d.text d.segments (moved breaks d.text d.segments (span d p most) s) s first halt m left' held')
+    → executed ≡ executed_in d.text d.segments (moved breaks d.text d.segments (span d p most) s) s first halt m left' held' ran
+    → m.halted ≡ halted_by halt
     → WentOn d p (go_on d breaks most p) first halt (after_run x m executed) left' held'
 went_running d p breaks most first x (halts.Exit code) m executed left held left' held' s st keeps is (end, ends, at) count halted =
     (stands_run d p breaks most first x m executed left held left' held' s (Exited code end) st keeps is ends count at halted, halted)
@@ -120,7 +128,8 @@ went_running d p breaks most first x halts.WriteFault m executed left held left'
     fails_run d p breaks most first x halts.WriteFault m left held left' held' s (λ e. absurd cc) st is ran
 
 -- after an end nothing is executed
-went_ended : (d : Debuggee) (p : Progress) (breaks : ℕ → Bool) (most : ℕ) (first : Option (List ℕ)) (x : Debugger) (halt : Halt) (left held : Option (List ℕ)) (o : Outcome)
+went_ended : (d : Debuggee) (p : Progress) (breaks : ℕ → Bool) (most : ℕ) (first : Option (List ℕ)) (x : Debugger) (halt : Halt)
+    (left held : Option (List ℕ)) (o : Outcome)
     → Stands d p first x left held → outcome d p.executed ≡ o → x.machine.halted ≡ Some halt
     → WentOn d p (go_on d breaks most p) first halt (after_run x x.machine 0) left held
 went_ended d p breaks most first x halt left held (Running s) st is halted =
@@ -156,7 +165,8 @@ is_running (Trapped trap s) none = absurd cc
 -- What a run answered, from any state that the machine of a debugger is in: by its clauses, or the same again after an end.
 pub record Answers (breaks : ℕ → Bool) (n : ℕ) (first : Option (List ℕ)) (x : Debugger) (stopped : Stopped) (m : MachineParts) (left held left' held' : Option (List ℕ)) : Type 0 where
   pub keeps : KeepsSegments x.machine.cpu.memory m.cpu.memory
-  pub ran : x.machine.halted ≡ None → (s : State) → IsIn first s x.machine left held → RanTo breaks x.machine.cpu.memory.text (segments x.machine.cpu.memory) n s first stopped m left' held'
+  pub ran : x.machine.halted ≡ None → (s : State) → IsIn first s x.machine left held
+      → RanTo breaks x.machine.cpu.memory.text (segments x.machine.cpu.memory) n s first stopped m left' held'
   pub halted : x.machine.halted ≡ None → m.halted ≡ halted_by stopped.halt
   pub again : (halt : Halt) → x.machine.halted ≡ Some halt → stopped ≡ record { halt = halt; executed = 0 }
   pub machine : (halt : Halt) → x.machine.halted ≡ Some halt → m ≡ x.machine
@@ -164,7 +174,8 @@ pub record Answers (breaks : ℕ → Bool) (n : ℕ) (first : Option (List ℕ))
   pub held_same : (halt : Halt) → x.machine.halted ≡ Some halt → held' ≡ held
 
 -- the answers of a run for an input that its source may have had
-pub answers_of : (breaks : ℕ → Bool) (n n' : ℕ) (first : Option (List ℕ)) (x : Debugger) (stopped : Stopped) (m : MachineParts) (before after : Past) (input rest : List ℕ) (held held' : Option (List ℕ))
+pub answers_of : (breaks : ℕ → Bool) (n n' : ℕ) (first : Option (List ℕ)) (x : Debugger) (stopped : Stopped) (m : MachineParts)
+    (before after : Past) (input rest : List ℕ) (held held' : Option (List ℕ))
     → n ≡ n' → Leaves before after input rest → KeepsSegments x.machine.cpu.memory m.cpu.memory
     → ((s : State) → x.machine.halted ≡ None → IsIn first s x.machine (Some input) held → RanTo breaks x.machine.cpu.memory.text (segments x.machine.cpu.memory) n s first stopped m (Some rest) held')
     → (x.machine.halted ≡ None → m.halted ≡ halted_by stopped.halt)
@@ -189,8 +200,10 @@ record RunsFrom (d : Debuggee) (p : Progress) (breaks : ℕ → Bool) (n : ℕ) 
   is : outcome d p.executed ≡ Running state
   runs : RanTo breaks d.text d.segments n state first stopped m left' held'
 
-runs_from : (d : Debuggee) (p : Progress) (breaks : ℕ → Bool) (n : ℕ) (first : Option (List ℕ)) (x : Debugger) (stopped : Stopped) (m : MachineParts) (left held left' held' : Option (List ℕ))
-    → Stands d p first x left held → Answers breaks n first x stopped m left held left' held' → x.machine.halted ≡ None → RunsFrom d p breaks n first stopped m left' held'
+runs_from : (d : Debuggee) (p : Progress) (breaks : ℕ → Bool) (n : ℕ) (first : Option (List ℕ)) (x : Debugger) (stopped : Stopped)
+    (m : MachineParts) (left held left' held' : Option (List ℕ))
+    → Stands d p first x left held → Answers breaks n first x stopped m left held left' held' → x.machine.halted ≡ None
+    → RunsFrom d p breaks n first stopped m left' held'
 runs_from d p breaks n first x stopped m left held left' held' st a none =
     let found = is_running (outcome d p.executed) (sym st.halted ∙ none) in
     let at : IsIn first found.0 x.machine left held = subst (λ (r : Outcome). IsIn first (state_in r) x.machine left held) found.1 st.state in
@@ -202,12 +215,14 @@ runs_from d p breaks n first x stopped m left held left' held' st a none =
     }
 
 -- it went on, or had ended
-pub went_on : (d : Debuggee) (p : Progress) (breaks : ℕ → Bool) (most : ℕ) (first : Option (List ℕ)) (x : Debugger) (stopped : Stopped) (m : MachineParts) (left held left' held' : Option (List ℕ))
+pub went_on : (d : Debuggee) (p : Progress) (breaks : ℕ → Bool) (most : ℕ) (first : Option (List ℕ)) (x : Debugger)
+    (stopped : Stopped) (m : MachineParts) (left held left' held' : Option (List ℕ))
     → Stands d p first x left held → Answers breaks (span d p most) first x stopped m left held left' held'
     → WentOn d p (go_on d breaks most p) first stopped.halt (after_run x m stopped.executed) left' held'
 went_on d p breaks most first x stopped m left held left' held' st a = by x.machine.halted refl
   where
-    by : (o : Option Halt) → x.machine.halted ≡ o → WentOn d p (go_on d breaks most p) first stopped.halt (after_run x m stopped.executed) left' held'
+    by : (o : Option Halt) → x.machine.halted ≡ o
+        → WentOn d p (go_on d breaks most p) first stopped.halt (after_run x m stopped.executed) left' held'
     by None h =
         let r = runs_from d p breaks (span d p most) first x stopped m left held left' held' st a h in
         went_running d p breaks most first x stopped.halt m stopped.executed left held left' held' r.state st a.keeps r.is r.runs.ran r.runs.executed (a.halted h)
@@ -219,7 +234,8 @@ went_on d p breaks most first x stopped m left held left' held' st a = by x.mach
         (subst (λ (k : Option (List ℕ)). WentOn d p (go_on d breaks most p) first halt (after_run x x.machine 0) left k) (sym (a.held_same halt h)) ended)))
 
 -- it stands at its end, and where a call failed, that was among the instructions from here to the end
-ends_from : (d : Debuggee) (p : Progress) (n : ℕ) (first : Option (List ℕ)) (halt : Halt) (left held : Option (List ℕ)) → StandsAtEnd d halt first left held → FailsWithin d p n first halt left held → EndsFrom d p n first halt left held
+ends_from : (d : Debuggee) (p : Progress) (n : ℕ) (first : Option (List ℕ)) (halt : Halt) (left held : Option (List ℕ))
+    → StandsAtEnd d halt first left held → FailsWithin d p n first halt left held → EndsFrom d p n first halt left held
 ends_from d p n first (halts.Exit code) left held at within = at
 ends_from d p n first (halts.Trap trap) left held at within = at
 ends_from d p n first halts.StepLimit left held at within = at
@@ -227,9 +243,11 @@ ends_from d p n first halts.ReadFault left held at within = record { ends = at; 
 ends_from d p n first halts.WriteFault left held at within = record { ends = at; within = within }
 
 -- the run to its end, from where it goes on
-ended_running : (d : Debuggee) (p : Progress) (first : Option (List ℕ)) (x : Debugger) (halt : Halt) (m : MachineParts) (left held left' held' : Option (List ℕ)) (s : State)
+ended_running : (d : Debuggee) (p : Progress) (first : Option (List ℕ)) (x : Debugger) (halt : Halt) (m : MachineParts)
+    (left held left' held' : Option (List ℕ)) (s : State)
     → Stands d p first x left held → outcome d p.executed ≡ Running s
-    → Ran d.text d.segments (moved no_break d.text d.segments (d.budget - p.executed) s) s first halt m left' held' → EndsFrom d p (d.budget - p.executed) first halt left' held'
+    → Ran d.text d.segments (moved no_break d.text d.segments (d.budget - p.executed) s) s first halt m left' held'
+    → EndsFrom d p (d.budget - p.executed) first halt left' held'
 ended_running d p first x halt m left held left' held' s st is ran =
     let n : ℕ = d.budget - p.executed in
     let all : p.executed + n ≡ d.budget = omega (arith, st.executed, st.budget, st.within) in
@@ -242,7 +260,8 @@ ended_running d p first x halt m left held left' held' s st is ran =
     (record { state = s; goes_on = is; machine = m; ran = longer })
 
 -- and where it had ended
-ended_so : (d : Debuggee) (p : Progress) (first : Option (List ℕ)) (x : Debugger) (halt : Halt) (left held : Option (List ℕ)) → halt ≢ halts.StepLimit → Stands d p first x left held
+ended_so : (d : Debuggee) (p : Progress) (first : Option (List ℕ)) (x : Debugger) (halt : Halt) (left held : Option (List ℕ))
+    → halt ≢ halts.StepLimit → Stands d p first x left held
     → Ran d.text d.segments p.executed d.start first halt x.machine left held → StandsAtEnd d halt first left held
 ended_so d p first x halt left held other st ran =
     let all : p.executed + (d.budget - p.executed) ≡ d.budget = omega (arith, st.executed, st.budget, st.within) in
@@ -251,8 +270,10 @@ ended_so d p first x halt left held other st ran =
       ran = subst (λ (k : ℕ). Ran d.text d.segments k d.start first halt x.machine left held) all (ran_ended d.text d.segments p.executed (d.budget - p.executed) d.start first x.machine halt left held other ran);
     }
 
-ended_before : (d : Debuggee) (p : Progress) (first : Option (List ℕ)) (x : Debugger) (halt : Halt) (left held : Option (List ℕ)) (o : Outcome)
-    → Stands d p first x left held → outcome d p.executed ≡ o → x.machine.halted ≡ Some halt → EndsFrom d p (d.budget - p.executed) first halt left held
+ended_before : (d : Debuggee) (p : Progress) (first : Option (List ℕ)) (x : Debugger) (halt : Halt) (left held : Option (List ℕ))
+    (o : Outcome)
+    → Stands d p first x left held → outcome d p.executed ≡ o → x.machine.halted ≡ Some halt
+    → EndsFrom d p (d.budget - p.executed) first halt left held
 ended_before d p first x halt left held (Running s) st is halted =
     let none : x.machine.halted ≡ None = st.halted ∙ ap (λ (r : Outcome). halted_in r) is in
     absurd cc
@@ -267,8 +288,10 @@ ended_before d p first x halt left held (Trapped trap s) st is halted =
     subst (λ (h : Halt). EndsFrom d p (d.budget - p.executed) first h left held) same
     (ended_so d p first x (halts.Trap trap) left held (λ e. absurd cc) st (s, is, subst (λ (r : Outcome). IsIn first (state_in r) x.machine left held) is st.state))
 
-pub ended : (d : Debuggee) (p : Progress) (first : Option (List ℕ)) (x : Debugger) (stopped : Stopped) (m : MachineParts) (left held left' held' : Option (List ℕ))
-    → Stands d p first x left held → Answers no_break (d.budget - p.executed) first x stopped m left held left' held' → EndsFrom d p (d.budget - p.executed) first stopped.halt left' held'
+pub ended : (d : Debuggee) (p : Progress) (first : Option (List ℕ)) (x : Debugger) (stopped : Stopped) (m : MachineParts)
+    (left held left' held' : Option (List ℕ))
+    → Stands d p first x left held → Answers no_break (d.budget - p.executed) first x stopped m left held left' held'
+    → EndsFrom d p (d.budget - p.executed) first stopped.halt left' held'
 ended d p first x stopped m left held left' held' st a = by x.machine.halted refl
   where
     by : (o : Option Halt) → x.machine.halted ≡ o → EndsFrom d p (d.budget - p.executed) first stopped.halt left' held'
@@ -282,12 +305,14 @@ ended d p first x stopped m left held left' held' st a = by x.machine.halted ref
         (subst (λ (k : Option (List ℕ)). EndsFrom d p (d.budget - p.executed) first halt left k) (sym (a.held_same halt h)) before))
 
 -- how many instructions a debugger may execute, by its own numbers
-pub room_is : (d : Debuggee) (p : Progress) (first : Option (List ℕ)) (x : Debugger) (left held : Option (List ℕ)) → Stands d p first x left held → x.budget - x.executed ≡ d.budget - p.executed
+pub room_is : (d : Debuggee) (p : Progress) (first : Option (List ℕ)) (x : Debugger) (left held : Option (List ℕ))
+    → Stands d p first x left held → x.budget - x.executed ≡ d.budget - p.executed
 room_is d p first x left held st = omega (arith, st.budget, st.executed)
 
 pub whole_span : (d : Debuggee) (p : Progress) → d.budget - p.executed ≡ span d p d.budget
 whole_span d p = grind arith
 
 -- a debugger's break addresses are those of its script
-pub breaks_are : (d : Debuggee) (p : Progress) (first : Option (List ℕ)) (x : Debugger) (left held : Option (List ℕ)) → Stands d p first x left held → in_set x.breaks ≡ is_break p.breaks
+pub breaks_are : (d : Debuggee) (p : Progress) (first : Option (List ℕ)) (x : Debugger) (left held : Option (List ℕ))
+    → Stands d p first x left held → in_set x.breaks ≡ is_break p.breaks
 breaks_are d p first x left held st = fun_ext st.breaks

@@ -19,22 +19,26 @@ use Rattle.spim_debug.specs.Obeying.{halted_in, Stands, IsPut, ArePut, StopNoted
 use Rattle.spim_debug.proofs.GoingOn.{WentOn}
 
 -- a note that was put is all notes that were to be
-pub one_put : (note : List ℕ) (result : Result Unit DebugEnd) (noted noted' : Option (List ℕ)) → IsPut note result noted noted' → ArePut note result noted noted'
+pub one_put : (note : List ℕ) (result : Result Unit DebugEnd) (noted noted' : Option (List ℕ)) → IsPut note result noted noted'
+    → ArePut note result noted noted'
 one_put note (Ok done) noted noted' put = put
 one_put note (Err (end.Halt halt)) noted noted' put = absurd put
 one_put note (Err end.NoteFault) noted noted' put = put
 one_put note (Err end.Memory) noted noted' put = absurd put
 
 -- a command whose notes were put
-pub obeyed_put : (d : Debuggee) (c : DebugCommand) (p : Progress) (first : Option (List ℕ)) (result : Result Unit DebugEnd) (x : Debugger) (left held noted noted' : Option (List ℕ)) (bytes : List ℕ)
-    → Stands d (moves d c p) first x left held → concat (notes d c (moves d c p).executed) ≡ bytes → ArePut bytes result noted noted' → Obeyed d c p first result x left held noted noted'
+pub obeyed_put : (d : Debuggee) (c : DebugCommand) (p : Progress) (first : Option (List ℕ)) (result : Result Unit DebugEnd)
+    (x : Debugger) (left held noted noted' : Option (List ℕ)) (bytes : List ℕ)
+    → Stands d (moves d c p) first x left held → concat (notes d c (moves d c p).executed) ≡ bytes
+    → ArePut bytes result noted noted' → Obeyed d c p first result x left held noted noted'
 obeyed_put d c p first (Ok done) x left held noted noted' bytes st is put = (st, put ∙ ap (appended noted) (sym is))
 obeyed_put d c p first (Err (end.Halt halt)) x left held noted noted' bytes st is put = absurd put
 obeyed_put d c p first (Err end.NoteFault) x left held noted noted' bytes st is put = (st, subst (λ (bs : List ℕ). GotPrefix noted bs noted') (sym is) put)
 obeyed_put d c p first (Err end.Memory) x left held noted noted' bytes st is put = (st, subst (λ (bs : List ℕ). GotPrefix noted bs noted') (sym is) put)
 
 -- a note of an end that was put
-pub ended_noted : (halt : Halt) (pc n : ℕ) (bytes : List ℕ) (result : Result Unit DebugEnd) (noted noted' : Option (List ℕ)) → ((code : ℕ) × (halt ≡ halts.Exit code)) ⊎ ((trap : Trap) × (halt ≡ halts.Trap trap)) → bytes ≡ ended_note n
+pub ended_noted : (halt : Halt) (pc n : ℕ) (bytes : List ℕ) (result : Result Unit DebugEnd) (noted noted' : Option (List ℕ))
+    → ((code : ℕ) × (halt ≡ halts.Exit code)) ⊎ ((trap : Trap) × (halt ≡ halts.Trap trap)) → bytes ≡ ended_note n
     → IsPut bytes result noted noted' → StopNoted halt pc n result noted noted'
 ended_noted halt pc n bytes result noted noted' (inl (code, is)) same put =
     subst (λ (h : Halt). StopNoted h pc n result noted noted') (sym is) (subst (λ (bs : List ℕ). IsPut bs result noted noted') same put)
@@ -42,7 +46,9 @@ ended_noted halt pc n bytes result noted noted' (inr (trap, is)) same put =
     subst (λ (h : Halt). StopNoted h pc n result noted noted') (sym is) (subst (λ (bs : List ℕ). IsPut bs result noted noted') same put)
 
 -- a piece of notes whose put failed, after those that were put
-pub puts_failed : (stop : DebugEnd) (before mid after : Option (List ℕ)) (bytes rest piece later : List ℕ) → GotUpTo before bytes rest mid → piece ++ later ≡ rest → ArePut piece (Err stop) mid after → ArePut bytes (Err stop) before after
+pub puts_failed : (stop : DebugEnd) (before mid after : Option (List ℕ)) (bytes rest piece later : List ℕ)
+    → GotUpTo before bytes rest mid → piece ++ later ≡ rest → ArePut piece (Err stop) mid after
+    → ArePut bytes (Err stop) before after
 puts_failed (end.Halt halt) before mid after bytes rest piece later got cut put = absurd put
 puts_failed end.NoteFault before mid after bytes rest piece later got cut put = got_prefix before mid after bytes rest piece later got cut put
 puts_failed end.Memory before mid after bytes rest piece later got cut put = got_prefix before mid after bytes rest piece later got cut put
@@ -58,12 +64,14 @@ place_running (Running s) n e = refl
 place_running (Exited code s) n e = absurd cc
 place_running (Trapped trap s) n e = absurd cc
 
-ended_text : (d : Debuggee) (q : Progress) (first : Option (List ℕ)) (halt : Halt) (x : Debugger) (left held : Option (List ℕ)) → Stands d q first x left held → x.machine.halted ≡ Some halt
+ended_text : (d : Debuggee) (q : Progress) (first : Option (List ℕ)) (halt : Halt) (x : Debugger) (left held : Option (List ℕ))
+    → Stands d q first x left held → x.machine.halted ≡ Some halt
     → place_note (outcome d q.executed) q.executed ++ [] ≡ ended_note x.executed
 ended_text d q first halt x left held st halted =
     append-nil (place_note (outcome d q.executed) q.executed) ∙ place_ended (outcome d q.executed) q.executed halt (sym st.halted ∙ halted) ∙ ap (λ (n : ℕ). ended_note n) (sym st.executed)
 
-running_text : (d : Debuggee) (q : Progress) (first : Option (List ℕ)) (x : Debugger) (left held : Option (List ℕ)) → Stands d q first x left held → x.machine.halted ≡ None
+running_text : (d : Debuggee) (q : Progress) (first : Option (List ℕ)) (x : Debugger) (left held : Option (List ℕ))
+    → Stands d q first x left held → x.machine.halted ≡ None
     → place_note (outcome d q.executed) q.executed ++ [] ≡ at_note x.machine.cpu.pc x.executed
 running_text d q first x left held st halted =
     let pc : x.machine.cpu.pc ≡ (state_in (outcome d q.executed)).core.pc = ap (λ (c : Core). c.pc) st.state.core in
@@ -71,9 +79,11 @@ running_text d q first x left held st halted =
     ∙ ap (λ (a : ℕ). at_note a q.executed) (sym pc) ∙ ap (λ (n : ℕ). at_note x.machine.cpu.pc n) (sym st.executed)
 
 -- a command that goes on and notes where the machine is
-pub obeyed_stop : (d : Debuggee) (c : DebugCommand) (p : Progress) (first : Option (List ℕ)) (halt : Halt) (result : Result Unit DebugEnd) (x : Debugger) (left held noted noted' : Option (List ℕ))
+pub obeyed_stop : (d : Debuggee) (c : DebugCommand) (p : Progress) (first : Option (List ℕ)) (halt : Halt)
+    (result : Result Unit DebugEnd) (x : Debugger) (left held noted noted' : Option (List ℕ))
     → concat (notes d c (moves d c p).executed) ≡ place_note (outcome d (moves d c p).executed) (moves d c p).executed ++ []
-    → WentOn d p (moves d c p) first halt x left held → StopNoted halt x.machine.cpu.pc x.executed result noted noted' → Obeyed d c p first result x left held noted noted'
+    → WentOn d p (moves d c p) first halt x left held → StopNoted halt x.machine.cpu.pc x.executed result noted noted'
+    → Obeyed d c p first result x left held noted noted'
 obeyed_stop d c p first (halts.Exit code) result x left held noted noted' is (st, halted) put =
     obeyed_put d c p first result x left held noted noted' (ended_note x.executed) st (is ∙ ended_text d (moves d c p) first (halts.Exit code) x left held st halted) (one_put (ended_note x.executed) result noted noted' put)
 obeyed_stop d c p first (halts.Trap trap) result x left held noted noted' is (st, halted) put =

@@ -1,4 +1,4 @@
--- The words and the lines of a script are the parts of it, and a last line that is empty says nothing.
+-- The lines of a script are the parts of it, and a last line that is empty says nothing.
 use Rattle.std.proofs.Common.{◌≡◌, refl, ap, sym, ◌∙◌, arith, ℕ, suc, ◌+◌, ◌≤◌, length, map, Bool, true, false, List, [], ◌∷◌, ◌++◌}
 use Rattle.std.specs.Prelude.{◌==◌, if◌then◌else◌, Option, Result, Ok, Err, IfOk, Vec}
 use Rattle.std.specs.Global.{Global}
@@ -9,23 +9,12 @@ use Rattle.std.proofs.lemmas.List.Sums.{count_by-le-length}
 use denote.Ref.{Bor}
 use Rattle.mips_isa.specs.Lines as lines
 use Rattle.mips_text.specs.Reading.{lines_in, with_byte}
-use Rattle.spim_debug.specs.Scripts.{words_in, said, then_commands, commands_from, commands_in}
+use Rattle.spim_debug.specs.Scripts.{said, then_commands, commands_from, commands_in}
 
 -- a byte is put before the first part
 same_first : (b : ℕ) (parts : List (List ℕ)) → onto_first b parts ≡ with_byte b parts
 same_first b [] = refl
 same_first b (part ∷ parts) = refl
-
--- the words of a line are its parts at the spaces
-pub words_are_parts : (line : List ℕ) → slice_split (λ b. b == 32) line ≡ words_in line
-words_are_parts [] = refl
-words_are_parts (b ∷ bs) = by (b == 32) (words_are_parts bs)
-  where
-    by : (space : Bool) → slice_split (λ c. c == 32) bs ≡ words_in bs
-        → (if space then [] ∷ slice_split (λ c. c == 32) bs else onto_first b (slice_split (λ c. c == 32) bs))
-        ≡ (if space then [] ∷ words_in bs else with_byte b (words_in bs))
-    by true e = ap (λ parts. [] ∷ parts) e
-    by false e = same_first b (slice_split (λ c. c == 32) bs) ∙ ap (with_byte b) e
 
 -- The parts of a text at its newlines are its lines, or these and an empty one.
 data AreLines (parts : List (List ℕ)) (rows : List (List ℕ)) : Type 0 where

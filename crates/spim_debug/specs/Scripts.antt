@@ -1,9 +1,10 @@
 -- What a script says: a command for each line that is not empty, or the first line that is in no form, or names no label of a word of the
 -- text. The rule is in `docs/debugger.md`, Scripts.
 use Rattle.std.specs.Prelude.{◌≡◌, refl, ℕ, suc, ◌==◌, ◌&&◌, nat_le, if◌then◌else◌, List, [], ◌∷◌, length, bytes_eq, codes, Option, Some, None, Result, Ok, Err}
+use Rattle.std.specs.List.{slice_split}
 use Rattle.mips_isa.specs.Lines as lines
 use Rattle.mips_text.specs.Names.{is_name}
-use Rattle.mips_text.specs.Reading.{lines_in, with_byte}
+use Rattle.mips_text.specs.Reading.{lines_in}
 use Rattle.mips_text.specs.Words.{decimal, hexadecimal}
 use Rattle.spim_debug.specs.declared.script.DebugCommand.{DebugCommand}
 use Rattle.spim_debug.specs.declared.script.DebugCommand.TheVariants.{Break, Delete, Step, Run, Regs, Show, List as ListWords}
@@ -23,8 +24,7 @@ says command = Ok (Some command)
 
 -- the words of a line, which is parted at each space
 abbrev pub words_in : List ℕ → List (List ℕ)
-words_in [] = [] ∷ []
-words_in (b ∷ bs) = if b == 32 then [] ∷ words_in bs else with_byte b (words_in bs)
+words_in = slice_split (λ b. b == 32)
 
 -- a number from 1 on in at most so many digits, and at most so large
 abbrev pub up_to : ℕ → Option ℕ → Option ℕ

@@ -7,6 +7,7 @@
 
 mod break_set;
 mod debugger;
+mod digits;
 mod disassembly;
 mod laws;
 mod notes;
@@ -15,6 +16,7 @@ mod script_lines;
 mod script_words;
 
 pub use debugger::{DebugEnd, debug};
+pub use digits::hexadecimal_digits;
 pub use disassembly::disassemble;
 pub use laws::law_disassembly;
 pub use script::{

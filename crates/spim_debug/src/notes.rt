@@ -7,7 +7,7 @@ ghost use Rattle.spim_memory.specs.Memory.{segments, bytes_of};
 ghost use Rattle.spim_cpu.specs.Cpu.{core_of};
 ghost use Rattle.spim_debug.specs.Notes as spec;
 
-use crate::disassemble;
+use crate::{disassemble, hexadecimal_digits};
 use arrayvec::ArrayString;
 use itoa::Buffer;
 use mips_isa::Reg;
@@ -113,7 +113,7 @@ fn push_spaced(note: &mut Note, word: u32)
     ensures len { array_string_len note.new ≡ array_string_len note.old + 9 }
 {
     note.push_str(" ");
-    push_digits(note, word);
+    note.push_str(hexadecimal_digits(word).as_str());
 }
 
 /// Adds a word or an address.
@@ -123,23 +123,7 @@ fn push_word(note: &mut Note, word: u32)
     ensures len { array_string_len note.new ≡ array_string_len note.old + 10 }
 {
     note.push_str("0x");
-    push_digits(note, word);
-}
-
-/// Adds eight hexadecimal digits.
-fn push_digits(note: &mut Note, word: u32)
-    requires { array_string_len note.old + 8 ≤ 302 }
-    ensures bytes { note.new.bytes ≡ note.old.bytes ++ spec.digits word }
-    ensures len { array_string_len note.new ≡ array_string_len note.old + 8 }
-{
-    let mut digits = [0; 8];
-    if hex::encode_to_slice(word.to_be_bytes(), &mut digits).is_err() {
-        unreachable!();
-    }
-    match str::from_utf8(&digits) {
-        Ok(text) => note.push_str(text),
-        Err(_) => unreachable!(),
-    }
+    note.push_str(hexadecimal_digits(word).as_str());
 }
 
 /// Adds a number in decimal.

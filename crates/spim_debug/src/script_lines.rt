@@ -28,7 +28,7 @@ const LIST_DIGITS: usize = 4;
 pub(crate) fn read_lines(
     alloc: Global,
     lines: &[&[u8]],
-    labels: &TextLabels<'_>,
+    labels: &TextLabels,
 ) -> Result<Vec<DebugCommand>, ScriptError>
     requires { length lines.now ≤ 65537 }
     ensures { IsReadAs (commands_from (address_of labels.now) 1 (map (λ line. line.now) lines.now)) result }
@@ -60,7 +60,7 @@ fn keep(commands: &mut Vec<DebugCommand>, command: Option<DebugCommand>) -> Resu
 fn read_line(
     alloc: Global,
     line: &[u8],
-    labels: &TextLabels<'_>,
+    labels: &TextLabels,
 ) -> Result<Result<Option<DebugCommand>, ScriptKind>, AllocError>
     ensures { IfOk result (λ told. told ≡ said (address_of labels.now) line.now) }
 {
@@ -73,7 +73,7 @@ fn read_line(
 
 /// What the words of a line say.
 #[tactic(auto, using(crate::proofs::ScriptCommands::more_words))]
-fn said_by(words: &[&[u8]], labels: &TextLabels<'_>) -> Result<Option<DebugCommand>, ScriptKind>
+fn said_by(words: &[&[u8]], labels: &TextLabels) -> Result<Option<DebugCommand>, ScriptKind>
     ensures { result ≡ said_by (address_of labels.now) (map (λ word. word.now) words.now) }
 {
     match words {

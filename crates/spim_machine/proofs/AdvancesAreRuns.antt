@@ -17,7 +17,8 @@ none_ran text b n s =
     ap (λ k. run text b k s) none
 
 -- so many instructions, none of which is a system call
-pub goes_runs : (breaks : ℕ → Bool) (text : List ℕ) (b : Segments) (n : ℕ) (t : State) (core : Core) → Goes breaks text b n t.core core → run text b n t ≡ Running (record t { core = core })
+pub goes_runs : (breaks : ℕ → Bool) (text : List ℕ) (b : Segments) (n : ℕ) (t : State) (core : Core)
+    → Goes breaks text b n t.core core → run text b n t ≡ Running (record t { core = core })
 goes_runs breaks text b zero t core same = ap (λ (c : Core). Running (record t { core = c })) (sym same)
 goes_runs breaks text b (suc n) t core (before, goes, free, steps) =
     let one : suc n ≡ n + 1 = omega arith in
@@ -25,12 +26,14 @@ goes_runs breaks text b (suc n) t core (before, goes, free, steps) =
     ∙ run_next text b n t (record t { core = before }) (record t { core = core }) (goes_runs breaks text b n t before goes) (ap (after b (record t { core = before })) steps)
 
 -- by the text and the segments at the run's start
-pub goes_as : (breaks : ℕ → Bool) (old now : MemoryParts) (n : ℕ) (s t : Core) → KeepsSegments old now → Goes breaks now.text (segments now) n s t → Goes breaks old.text (segments old) n s t
+pub goes_as : (breaks : ℕ → Bool) (old now : MemoryParts) (n : ℕ) (s t : Core) → KeepsSegments old now
+    → Goes breaks now.text (segments now) n s t → Goes breaks old.text (segments old) n s t
 goes_as breaks old now n s t kept goes =
     subst (λ (b : Segments). Goes breaks old.text b n s t) kept.segments (subst (λ (text : List ℕ). Goes breaks text (segments now) n s t) kept.text goes)
 
 -- such instructions keep what no call changes
-pub advanced_keeps : (old mid : MachineParts) (cpu : CpuParts) → Keeps old mid → KeepsSegments mid.cpu.memory cpu.memory → Keeps old (record mid { cpu = cpu })
+pub advanced_keeps : (old mid : MachineParts) (cpu : CpuParts) → Keeps old mid → KeepsSegments mid.cpu.memory cpu.memory
+    → Keeps old (record mid { cpu = cpu })
 advanced_keeps old mid cpu keeps advanced = record {
   memory = record { text = advanced.text ∙ keeps.memory.text; segments = advanced.segments ∙ keeps.memory.segments };
   halted = keeps.halted;

@@ -43,21 +43,25 @@ before_spent breaks text b n s spent = ap (λ i. before_break breaks text b i s)
 pub moved_spent : (breaks : ℕ → Bool) (text : List ℕ) (b : Segments) (n : ℕ) (s : State) → n ≡ 0 → moved breaks text b n s ≡ 0
 moved_spent breaks text b n s spent = ap (λ i. moved breaks text b i s) spent
 
-pub before_stops : (breaks : ℕ → Bool) (text : List ℕ) (b : Segments) (n : ℕ) (s : State) → breaks s.core.pc ≡ true → before_break breaks text b n s ≡ 0
+pub before_stops : (breaks : ℕ → Bool) (text : List ℕ) (b : Segments) (n : ℕ) (s : State) → breaks s.core.pc ≡ true
+    → before_break breaks text b n s ≡ 0
 before_stops breaks text b zero s stops = refl
 before_stops breaks text b (suc n) s stops = ap (λ (is : Bool). if is then 0 else counted (cycle text b s) (before_break breaks text b n)) stops
 
 -- where it is none, the first instruction is no exception
-pub before_goes : (breaks : ℕ → Bool) (text : List ℕ) (b : Segments) (n : ℕ) (s : State) → breaks s.core.pc ≡ false → before_break breaks text b n s ≡ moved breaks text b n s
+pub before_goes : (breaks : ℕ → Bool) (text : List ℕ) (b : Segments) (n : ℕ) (s : State) → breaks s.core.pc ≡ false
+    → before_break breaks text b n s ≡ moved breaks text b n s
 before_goes breaks text b zero s goes = refl
 before_goes breaks text b (suc n) s goes = ap (λ (is : Bool). if is then 0 else counted (cycle text b s) (before_break breaks text b n)) goes
 
 -- an instruction that goes on, and those after it
-pub moved_next : (breaks : ℕ → Bool) (text : List ℕ) (b : Segments) (n : ℕ) (s t : State) → cycle text b s ≡ Running t → moved breaks text b (suc n) s ≡ suc (before_break breaks text b n t)
+pub moved_next : (breaks : ℕ → Bool) (text : List ℕ) (b : Segments) (n : ℕ) (s t : State) → cycle text b s ≡ Running t
+    → moved breaks text b (suc n) s ≡ suc (before_break breaks text b n t)
 moved_next breaks text b n s t next = ap (λ (o : Outcome). counted o (before_break breaks text b n)) next
 
 -- so many of them, none of which is a system call or stands at a break address
-pub before_advanced : (breaks : ℕ → Bool) (text : List ℕ) (b : Segments) (k n : ℕ) (t : State) (core : Core) → k ≤ n → Goes breaks text b k t.core core
+pub before_advanced : (breaks : ℕ → Bool) (text : List ℕ) (b : Segments) (k n : ℕ) (t : State) (core : Core) → k ≤ n
+    → Goes breaks text b k t.core core
     → before_break breaks text b n t ≡ k + before_break breaks text b (n - k) (record t { core = core })
 before_advanced breaks text b zero n t core within same =
     let all : n ≡ n - 0 = omega arith in

@@ -35,7 +35,8 @@ may_store_fewer s a (suc n) all =
     rw (parts.0, may_store_fewer s (a + 1) n parts.1) refl
 
 -- one more byte after the others
-pub set_bytes-append : (m : Bytes) (a : ℕ) (said : List ℕ) (byte : ℕ) → set_bytes m a (said ++ byte ∷ []) ≡ set_byte (set_bytes m a said) (a + length said) byte
+pub set_bytes-append : (m : Bytes) (a : ℕ) (said : List ℕ) (byte : ℕ)
+    → set_bytes m a (said ++ byte ∷ []) ≡ set_byte (set_bytes m a said) (a + length said) byte
 set_bytes-append m a [] byte =
     let here : a ≡ a + 0 = omega arith in
     ap (λ q. set_byte m q byte) here
@@ -52,7 +53,8 @@ abbrev pub with_byte : Core → ℕ → ℕ → Core
 with_byte core a byte = record core { memory = set_byte core.memory a byte }
 
 -- bytes and then one more
-pub with_bytes-append : (old now new : Core) (a end : ℕ) (said : List ℕ) (byte : ℕ) → now ≡ with_bytes old a said → end ≡ a + length said → new ≡ with_byte now end byte → new ≡ with_bytes old a (said ++ byte ∷ [])
+pub with_bytes-append : (old now new : Core) (a end : ℕ) (said : List ℕ) (byte : ℕ) → now ≡ with_bytes old a said
+    → end ≡ a + length said → new ≡ with_byte now end byte → new ≡ with_bytes old a (said ++ byte ∷ [])
 with_bytes-append old now new a end said byte is at next =
     next ∙ ap (λ core. with_byte core end byte) is ∙ ap (λ q. with_byte (with_bytes old a said) q byte) at ∙ ap (λ m. record old { memory = m }) (sym (set_bytes-append old.memory a said byte))
 
@@ -66,16 +68,21 @@ pub record StoredUpTo (was : Bool) (most : ℕ) (before after : Option (List ℕ
   pub core : now ≡ with_bytes old address said
 
 -- at the start none was stored
-pub stored_none : (was : Bool) (most : ℕ) (left : Option (List ℕ)) (core : Core) (address : ℕ) → StoredUpTo was most left left core core address address
+pub stored_none : (was : Bool) (most : ℕ) (left : Option (List ℕ)) (core : Core) (address : ℕ)
+    → StoredUpTo was most left left core core address address
 stored_none was most left core address = record { said = []; rest = most; count = omega arith; behind = omega arith; taking = taking_none _ left; core = refl }
 
 -- a call that has more to come has one byte to come, and then the others
-rest_taking : (was : Bool) (most rest : ℕ) (before mid : Option (List ℕ)) (said : List ℕ) → 0 < rest → TakingOn (asked was most) (asked was rest) before mid said → (n : ℕ) × (rest ≡ suc n) × TakingOn (asked was most) (asked was (suc n)) before mid said
+rest_taking : (was : Bool) (most rest : ℕ) (before mid : Option (List ℕ)) (said : List ℕ) → 0 < rest
+    → TakingOn (asked was most) (asked was rest) before mid said
+    → (n : ℕ) × (rest ≡ suc n) × TakingOn (asked was most) (asked was (suc n)) before mid said
 rest_taking was most zero before mid said some taking = absurd (omega arith)
 rest_taking was most (suc n) before mid said some taking = (n, refl, taking)
 
 -- a byte came and was stored, and the call goes on
-pub stored_byte : (was ended : Bool) (most : ℕ) (before mid after : Option (List ℕ)) (old now new : Core) (address end byte : ℕ) → StoredUpTo was most before mid old now address end → end < address + most → GaveByte was mid (Ok (Some byte)) ended after → (byte == 10) ≡ false → new ≡ with_byte now end byte → StoredUpTo was most before after old new address (end + 1)
+pub stored_byte : (was ended : Bool) (most : ℕ) (before mid after : Option (List ℕ)) (old now new : Core) (address end byte : ℕ)
+    → StoredUpTo was most before mid old now address end → end < address + most → GaveByte was mid (Ok (Some byte)) ended after
+    → (byte == 10) ≡ false → new ≡ with_byte now end byte → StoredUpTo was most before after old new address (end + 1)
 stored_byte was ended most before mid after old now new address end byte s within gave other next =
     let t = rest_taking was most s.rest before mid s.said (omega (arith, s.count, s.behind, within)) s.taking in
     record {
@@ -93,7 +100,9 @@ StoredAll was most before ended after old new address end =
     (got : List ℕ) × TookAll (asked was most) got before ended after × (end ≡ address + length got) × (length got ≤ most) × (new ≡ with_bytes old address got)
 
 -- a newline ends the call
-pub stored_newline : (was ended : Bool) (most : ℕ) (before mid after : Option (List ℕ)) (old now new : Core) (address end byte : ℕ) → StoredUpTo was most before mid old now address end → end < address + most → GaveByte was mid (Ok (Some byte)) ended after → byte ≡ 10 → new ≡ with_byte now end byte → StoredAll was most before ended after old new address (end + 1)
+pub stored_newline : (was ended : Bool) (most : ℕ) (before mid after : Option (List ℕ)) (old now new : Core) (address end byte : ℕ)
+    → StoredUpTo was most before mid old now address end → end < address + most → GaveByte was mid (Ok (Some byte)) ended after
+    → byte ≡ 10 → new ≡ with_byte now end byte → StoredAll was most before ended after old new address (end + 1)
 stored_newline was ended most before mid after old now new address end byte s within gave ten next =
     let t = rest_taking was most s.rest before mid s.said (omega (arith, s.count, s.behind, within)) s.taking in (
       s.said ++ byte ∷ [],
@@ -104,7 +113,9 @@ stored_newline was ended most before mid after old now new address end byte s wi
     )
 
 -- where the rest of the call takes no byte, what was stored is all
-stored_so_far : (was ended : Bool) (most : ℕ) (before mid after : Option (List ℕ)) (old now : Core) (address end : ℕ) (s : StoredUpTo was most before mid old now address end) → TookAll (asked was s.rest) [] mid ended after → StoredAll was most before ended after old now address end
+stored_so_far : (was ended : Bool) (most : ℕ) (before mid after : Option (List ℕ)) (old now : Core) (address end : ℕ)
+    (s : StoredUpTo was most before mid old now address end) → TookAll (asked was s.rest) [] mid ended after
+    → StoredAll was most before ended after old now address end
 stored_so_far was ended most before mid after old now address end s took = (
   s.said,
   subst (λ got. TookAll (asked was most) got before ended after) (append-nil s.said) (taking_all _ _ before mid after s.said [] ended s.taking took),
@@ -114,12 +125,15 @@ stored_so_far was ended most before mid after old now address end s took = (
 )
 
 -- at the input's end the rest of the call takes no byte
-end_of_rest : (was ended : Bool) (rest : ℕ) (mid after : Option (List ℕ)) → 0 < rest → GaveByte was mid (Ok None) ended after → TookAll (asked was rest) [] mid ended after
+end_of_rest : (was ended : Bool) (rest : ℕ) (mid after : Option (List ℕ)) → 0 < rest → GaveByte was mid (Ok None) ended after
+    → TookAll (asked was rest) [] mid ended after
 end_of_rest was ended zero mid after some gave = absurd (omega arith)
 end_of_rest was ended (suc n) mid after some gave = took_end _ _ (asks_more n) mid after was ended gave
 
 -- the input's end ends the call
-pub stored_end : (was ended : Bool) (most : ℕ) (before mid after : Option (List ℕ)) (old now : Core) (address end : ℕ) → StoredUpTo was most before mid old now address end → end < address + most → GaveByte was mid (Ok None) ended after → StoredAll was most before ended after old now address end
+pub stored_end : (was ended : Bool) (most : ℕ) (before mid after : Option (List ℕ)) (old now : Core) (address end : ℕ)
+    → StoredUpTo was most before mid old now address end → end < address + most → GaveByte was mid (Ok None) ended after
+    → StoredAll was most before ended after old now address end
 stored_end was ended most before mid after old now address end s within gave =
     stored_so_far was ended most before mid after old now address end s (end_of_rest was ended s.rest mid after (omega (arith, s.count, s.behind, within)) gave)
 
@@ -128,24 +142,41 @@ none_left : (was ended : Bool) (rest : ℕ) (left : Option (List ℕ)) → rest 
 none_left was ended rest left zero_is is = rw zero_is (took_none left was ended is)
 
 -- where so many bytes were stored, they are all
-pub stored_full : (was ended : Bool) (most : ℕ) (before after : Option (List ℕ)) (old now : Core) (address at end : ℕ) → StoredUpTo was most before after old now address at → at ≡ end → end ≡ address + most → ended ≡ was → StoredAll was most before ended after old now address end
+pub stored_full : (was ended : Bool) (most : ℕ) (before after : Option (List ℕ)) (old now : Core) (address at end : ℕ)
+    → StoredUpTo was most before after old now address at → at ≡ end → end ≡ address + most → ended ≡ was
+    → StoredAll was most before ended after old now address end
 stored_full was ended most before after old now address at end s here all is =
     subst (λ end. StoredAll was most before ended after old now address end) here
     (stored_so_far was ended most before after after old now address at s (none_left was ended s.rest after (omega (arith, s.count, s.behind, here, all)) is))
 
--- a take failed
-pub stored_failed : (was ended : Bool) (most : ℕ) (before mid after : Option (List ℕ)) (old now : Core) (address end : ℕ) (failed : Failed) → StoredUpTo was most before mid old now address end → end < address + most → GaveByte was mid (Err failed) ended after → (was ≡ false) × TookSome (asked was most) before after
+-- A take failed in a call for so many bytes, and those that came before were stored.
+abbrev pub StoredSome : Bool → ℕ → Option (List ℕ) → Bool → Option (List ℕ) → Core → Core → ℕ → Type 0
+StoredSome was most before ended after old new address =
+    (got : List ℕ) × (was ≡ false) × (ended ≡ was) × TookSome (asked was most) got before after × (new ≡ with_bytes old address got)
+
+-- where the next take failed, what was stored is what came before
+pub stored_failed : (was ended : Bool) (most : ℕ) (before mid after : Option (List ℕ)) (old now : Core) (address end : ℕ)
+    (failed : Failed) → StoredUpTo was most before mid old now address end → end < address + most
+    → GaveByte was mid (Err failed) ended after → StoredSome was most before ended after old now address
 stored_failed was ended most before mid after old now address end failed s within gave =
     let t = rest_taking was most s.rest before mid s.said (omega (arith, s.count, s.behind, within)) s.taking in
-    let some = took_some _ _ (asks_more t.0) mid after was ended failed gave in
-    (some.0, taking_some _ _ before mid after s.said t.2 some.1)
+    let some = took_some _ _ (asks_more t.0) mid after was ended failed gave in (
+      s.said,
+      some.0,
+      some.1,
+      subst (λ (got : List ℕ). TookSome (asked was most) got before after) (append-nil s.said) (taking_some _ _ before mid after s.said [] t.2 some.2),
+      s.core,
+    )
 
 -- one more byte may be stored after those that a call took
-pub stored_within : (s : Segments) (was ended : Bool) (most : ℕ) (before after : Option (List ℕ)) (old new : Core) (address end : ℕ) → StoredAll was most before ended after old new address end → all_writable s address (most + 1) ≡ true → writable s end 1 ≡ true
+pub stored_within : (s : Segments) (was ended : Bool) (most : ℕ) (before after : Option (List ℕ)) (old new : Core) (address end : ℕ)
+    → StoredAll was most before ended after old new address end → all_writable s address (most + 1) ≡ true → writable s end 1 ≡ true
 stored_within s was ended most before after old new address end (got, took, behind, count, core) all =
     may_store_at s address (most + 1) end all (omega (arith, behind)) (omega (arith, behind, count))
 
 -- a 0 after the bytes
-pub stored_zero : (was ended last : Bool) (most : ℕ) (before after : Option (List ℕ)) (old now new : Core) (address end : ℕ) → StoredAll was most before ended after old now address end → last ≡ ended → new ≡ with_byte now end 0 → (got : List ℕ) × TookAll (asked was most) got before last after × (new ≡ with_bytes old address (got ++ 0 ∷ []))
+pub stored_zero : (was ended last : Bool) (most : ℕ) (before after : Option (List ℕ)) (old now new : Core) (address end : ℕ)
+    → StoredAll was most before ended after old now address end → last ≡ ended → new ≡ with_byte now end 0
+    → (got : List ℕ) × TookAll (asked was most) got before last after × (new ≡ with_bytes old address (got ++ 0 ∷ []))
 stored_zero was ended last most before after old now new address end (got, took, behind, count, core) same next =
     rw same (got, took, with_bytes-append old now new address end got 0 core behind next)

@@ -8,7 +8,8 @@ pub keeps_same : (m : MachineParts) → Keeps m m
 keeps_same m = record { memory = record { text = refl; segments = refl }; halted = refl }
 
 -- one call after another
-pub keeps_both : (old mid new : MachineParts) → Keeps mid new → KeepsSegments old.cpu.memory mid.cpu.memory → mid.halted ≡ old.halted → Keeps old new
+pub keeps_both : (old mid new : MachineParts) → Keeps mid new → KeepsSegments old.cpu.memory mid.cpu.memory
+    → mid.halted ≡ old.halted → Keeps old new
 keeps_both old mid new behind memory halted = record {
   memory = record { text = behind.memory.text ∙ memory.text; segments = behind.memory.segments ∙ memory.segments };
   halted = behind.halted ∙ halted;

@@ -1,5 +1,6 @@
 pub mod TakingBytes
 pub mod ReadingNumbers
+pub mod SameResults
 pub mod ReadingCalls
 pub mod FillingBuffers
 pub mod KeepingParts

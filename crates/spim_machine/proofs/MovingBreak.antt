@@ -6,7 +6,7 @@ use Rattle.mips_isa.specs.Calls.{sbrk, with_v0}
 use Rattle.spim_memory.specs.Memory.{MemoryParts, segments}
 use Rattle.spim_cpu.specs.Cpu.{CpuParts, core_of}
 use Rattle.spim_machine.specs.Machine.{MachineParts, state_of}
-use Rattle.spim_machine.specs.Ends.{Does}
+use Rattle.spim_machine.specs.Ends.{stores_none, IsResultOf}
 use Rattle.spim_machine.proofs.PartsOfMachines.{a0_of, memory_of}
 
 -- the end of a machine's heap, which the code read from its memory
@@ -19,7 +19,7 @@ HasSet v old new = core_of new ≡ record (core_of old) { registers = set_regist
 
 -- what sbrk does in any state that the machine may be in
 abbrev pub Moves : MachineParts → MachineParts → Type 0
-Moves m new = (left held : Option (List ℕ)) → Does (sbrk (segments (memory_of m))) m left held (Ok tt) new left held
+Moves m new = (left held : Option (List ℕ)) → IsResultOf (sbrk (segments (memory_of m))) stores_none m left held (Ok tt) new left held
 
 -- the break moves, and the old one is answered
 pub break_moved : (m new : MachineParts) (memory : MemoryParts) (a0 end sum : ℕ)

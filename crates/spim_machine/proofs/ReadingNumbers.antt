@@ -21,11 +21,16 @@ pub read_none : (was : Bool) (left : Option (List ℕ)) → ReadUpTo was left le
 read_none was left = record { said = []; taking = taking_none (asked_line was) left; number_is = λ rest. refl }
 
 -- a number with one more byte
-number_with : (number next : Number) (said : List ℕ) (byte : ℕ) → ((rest : List ℕ) → number_from number rest ≡ number_of (said ++ rest)) → ((rest : List ℕ) → number_from next rest ≡ number_from number (byte ∷ rest)) → (rest : List ℕ) → number_from next rest ≡ number_of ((said ++ byte ∷ []) ++ rest)
+number_with : (number next : Number) (said : List ℕ) (byte : ℕ)
+    → ((rest : List ℕ) → number_from number rest ≡ number_of (said ++ rest))
+    → ((rest : List ℕ) → number_from next rest ≡ number_from number (byte ∷ rest)) → (rest : List ℕ)
+    → number_from next rest ≡ number_of ((said ++ byte ∷ []) ++ rest)
 number_with number next said byte is with_byte rest = with_byte rest ∙ is (byte ∷ rest) ∙ ap number_of (sym (append_assoc said (byte ∷ []) rest))
 
 -- a byte came, and the line goes on
-pub read_byte : (before mid after : Option (List ℕ)) (was ended : Bool) (number next : Number) (byte : ℕ) → ReadUpTo was before mid number → GaveByte was mid (Ok (Some byte)) ended after → (byte == 10) ≡ false → ((rest : List ℕ) → number_from next rest ≡ number_from number (byte ∷ rest)) → ReadUpTo was before after next
+pub read_byte : (before mid after : Option (List ℕ)) (was ended : Bool) (number next : Number) (byte : ℕ)
+    → ReadUpTo was before mid number → GaveByte was mid (Ok (Some byte)) ended after → (byte == 10) ≡ false
+    → ((rest : List ℕ) → number_from next rest ≡ number_from number (byte ∷ rest)) → ReadUpTo was before after next
 read_byte before mid after was ended number next byte r gave other with_byte = record {
   said = r.said ++ byte ∷ [];
   taking = taking_more _ _ _ before mid after r.said (byte ∷ []) r.taking (taking_byte _ _ asks_line mid after was ended byte gave other);
@@ -37,7 +42,10 @@ abbrev pub TookNumber : Bool → Option (List ℕ) → Bool → Option (List ℕ
 TookNumber was before ended after n = (got : List ℕ) × TookAll (asked_line was) got before ended after × (n ≡ number_of got)
 
 -- a newline ends the line
-pub read_newline : (before mid after : Option (List ℕ)) (was ended : Bool) (number next : Number) (byte n : ℕ) → ReadUpTo was before mid number → GaveByte was mid (Ok (Some byte)) ended after → byte ≡ 10 → ((rest : List ℕ) → number_from next rest ≡ number_from number (byte ∷ rest)) → n ≡ number_from next [] → TookNumber was before ended after n
+pub read_newline : (before mid after : Option (List ℕ)) (was ended : Bool) (number next : Number) (byte n : ℕ)
+    → ReadUpTo was before mid number → GaveByte was mid (Ok (Some byte)) ended after → byte ≡ 10
+    → ((rest : List ℕ) → number_from next rest ≡ number_from number (byte ∷ rest)) → n ≡ number_from next []
+    → TookNumber was before ended after n
 read_newline before mid after was ended number next byte n r gave ten with_byte is = (
   r.said ++ byte ∷ [],
   taking_all _ _ before mid after r.said (byte ∷ []) ended r.taking (took_newline _ _ asks_line mid after was ended byte gave ten),
@@ -45,7 +53,8 @@ read_newline before mid after was ended number next byte n r gave ten with_byte 
 )
 
 -- the input's end ends the line
-pub read_end : (before mid after : Option (List ℕ)) (was ended : Bool) (number : Number) (n : ℕ) → ReadUpTo was before mid number → GaveByte was mid (Ok None) ended after → n ≡ number_from number [] → TookNumber was before ended after n
+pub read_end : (before mid after : Option (List ℕ)) (was ended : Bool) (number : Number) (n : ℕ) → ReadUpTo was before mid number
+    → GaveByte was mid (Ok None) ended after → n ≡ number_from number [] → TookNumber was before ended after n
 read_end before mid after was ended number n r gave is = (
   r.said ++ [],
   taking_all _ _ before mid after r.said [] ended r.taking (took_end _ _ asks_line mid after was ended gave),
@@ -53,7 +62,9 @@ read_end before mid after was ended number n r gave is = (
 )
 
 -- a take failed
-pub read_failed : (before mid after : Option (List ℕ)) (was ended : Bool) (number : Number) (failed : Failed) → ReadUpTo was before mid number → GaveByte was mid (Err failed) ended after → (was ≡ false) × TookSome (asked_line was) before after
+pub read_failed : (before mid after : Option (List ℕ)) (was ended : Bool) (number : Number) (failed : Failed)
+    → ReadUpTo was before mid number → GaveByte was mid (Err failed) ended after
+    → (got : List ℕ) × (was ≡ false) × (ended ≡ was) × TookSome (asked_line was) got before after
 read_failed before mid after was ended number failed r gave =
     let some = took_some _ _ asks_line mid after was ended failed gave in
-    (some.0, taking_some _ _ before mid after r.said r.taking some.1)
+    (r.said ++ [], some.0, some.1, taking_some _ _ before mid after r.said [] r.taking some.2)

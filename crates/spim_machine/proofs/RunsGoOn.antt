@@ -14,24 +14,30 @@ use Rattle.spim_cpu.specs.Cpu.{core_of}
 use Rattle.spim_machine.specs.Ends.{Cycled, ComesToCall, Ran}
 
 -- after an instruction that goes on comes the next one
-pub run_next : (text : List ℕ) (b : Segments) (k : ℕ) (s t u : State) → run text b k s ≡ Running t → cycle text b t ≡ Running u → run text b (k + 1) s ≡ Running u
+pub run_next : (text : List ℕ) (b : Segments) (k : ℕ) (s t u : State) → run text b k s ≡ Running t → cycle text b t ≡ Running u
+    → run text b (k + 1) s ≡ Running u
 run_next text b k s t u runs next = run_sum text b k 1 s ∙ rw (runs, next) refl
 
 -- of a longer run, what comes after the instructions that go on
-run_after : (text : List ℕ) (b : Segments) (k n : ℕ) (s t : State) → run text b k s ≡ Running t → k < n → run text b n s ≡ and_then (cycle text b t) (run text b (n - (k + 1)))
+run_after : (text : List ℕ) (b : Segments) (k n : ℕ) (s t : State) → run text b k s ≡ Running t → k < n
+    → run text b n s ≡ and_then (cycle text b t) (run text b (n - (k + 1)))
 run_after text b k n s t runs below =
     let parts : n ≡ k + suc (n - (k + 1)) = omega (arith, below) in
     ap (λ i. run text b i s) parts ∙ run_sum text b k (suc (n - (k + 1))) s ∙ rw runs refl
 
 -- where the next instruction exits or traps, so does each longer run
-pub run_exits : (text : List ℕ) (b : Segments) (k n code : ℕ) (s t u : State) → run text b k s ≡ Running t → cycle text b t ≡ Exited code u → k < n → run text b n s ≡ Exited code u
+pub run_exits : (text : List ℕ) (b : Segments) (k n code : ℕ) (s t u : State) → run text b k s ≡ Running t
+    → cycle text b t ≡ Exited code u → k < n → run text b n s ≡ Exited code u
 run_exits text b k n code s t u runs next below = run_after text b k n s t runs below ∙ rw next refl
 
-pub run_traps : (text : List ℕ) (b : Segments) (k n : ℕ) (trap : Trap) (s t u : State) → run text b k s ≡ Running t → cycle text b t ≡ Trapped trap u → k < n → run text b n s ≡ Trapped trap u
+pub run_traps : (text : List ℕ) (b : Segments) (k n : ℕ) (trap : Trap) (s t u : State) → run text b k s ≡ Running t
+    → cycle text b t ≡ Trapped trap u → k < n → run text b n s ≡ Trapped trap u
 run_traps text b k n trap s t u runs next below = run_after text b k n s t runs below ∙ rw next refl
 
 -- the end of the next instruction is that of each longer run
-pub ran_ends : (text : List ℕ) (b : Segments) (k n : ℕ) (s t : State) (first : Option (List ℕ)) (halt : Halt) (m : MachineParts) (left held : Option (List ℕ)) → run text b k s ≡ Running t → k < n → Cycled text b t first (Err halt) m left held → Ran text b n s first halt m left held
+unfoldable pub ran_ends : (text : List ℕ) (b : Segments) (k n : ℕ) (s t : State) (first : Option (List ℕ)) (halt : Halt)
+    (m : MachineParts) (left held : Option (List ℕ)) → run text b k s ≡ Running t → k < n
+    → Cycled text b t first (Err halt) m left held → Ran text b n s first halt m left held
 ran_ends text b k n s t first (halts.Exit code) m left held runs below (next, ends, is) = (next, run_exits text b k n code s t next runs ends below, is)
 ran_ends text b k n s t first (halts.Trap trap) m left held runs below (next, ends, is) = (next, run_traps text b k n trap s t next runs ends below, is)
 ran_ends text b k n s t first halts.StepLimit m left held runs below ends = absurd ends
@@ -45,7 +51,8 @@ pub run_both : (text : List ℕ) (b : Segments) (m n : ℕ) (s t : State) → ru
 run_both text b m n s t runs = run_sum text b m n s ∙ rw runs refl
 
 -- the system call to which the second run comes
-comes_on : (text : List ℕ) (b : Segments) (m n : ℕ) (s t at : State) → run text b m s ≡ Running t → ComesToCall text b n t at → ComesToCall text b (m + n) s at
+comes_on : (text : List ℕ) (b : Segments) (m n : ℕ) (s t at : State) → run text b m s ≡ Running t → ComesToCall text b n t at
+    → ComesToCall text b (m + n) s at
 comes_on text b m n s t at runs h = record {
   count = m + h.count;
   below = omega (arith, h.below);
@@ -57,7 +64,9 @@ comes_on text b m n s t at runs h = record {
 }
 
 -- the second run from the state in which the first one stands
-pub ran_on_from : (text : List ℕ) (b : Segments) (m n : ℕ) (s t : State) (first : Option (List ℕ)) (halt : Halt) (last : MachineParts) (left held : Option (List ℕ)) → run text b m s ≡ Running t → Ran text b n t first halt last left held → Ran text b (m + n) s first halt last left held
+pub ran_on_from : (text : List ℕ) (b : Segments) (m n : ℕ) (s t : State) (first : Option (List ℕ)) (halt : Halt)
+    (last : MachineParts) (left held : Option (List ℕ)) → run text b m s ≡ Running t → Ran text b n t first halt last left held
+    → Ran text b (m + n) s first halt last left held
 ran_on_from text b m n s t first (halts.Exit code) last left held runs (end, ends, is) = (end, run_both text b m n s t runs ∙ ends, is)
 ran_on_from text b m n s t first (halts.Trap trap) last left held runs (end, ends, is) = (end, run_both text b m n s t runs ∙ ends, is)
 ran_on_from text b m n s t first halts.StepLimit last left held runs (end, ends, is) = (end, run_both text b m n s t runs ∙ ends, is)
@@ -65,14 +74,16 @@ ran_on_from text b m n s t first halts.ReadFault last left held runs (at, comes,
 ran_on_from text b m n s t first halts.WriteFault last left held runs (at, comes, fails) = (at, comes_on text b m n s t at runs comes, fails)
 
 -- The law of two budgets: a run of n instructions after one of m that spent its budget is as one of m + n.
-pub ran_on : (text : List ℕ) (b : Segments) (m n : ℕ) (s : State) (first : Option (List ℕ)) (mid last : MachineParts) (halt : Halt) (left held left' held' : Option (List ℕ))
+pub ran_on : (text : List ℕ) (b : Segments) (m n : ℕ) (s : State) (first : Option (List ℕ)) (mid last : MachineParts) (halt : Halt)
+    (left held left' held' : Option (List ℕ))
     → Ran text b m s first halts.StepLimit mid left held
     → ((t : State) → IsIn first t mid left held → Ran text b n t first halt last left' held')
     → Ran text b (m + n) s first halt last left' held'
 ran_on text b m n s first mid last halt left held left' held' (t, runs, is) then = ran_on_from text b m n s t first halt last left' held' runs (then t is)
 
 -- an end of the first run is the end of both
-run_stays : (text : List ℕ) (b : Segments) (m n : ℕ) (s : State) (o : Outcome) → run text b m s ≡ o → run text b (m + n) s ≡ and_then o (run text b n)
+run_stays : (text : List ℕ) (b : Segments) (m n : ℕ) (s : State) (o : Outcome) → run text b m s ≡ o
+    → run text b (m + n) s ≡ and_then o (run text b n)
 run_stays text b m n s o ends = run_sum text b m n s ∙ ap (λ q. and_then q (run text b n)) ends
 
 comes_before : (text : List ℕ) (b : Segments) (m n : ℕ) (s at : State) → ComesToCall text b m s at → ComesToCall text b (m + n) s at
@@ -86,7 +97,8 @@ comes_before text b m n s at h = record {
   at_is = h.at_is;
 }
 
-pub ran_ended : (text : List ℕ) (b : Segments) (m n : ℕ) (s : State) (first : Option (List ℕ)) (last : MachineParts) (halt : Halt) (left held : Option (List ℕ))
+pub ran_ended : (text : List ℕ) (b : Segments) (m n : ℕ) (s : State) (first : Option (List ℕ)) (last : MachineParts) (halt : Halt)
+    (left held : Option (List ℕ))
     → halt ≢ halts.StepLimit → Ran text b m s first halt last left held → Ran text b (m + n) s first halt last left held
 ran_ended text b m n s first last (halts.Exit code) left held other (end, ends, is) = (end, run_stays text b m n s (Exited code end) ends, is)
 ran_ended text b m n s first last (halts.Trap trap) left held other (end, ends, is) = (end, run_stays text b m n s (Trapped trap end) ends, is)
@@ -105,5 +117,6 @@ abbrev with_ended : State → Bool → State
 with_ended s ended = record s { ended = ended }
 
 -- the state in which a machine is has the machine's parts
-pub is_state : (first : Option (List ℕ)) (s : State) (m : MachineParts) (left held : Option (List ℕ)) → IsIn first s m left held → s ≡ state_of m s.input s.output
+pub is_state : (first : Option (List ℕ)) (s : State) (m : MachineParts) (left held : Option (List ℕ)) → IsIn first s m left held
+    → s ≡ state_of m s.input s.output
 is_state first s m left held is = ap (with_core s) (sym is.core) ∙ ap (with_heap_break (with_core s (core_of m.cpu))) (sym is.heap_break) ∙ ap (with_ended (with_heap_break (with_core s (core_of m.cpu)) m.heap_break)) (sym is.ended)

@@ -12,9 +12,9 @@ use Rattle.spim_machine.specs.declared.halt.Halt.{Halt}
 use Rattle.spim_machine.specs.declared.halt.Halt.TheVariants as halts
 use Rattle.spim_machine.specs.Machine.{MachineParts, IsIn}
 use Rattle.spim_machine.specs.Ends.{Cycled}
-use Rattle.spim_machine.specs.Counting.{counted, before_break, moved, UnlessFault, RanTo}
+use Rattle.spim_machine.specs.Counting.{counted, before_break, moved, executed_in, RanTo}
 use Rattle.spim_machine.proofs.RunsGoOn.{run_next, run_both, ran_ends}
-use Rattle.spim_machine.proofs.RunsByCycles.{cycled_as, ran_noted}
+use Rattle.spim_machine.proofs.RunsByCycles.{cycled_as, ran_noted, noted_counts}
 use Rattle.spim_machine.proofs.AdvancesAreRuns.{none_ran, goes_runs, goes_as}
 use Rattle.spim_machine.proofs.CountsOfRuns.{counted_some, moved_next, before_advanced}
 
@@ -27,12 +27,14 @@ pub record Stands (further : ℕ → State → ℕ) (breaks : ℕ → Bool) (tex
   pub is : IsIn first state m input held
 
 -- before the first instruction
-pub stands_first : (breaks : ℕ → Bool) (text : List ℕ) (b : Segments) (n : ℕ) (s : State) (first : Option (List ℕ)) (m : MachineParts) (input held : Option (List ℕ)) → IsIn first s m input held
+pub stands_first : (breaks : ℕ → Bool) (text : List ℕ) (b : Segments) (n : ℕ) (s : State) (first : Option (List ℕ))
+    (m : MachineParts) (input held : Option (List ℕ)) → IsIn first s m input held
     → Stands (moved breaks text b) breaks text b n n s first m input held
 stands_first breaks text b n s first m input held is = record { state = s; runs = none_ran text b n s; count = omega arith; is = is }
 
 -- after an instruction that goes on
-pub stands_cycled : (breaks : ℕ → Bool) (old now : MemoryParts) (n left : ℕ) (s : State) (first : Option (List ℕ)) (mid m : MachineParts) (input held input' held' : Option (List ℕ)) → KeepsSegments old now → 0 < left → left ≤ n
+pub stands_cycled : (breaks : ℕ → Bool) (old now : MemoryParts) (n left : ℕ) (s : State) (first : Option (List ℕ))
+    (mid m : MachineParts) (input held input' held' : Option (List ℕ)) → KeepsSegments old now → 0 < left → left ≤ n
     → Stands (moved breaks old.text (segments old)) breaks old.text (segments old) n left s first mid input held
     → ((t : State) → IsIn first t mid input held → Cycled now.text (segments now) t first (Ok tt) m input' held')
     → Stands (before_break breaks old.text (segments old)) breaks old.text (segments old) n (left - 1) s first m input' held'
@@ -51,7 +53,8 @@ stands_cycled breaks old now n left s first mid m input held input' held' kept s
     }
 
 -- after so many instructions, none of which is a system call or stands at a break address
-pub stands_advanced : (breaks : ℕ → Bool) (old : MemoryParts) (k n left : ℕ) (s : State) (first : Option (List ℕ)) (mid : MachineParts) (cpu : CpuParts) (input held : Option (List ℕ)) → KeepsSegments old mid.cpu.memory → k ≤ left → left ≤ n
+pub stands_advanced : (breaks : ℕ → Bool) (old : MemoryParts) (k n left : ℕ) (s : State) (first : Option (List ℕ))
+    (mid : MachineParts) (cpu : CpuParts) (input held : Option (List ℕ)) → KeepsSegments old mid.cpu.memory → k ≤ left → left ≤ n
     → Stands (before_break breaks old.text (segments old)) breaks old.text (segments old) n left s first mid input held
     → Goes breaks mid.cpu.memory.text (segments mid.cpu.memory) k (core_of mid.cpu) (core_of cpu)
     → Stands (before_break breaks old.text (segments old)) breaks old.text (segments old) n (left - k) s first (record mid { cpu = cpu }) input held
@@ -71,7 +74,8 @@ stands_advanced breaks old k n left s first mid cpu input held kept most within 
     }
 
 -- after both
-pub stands_turned : (breaks : ℕ → Bool) (old now : MemoryParts) (k n left : ℕ) (s : State) (first : Option (List ℕ)) (from to mid : MachineParts) (cpu : CpuParts) (input held input' held' : Option (List ℕ))
+pub stands_turned : (breaks : ℕ → Bool) (old now : MemoryParts) (k n left : ℕ) (s : State) (first : Option (List ℕ))
+    (from to mid : MachineParts) (cpu : CpuParts) (input held input' held' : Option (List ℕ))
     → KeepsSegments old now → KeepsSegments old mid.cpu.memory → 0 < left → left ≤ n → k ≤ left - 1 → to ≡ mid
     → Stands (moved breaks old.text (segments old)) breaks old.text (segments old) n left s first from input held
     → ((t : State) → IsIn first t from input held → Cycled now.text (segments now) t first (Ok tt) to input' held')
@@ -83,20 +87,24 @@ stands_turned breaks old now k n left s first from to mid cpu input held input' 
     stands_advanced breaks old k n (left - 1) s first mid cpu input' held' kept_mid most (omega (arith, within)) here goes
 
 -- whether pc is a break address there, by what the processor and the set of them answer
-pub at_break : (breaks : ℕ → Bool) (cpu : CpuParts) (t : State) (pc : ℕ) (answer is : Bool) → core_of cpu ≡ t.core → pc ≡ cpu.pc → answer ≡ breaks pc → answer ≡ is → breaks t.core.pc ≡ is
+pub at_break : (breaks : ℕ → Bool) (cpu : CpuParts) (t : State) (pc : ℕ) (answer is : Bool) → core_of cpu ≡ t.core → pc ≡ cpu.pc
+    → answer ≡ breaks pc → answer ≡ is → breaks t.core.pc ≡ is
 at_break breaks cpu t pc answer is core at contains told = ap (λ (c : Core). breaks c.pc) (sym core) ∙ ap breaks (sym at) ∙ sym contains ∙ told
 
 -- as many more as another count says
-pub stands_as : (further again : ℕ → State → ℕ) (breaks : ℕ → Bool) (text : List ℕ) (b : Segments) (n left : ℕ) (s : State) (first : Option (List ℕ)) (m : MachineParts) (input held : Option (List ℕ))
+pub stands_as : (further again : ℕ → State → ℕ) (breaks : ℕ → Bool) (text : List ℕ) (b : Segments) (n left : ℕ) (s : State)
+    (first : Option (List ℕ)) (m : MachineParts) (input held : Option (List ℕ))
     → ((t : State) → IsIn first t m input held → further left t ≡ again left t)
     → Stands further breaks text b n left s first m input held → Stands again breaks text b n left s first m input held
 stands_as further again breaks text b n left s first m input held same h =
     record { state = h.state; runs = h.runs; count = h.count ∙ ap (λ k. n - left + k) (same h.state h.is); is = h.is }
 
 -- where none is left, the run has stopped
-pub stops_there : (further : ℕ → State → ℕ) (breaks : ℕ → Bool) (text : List ℕ) (b : Segments) (n left : ℕ) (s : State) (first : Option (List ℕ)) (m : MachineParts) (input held : Option (List ℕ))
+pub stops_there : (further : ℕ → State → ℕ) (breaks : ℕ → Bool) (text : List ℕ) (b : Segments) (n left : ℕ) (s : State)
+    (first : Option (List ℕ)) (m : MachineParts) (input held : Option (List ℕ))
     → ((t : State) → IsIn first t m input held → further left t ≡ 0)
-    → Stands further breaks text b n left s first m input held → RanTo breaks text b n s first (record { halt = halts.StepLimit; executed = n - left }) m input held
+    → Stands further breaks text b n left s first m input held
+    → RanTo breaks text b n s first (record { halt = halts.StepLimit; executed = n - left }) m input held
 stops_there further breaks text b n left s first m input held none h =
     let here : further left h.state ≡ 0 = none h.state h.is in
     let before : moved breaks text b n s ≡ n - left + further left h.state = h.count in
@@ -104,16 +112,21 @@ stops_there further breaks text b n left s first m input held none h =
     record { ran = (h.state, ap (λ i. run text b i s) (sym all) ∙ h.runs, h.is); executed = all }
 
 -- an instruction at which a run ends is the last that counts
-last_counts : (text : List ℕ) (b : Segments) (t : State) (first : Option (List ℕ)) (halt : Halt) (m : MachineParts) (left held : Option (List ℕ)) (later : State → ℕ) (executed all : ℕ) → Cycled text b t first (Err halt) m left held
-    → (counted (cycle text b t) later ≡ 1 → executed ≡ all) → UnlessFault halt (executed ≡ all)
-last_counts text b t first (halts.Exit code) m left held later executed all (next, ends, is) same = same (ap (λ (o : Outcome). counted o later) ends)
-last_counts text b t first (halts.Trap trap) m left held later executed all (next, ends, is) same = same (ap (λ (o : Outcome). counted o later) ends)
-last_counts text b t first halts.StepLimit m left held later executed all ends same = absurd ends
-last_counts text b t first halts.ReadFault m left held later executed all ends same = tt
-last_counts text b t first halts.WriteFault m left held later executed all ends same = tt
+last_counts : (text : List ℕ) (b : Segments) (k n : ℕ) (s t : State) (first : Option (List ℕ)) (halt : Halt) (m : MachineParts)
+    (left held : Option (List ℕ)) (later : State → ℕ) (executed : ℕ)
+    (runs : run text b k s ≡ Running t) (below : k < n) (ends : Cycled text b t first (Err halt) m left held)
+    → (counted (cycle text b t) later ≡ 1 → executed ≡ n) → executed ≡ suc k
+    → executed ≡ executed_in text b n s first halt m left held (ran_ends text b k n s t first halt m left held runs below ends)
+unfolding ran_ends
+last_counts text b k n s t first (halts.Exit code) m left held later executed runs below (next, ends, is) all so_far = all (ap (λ (o : Outcome). counted o later) ends)
+last_counts text b k n s t first (halts.Trap trap) m left held later executed runs below (next, ends, is) all so_far = all (ap (λ (o : Outcome). counted o later) ends)
+last_counts text b k n s t first halts.StepLimit m left held later executed runs below ends all so_far = absurd ends
+last_counts text b k n s t first halts.ReadFault m left held later executed runs below (core, calls, fails) all so_far = so_far
+last_counts text b k n s t first halts.WriteFault m left held later executed runs below (core, calls, fails) all so_far = so_far
 
 -- after that
-pub ran_to_end : (breaks : ℕ → Bool) (old now : MemoryParts) (n left : ℕ) (s : State) (first : Option (List ℕ)) (halt : Halt) (mid m : MachineParts) (input held input' held' : Option (List ℕ)) → KeepsSegments old now → 0 < left → left ≤ n
+pub ran_to_end : (breaks : ℕ → Bool) (old now : MemoryParts) (n left : ℕ) (s : State) (first : Option (List ℕ)) (halt : Halt)
+    (mid m : MachineParts) (input held input' held' : Option (List ℕ)) → KeepsSegments old now → 0 < left → left ≤ n
     → Stands (moved breaks old.text (segments old)) breaks old.text (segments old) n left s first mid input held
     → ((t : State) → IsIn first t mid input held → Cycled now.text (segments now) t first (Err halt) m input' held')
     → RanTo breaks old.text (segments old) n s first (record { halt = halt; executed = n - (left - 1) }) m input' held'
@@ -127,11 +140,16 @@ ran_to_end breaks old now n left s first halt mid m input held input' held' kept
     let below : n - left < moved breaks old.text (segments old) n s = omega (arith, before, last, counts) in
     record {
       ran = ran_ends old.text (segments old) (n - left) (moved breaks old.text (segments old) n s) s h.state first halt m input' held' h.runs below turn;
-      executed = last_counts old.text (segments old) h.state first halt m input' held' later (n - (left - 1)) (moved breaks old.text (segments old) n s) turn (λ one. omega (arith, before, last, one, some, within));
+      executed = last_counts old.text (segments old) (n - left) (moved breaks old.text (segments old) n s) s h.state first halt m input' held' later (n - (left - 1)) h.runs below turn
+          (λ one. omega (arith, before, last, one, some, within)) (omega (arith, some, within));
     }
 
 -- also of a machine that notes how its run ended
-pub ran_to_noted : (breaks : ℕ → Bool) (text : List ℕ) (b : Segments) (n : ℕ) (s : State) (first : Option (List ℕ)) (halt : Halt) (executed : ℕ) (m : MachineParts) (left held : Option (List ℕ)) (halted : Option Halt)
-    → RanTo breaks text b n s first (record { halt = halt; executed = executed }) m left held → RanTo breaks text b n s first (record { halt = halt; executed = executed }) (record m { halted = halted }) left held
-ran_to_noted breaks text b n s first halt executed m left held halted h =
-    record { ran = ran_noted text b (moved breaks text b n s) s first halt m left held halted h.ran; executed = h.executed }
+pub ran_to_noted : (breaks : ℕ → Bool) (text : List ℕ) (b : Segments) (n : ℕ) (s : State) (first : Option (List ℕ)) (halt : Halt)
+    (executed : ℕ) (m : MachineParts) (left held : Option (List ℕ)) (halted : Option Halt)
+    → RanTo breaks text b n s first (record { halt = halt; executed = executed }) m left held
+    → RanTo breaks text b n s first (record { halt = halt; executed = executed }) (record m { halted = halted }) left held
+ran_to_noted breaks text b n s first halt executed m left held halted h = record {
+  ran = ran_noted text b (moved breaks text b n s) s first halt m left held halted h.ran;
+  executed = h.executed ∙ noted_counts text b (moved breaks text b n s) s first halt m left held halted h.ran;
+}

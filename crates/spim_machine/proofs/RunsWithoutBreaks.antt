@@ -15,7 +15,8 @@ abbrev pub nowhere : ℕ → Bool
 nowhere = λ address. false
 
 -- after an instruction, a run of those that count is one of those that the budget has
-counted_runs : (text : List ℕ) (b : Segments) (n : ℕ) (s : State) (o : Outcome) (later : State → ℕ) → ((t : State) → run text b (later t) t ≡ run text b n t) → cycle text b s ≡ o
+counted_runs : (text : List ℕ) (b : Segments) (n : ℕ) (s : State) (o : Outcome) (later : State → ℕ)
+    → ((t : State) → run text b (later t) t ≡ run text b n t) → cycle text b s ≡ o
     → run text b (counted o later) s ≡ and_then o (run text b n)
 counted_runs text b n s (Running t) later same next = ap (λ (o : Outcome). and_then o (run text b (later t))) next ∙ same t
 counted_runs text b n s (Exited code t) later same next = ap (λ (o : Outcome). and_then o (run text b 0)) next
@@ -42,7 +43,8 @@ comes_within text b k n s at within h = record {
 }
 
 -- how it ends
-pub ran_without_breaks : (text : List ℕ) (b : Segments) (n : ℕ) (s : State) (first : Option (List ℕ)) (halt : Halt) (m : MachineParts) (left held : Option (List ℕ))
+pub ran_without_breaks : (text : List ℕ) (b : Segments) (n : ℕ) (s : State) (first : Option (List ℕ)) (halt : Halt)
+    (m : MachineParts) (left held : Option (List ℕ))
     → Ran text b (moved nowhere text b n s) s first halt m left held → Ran text b n s first halt m left held
 ran_without_breaks text b n s first (halts.Exit code) m left held (end, ends, is) = (end, sym (moved_runs text b n s) ∙ ends, is)
 ran_without_breaks text b n s first (halts.Trap trap) m left held (end, ends, is) = (end, sym (moved_runs text b n s) ∙ ends, is)

@@ -81,7 +81,8 @@ pub taking_none : (ask : List ℕ → Taken) (left : Option (List ℕ)) → Taki
 taking_none ask left = record { front = []; gave = sym (front-nil left); goes = λ more. refl }
 
 -- bytes before bytes before what a source has left
-front_of_two : (before mid after : Option (List ℕ)) (a b : List ℕ) → before ≡ with_front a mid → mid ≡ with_front b after → before ≡ with_front (a ++ b) after
+front_of_two : (before mid after : Option (List ℕ)) (a b : List ℕ) → before ≡ with_front a mid → mid ≡ with_front b after
+    → before ≡ with_front (a ++ b) after
 front_of_two before mid after a b first second = first ∙ ap (with_front a) second ∙ front-append a b after
 
 -- bytes before bytes before what is taken
@@ -89,7 +90,8 @@ prepend-prepend : (a b : List ℕ) (t : Taken) → prepend a (prepend b t) ≡ p
 prepend-prepend a b t = ap (λ got. record t { got = got }) (sym (append_assoc a b t.got))
 
 -- two parts of what it took, one after the other
-pub taking_more : (ask mid_ask next : List ℕ → Taken) (before mid after : Option (List ℕ)) (a b : List ℕ) → TakingOn ask mid_ask before mid a → TakingOn mid_ask next mid after b → TakingOn ask next before after (a ++ b)
+pub taking_more : (ask mid_ask next : List ℕ → Taken) (before mid after : Option (List ℕ)) (a b : List ℕ)
+    → TakingOn ask mid_ask before mid a → TakingOn mid_ask next mid after b → TakingOn ask next before after (a ++ b)
 taking_more ask mid_ask next before mid after a b s t = record {
   front = s.front ++ t.front;
   gave = front_of_two before mid after s.front t.front s.gave t.gave;
@@ -97,7 +99,8 @@ taking_more ask mid_ask next before mid after a b s t = record {
 }
 
 -- the rest of the call took all that it asks for
-pub taking_all : (ask next : List ℕ → Taken) (before mid after : Option (List ℕ)) (a got : List ℕ) (ended : Bool) → TakingOn ask next before mid a → TookAll next got mid ended after → TookAll ask (a ++ got) before ended after
+pub taking_all : (ask next : List ℕ → Taken) (before mid after : Option (List ℕ)) (a got : List ℕ) (ended : Bool)
+    → TakingOn ask next before mid a → TookAll next got mid ended after → TookAll ask (a ++ got) before ended after
 taking_all ask next before mid after a got ended s t = record {
   front = s.front ++ t.front;
   gave = front_of_two before mid after s.front t.front s.gave t.gave;
@@ -105,20 +108,24 @@ taking_all ask next before mid after a got ended s t = record {
 }
 
 -- in the rest of the call a take failed
-pub taking_some : (ask next : List ℕ → Taken) (before mid after : Option (List ℕ)) (a : List ℕ) → TakingOn ask next before mid a → TookSome next mid after → TookSome ask before after
-taking_some ask next before mid after a s t = record {
+pub taking_some : (ask next : List ℕ → Taken) (before mid after : Option (List ℕ)) (a got : List ℕ) → TakingOn ask next before mid a
+    → TookSome next got mid after → TookSome ask (a ++ got) before after
+taking_some ask next before mid after a got s t = record {
   front = s.front ++ t.front;
   gave = front_of_two before mid after s.front t.front s.gave t.gave;
-  asks = ap (λ t. t.ended) (s.goes t.front) ∙ t.asks;
+  asks = s.goes t.front ∙ ap (prepend a) t.asks;
 }
 
 -- where a byte came, the end was not answered, before or after
-pub still_ended : (before after : Option (List ℕ)) (was ended : Bool) (byte : ℕ) → GaveByte was before (Ok (Some byte)) ended after → ended ≡ was
+pub still_ended : (before after : Option (List ℕ)) (was ended : Bool) (byte : ℕ) → GaveByte was before (Ok (Some byte)) ended after
+    → ended ≡ was
 still_ended before after true ended byte g = absurd g
 still_ended before after false ended byte g = g.0
 
 -- a byte came, and the call goes on
-pub taking_byte : (ask next : List ℕ → Taken) → AsksByte ask next → (before after : Option (List ℕ)) (was ended : Bool) (byte : ℕ) → GaveByte was before (Ok (Some byte)) ended after → (byte == 10) ≡ false → TakingOn (unless_ended was ask) (unless_ended was next) before after (byte ∷ [])
+pub taking_byte : (ask next : List ℕ → Taken) → AsksByte ask next → (before after : Option (List ℕ)) (was ended : Bool) (byte : ℕ)
+    → GaveByte was before (Ok (Some byte)) ended after → (byte == 10) ≡ false
+    → TakingOn (unless_ended was ask) (unless_ended was next) before after (byte ∷ [])
 taking_byte ask next asks before after true ended byte g other = absurd g
 taking_byte ask next asks before after false ended byte (is, above, (zeros, gave)) other = record {
   front = replicate zeros 0 ++ byte ∷ [];
@@ -127,7 +134,8 @@ taking_byte ask next asks before after false ended byte (is, above, (zeros, gave
 }
 
 -- a newline ends the call, and counts as taken
-newline_at : (ask next : List ℕ → Taken) → AsksByte ask next → (before after : Option (List ℕ)) (was ended : Bool) → GaveByte was before (Ok (Some 10)) ended after → TookAll (unless_ended was ask) (10 ∷ []) before ended after
+newline_at : (ask next : List ℕ → Taken) → AsksByte ask next → (before after : Option (List ℕ)) (was ended : Bool)
+    → GaveByte was before (Ok (Some 10)) ended after → TookAll (unless_ended was ask) (10 ∷ []) before ended after
 newline_at ask next asks before after true ended g = absurd g
 newline_at ask next asks before after false ended (is, above, (zeros, gave)) = rw is (record {
   front = replicate zeros 0 ++ 10 ∷ [];
@@ -136,7 +144,8 @@ newline_at ask next asks before after false ended (is, above, (zeros, gave)) = r
 })
 
 -- the same of a byte that is a newline
-pub took_newline : (ask next : List ℕ → Taken) → AsksByte ask next → (before after : Option (List ℕ)) (was ended : Bool) (byte : ℕ) → GaveByte was before (Ok (Some byte)) ended after → byte ≡ 10 → TookAll (unless_ended was ask) (byte ∷ []) before ended after
+pub took_newline : (ask next : List ℕ → Taken) → AsksByte ask next → (before after : Option (List ℕ)) (was ended : Bool) (byte : ℕ)
+    → GaveByte was before (Ok (Some byte)) ended after → byte ≡ 10 → TookAll (unless_ended was ask) (byte ∷ []) before ended after
 took_newline ask next asks before after was ended byte g ten =
     let newline = rw ten at g in
     rw ten (newline_at ask next asks before after was ended newline)
@@ -147,7 +156,8 @@ no_rest None rest at_end told = cc
 no_rest (Some left) rest at_end told = cc
 
 -- the input's end ends the call
-pub took_end : (ask next : List ℕ → Taken) → AsksByte ask next → (before after : Option (List ℕ)) (was ended : Bool) → GaveByte was before (Ok None) ended after → TookAll (unless_ended was ask) [] before ended after
+pub took_end : (ask next : List ℕ → Taken) → AsksByte ask next → (before after : Option (List ℕ)) (was ended : Bool)
+    → GaveByte was before (Ok None) ended after → TookAll (unless_ended was ask) [] before ended after
 took_end ask next asks before after true ended (is, same) = rw (is, same) (record { front = []; gave = sym (front-nil before); asked = λ rest told. refl })
 took_end ask next asks before after false ended (is, at_end, (zeros, gave)) = rw is (record {
   front = replicate zeros 0;
@@ -160,24 +170,29 @@ pub took_none : (left : Option (List ℕ)) (was ended : Bool) → ended ≡ was 
 took_none left true ended is = rw is (record { front = []; gave = sym (front-nil left); asked = λ rest told. refl })
 took_none left false ended is = rw is (record { front = []; gave = sym (front-nil left); asked = λ rest told. refl })
 
--- a take failed: of the zeros alone the call would have met the end
-pub took_some : (ask next : List ℕ → Taken) → AsksByte ask next → (before after : Option (List ℕ)) (was ended : Bool) (failed : Failed) → GaveByte was before (Err failed) ended after → (was ≡ false) × TookSome (unless_ended was ask) before after
+-- a take failed: the end was not answered, and of the zeros alone the call would have met it
+pub took_some : (ask next : List ℕ → Taken) → AsksByte ask next
+    → (before after : Option (List ℕ)) (was ended : Bool) (failed : Failed) → GaveByte was before (Err failed) ended after
+    → (was ≡ false) × (ended ≡ was) × TookSome (unless_ended was ask) [] before after
 took_some ask next asks before after true ended failed g = absurd g
 took_some ask next asks before after false ended failed (is, (zeros, gave)) = (
   refl,
+  is,
   record {
     front = replicate zeros 0;
     gave = gave;
-    asks = ap (λ input. (ask input).ended) (sym (append-nil (replicate zeros 0))) ∙ ap (λ t. t.ended) (asks.zeros zeros [] ∙ asks.end);
+    asks = ap ask (sym (append-nil (replicate zeros 0))) ∙ asks.zeros zeros [] ∙ asks.end;
   },
 )
 
 -- a call for one byte takes the byte that came, be it a newline or not
-one_at : (before after : Option (List ℕ)) (was ended : Bool) (byte : ℕ) (newline : Bool) → (byte == 10) ≡ newline → GaveByte was before (Ok (Some byte)) ended after → TookAll (asked was 1) (byte ∷ []) before ended after
+one_at : (before after : Option (List ℕ)) (was ended : Bool) (byte : ℕ) (newline : Bool) → (byte == 10) ≡ newline
+    → GaveByte was before (Ok (Some byte)) ended after → TookAll (asked was 1) (byte ∷ []) before ended after
 one_at before after was ended byte true is g = took_newline _ _ (asks_more 0) before after was ended byte g (grind arith)
 one_at before after was ended byte false is g =
     taking_all _ _ before after after (byte ∷ []) [] ended (taking_byte _ _ (asks_more 0) before after was ended byte g is) (took_none after was ended (still_ended before after was ended byte g))
 
 -- the same without the test
-pub took_one : (before after : Option (List ℕ)) (was ended : Bool) (byte : ℕ) → GaveByte was before (Ok (Some byte)) ended after → TookAll (asked was 1) (byte ∷ []) before ended after
+pub took_one : (before after : Option (List ℕ)) (was ended : Bool) (byte : ℕ) → GaveByte was before (Ok (Some byte)) ended after
+    → TookAll (asked was 1) (byte ∷ []) before ended after
 took_one before after was ended byte g = one_at before after was ended byte (byte == 10) refl g

@@ -25,16 +25,17 @@ abbrev pub moved : (ℕ → Bool) → List ℕ → Segments → ℕ → State �
 moved breaks text b zero s = 0
 moved breaks text b (suc n) s = counted (cycle text b s) (before_break breaks text b n)
 
--- unless a read or a write failed
-abbrev pub UnlessFault : Halt → Type 0 → Type 0
-UnlessFault (Exit code) holds = holds
-UnlessFault (Trap trap) holds = holds
-UnlessFault StepLimit holds = holds
-UnlessFault ReadFault holds = Unit {0}
-UnlessFault WriteFault holds = Unit {0}
+-- of a run that ends within so many: all of them, or those up to a call that failed, which counts
+abbrev pub executed_in : (text : List ℕ) (b : Segments) (n : ℕ) (s : State) (first : Option (List ℕ)) (halt : Halt)
+    (m : MachineParts) (left held : Option (List ℕ)) → Ran text b n s first halt m left held → ℕ
+executed_in text b n s first (Exit code) m left held ran = n
+executed_in text b n s first (Trap trap) m left held ran = n
+executed_in text b n s first StepLimit m left held ran = n
+executed_in text b n s first ReadFault m left held (at, comes, failed) = suc comes.count
+executed_in text b n s first WriteFault m left held (at, comes, failed) = suc comes.count
 
 -- How a run up to a break address, of at most n instructions from a state, stopped: as the run of the instructions that are executed, and
 -- with their number.
 pub record RanTo (breaks : ℕ → Bool) (text : List ℕ) (b : Segments) (n : ℕ) (s : State) (first : Option (List ℕ)) (stopped : Stopped) (m : MachineParts) (left held : Option (List ℕ)) : Type 0 where
   pub ran : Ran text b (moved breaks text b n s) s first stopped.halt m left held
-  pub executed : UnlessFault stopped.halt (stopped.executed ≡ moved breaks text b n s)
+  pub executed : stopped.executed ≡ executed_in text b (moved breaks text b n s) s first stopped.halt m left held ran

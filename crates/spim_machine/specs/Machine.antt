@@ -27,6 +27,12 @@ pub record IsIn (first : Option (List ℕ)) (s : State) (m : MachineParts) (left
   pub input : left ≡ Some s.input
   pub output : held ≡ appended first s.output
 
+-- The machine has the registers, the memory and the break of a state, and answered the end of the input or not as the state says.
+pub record HasParts (s : State) (m : MachineParts) : Type 0 where
+  pub core : core_of m.cpu ≡ s.core
+  pub heap_break : m.heap_break ≡ s.heap_break
+  pub ended : m.ended ≡ s.ended
+
 -- No call changes the text, or where the segments are, or what a further run answers.
 pub record Keeps (old new : MachineParts) : Type 0 where
   pub memory : KeepsSegments old.cpu.memory new.cpu.memory

@@ -22,6 +22,6 @@ pub enum Halt {
 pub struct Stopped {
     /// How it ended. `StepLimit` is that of a run that may go on: its budget was spent, or it came to a break address.
     pub halt: Halt,
-    /// How many instructions were executed, the one that exits or traps included.
+    /// How many instructions were executed, the one that exits or traps, or whose call fails, included.
     pub executed: u64,
 }

@@ -71,7 +71,8 @@ impl Machine {
     ///
     /// `Exit` and `Trap` come exactly as the definition of the machine ends, and `StepLimit` exactly where it has not ended
     /// after `budget` instructions; a further run goes on from there. `ReadFault` comes at the first `take` that fails, and
-    /// `WriteFault` at the first `put`. After all but `StepLimit` a further run answers the same, and touches nothing.
+    /// `WriteFault` at the first `put`: then pc stands after the call, and registers and memory are as the call found them, but that the
+    /// bytes of a string that came before the fault are stored. After all but `StepLimit` a further run answers the same, and touches nothing.
     pub fn run<S: Source, K: Sink>(&mut self, budget: u64, source: &mut S, sink: &mut K) -> Halt
         // What it takes of the source, and how it ends, from any state that the machine is in, for any input that begins with what
         // was taken, and is no more than that where the end was answered.
@@ -93,8 +94,8 @@ impl Machine {
 
     /// Executes an instruction, where the budget has one, and goes on until pc is a break address, as `run` does. It takes no memory.
     ///
-    /// It answers how many instructions were executed, too, the one that exits or traps included; after an end of an earlier run
-    /// there is none.
+    /// It answers how many instructions were executed, too, the one that exits or traps, or whose call fails, included; after an end of an
+    /// earlier run there is none.
     pub fn run_to<B: Breaks, S: Source, K: Sink>(
         &mut self,
         budget: u64,

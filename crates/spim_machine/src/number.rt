@@ -69,7 +69,7 @@ impl Number {
 pub fn read_number<S: Source>(ended: &mut bool, source: &mut S) -> Result<u32, Failed>
     ensures took { Took ended.old ended.new (S.past source.old) (S.past source.new) (S.left source.old) (S.left source.new) }
     ensures all { IfOk result (λ n. OfAnyInput (S.past source.old) (S.past source.new) (λ before after. (got : List ℕ) × TookAll (asked_line ended.old) got before ended.new after × (n ≡ number_of got))) }
-    ensures some { OnErr result (OfAnyInput (S.past source.old) (S.past source.new) (λ before after. (ended.old ≡ false) × TookSome (asked_line ended.old) before after)) }
+    ensures some { OnErr result (OfAnyInput (S.past source.old) (S.past source.new) (λ before after. (got : List ℕ) × (ended.old ≡ false) × (ended.new ≡ ended.old) × TookSome (asked_line ended.old) got before after)) }
     ensures no_fault { OnOk result (S.faults source.new ≡ S.faults source.old) }
     ensures failed { OnErr result (Rose (S.faults source.old) (S.faults source.new)) }
 {

@@ -11,7 +11,7 @@ ghost use Rattle.spim_cpu.specs.Cpu.{core_of};
 ghost use Rattle.cool_ports.specs.Taking.{Took, OfAnyInput};
 ghost use Rattle.spim_machine.specs.Input.{TookAll, TookSome};
 ghost use Rattle.spim_machine.specs.Machine.{Keeps};
-ghost use Rattle.spim_machine.specs.Ends.{CountedIf, Does};
+ghost use Rattle.spim_machine.specs.Ends.{CountedIf, IsResultOf, stores_none, stores_string, call_stores};
 
 use super::Machine;
 use crate::Halt;
@@ -39,7 +39,7 @@ impl Machine {
         sink: &mut K,
     ) -> Result<(), Halt>
         ensures took { Took self.old.ended self.new.ended (S.past source.old) (S.past source.new) (S.left source.old) (S.left source.new) }
-        ensures does { OfAnyInput (S.past source.old) (S.past source.new) (λ before after. Does (calls.call (segments self.old.cpu.memory)) self.old before (K.held sink.old) result self.new after (K.held sink.new)) }
+        ensures does { OfAnyInput (S.past source.old) (S.past source.new) (λ before after. IsResultOf (calls.call (segments self.old.cpu.memory)) call_stores self.old before (K.held sink.old) result self.new after (K.held sink.new)) }
         ensures counts { CountedIf result (S.faults source.old) (S.faults source.new) (K.faults sink.old) (K.faults sink.new) }
         ensures keeps { Keeps self.old self.new }
     {
@@ -62,7 +62,7 @@ impl Machine {
 
     /// Puts `$a0` as a signed decimal.
     fn print_int<K: Sink>(&self, sink: &mut K) -> Result<(), Halt>
-        ensures does { (left : Option (List ℕ)) → Does (λ s. calls.print s (signed_decimal (calls.signed (calls.a0 s)))) self.now left (K.held sink.old) result self.now left (K.held sink.new) }
+        ensures does { (left : Option (List ℕ)) → IsResultOf (λ s. calls.print s (signed_decimal (calls.signed (calls.a0 s)))) stores_none self.now left (K.held sink.old) result self.now left (K.held sink.new) }
         ensures counts { CountedIf result 0 0 (K.faults sink.old) (K.faults sink.new) }
     {
         let mut buffer = itoa::Buffer::new();
@@ -75,7 +75,7 @@ impl Machine {
 
     /// Puts the bytes from `$a0` on up to a 0, in pieces of 64 bytes.
     fn print_string<K: Sink>(&self, sink: &mut K) -> Result<(), Halt>
-        ensures does { (left : Option (List ℕ)) → Does (λ s. calls.print_string s (calls.string_at (segments self.now.cpu.memory) s.core.memory (calls.a0 s))) self.now left (K.held sink.old) result self.now left (K.held sink.new) }
+        ensures does { (left : Option (List ℕ)) → IsResultOf (λ s. calls.print_string s (calls.string_at (segments self.now.cpu.memory) s.core.memory (calls.a0 s))) stores_none self.now left (K.held sink.old) result self.now left (K.held sink.new) }
         ensures counts { CountedIf result 0 0 (K.faults sink.old) (K.faults sink.new) }
     {
         let address = self.a0();
@@ -91,7 +91,7 @@ impl Machine {
 
     /// Puts the low byte of `$a0`.
     fn print_char<K: Sink>(&self, sink: &mut K) -> Result<(), Halt>
-        ensures does { (left : Option (List ℕ)) → Does (λ s. calls.print s (calls.a0 s % 256 ∷ [])) self.now left (K.held sink.old) result self.now left (K.held sink.new) }
+        ensures does { (left : Option (List ℕ)) → IsResultOf (λ s. calls.print s (calls.a0 s % 256 ∷ [])) stores_none self.now left (K.held sink.old) result self.now left (K.held sink.new) }
         ensures counts { CountedIf result 0 0 (K.faults sink.old) (K.faults sink.new) }
     {
         match sink.put(&[(self.a0() % 0x100) as u8]) {
@@ -103,7 +103,7 @@ impl Machine {
     /// Takes a line; the number at its front goes to `$v0`.
     fn read_int<S: Source>(&mut self, source: &mut S) -> Result<(), Halt>
         ensures took { Took self.old.ended self.new.ended (S.past source.old) (S.past source.new) (S.left source.old) (S.left source.new) }
-        ensures does { (held : Option (List ℕ)) → OfAnyInput (S.past source.old) (S.past source.new) (λ before after. Does (λ s. calls.read_int s (calls.asked_line s.ended s.input)) self.old before held result self.new after held) }
+        ensures does { (held : Option (List ℕ)) → OfAnyInput (S.past source.old) (S.past source.new) (λ before after. IsResultOf (λ s. calls.read_int s (calls.asked_line s.ended s.input)) stores_none self.old before held result self.new after held) }
         ensures counts { CountedIf result (S.faults source.old) (S.faults source.new) 0 0 }
         ensures keeps { Keeps self.old self.new }
     {
@@ -119,7 +119,7 @@ impl Machine {
     /// Takes a byte, which goes to `$v0`, or -1 at the end of the input.
     fn read_char<S: Source>(&mut self, source: &mut S) -> Result<(), Halt>
         ensures took { Took self.old.ended self.new.ended (S.past source.old) (S.past source.new) (S.left source.old) (S.left source.new) }
-        ensures does { (held : Option (List ℕ)) → OfAnyInput (S.past source.old) (S.past source.new) (λ before after. Does (λ s. calls.read_char s (calls.asked s.ended 1 s.input)) self.old before held result self.new after held) }
+        ensures does { (held : Option (List ℕ)) → OfAnyInput (S.past source.old) (S.past source.new) (λ before after. IsResultOf (λ s. calls.read_char s (calls.asked s.ended 1 s.input)) stores_none self.old before held result self.new after held) }
         ensures counts { CountedIf result (S.faults source.old) (S.faults source.new) 0 0 }
         ensures keeps { Keeps self.old self.new }
     {
@@ -137,7 +137,7 @@ impl Machine {
     /// `Trap` comes where not all of its bytes may be stored.
     fn read_string<S: Source>(&mut self, source: &mut S) -> Result<(), Halt>
         ensures took { Took self.old.ended self.new.ended (S.past source.old) (S.past source.new) (S.left source.old) (S.left source.new) }
-        ensures does { (held : Option (List ℕ)) → OfAnyInput (S.past source.old) (S.past source.new) (λ before after. Does (calls.read_string (segments self.old.cpu.memory)) self.old before held result self.new after held) }
+        ensures does { (held : Option (List ℕ)) → OfAnyInput (S.past source.old) (S.past source.new) (λ before after. IsResultOf (calls.read_string (segments self.old.cpu.memory)) stores_string self.old before held result self.new after held) }
         ensures counts { CountedIf result (S.faults source.old) (S.faults source.new) 0 0 }
         ensures keeps { Keeps self.old self.new }
     {
@@ -156,12 +156,14 @@ impl Machine {
     }
 
     /// Stores at most so many bytes of the input at an address, up to a newline, and a 0 after them.
+    ///
+    /// `Failed` comes at the first `take` that fails; the bytes before it are stored, without a 0.
     fn fill<S: Source>(&mut self, address: u32, most: u32, source: &mut S) -> Result<(), Failed>
         requires writable { calls.all_writable (segments self.old.cpu.memory) address (most + 1) ≡ true }
         requires below { address + most < STACK_END }
         ensures took { Took self.old.ended self.new.ended (S.past source.old) (S.past source.new) (S.left source.old) (S.left source.new) }
         ensures all { OnOk result (OfAnyInput (S.past source.old) (S.past source.new) (λ before after. (got : List ℕ) × TookAll (calls.asked self.old.ended most) got before self.new.ended after × (core_of self.new.cpu ≡ record (core_of self.old.cpu) { memory = calls.set_bytes (core_of self.old.cpu).memory address (got ++ 0 ∷ []) }))) }
-        ensures some { OnErr result (OfAnyInput (S.past source.old) (S.past source.new) (λ before after. (self.old.ended ≡ false) × TookSome (calls.asked self.old.ended most) before after)) }
+        ensures some { OnErr result (OfAnyInput (S.past source.old) (S.past source.new) (λ before after. (got : List ℕ) × (self.old.ended ≡ false) × (self.new.ended ≡ self.old.ended) × TookSome (calls.asked self.old.ended most) got before after × (core_of self.new.cpu ≡ record (core_of self.old.cpu) { memory = calls.set_bytes (core_of self.old.cpu).memory address got }))) }
         ensures heap_break { self.new.heap_break ≡ self.old.heap_break }
         ensures no_fault { OnOk result (S.faults source.new ≡ S.faults source.old) }
         ensures failed { OnErr result (Rose (S.faults source.old) (S.faults source.new)) }
@@ -173,6 +175,8 @@ impl Machine {
     }
 
     /// Stores at most so many bytes of the input at an address, up to a newline, and answers the address after them.
+    ///
+    /// `Failed` comes at the first `take` that fails; the bytes before it are stored.
     fn store_line<S: Source>(
         &mut self,
         address: u32,
@@ -183,7 +187,7 @@ impl Machine {
         requires below { address + most < STACK_END }
         ensures took { Took self.old.ended self.new.ended (S.past source.old) (S.past source.new) (S.left source.old) (S.left source.new) }
         ensures all { IfOk result (λ end. OfAnyInput (S.past source.old) (S.past source.new) (λ before after. (got : List ℕ) × TookAll (calls.asked self.old.ended most) got before self.new.ended after × (end ≡ address + length got) × (length got ≤ most) × (core_of self.new.cpu ≡ record (core_of self.old.cpu) { memory = calls.set_bytes (core_of self.old.cpu).memory address got }))) }
-        ensures some { OnErr result (OfAnyInput (S.past source.old) (S.past source.new) (λ before after. (self.old.ended ≡ false) × TookSome (calls.asked self.old.ended most) before after)) }
+        ensures some { OnErr result (OfAnyInput (S.past source.old) (S.past source.new) (λ before after. (got : List ℕ) × (self.old.ended ≡ false) × (self.new.ended ≡ self.old.ended) × TookSome (calls.asked self.old.ended most) got before after × (core_of self.new.cpu ≡ record (core_of self.old.cpu) { memory = calls.set_bytes (core_of self.old.cpu).memory address got }))) }
         ensures heap_break { self.new.heap_break ≡ self.old.heap_break }
         ensures no_fault { OnOk result (S.faults source.new ≡ S.faults source.old) }
         ensures failed { OnErr result (Rose (S.faults source.old) (S.faults source.new)) }
@@ -217,7 +221,7 @@ impl Machine {
 
     /// Moves the break by `$a0`, and answers the old one in `$v0`; -1 where it would pass the heap's end.
     fn sbrk(&mut self)
-        ensures does { (left held : Option (List ℕ)) → Does (calls.sbrk (segments self.old.cpu.memory)) self.old left held (Ok tt) self.new left held }
+        ensures does { (left held : Option (List ℕ)) → IsResultOf (calls.sbrk (segments self.old.cpu.memory)) stores_none self.old left held (Ok tt) self.new left held }
         ensures ended { self.new.ended ≡ self.old.ended }
         ensures keeps { Keeps self.old self.new }
     {

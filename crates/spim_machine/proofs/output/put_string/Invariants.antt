@@ -12,7 +12,8 @@ invariant-loop-done g l =
     let bytes = bytes_of l.memory in
     record {
       within : l.done ≤ l.count;
-      got : GotUpTo (held l.fn.sink) (bytes_from bytes l.address l.count) (bytes_from bytes (l.address + l.done) (l.count - l.done)) (held l.sink);
+      got : GotUpTo (held l.fn.sink) (bytes_from bytes l.address l.count) (bytes_from bytes (l.address + l.done) (l.count - l.done))
+          (held l.sink);
       no_fault : faults l.sink ≡ faults l.fn.sink;
     }
 

@@ -29,4 +29,4 @@ returns-in-Err-clause-does g c =
     let small = small_is _ _ _ c.a1-size.type_inv c.cast_signed.ensures c.if-cast_signed-lt1.false in
     let memory = c.memory.ensures ∙ ap (λ m. m.cpu.memory) c.self.view_is in
     let may = ap (λ m. all_writable (segments m) c.a0-address.result c.a1-size.result) (sym memory) ∙ sym c.if-not-may_store.ensures.writable in
-    λ held input rest leaves. does_unfilled (segments c.args.self.now.cpu.memory) c.args.self.now c.a0-address.result c.a1-size.result c.a0-address.ensures c.a1-size.ensures c.fill.new.self _ _ small may (c.in-Err.ensures.some input rest leaves) held
+    λ held input rest leaves. does_unfilled (segments c.args.self.now.cpu.memory) c.args.self.now c.a0-address.result c.a1-size.result c.a0-address.ensures c.a1-size.ensures c.fill.new.self _ _ small may (c.in-Err.ensures.some input rest leaves) c.in-Err.ensures.heap_break held

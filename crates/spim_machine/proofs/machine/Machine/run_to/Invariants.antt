@@ -20,7 +20,8 @@ invariant-loop-left g l =
     let b = segments l.fn.self.cpu.memory in
     record {
       took : Took l.fn.self.ended l.self.ended (past l.fn.source) (past l.source) (left l.fn.source) (left l.source);
-      stands : (first : Option (List ℕ)) (s : State) → OfAnyInput (past l.fn.source) (past l.source) (λ input rest. IsIn first s l.fn.self input (held l.fn.sink)
+      stands : (first : Option (List ℕ)) (s : State)
+          → OfAnyInput (past l.fn.source) (past l.source) (λ input rest. IsIn first s l.fn.self input (held l.fn.sink)
           → Stands (moved breaks text b) breaks text b l.budget l.left s first l.self rest (held l.sink));
       keeps : Keeps l.fn.self l.self;
       source : faults l.source ≡ faults l.fn.source;
