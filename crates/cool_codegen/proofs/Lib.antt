@@ -3,6 +3,7 @@ pub mod WholeBodies
 pub mod OperationsAsk
 pub mod VariablesHave
 pub mod CodeByNumbers
+pub mod ConstantsKept
 pub mod NumbersAgree
 pub mod NodesThere
 pub mod ArmsInOrder

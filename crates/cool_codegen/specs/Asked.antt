@@ -1,6 +1,6 @@
 -- The constants that the code of an expression names, in the order in which it asks for their numbers: its integers, and its strings,
 -- which are those of the source and the names of the files of places where a run may end.
-use Rattle.std.specs.Prelude.{ℕ, List, [], ◌∷◌, ◌++◌, ◌≡◌, get_or}
+use Rattle.std.specs.Prelude.{ℕ, ◌<◌, ◌≤◌, List, [], ◌∷◌, ◌++◌, ◌≡◌, get_or, length, slice_get}
 use Rattle.cool_syntax.specs.declared.place.Place.{Place}
 use Rattle.cool_syntax.specs.declared.operator.ArithOp.{ArithOp}
 use Rattle.cool_syntax.specs.declared.operator.ArithOp.TheVariants as arith
@@ -21,6 +21,13 @@ with_strings strings (b ∷ bs) = with_strings (with_string strings b) bs
 pub record Extends (table more : Constants) : Type 0 where
   pub integers : (rest : List ℕ) × (more.integers ≡ table.integers ++ rest)
   pub strings : (rest : List (List ℕ)) × (more.strings ≡ table.strings ++ rest)
+
+-- a table in which each constant of another one has the number that it has there
+pub record Keeps (table more : Constants) : Type 0 where
+  pub no_fewer_integers : length table.integers ≤ length more.integers
+  pub no_fewer_strings : length table.strings ≤ length more.strings
+  pub integers : (k : ℕ) → k < length table.integers → slice_get more.integers k ≡ slice_get table.integers k
+  pub strings : (k : ℕ) → k < length table.strings → slice_get more.strings k ≡ slice_get table.strings k
 
 abbrev mutual
   pub integers_in : Tree → List ℕ

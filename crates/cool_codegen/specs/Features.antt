@@ -5,6 +5,7 @@ use Rattle.cool_syntax.specs.declared.file_tree.Feature.TheVariants.{Method, Att
 use Rattle.cool_syntax.specs.declared.file_tree.Formal.{Formal}
 use Rattle.cool_syntax.specs.Tree.{Tree}
 use Rattle.mips_isa.specs.Lines.{Line}
+use Rattle.mips_isa.specs.declared.register.TheConstants.{FP, S0}
 use Rattle.cool_classes.specs.declared.class_id.ClassId.{ClassId}
 use Rattle.cool_classes.specs.declared.method.AttributeRef.{AttributeRef}
 use Rattle.cool_classes.specs.declared.method.MethodRef.TheVariants.{User}
@@ -27,7 +28,7 @@ with_attributes p c [] vs = vs
 with_attributes p c (a ∷ as') vs =
     with_attributes p c as' (record {
       name = attribute_name p a;
-      variable = record { base = 16; offset = pos (offset p c a); ty = type_meant p (attribute_type p a) };
+      variable = record { base = S0; offset = pos (offset p c a); ty = type_meant p (attribute_type p a) };
     } ∷ vs)
 
 -- formals, entered after names: the last one is nearest to the frame
@@ -36,7 +37,7 @@ with_formals p [] vs = vs
 with_formals p (f ∷ fs) vs =
     with_formals p fs (record {
       name = f.name;
-      variable = record { base = 30; offset = pos (12 + 4 * length fs); ty = type_meant p f.declared.name };
+      variable = record { base = FP; offset = pos (12 + 4 * length fs); ty = type_meant p f.declared.name };
     } ∷ vs)
 
 -- the attributes of a class in scope
@@ -54,7 +55,7 @@ abbrev pub initial_value_code : Context → Constants → Option Tree → List L
 initial_value_code s g None = []
 initial_value_code s g (Some t) =
     code s g (attributes_in s.table s.class) 0 0 t
-    ++ store_lines (pos (offset s.table s.class (record { owner = s.class; index = s.feature }))) 16
+    ++ store_lines (pos (offset s.table s.class (record { owner = s.class; index = s.feature }))) S0
 
 abbrev pub feature_code : Context → Constants → Feature → List Line
 feature_code s g (Method m) = method_code s g m.formals m.body

@@ -1,6 +1,7 @@
--- The names in scope with the words that hold their values, the latest first. A word is addressed from the frame ($fp, 30) or from self
--- ($s0, 16).
+-- The names in scope with the words that hold their values, the latest first. A word is addressed from the frame ($fp) or from self
+-- ($s0).
 use Rattle.std.specs.Prelude.{ℕ, ◌+◌, ◌*◌, negsuc, List, [], ◌∷◌, ◌++◌, bytes_eq, if◌then◌else◌, Option, Some, None}
+use Rattle.mips_isa.specs.declared.register.TheConstants.{FP}
 use Rattle.cool_classes.specs.declared.class_id.Ty.{Ty}
 use Rattle.cool_codegen.specs.declared.variables.Variable.{Variable}
 use Rattle.cool_codegen.specs.declared.variables.Entry.{Entry}
@@ -29,7 +30,7 @@ latest_first (e ∷ es) = latest_first es ++ named_of e ∷ []
 
 -- a variable whose value was pushed onto so many words
 abbrev pub pushed : ℕ → Ty → Variable
-pushed depth type = record { base = 30; offset = negsuc (4 * depth + 3); ty = type }
+pushed depth type = record { base = FP; offset = negsuc (4 * depth + 3); ty = type }
 
 abbrev pub bind : ℕ → List ℕ → Ty → List Named → List Named
 bind depth name type vs = record { name = name; variable = pushed depth type } ∷ vs

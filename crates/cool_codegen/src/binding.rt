@@ -10,6 +10,7 @@ ghost use Rattle.cool_syntax.specs.NodeLists.{all_trees, at_id, twig_at};
 ghost use Rattle.cool_syntax.specs.TreesWithinLimits.{AreCasesWithin, IsMaybeWithin};
 ghost use Rattle.cool_rules.specs.Conformance.{IsType};
 ghost use Rattle.cool_codegen.specs.AddedCode.{Adds, CanName, HasRoom, HasType, IsExpressionOf, IsNodeOf, IsReady};
+ghost use Rattle.cool_codegen.specs.Asked.{Keeps};
 ghost use Rattle.cool_codegen.specs.Arms.{arm_of, arms_lines};
 ghost use Rattle.cool_codegen.specs.Code.{file_label, range_code};
 ghost use Rattle.cool_codegen.specs.Pieces.{case_begin_lines};
@@ -19,8 +20,9 @@ ghost use Rattle.cool_codegen.specs.Types.{joined, object};
 ghost use Rattle.cool_codegen.specs.Variables.{bind, pushed};
 
 use crate::arm::{Arm, insert_arm};
+use crate::constant_labels::file_label;
 use crate::expression::expression;
-use crate::label::{file_label, inner_label};
+use crate::inner_labels::inner_label;
 use crate::number::negative;
 use crate::operation::take_default;
 use crate::piece::{case_begin, case_end, pop, try_tags, turn};
@@ -29,6 +31,7 @@ use crate::variables::{Variable, Variables};
 use cool_classes::{ClassId, OBJECT, Ty};
 use cool_consts::Consts;
 use cool_rules::class_of;
+use cool_runtime::draft::write;
 use cool_runtime::piece::push;
 use cool_syntax::{Name, Node, NodeBranch, NodeId, Place};
 use mips_isa::Line;
@@ -54,6 +57,7 @@ pub(crate) fn binding<'a>(
     ensures typed { HasType setting.now.table.now (node_type (context setting.now) setting.now.body.now variables.old depth node.now) result }
     ensures scope { OnOk result (variables.new ≡ variables.old) }
     ensures made { Adds (node_lines (context setting.now) setting.now.body.now consts.old variables.old depth id node.now) (node_asked (context setting.now).files setting.now.body.now consts.old node.now) (node_size setting.now.body.now node.now) consts.old consts.new lines.old.items lines.new.items result }
+    ensures kept { Keeps consts.old consts.new }
 {
     let alloc = setting.alloc;
     match node {
@@ -66,9 +70,9 @@ pub(crate) fn binding<'a>(
         } => {
             let bound = setting.meant(&declared.name);
             initial(setting, variables, depth, id, bound, *init, consts, lines)?;
-            push(alloc, lines)?;
+            write(alloc, lines, &push())?;
             let found = within(setting, variables, depth, name, bound, *body, consts, lines)?;
-            pop(alloc, lines)?;
+            write(alloc, lines, &pop())?;
             Ok(found)
         }
         Node::Case {
@@ -78,20 +82,11 @@ pub(crate) fn binding<'a>(
         } => {
             expression(setting, variables, depth, *value, consts, lines)?;
             begin_case(setting, *at, consts, lines)?;
-            push(alloc, lines)?;
+            write(alloc, lines, &push())?;
             let end = inner_label(setting, "end", id)?;
             let parts = branches.as_slice();
-            let found = arms(
-                setting,
-                variables,
-                depth,
-                id,
-                parts,
-                end.as_bytes(),
-                consts,
-                lines,
-            )?;
-            case_end(alloc, lines, end.as_bytes())?;
+            let found = arms(setting, variables, depth, id, parts, &end, consts, lines)?;
+            write(alloc, lines, &case_end(&end))?;
             Ok(found)
         }
         _ => unreachable!(),
@@ -117,6 +112,7 @@ fn initial<'a>(
     requires room { HasRoom consts.old depth (maybe_size_at setting.now.body.now init) }
     ensures scope { OnOk result (variables.new ≡ variables.old) }
     ensures made { Adds (initial_lines (context setting.now) setting.now.body.now consts.old variables.old depth bound init) (maybe_asked (context setting.now).files setting.now.body.now consts.old init) (maybe_size_at setting.now.body.now init) consts.old consts.new lines.old.items lines.new.items result }
+    ensures kept { Keeps consts.old consts.new }
 {
     match init {
         Some(value) => {
@@ -149,6 +145,7 @@ fn within<'a>(
     ensures typed { HasType setting.now.table.now (type_at (context setting.now) setting.now.body.now (bind depth name.now bound variables.old) (depth + 1) body) result }
     ensures scope { OnOk result (variables.new ≡ variables.old) }
     ensures made { Adds (lines_at (context setting.now) setting.now.body.now consts.old (bind depth name.now bound variables.old) (depth + 1) body) (asked_at (context setting.now).files setting.now.body.now consts.old body) (size_at setting.now.body.now body) consts.old consts.new lines.old.items lines.new.items result }
+    ensures kept { Keeps consts.old consts.new }
 {
     variables.enter(name, pushed(depth, bound))?;
     let found = expression(setting, variables, depth + 1, body, consts, lines)?;
@@ -168,9 +165,11 @@ fn begin_case(
     ensures asked { OnOk result (consts.new ≡ with_file (context setting.now).files consts.old at) }
     ensures more_integers { OnOk result (length consts.new.integers ≡ length consts.old.integers) }
     ensures more_strings { OnOk result (length consts.new.strings ≤ length consts.old.strings + 1) }
+    ensures kept { Keeps consts.old consts.new }
 {
     let file = file_label(setting, consts, at)?;
-    case_begin(setting.alloc, lines, file.as_bytes(), at.line)
+    write(setting.alloc, lines, &case_begin(&file, at.line))?;
+    Ok(())
 }
 
 /// A variable whose value was pushed onto so many words.
@@ -206,6 +205,7 @@ fn arms<'a>(
     ensures typed { HasType setting.now.table.now (unwrap_or (branches_type_at (context setting.now) setting.now.body.now variables.old depth None branches.now) object) result }
     ensures scope { OnOk result (variables.new ≡ variables.old) }
     ensures made { Adds (arms_lines (branches_arms (context setting.now) setting.now.body.now consts.old variables.old depth end.now [] branches.now)) (branches_asked (context setting.now).files setting.now.body.now consts.old branches.now) (branch_sizes_at setting.now.body.now branches.now) consts.old consts.new lines.old.items lines.new.items result }
+    ensures kept { Keeps consts.old consts.new }
 {
     let mut sorted = Vec::new(setting.alloc);
     let mut joined = None;
@@ -266,7 +266,7 @@ fn try_class(
 {
     let low = setting.minus_tag(class);
     let count = setting.tag_count(class);
-    try_tags(setting.alloc, lines, low, count, next)
+    write(setting.alloc, lines, &try_tags(low, count, next))
 }
 
 /// Adds the code of a branch for objects of this class and those below it.
@@ -289,10 +289,11 @@ fn arm<'a>(
     ensures typed { HasType setting.now.table.now (type_at (context setting.now) setting.now.body.now (within_branch (context setting.now) variables.old depth branch.now) (depth + 1) branch.now.body) result }
     ensures scope { OnOk result (variables.new ≡ variables.old) }
     ensures made { Adds (branch_lines (context setting.now) setting.now.body.now consts.old variables.old depth end.now branch.now) (asked_at (context setting.now).files setting.now.body.now consts.old branch.now.body) (size_at setting.now.body.now branch.now.body) consts.old consts.new lines.old.items lines.new.items result }
+    ensures kept { Keeps consts.old consts.new }
 {
     let alloc = setting.alloc;
     let next = inner_label(setting, "next", branch.body)?;
-    try_class(setting, class, next.as_bytes(), lines)?;
+    try_class(setting, class, &next, lines)?;
     let bound = Ty::Class(class);
     let found = within(
         setting,
@@ -304,6 +305,6 @@ fn arm<'a>(
         consts,
         lines,
     )?;
-    turn(alloc, lines, end, next.as_bytes())?;
+    write(alloc, lines, &turn(end, &next))?;
     Ok(found)
 }

@@ -4,13 +4,14 @@ ghost use Rattle.std.specs.Prelude.{◌≡◌, ◌++◌, ◌+◌, ◌<◌, ◌�
 ghost use Rattle.mips_isa.specs.Lines.{lines_of};
 ghost use Rattle.cool_syntax.specs.NodeGroups.{IsCall};
 ghost use Rattle.cool_codegen.specs.AddedCode.{Adds, AreExpressionsOf, CanName, HasRoom, HasType, IsNodeOf, IsReady};
+ghost use Rattle.cool_codegen.specs.Asked.{Keeps};
 ghost use Rattle.cool_codegen.specs.Code.{slot_code, static_code};
 ghost use Rattle.cool_codegen.specs.Numbered.{all_asked, arguments_lines, node_asked, node_lines, node_size, node_type, sizes_at, with_file};
 ghost use Rattle.cool_codegen.specs.Settings.{context, IsSound};
 ghost use Rattle.cool_codegen.specs.Types.{resulting};
 
+use crate::constant_labels::file_label;
 use crate::expression::expression;
-use crate::label::file_label;
 use crate::piece::{call, call_static};
 use crate::setting::Setting;
 use crate::variables::Variables;
@@ -18,6 +19,7 @@ use cool_classes::{ClassId, Ty};
 use cool_consts::Consts;
 use cool_layout::method_label;
 use cool_rules::class_of;
+use cool_runtime::draft::write;
 use cool_runtime::piece::push;
 use cool_syntax::{Name, Node, NodeId, Place};
 use mips_isa::Line;
@@ -42,6 +44,7 @@ pub(crate) fn dispatch<'a>(
     ensures typed { HasType setting.now.table.now (node_type (context setting.now) setting.now.body.now variables.old depth node.now) result }
     ensures scope { OnOk result (variables.new ≡ variables.old) }
     ensures made { Adds (node_lines (context setting.now) setting.now.body.now consts.old variables.old depth id node.now) (node_asked (context setting.now).files setting.now.body.now consts.old node.now) (node_size setting.now.body.now node.now) consts.old consts.new lines.old.items lines.new.items result }
+    ensures kept { Keeps consts.old consts.new }
 {
     match node {
         Node::Dispatch {
@@ -105,11 +108,12 @@ fn arguments<'a>(
     ensures within { IfOk result (λ inner. inner ≤ depth + sizes_at setting.now.body.now args.now) }
     ensures scope { OnOk result (variables.new ≡ variables.old) }
     ensures made { Adds (arguments_lines (context setting.now) setting.now.body.now consts.old variables.old depth args.now) (all_asked (context setting.now).files setting.now.body.now consts.old args.now) (sizes_at setting.now.body.now args.now) consts.old consts.new lines.old.items lines.new.items result }
+    ensures kept { Keeps consts.old consts.new }
 {
     let mut inner = depth;
     for arg in args {
         expression(setting, variables, inner, *arg, consts, lines)?;
-        push(setting.alloc, lines)?;
+        write(setting.alloc, lines, &push())?;
         inner += 1;
     }
     Ok(inner)
@@ -131,10 +135,12 @@ fn call_by_slot(
     ensures asked { OnOk result (consts.new ≡ with_file (context setting.now).files consts.old at) }
     ensures more_integers { OnOk result (length consts.new.integers ≡ length consts.old.integers) }
     ensures more_strings { OnOk result (length consts.new.strings ≤ length consts.old.strings + 1) }
+    ensures kept { Keeps consts.old consts.new }
 {
     let file = file_label(setting, consts, at)?;
     let offset = setting.slot_offset(class, name);
-    call(setting.alloc, lines, file.as_bytes(), at.line, offset)
+    write(setting.alloc, lines, &call(&file, at.line, offset))?;
+    Ok(())
 }
 
 /// Adds the call of the method of this name that a class has, by its label.
@@ -153,8 +159,10 @@ fn call_by_label(
     ensures asked { OnOk result (consts.new ≡ with_file (context setting.now).files consts.old at) }
     ensures more_integers { OnOk result (length consts.new.integers ≡ length consts.old.integers) }
     ensures more_strings { OnOk result (length consts.new.strings ≤ length consts.old.strings + 1) }
+    ensures kept { Keeps consts.old consts.new }
 {
     let file = file_label(setting, consts, at)?;
     let label = method_label(setting.alloc, setting.table, setting.method(class, name))?;
-    call_static(setting.alloc, lines, file.as_bytes(), at.line, &label)
+    write(setting.alloc, lines, &call_static(&file, at.line, &label))?;
+    Ok(())
 }

@@ -4,6 +4,7 @@ ghost use Rattle.std.specs.Prelude.{◌≡◌, ◌≤◌, OnOk};
 ghost use Rattle.cool_syntax.specs.NodeGroups.{IsControl, IsLeaf};
 ghost use Rattle.cool_rules.specs.Conformance.{IsType};
 ghost use Rattle.cool_codegen.specs.AddedCode.{Adds, AreExpressionsOf, HasRoom, HasType, IsExpressionOf, IsNodeOf, IsReady};
+ghost use Rattle.cool_codegen.specs.Asked.{Keeps};
 ghost use Rattle.cool_codegen.specs.Code.{truth_label};
 ghost use Rattle.cool_codegen.specs.Numbered.{all_asked, asked_at, items_lines, last_type_at, lines_at, node_asked, node_lines, node_size, node_type, size_at, sizes_at, type_at};
 ghost use Rattle.cool_codegen.specs.Settings.{context};
@@ -11,7 +12,8 @@ ghost use Rattle.cool_codegen.specs.Types.{object, type_of_named};
 
 use crate::binding::binding;
 use crate::call::dispatch;
-use crate::label::{inner_label, int_label, string_label};
+use crate::constant_labels::{int_label, string_label};
+use crate::inner_labels::inner_label;
 use crate::operation::{is_self, take_name, take_new};
 use crate::operator::{binary, unary};
 use crate::piece::{mark, repeat, take, test, turn};
@@ -19,6 +21,7 @@ use crate::setting::Setting;
 use crate::variables::Variables;
 use cool_classes::{BOOL, INT, OBJECT, STRING, Ty};
 use cool_consts::Consts;
+use cool_runtime::draft::write;
 use cool_syntax::{Name, Node, NodeId};
 use mips_isa::Line;
 use std::alloc::AllocError;
@@ -42,6 +45,7 @@ pub(crate) fn expression<'a>(
     ensures typed { HasType setting.now.table.now (type_at (context setting.now) setting.now.body.now variables.old depth id) result }
     ensures scope { OnOk result (variables.new ≡ variables.old) }
     ensures made { Adds (lines_at (context setting.now) setting.now.body.now consts.old variables.old depth id) (asked_at (context setting.now).files setting.now.body.now consts.old id) (size_at setting.now.body.now id) consts.old consts.new lines.old.items lines.new.items result }
+    ensures kept { Keeps consts.old consts.new }
     ensures some { 1 ≤ size_at setting.now.body.now id }
 {
     let node = node_of(setting, variables, depth, consts, id);
@@ -106,6 +110,7 @@ fn leaf(
     ensures typed { HasType setting.now.table.now (node_type (context setting.now) setting.now.body.now variables.old depth node.now) result }
     ensures scope { OnOk result (variables.new ≡ variables.old) }
     ensures made { Adds (node_lines (context setting.now) setting.now.body.now consts.old variables.old depth id node.now) (node_asked (context setting.now).files setting.now.body.now consts.old node.now) (node_size setting.now.body.now node.now) consts.old consts.new lines.old.items lines.new.items result }
+    ensures kept { Keeps consts.old consts.new }
 {
     let alloc = setting.alloc;
     match node {
@@ -120,16 +125,16 @@ fn leaf(
         }
         Node::Int { value, .. } => {
             let label = int_label(alloc, consts, *value)?;
-            take(alloc, lines, label.as_bytes())?;
+            write(alloc, lines, &take(&label))?;
             Ok(Ty::Class(INT))
         }
         Node::Str { bytes, .. } => {
             let label = string_label(alloc, consts, bytes.as_slice())?;
-            take(alloc, lines, label.as_bytes())?;
+            write(alloc, lines, &take(&label))?;
             Ok(Ty::Class(STRING))
         }
         Node::Bool { value, .. } => {
-            take(alloc, lines, truth_label(*value))?;
+            write(alloc, lines, &take(truth_label(*value)))?;
             Ok(Ty::Class(BOOL))
         }
         _ => unreachable!(),
@@ -182,6 +187,7 @@ fn control<'a>(
     ensures typed { HasType setting.now.table.now (node_type (context setting.now) setting.now.body.now variables.old depth node.now) result }
     ensures scope { OnOk result (variables.new ≡ variables.old) }
     ensures made { Adds (node_lines (context setting.now) setting.now.body.now consts.old variables.old depth id node.now) (node_asked (context setting.now).files setting.now.body.now consts.old node.now) (node_size setting.now.body.now node.now) consts.old consts.new lines.old.items lines.new.items result }
+    ensures kept { Keeps consts.old consts.new }
 {
     let alloc = setting.alloc;
     match node {
@@ -194,11 +200,11 @@ fn control<'a>(
             let other = inner_label(setting, "else", id)?;
             let end = inner_label(setting, "end", id)?;
             expression(setting, variables, depth, *predicate, consts, lines)?;
-            test(alloc, lines, other.as_bytes())?;
+            write(alloc, lines, &test(&other))?;
             let first = expression(setting, variables, depth, *yes, consts, lines)?;
-            turn(alloc, lines, end.as_bytes(), other.as_bytes())?;
+            write(alloc, lines, &turn(&end, &other))?;
             let second = expression(setting, variables, depth, *no, consts, lines)?;
-            mark(alloc, lines, end.as_bytes())?;
+            write(alloc, lines, &mark(&end))?;
             Ok(setting.join(first, second))
         }
         Node::While {
@@ -208,11 +214,11 @@ fn control<'a>(
         } => {
             let begin = inner_label(setting, "loop", id)?;
             let end = inner_label(setting, "end", id)?;
-            mark(alloc, lines, begin.as_bytes())?;
+            write(alloc, lines, &mark(&begin))?;
             expression(setting, variables, depth, *predicate, consts, lines)?;
-            test(alloc, lines, end.as_bytes())?;
+            write(alloc, lines, &test(&end))?;
             expression(setting, variables, depth, *body, consts, lines)?;
-            repeat(alloc, lines, begin.as_bytes(), end.as_bytes())?;
+            write(alloc, lines, &repeat(&begin, &end))?;
             Ok(Ty::Class(OBJECT))
         }
         Node::Block { items: parts, .. } => {
@@ -247,6 +253,7 @@ fn items<'a>(
     ensures typed { HasType setting.now.table.now (last_type_at (context setting.now) setting.now.body.now variables.old depth object items.now) result }
     ensures scope { OnOk result (variables.new ≡ variables.old) }
     ensures made { Adds (items_lines (context setting.now) setting.now.body.now consts.old variables.old depth items.now) (all_asked (context setting.now).files setting.now.body.now consts.old items.now) (sizes_at setting.now.body.now items.now) consts.old consts.new lines.old.items lines.new.items result }
+    ensures kept { Keeps consts.old consts.new }
 {
     let mut last = Ty::Class(OBJECT);
     for item in items {

@@ -13,7 +13,7 @@ ghost use Rattle.cool_layout.specs.Layouts.{IsLayoutOf};
 ghost use Rattle.cool_layout.specs.Members.{attributes};
 ghost use Rattle.cool_rules.specs.Fits.{Fits};
 ghost use Rattle.cool_codegen.specs.AddedCode.{AddsBody, HasRoom, IsReady};
-ghost use Rattle.cool_codegen.specs.Asked.{with_integers, with_strings, Extends};
+ghost use Rattle.cool_codegen.specs.Asked.{with_integers, with_strings, Extends, Keeps};
 ghost use Rattle.cool_codegen.specs.Code.{code};
 ghost use Rattle.cool_codegen.specs.Features.{attributes_in, feature_code, feature_integers, feature_strings, initial_value_code, method_code, with_formals};
 ghost use Rattle.cool_codegen.specs.Settings.{attribute_of, context, IsSound};
@@ -27,6 +27,7 @@ use cool_classes::{AttributeRef, ClassId, MethodRef};
 use cool_consts::Consts;
 use cool_layout::{Layout, method_label};
 use cool_rules::TypedProgram;
+use cool_runtime::draft::write;
 use cool_runtime::piece::enter;
 use cool_syntax::{Feature, Formal};
 use mips_isa::Line;
@@ -37,7 +38,7 @@ use std::alloc::{AllocError, Global};
 /// that computes and stores an initial value; nothing for an attribute without one. The constants that the code names are numbered after
 /// those before. The names are those of the files.
 ///
-/// `Err` comes only for want of memory.
+/// `Err` comes only for want of memory. The constants are then those before, with perhaps more after them.
 pub fn feature_lines(
     alloc: Global,
     p: &TypedProgram,
@@ -56,6 +57,7 @@ pub fn feature_lines(
     ensures lines { (x : syntax.Feature) → slice_get (features_of p.now c) feature ≡ Some x → IfOk result (λ lines. (g : Constants) → Extends consts.new g → lines_of lines.items ≡ feature_code (record { table = p.now; class = c; feature = feature; files = map string_bytes names.now }) g x) }
     ensures integers { (x : syntax.Feature) → slice_get (features_of p.now c) feature ≡ Some x → OnOk result (consts.new.integers ≡ with_integers consts.old.integers (feature_integers x)) }
     ensures strings { (x : syntax.Feature) → slice_get (features_of p.now c) feature ≡ Some x → OnOk result (consts.new.strings ≡ with_strings consts.old.strings (feature_strings (map string_bytes names.now) x)) }
+    ensures kept { Extends consts.old consts.new }
 {
     let table = p.table();
     let mut lines = Vec::new(alloc);
@@ -100,7 +102,8 @@ fn body_lines<'a>(
     requires places { IsTreeWithin (length setting.now.names.now) setting.now.body.now }
     requires ready { IsReady setting.now variables.old }
     requires room { HasRoom consts.old 0 (tree_size setting.now.body.now) }
-    ensures { AddsBody setting.now (λ g. code (context setting.now) g variables.old 0 0 setting.now.body.now) consts.old consts.new lines.old.items lines.new.items result }
+    ensures made { AddsBody setting.now (λ g. code (context setting.now) g variables.old 0 0 setting.now.body.now) consts.old consts.new lines.old.items lines.new.items result }
+    ensures kept { Keeps consts.old consts.new }
 {
     let root = setting.body.root();
     expression(setting, variables, 0, root, consts, lines)?;
@@ -161,7 +164,8 @@ fn method_lines<'a>(
     requires few { length formals.now < 2 ^ 28 }
     requires places { IsTreeWithin (length setting.now.names.now) setting.now.body.now }
     requires room { HasRoom consts.old 0 (tree_size setting.now.body.now) }
-    ensures { AddsBody setting.now (λ g. method_code (context setting.now) g formals.now setting.now.body.now) consts.old consts.new lines.old.items lines.new.items result }
+    ensures made { AddsBody setting.now (λ g. method_code (context setting.now) g formals.now setting.now.body.now) consts.old consts.new lines.old.items lines.new.items result }
+    ensures kept { Keeps consts.old consts.new }
 {
     let alloc = setting.alloc;
     let method = MethodRef::User {
@@ -171,11 +175,11 @@ fn method_lines<'a>(
     let label = method_label(alloc, setting.table, method)?;
     let mut variables = attribute_variables(setting)?;
     formal_variables(setting, &mut variables, formals)?;
-    mark(alloc, lines, &label)?;
-    enter(alloc, lines)?;
+    write(alloc, lines, &mark(&label))?;
+    write(alloc, lines, &enter())?;
     body_lines(setting, &mut variables, consts, lines)?;
     let taken = signed(12 + 4 * formals.len() as u32);
-    leave(alloc, lines, taken)?;
+    write(alloc, lines, &leave(taken))?;
     Ok(())
 }
 
@@ -189,7 +193,8 @@ fn attribute_lines<'a>(
     requires there { Contains (attributes setting.now.table.now setting.now.class) (attribute_of setting.now) }
     requires places { IsTreeWithin (length setting.now.names.now) setting.now.body.now }
     requires room { HasRoom consts.old 0 (tree_size setting.now.body.now) }
-    ensures { AddsBody setting.now (λ g. initial_value_code (context setting.now) g (Some setting.now.body.now)) consts.old consts.new lines.old.items lines.new.items result }
+    ensures made { AddsBody setting.now (λ g. initial_value_code (context setting.now) g (Some setting.now.body.now)) consts.old consts.new lines.old.items lines.new.items result }
+    ensures kept { Keeps consts.old consts.new }
 {
     let attribute = AttributeRef {
         owner: setting.class,
@@ -198,6 +203,6 @@ fn attribute_lines<'a>(
     let mut variables = attribute_variables(setting)?;
     body_lines(setting, &mut variables, consts, lines)?;
     let offset = setting.offset(attribute);
-    store(setting.alloc, lines, offset, S0)?;
+    write(setting.alloc, lines, &store(offset, S0))?;
     Ok(())
 }

@@ -8,9 +8,10 @@
 mod arm;
 mod binding;
 mod call;
+mod constant_labels;
 mod expression;
 mod feature;
-mod label;
+mod inner_labels;
 mod number;
 mod operation;
 mod operator;

@@ -4,12 +4,13 @@ ghost use Rattle.std.specs.Prelude.{◌≡◌, ◌<◌, ◌-◌, ◌^◌, ◌++�
 ghost use Rattle.mips_isa.specs.Lines.{lines_of};
 ghost use Rattle.cool_rules.specs.Conformance.{IsType};
 ghost use Rattle.cool_consts.specs.Constants.{Constants, with_string};
-ghost use Rattle.cool_codegen.specs.Asked.{Extends};
+ghost use Rattle.cool_codegen.specs.Asked.{Extends, Keeps};
 ghost use Rattle.cool_codegen.specs.Code.{assign_code, bool_code, compare_code, default_code, divisor_code, file_name, int_code, name_code, new_code};
 ghost use Rattle.cool_codegen.specs.Settings.{context};
 ghost use Rattle.cool_codegen.specs.Types.{is_self};
 
-use crate::label::{file_label, inner_label};
+use crate::constant_labels::file_label;
+use crate::inner_labels::inner_label;
 use crate::piece::{
     compare_equal, create, create_self, ends_where, flag, is_zero, less, less_equal, load, store,
     take, take_self, take_void, values,
@@ -19,6 +20,7 @@ use crate::variables::Variables;
 use cool_classes::{BOOL, INT, STRING, Ty};
 use cool_consts::Consts;
 use cool_layout::{initializer_label, prototype_label};
+use cool_runtime::draft::write;
 use cool_runtime::piece::new_int;
 use cool_syntax::{CompareOp, Name, NodeId, Place};
 use mips_isa::Line;
@@ -29,7 +31,7 @@ pub fn make_bool(setting: &Setting<'_>, id: NodeId, lines: &mut Vec<Line>) -> Re
     ensures { OnOk result (lines_of lines.new.items ≡ lines_of lines.old.items ++ bool_code (context setting.now) id) }
 {
     let end = inner_label(setting, "end", id)?;
-    flag(setting.alloc, lines, end.as_bytes())?;
+    write(setting.alloc, lines, &flag(&end))?;
     Ok(())
 }
 
@@ -47,18 +49,16 @@ pub fn make_int(
     ensures lines { OnOk result ((g : Constants) → Extends consts.new g → lines_of lines.new.items ≡ lines_of lines.old.items ++ int_code (context setting.now) g at id) }
     ensures integers { consts.new.integers ≡ consts.old.integers }
     ensures strings { OnOk result (consts.new.strings ≡ with_string consts.old.strings (file_name (context setting.now) at)) }
+    ensures kept { Keeps consts.old consts.new }
 {
     let file = file_label(setting, consts, at)?;
     let fits = inner_label(setting, "fits", id)?;
-    ends_where(
+    write(
         setting.alloc,
         lines,
-        fits.as_bytes(),
-        file.as_bytes(),
-        at.line,
-        b"overflow_abort",
+        &ends_where(&fits, &file, at.line, b"overflow_abort"),
     )?;
-    new_int(setting.alloc, lines)?;
+    write(setting.alloc, lines, &new_int())?;
     Ok(())
 }
 
@@ -74,18 +74,18 @@ pub fn compare(
     let alloc = setting.alloc;
     match op {
         CompareOp::Equal => {
-            compare_equal(alloc, lines)?;
+            write(alloc, lines, &compare_equal())?;
             Ok(())
         }
         CompareOp::Less => {
-            values(alloc, lines)?;
-            less(alloc, lines)?;
+            write(alloc, lines, &values())?;
+            write(alloc, lines, &less())?;
             make_bool(setting, id, lines)?;
             Ok(())
         }
         CompareOp::LessEqual => {
-            values(alloc, lines)?;
-            less_equal(alloc, lines)?;
+            write(alloc, lines, &values())?;
+            write(alloc, lines, &less_equal())?;
             make_bool(setting, id, lines)?;
             Ok(())
         }
@@ -109,11 +109,11 @@ pub fn take_name(
     ensures { OnOk result (lines_of lines.new.items ≡ lines_of lines.old.items ++ name_code variables.now name.now) }
 {
     if is_self(name) {
-        take_self(alloc, lines)?;
+        write(alloc, lines, &take_self())?;
         return Ok(());
     }
     if let Some(variable) = variables.find(name) {
-        load(alloc, lines, variable.offset, variable.base)?;
+        write(alloc, lines, &load(variable.offset, variable.base))?;
     }
     Ok(())
 }
@@ -131,7 +131,7 @@ pub fn assign(
         return Ok(());
     }
     if let Some(variable) = variables.find(name) {
-        store(alloc, lines, variable.offset, variable.base)?;
+        write(alloc, lines, &store(variable.offset, variable.base))?;
     }
     Ok(())
 }
@@ -150,17 +150,15 @@ pub fn test_divisor(
     ensures lines { OnOk result ((g : Constants) → Extends consts.new g → lines_of lines.new.items ≡ lines_of lines.old.items ++ divisor_code (context setting.now) g at id) }
     ensures integers { consts.new.integers ≡ consts.old.integers }
     ensures strings { OnOk result (consts.new.strings ≡ with_string consts.old.strings (file_name (context setting.now) at)) }
+    ensures kept { Keeps consts.old consts.new }
 {
     let file = file_label(setting, consts, at)?;
     let some = inner_label(setting, "some", id)?;
-    is_zero(setting.alloc, lines)?;
-    ends_where(
+    write(setting.alloc, lines, &is_zero())?;
+    write(
         setting.alloc,
         lines,
-        some.as_bytes(),
-        file.as_bytes(),
-        at.line,
-        b"div_abort",
+        &ends_where(&some, &file, at.line, b"div_abort"),
     )?;
     Ok(())
 }
@@ -171,10 +169,10 @@ pub fn take_default(alloc: Global, bound: Ty, lines: &mut Vec<Line>) -> Result<(
     ensures { OnOk result (lines_of lines.new.items ≡ lines_of lines.old.items ++ default_code bound) }
 {
     match bound {
-        Ty::Class(INT) => take(alloc, lines, b"__default_int")?,
-        Ty::Class(BOOL) => take(alloc, lines, b"bool_const0")?,
-        Ty::Class(STRING) => take(alloc, lines, b"__default_string")?,
-        _ => take_void(alloc, lines)?,
+        Ty::Class(INT) => write(alloc, lines, &take(b"__default_int"))?,
+        Ty::Class(BOOL) => write(alloc, lines, &take(b"bool_const0"))?,
+        Ty::Class(STRING) => write(alloc, lines, &take(b"__default_string"))?,
+        _ => write(alloc, lines, &take_void())?,
     }
     Ok(())
 }
@@ -186,11 +184,11 @@ pub fn take_new(setting: &Setting<'_>, made: Ty, lines: &mut Vec<Line>) -> Resul
 {
     let alloc = setting.alloc;
     match made {
-        Ty::SelfType => create_self(alloc, lines)?,
+        Ty::SelfType => write(alloc, lines, &create_self())?,
         Ty::Class(class) => {
             let object = prototype_label(alloc, setting.table, class)?;
             let values = initializer_label(alloc, setting.table, class)?;
-            create(alloc, lines, &object, &values)?;
+            write(alloc, lines, &create(&object, &values))?;
         }
     }
     Ok(())

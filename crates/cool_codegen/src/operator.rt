@@ -7,7 +7,7 @@ ghost use Rattle.cool_runtime.specs.Routines.{push_lines};
 ghost use Rattle.cool_codegen.specs.AddedCode.{Adds, CanName, HasRoom, HasType, IsExpressionOf, IsNodeOf, IsReady};
 ghost use Rattle.cool_codegen.specs.Numbered.{asked_at, lines_at, node_asked, node_lines, node_size, node_type, operation_asked, operation_lines, size_at, tested_strings};
 ghost use Rattle.cool_consts.specs.Constants.{Constants};
-ghost use Rattle.cool_codegen.specs.Asked.{Extends};
+ghost use Rattle.cool_codegen.specs.Asked.{Extends, Keeps};
 ghost use Rattle.cool_codegen.specs.Code.{operation_code};
 ghost use Rattle.cool_codegen.specs.Settings.{context};
 
@@ -18,6 +18,7 @@ use crate::setting::Setting;
 use crate::variables::Variables;
 use cool_classes::{BOOL, INT, Ty};
 use cool_consts::Consts;
+use cool_runtime::draft::write;
 use cool_runtime::piece::push;
 use cool_syntax::{ArithOp, Node, NodeId, Place};
 use mips_isa::Line;
@@ -42,6 +43,7 @@ pub(crate) fn unary<'a>(
     ensures typed { HasType setting.now.table.now (node_type (context setting.now) setting.now.body.now variables.old depth node.now) result }
     ensures scope { OnOk result (variables.new ≡ variables.old) }
     ensures made { Adds (node_lines (context setting.now) setting.now.body.now consts.old variables.old depth id node.now) (node_asked (context setting.now).files setting.now.body.now consts.old node.now) (node_size setting.now.body.now node.now) consts.old consts.new lines.old.items lines.new.items result }
+    ensures kept { Keeps consts.old consts.new }
 {
     let alloc = setting.alloc;
     match node {
@@ -52,19 +54,19 @@ pub(crate) fn unary<'a>(
         }
         Node::IsVoid { value, .. } => {
             expression(setting, variables, depth, *value, consts, lines)?;
-            is_void(alloc, lines)?;
+            write(alloc, lines, &is_void())?;
             make_bool(setting, id, lines)?;
             Ok(Ty::Class(BOOL))
         }
         Node::Neg { at, value } => {
             expression(setting, variables, depth, *value, consts, lines)?;
-            negate(alloc, lines)?;
+            write(alloc, lines, &negate())?;
             make_int(setting, *at, id, consts, lines)?;
             Ok(Ty::Class(INT))
         }
         Node::Not { value, .. } => {
             expression(setting, variables, depth, *value, consts, lines)?;
-            complement(alloc, lines)?;
+            write(alloc, lines, &complement())?;
             make_bool(setting, id, lines)?;
             Ok(Ty::Class(BOOL))
         }
@@ -91,6 +93,7 @@ pub(crate) fn binary<'a>(
     ensures typed { HasType setting.now.table.now (node_type (context setting.now) setting.now.body.now variables.old depth node.now) result }
     ensures scope { OnOk result (variables.new ≡ variables.old) }
     ensures made { Adds (node_lines (context setting.now) setting.now.body.now consts.old variables.old depth id node.now) (node_asked (context setting.now).files setting.now.body.now consts.old node.now) (node_size setting.now.body.now node.now) consts.old consts.new lines.old.items lines.new.items result }
+    ensures kept { Keeps consts.old consts.new }
 {
     match node {
         Node::Arith {
@@ -137,9 +140,10 @@ fn operands<'a>(
     requires room { HasRoom consts.old depth (size_at setting.now.body.now left + size_at setting.now.body.now right + 1) }
     ensures scope { OnOk result (variables.new ≡ variables.old) }
     ensures made { Adds (lines_at (context setting.now) setting.now.body.now consts.old variables.old depth left ++ (push_lines ++ lines_at (context setting.now) setting.now.body.now (asked_at (context setting.now).files setting.now.body.now consts.old left) variables.old (depth + 1) right)) (asked_at (context setting.now).files setting.now.body.now (asked_at (context setting.now).files setting.now.body.now consts.old left) right) (size_at setting.now.body.now left + size_at setting.now.body.now right) consts.old consts.new lines.old.items lines.new.items result }
+    ensures kept { Keeps consts.old consts.new }
 {
     expression(setting, variables, depth, left, consts, lines)?;
-    push(setting.alloc, lines)?;
+    write(setting.alloc, lines, &push())?;
     expression(setting, variables, depth + 1, right, consts, lines)?;
     Ok(())
 }
@@ -158,8 +162,9 @@ fn compute(
     ensures asked { OnOk result (consts.new ≡ operation_asked (context setting.now).files op at consts.old) }
     ensures more_integers { OnOk result (length consts.new.integers ≡ length consts.old.integers) }
     ensures more_strings { OnOk result (length consts.new.strings ≤ length consts.old.strings + 2) }
+    ensures kept { Keeps consts.old consts.new }
 {
-    values(setting.alloc, lines)?;
+    write(setting.alloc, lines, &values())?;
     operate(setting, op, at, id, consts, lines)?;
     make_int(setting, at, id, consts, lines)?;
     Ok(())
@@ -178,15 +183,16 @@ fn operate(
     ensures lines { OnOk result ((g : Constants) → Extends consts.new g → lines_of lines.new.items ≡ lines_of lines.old.items ++ operation_code (context setting.now) g op at id) }
     ensures integers { consts.new.integers ≡ consts.old.integers }
     ensures strings { OnOk result (consts.new.strings ≡ tested_strings (context setting.now).files op at consts.old.strings) }
+    ensures kept { Keeps consts.old consts.new }
 {
     let alloc = setting.alloc;
     match op {
-        ArithOp::Add => add(alloc, lines),
-        ArithOp::Sub => subtract(alloc, lines),
-        ArithOp::Mul => multiply(alloc, lines),
+        ArithOp::Add => write(alloc, lines, &add()),
+        ArithOp::Sub => write(alloc, lines, &subtract()),
+        ArithOp::Mul => write(alloc, lines, &multiply()),
         ArithOp::Div => {
             test_divisor(setting, at, id, consts, lines)?;
-            divide(alloc, lines)
+            write(alloc, lines, &divide())
         }
     }
 }

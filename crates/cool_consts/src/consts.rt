@@ -80,9 +80,8 @@ impl Consts {
     ) -> Result<Vec<Line>, AllocError>
         ensures { IfOk result (λ lines. lines_of lines.items ≡ constants_lines int_tag bool_tag string_tag self.now) }
     {
-        let mut lines = Vec::new(alloc);
-        bool_object(alloc, &mut lines, b"bool_const0", bool_tag, 0)?;
-        bool_object(alloc, &mut lines, b"bool_const1", bool_tag, 1)?;
+        let mut lines = bool_object(alloc, b"bool_const0", bool_tag, 0)?;
+        lines.append(&mut bool_object(alloc, b"bool_const1", bool_tag, 1)?)?;
         add_integers(alloc, &mut lines, int_tag, self.integers.as_slice())?;
         let tags = StringTags {
             int: int_tag,

@@ -42,7 +42,8 @@ pub(crate) fn add_integers(
 {
     for index in 0..integers.len() {
         let name = int_constant(alloc, index)?;
-        int_object(alloc, lines, name.as_slice(), tag, integers[index] as usize)?;
+        let mut int = int_object(alloc, name.as_slice(), tag, integers[index] as usize)?;
+        lines.append(&mut int)?;
     }
     Ok(())
 }
@@ -59,14 +60,14 @@ pub(crate) fn add_strings(
     for index in 0..strings.len() {
         let name = string_constant(alloc, index)?;
         let length_name = string_length(alloc, index)?;
-        string_object(
+        let mut string = string_object(
             alloc,
-            lines,
             name.as_slice(),
             length_name.as_slice(),
             tags,
             strings[index].as_slice(),
         )?;
+        lines.append(&mut string)?;
     }
     Ok(())
 }

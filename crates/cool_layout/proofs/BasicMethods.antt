@@ -1,11 +1,11 @@
 -- The methods of a basic class, one after another.
-use Rattle.std.proofs.Common.{◌≡◌, ℕ, ◌+◌, ◌<◌, List, [], ◌∷◌, ◌++◌, length, map, take, get_or, ap, sym, ◌∙◌}
+use Rattle.std.proofs.Common.{◌≡◌, ℕ, ◌+◌, ◌<◌, List, [], ◌∷◌, ◌++◌, length, take, get_or, ap, sym, ◌∙◌}
 use Rattle.std.proofs.lemmas.List.{map_more, map_push}
 use Rattle.cool_classes.specs.BasicMethods.{named_methods}
 use Rattle.cool_classes.specs.Features.{NamedMethod}
 use Rattle.cool_classes.specs.declared.basic_methods.NamedMethod as row
 use Rattle.cool_classes.specs.declared.method.MethodRef.TheVariants.{Basic}
-use Rattle.cool_layout.specs.SlotTables.{OwnMethod, basic_own}
+use Rattle.cool_layout.specs.SlotTables.{basic_own}
 
 -- one more of the rows is one more method of the class's own
 pub own_more : (rows : List row.NamedMethod) (i : ℕ) (d : row.NamedMethod) → i < length rows

@@ -19,3 +19,4 @@ pub mod ClassesByTag
 pub mod BasicNames
 pub mod MethodsThere
 pub mod AttributesThere
+pub mod AttributesCounted

@@ -6,6 +6,7 @@ use Rattle.cool_syntax.specs.declared.file_tree.Feature.TheVariants.{Method, Att
 use Rattle.cool_classes.specs.declared.class_id.ClassId.{ClassId}
 use Rattle.cool_classes.specs.Chains.{Class, class_number, parent_of, features_of}
 use Rattle.cool_layout.specs.Members.{attributes}
+use Rattle.cool_layout.specs.SlotTables.{class_of}
 
 -- the offset of each attribute among features, after so many others; a method has 0
 abbrev pub offsets_among : ℕ → List Feature → List ℕ
@@ -25,6 +26,10 @@ attributes_above p (Some q) = length (attributes p q)
 
 abbrev pub above_count : List Class → ClassId → ℕ
 above_count p c = attributes_above p (parent_of p c)
+
+-- how many attributes the class of each tag has, as far as they are counted
+abbrev pub AreCounts : List Class → List ℕ → Type 0
+AreCounts p counts = (k d : ℕ) → k < length counts → get_or counts k d ≡ length (attributes p (class_of p k))
 
 -- those of each of so many classes
 pub record AreOffsets (p : List Class) (n : ℕ) (all : List (Vec ℕ)) : Type 0 where

@@ -48,7 +48,7 @@ impl Layout {
         let walk = preorder(alloc, t)?;
         let tags = tags_of(alloc, t, &walk)?;
         let lasts = lasts_of(alloc, t, &walk, tags.as_slice())?;
-        let offsets = offsets_of(alloc, t)?;
+        let offsets = offsets_of(alloc, t, &walk, tags.as_slice())?;
         let tables = tables_of(alloc, t, &walk, tags.as_slice())?;
         Ok(Layout {
             order: walk.order,

@@ -3,8 +3,12 @@
 ghost use Rattle.std.specs.Prelude.{◌≡◌, ℕ, ◌+◌, ◌≤◌, ◌<◌, length, IfOk};
 ghost use Rattle.cool_classes.specs.Limits.{KeepsLimits};
 ghost use Rattle.cool_layout.specs.Roots.{IsRooted};
-ghost use Rattle.cool_layout.specs.Offsets.{AreOffsets, offsets_among, above_count, attribute_count};
+ghost use Rattle.cool_layout.specs.Offsets.{AreCounts, AreOffsets, offsets_among, above_count, attribute_count};
+ghost use Rattle.cool_layout.specs.Preorder.{tag};
+ghost use Rattle.cool_layout.specs.Walks.{IsWalk, AreTagsOf};
 
+use crate::order::Walk;
+use crate::slots::tag_above;
 use cool_classes::{ClassId, ClassTable};
 use cool_syntax::Feature;
 use std::alloc::{AllocError, Global};
@@ -32,28 +36,76 @@ fn own_offsets(alloc: Global, features: &[Feature], above: usize) -> Result<Vec<
     Ok(offsets)
 }
 
-/// How many attributes the parent of a class has. `Err` comes only for want of memory.
-fn count_above(alloc: Global, t: &ClassTable, class: ClassId) -> Result<usize, AllocError>
-    requires rooted { IsRooted t.now }
-    requires within { class.0 < length t.now }
-    ensures { IfOk result (λ count. count ≡ above_count t.now class) }
+/// How many of the features of a class are attributes.
+fn own_count(features: &[Feature]) -> usize
+    ensures { result ≡ attribute_count features.now }
 {
-    match t.parent(class) {
-        Some(above) => Ok(t.attributes(alloc, above)?.len()),
-        None => Ok(0),
+    let mut count = 0;
+    for index in 0..features.len() {
+        match &features[index] {
+            Feature::Attribute(_) => count += 1,
+            Feature::Method(_) => {}
+        }
+    }
+    count
+}
+
+/// How many attributes the parent of a class has, by the counts of classes with smaller tags.
+fn count_above(t: &ClassTable, tags: &[u32], counts: &[usize], class: ClassId) -> usize
+    requires rooted { IsRooted t.now }
+    requires tags { AreTagsOf t.now tags.now }
+    requires class { class.0 < length t.now }
+    requires counts { AreCounts t.now counts.now }
+    requires known { tag t.now class ≤ length counts.now }
+    ensures { result ≡ above_count t.now class }
+{
+    match tag_above(t, tags, class) {
+        Some(above) => counts[above],
+        None => 0,
     }
 }
 
-/// The offsets of the attributes of each class, by feature. `Err` comes only for want of memory.
-pub(crate) fn offsets_of(alloc: Global, t: &ClassTable) -> Result<Vec<Vec<u32>>, AllocError>
+/// How many attributes the class of each tag has, with those that it inherits. `Err` comes only for want of memory.
+fn counts_of(
+    alloc: Global,
+    t: &ClassTable,
+    walk: &Walk,
+    tags: &[u32],
+) -> Result<Vec<usize>, AllocError>
     requires rooted { IsRooted t.now }
+    requires walk { IsWalk t.now walk.now }
+    requires tags { AreTagsOf t.now tags.now }
+    requires limits { KeepsLimits t.now }
+    ensures same { IfOk result (λ counts. length counts.items ≡ length t.now) }
+    ensures counts { IfOk result (λ counts. AreCounts t.now counts.items) }
+{
+    let mut counts = Vec::new(alloc);
+    for tag in 0..t.count() {
+        let class = walk.order[tag as usize];
+        let above = count_above(t, tags, counts.as_slice(), class);
+        counts.push(above + own_count(t.features(class)))?;
+    }
+    Ok(counts)
+}
+
+/// The offsets of the attributes of each class, by feature. `Err` comes only for want of memory.
+pub(crate) fn offsets_of(
+    alloc: Global,
+    t: &ClassTable,
+    walk: &Walk,
+    tags: &[u32],
+) -> Result<Vec<Vec<u32>>, AllocError>
+    requires rooted { IsRooted t.now }
+    requires walk { IsWalk t.now walk.now }
+    requires tags { AreTagsOf t.now tags.now }
     requires limits { KeepsLimits t.now }
     ensures { IfOk result (λ all. AreOffsets t.now (length t.now) all.items) }
 {
+    let counts = counts_of(alloc, t, walk, tags)?;
     let mut all = Vec::new(alloc);
     for number in 0..t.count() {
         let class = ClassId(number);
-        let above = count_above(alloc, t, class)?;
+        let above = count_above(t, tags, counts.as_slice(), class);
         all.push(own_offsets(alloc, t.features(class), above)?)?;
     }
     Ok(all)

@@ -129,15 +129,8 @@ fn add_prototype(
     let table = table_label(alloc, t, class)?;
     let fields = new_fields(alloc, t, class, attributes)?;
     let size = HEAD_WORDS + fields.len();
-    object(
-        alloc,
-        lines,
-        name.as_slice(),
-        tag,
-        size,
-        table.as_slice(),
-        fields,
-    )
+    let mut prototype = object(alloc, name.as_slice(), tag, size, table.as_slice(), fields)?;
+    lines.append(&mut prototype)
 }
 
 /// Adds the prototypes of classes. `Err` comes only for want of memory.
@@ -177,15 +170,14 @@ pub(crate) fn add_defaults(
     ensures { OnOk result (lines_of lines.new.items ≡ lines_of lines.old.items ++ written.default_lines t.now) }
 {
     let _table = t;
-    int_object(alloc, lines, b"__default_int", tags.int, 0)?;
-    let fields = empty_string_fields(alloc)?;
-    object(
+    lines.append(&mut int_object(alloc, b"__default_int", tags.int, 0)?)?;
+    let mut string = object(
         alloc,
-        lines,
         b"__default_string",
         tags.string,
         EMPTY_STRING_WORDS,
         b"String_dispTab",
-        fields,
-    )
+        empty_string_fields(alloc)?,
+    )?;
+    lines.append(&mut string)
 }

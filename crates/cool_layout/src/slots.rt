@@ -190,7 +190,7 @@ fn add_all_own(
 }
 
 /// The tag of the parent of a class.
-fn tag_above(t: &ClassTable, tags: &[u32], class: ClassId) -> Option<usize>
+pub(crate) fn tag_above(t: &ClassTable, tags: &[u32], class: ClassId) -> Option<usize>
     requires rooted { IsRooted t.now }
     requires tags { AreTagsOf t.now tags.now }
     requires class { class.0 < length t.now }

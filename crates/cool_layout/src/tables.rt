@@ -40,8 +40,9 @@ pub(crate) fn add_class_names(
 ) -> Result<(), AllocError>
     ensures { OnOk result (lines_of lines.new.items ≡ lines_of lines.old.items ++ written.class_names_lines order.now) }
 {
-    label_line(alloc, lines, b"class_nameTab")?;
-    word_line(alloc, lines, name_addresses(alloc, order)?)
+    lines.push(label_line(alloc, b"class_nameTab")?)?;
+    lines.push(word_line(alloc, name_addresses(alloc, order)?)?)?;
+    Ok(())
 }
 
 /// Adds the addresses of the prototype and of the initializer of a class.
@@ -59,7 +60,8 @@ fn add_class_object(
     let mut items = Vec::new(alloc);
     items.push(address(alloc, prototype.as_slice())?)?;
     items.push(address(alloc, initializer.as_slice())?)?;
-    word_line(alloc, lines, items)
+    lines.push(word_line(alloc, items)?)?;
+    Ok(())
 }
 
 /// Adds the table of the prototypes and the initializers of classes. `Err` comes only for want of memory.
@@ -73,7 +75,7 @@ pub(crate) fn add_class_objects(
     requires within { AllByRecursion (λ c. c.0 < length t.now) order.now }
     ensures { OnOk result (lines_of lines.new.items ≡ lines_of lines.old.items ++ written.class_objects_lines t.now order.now) }
 {
-    label_line(alloc, lines, b"class_objTab")?;
+    lines.push(label_line(alloc, b"class_objTab")?)?;
     for class in order {
         add_class_object(alloc, lines, t, *class)?;
     }
@@ -111,8 +113,9 @@ fn add_dispatch_table(
     ensures { OnOk result (lines_of lines.new.items ≡ lines_of lines.old.items ++ written.dispatch_table_lines t.now class) }
 {
     let name = table_label(alloc, t, class)?;
-    label_line(alloc, lines, name.as_slice())?;
-    word_line(alloc, lines, method_addresses(alloc, t, methods)?)
+    lines.push(label_line(alloc, name.as_slice())?)?;
+    lines.push(word_line(alloc, method_addresses(alloc, t, methods)?)?)?;
+    Ok(())
 }
 
 /// Adds the dispatch tables of classes. `Err` comes only for want of memory.

@@ -27,14 +27,14 @@ fn add_name(
 {
     let name = name_label(alloc, class)?;
     let length_name = name_length_label(alloc, class)?;
-    string_object(
+    let mut string = string_object(
         alloc,
-        lines,
         name.as_slice(),
         length_name.as_slice(),
         tags,
         t.name(class).as_slice(),
-    )
+    )?;
+    lines.append(&mut string)
 }
 
 /// Adds the Strings of the names of classes. `Err` comes only for want of memory.
@@ -68,7 +68,7 @@ fn add_all(alloc: Global, lines: &mut Vec<Line>, texts: &[Text<'_>]) -> Result<(
     ensures { OnOk result (lines_of lines.new.items ≡ lines_of lines.old.items ++ flat_map (λ text. text_lines text.name.now text.bytes.now) texts.now) }
 {
     for text in texts {
-        labelled_text(alloc, lines, text.name, text.bytes)?;
+        lines.append(&mut labelled_text(alloc, text.name, text.bytes)?)?;
     }
     Ok(())
 }

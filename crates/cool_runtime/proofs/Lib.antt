@@ -1,3 +1,4 @@
+pub mod AddedLines
 pub mod Runs
 pub mod Walking
 pub mod Words

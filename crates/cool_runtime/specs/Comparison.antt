@@ -1,5 +1,6 @@
 -- The comparison of two values: its operands, and its verdict.
 use Rattle.std.specs.Prelude.{ℕ, ◌+◌, ◌≡◌, ◌⊎◌, ◌==◌, Bool, true, false, if◌then◌else◌, List, bytes_eq}
+use Rattle.mips_isa.specs.declared.register.TheConstants.{T1, T2}
 use Rattle.mips_isa.specs.Bytes.{Bytes, word}
 use Rattle.mips_isa.specs.Calls.{State}
 use Rattle.cool_runtime.specs.Reaches.{World}
@@ -10,8 +11,8 @@ use Rattle.cool_runtime.specs.Machines.{At, Pointers, Console}
 -- the machine stands so, and $t1 and $t2 hold the operands
 pub record Operands (w : World) (p : Pointers) (m : Bytes) (c : Console) (a b : ℕ) (s : State) : Type 0 where
   pub at : At w p m c s
-  pub t1_is : s.core.registers 9 ≡ a
-  pub t2_is : s.core.registers 10 ≡ b
+  pub t1_is : s.core.registers T1 ≡ a
+  pub t2_is : s.core.registers T2 ≡ b
 
 -- an Int or a Bool with its value
 pub record ValueAt (w : World) (m : Bytes) (gp a v : ℕ) : Type 0 where

@@ -1,5 +1,6 @@
 -- What the routines do, wherever their lines stand in a text: from the contents at entry to those at exit, within so many
 -- instructions, or to an exit by a limit.
+use Rattle.mips_isa.specs.declared.register.TheConstants.{T8, T9}
 use Rattle.cool_runtime.specs.Comparison.{Operands, ValueAt, Verdict, constant_place}
 use Rattle.cool_runtime.specs.Contents.{IntAt, StringAt, AreBytes, TextAt, Lies, Tagged, Prototypes, NameAt}
 use Rattle.cool_runtime.specs.Labels.{name_table, type_name, abort, case_abort, abort_text, newline_text, no_branch_text, stop_text, colon_text, copy, int_prototype, string_prototype, equality, main_prototype, main_init, main_main, end_text, int_table, string_concat, string_substr, substr_abort, dispatch_abort, div_abort, heap_limit, stack_limit, in_string, in_int, out_int, out_string, string_length}
@@ -75,7 +76,7 @@ Cuts w = (p : Pointers) (m : Bytes) (c : Console) (s : State) (xs other : List �
 abbrev pub RefusesToCut : World → Type 0
 RefusesToCut w = (p : Pointers) (m : Bytes) (c : Console) (s : State) (xs : List ℕ) (i l : ℕ) → HasLines w (w.place string_substr) (routine_lines routines.Substr) → At w p m c s → p.pc ≡ w.place string_substr → p.sp + 8 ≤ STACK_END
     → StringAt w m p.gp p.acc xs → IntAt w m p.gp (word m (p.sp + 4)) i → IntAt w m p.gp (word m p.sp) l → length xs < i + l
-    → Reaches w s 0 13 (stands (λ t. At w (record p { pc = w.place substr_abort }) m c t × (t.core.registers 24 ≡ s.core.registers 24) × (t.core.registers 25 ≡ s.core.registers 25)))
+    → Reaches w s 0 13 (stands (λ t. At w (record p { pc = w.place substr_abort }) m c t × (t.core.registers T8 ≡ s.core.registers T8) × (t.core.registers T9 ≡ s.core.registers T9)))
 
 -- two values are compared
 abbrev pub Compares : World → Type 0
@@ -99,13 +100,13 @@ EndsByAbort w = (p : Pointers) (m : Bytes) (c : Console) (s : State) (tag : ℕ)
 -- the end by an error at a place, of a routine with the name and the text of its labels
 abbrev pub EndsByError : World → Routine → Name → Name → Type 0
 EndsByError w routine name text = (p : Pointers) (m : Bytes) (c : Console) (s : State) (file colon words : List ℕ) (line : ℕ) → HasLines w (w.place name) (routine_lines routine) → At w p m c s → p.pc ≡ w.place name
-    → StringAt w m p.gp (s.core.registers 24) file → s.core.registers 25 ≡ line → line < 4294967296 → TextAt w m (w.place colon_text) colon → TextAt w m (w.place text) words
+    → StringAt w m p.gp (s.core.registers T8) file → s.core.registers T9 ≡ line → line < 4294967296 → TextAt w m (w.place colon_text) colon → TextAt w m (w.place text) words
     → Reaches w s 0 16 (exits 3 (EndsWith c (file ++ (colon ++ (signed_decimal (signed line) ++ words)))))
 
 -- the end of a case without a branch
 abbrev pub EndsByNoBranch : World → Type 0
 EndsByNoBranch w = (p : Pointers) (m : Bytes) (c : Console) (s : State) (tag line : ℕ) (name file colon first last : List ℕ) → HasLines w (w.place case_abort) (routine_lines routines.NoBranch) → At w p m c s → p.pc ≡ w.place case_abort
-    → Tagged w m p.gp p.acc tag → NameAt w m p.gp tag name → StringAt w m p.gp (s.core.registers 24) file → s.core.registers 25 ≡ line → line < 4294967296
+    → Tagged w m p.gp p.acc tag → NameAt w m p.gp tag name → StringAt w m p.gp (s.core.registers T8) file → s.core.registers T9 ≡ line → line < 4294967296
     → TextAt w m (w.place colon_text) colon → TextAt w m (w.place no_branch_text) first → TextAt w m (w.place stop_text) last
     → Reaches w s 0 27 (exits 3 (EndsWith c ((file ++ (colon ++ signed_decimal (signed line))) ++ (first ++ (name ++ last)))))
 

@@ -1,6 +1,6 @@
--- The run-time routines, line by line. Registers: 2 $v0, 4 $a0, 8 to 15 $t0 to $t7, 22 $s6, 23 $s7, 24 $t8, 25 $t9, 28 $gp, 29 $sp,
--- 31 $ra. The last argument is at $sp, and the routine takes the arguments from the stack.
+-- The run-time routines, line by line. The last argument is at $sp, and the routine takes the arguments from the stack.
 use Rattle.std.specs.Prelude.{ℕ, pos, negsuc, List, [], ◌∷◌, ◌++◌}
+use Rattle.mips_isa.specs.declared.register.TheConstants.{ZERO, V0, V1, A0, A1, T0, T1, T2, T3, T4, T5, T6, T7, S6, S7, T8, T9, GP, SP, RA}
 use Rattle.mips_isa.specs.declared.system_call.TheConstants.{PRINT_INT, PRINT_STRING, READ_INT, EXIT, READ_CHAR, EXIT2}
 use Rattle.mips_isa.specs.Lines.{Name, Line}
 use Rattle.mips_isa.specs.Assembly.{start_name}
@@ -9,81 +9,81 @@ use Rattle.cool_runtime.specs.Instructions.{label, addu, subu, sltu, sll, srl, a
 
 -- pushes $a0
 abbrev pub push_lines : List Line
-push_lines = addiu 29 29 (negsuc 3) ∷ sltu 8 29 22 ∷ beq 8 0 ∷ j stack_limit ∷ sw 4 (pos 0) 29 ∷ []
+push_lines = addiu SP SP (negsuc 3) ∷ sltu T0 SP S6 ∷ beq T0 ZERO ∷ j stack_limit ∷ sw A0 (pos 0) SP ∷ []
 
 -- allocates an Int with the value of $t2, whose address is left in $a0; the head is that of the prototype
 abbrev pub new_int_lines : List Line
 new_int_lines =
-    addiu 9 28 (pos 20) ∷ sltu 8 23 9 ∷ beq 8 0 ∷ j heap_limit
-    ∷ la 11 int_prototype ∷ lw 12 (pos 0) 11 ∷ lw 13 (pos 4) 11 ∷ lw 14 (pos 8) 11
-    ∷ addiu 8 0 (negsuc 0) ∷ sw 8 (pos 0) 28
-    ∷ sw 12 (pos 4) 28
-    ∷ sw 13 (pos 8) 28
-    ∷ sw 14 (pos 12) 28
-    ∷ sw 10 (pos 16) 28
-    ∷ addiu 4 28 (pos 4) ∷ move 28 9 ∷ []
+    addiu T1 GP (pos 20) ∷ sltu T0 S7 T1 ∷ beq T0 ZERO ∷ j heap_limit
+    ∷ la T3 int_prototype ∷ lw T4 (pos 0) T3 ∷ lw T5 (pos 4) T3 ∷ lw T6 (pos 8) T3
+    ∷ addiu T0 ZERO (negsuc 0) ∷ sw T0 (pos 0) GP
+    ∷ sw T4 (pos 4) GP
+    ∷ sw T5 (pos 8) GP
+    ∷ sw T6 (pos 12) GP
+    ∷ sw T2 (pos 16) GP
+    ∷ addiu A0 GP (pos 4) ∷ move GP T1 ∷ []
 
 -- writes the Int at $sp
 abbrev pub out_int_lines : List Line
 out_int_lines =
     label out_int
-    ∷ move 8 4
-    ∷ lw 4 (pos 0) 29
-    ∷ lw 4 (pos 12) 4
+    ∷ move T0 A0
+    ∷ lw A0 (pos 0) SP
+    ∷ lw A0 (pos 12) A0
     ∷ call_number PRINT_INT
     ∷ syscall
-    ∷ move 4 8
-    ∷ addiu 29 29 (pos 4)
-    ∷ jr 31
+    ∷ move A0 T0
+    ∷ addiu SP SP (pos 4)
+    ∷ jr RA
     ∷ []
 
 -- writes the String at $sp
 abbrev pub out_string_lines : List Line
 out_string_lines =
     label out_string
-    ∷ move 8 4
-    ∷ lw 4 (pos 0) 29
-    ∷ addiu 4 4 (pos 16)
+    ∷ move T0 A0
+    ∷ lw A0 (pos 0) SP
+    ∷ addiu A0 A0 (pos 16)
     ∷ call_number PRINT_STRING
     ∷ syscall
-    ∷ move 4 8
-    ∷ addiu 29 29 (pos 4)
-    ∷ jr 31
+    ∷ move A0 T0
+    ∷ addiu SP SP (pos 4)
+    ∷ jr RA
     ∷ []
 
 -- reads an Int
 abbrev pub read_number_lines : List Line
-read_number_lines = label in_int ∷ call_number READ_INT ∷ syscall ∷ move 10 2 ∷ []
+read_number_lines = label in_int ∷ call_number READ_INT ∷ syscall ∷ move T2 V0 ∷ []
 
 abbrev pub return_lines : List Line
-return_lines = jr 31 ∷ []
+return_lines = jr RA ∷ []
 
 abbrev pub in_int_lines : List Line
 in_int_lines = read_number_lines ++ (new_int_lines ++ return_lines)
 
 -- the Int with the length of the String in $a0
 abbrev pub length_lines : List Line
-length_lines = label string_length ∷ lw 4 (pos 12) 4 ∷ jr 31 ∷ []
+length_lines = label string_length ∷ lw A0 (pos 12) A0 ∷ jr RA ∷ []
 
 -- Copies the object in $a0: $t1 becomes the end of the object, $t2 the new $gp, $t3 the next word's address.
 abbrev pub copy_first_lines : List Line
 copy_first_lines =
     label copy
-    ∷ lw 9 (pos 4) 4 ∷ sll 9 9 2
-    ∷ addu 10 28 9 ∷ addiu 10 10 (pos 4)
-    ∷ sltu 8 23 10 ∷ beq 8 0 ∷ j heap_limit
-    ∷ addiu 8 0 (negsuc 0) ∷ sw 8 (pos 0) 28
-    ∷ addiu 11 28 (pos 4) ∷ addu 9 4 9 ∷ []
+    ∷ lw T1 (pos 4) A0 ∷ sll T1 T1 2
+    ∷ addu T2 GP T1 ∷ addiu T2 T2 (pos 4)
+    ∷ sltu T0 S7 T2 ∷ beq T0 ZERO ∷ j heap_limit
+    ∷ addiu T0 ZERO (negsuc 0) ∷ sw T0 (pos 0) GP
+    ∷ addiu T3 GP (pos 4) ∷ addu T1 A0 T1 ∷ []
 
 -- a word, and the next turn
 abbrev pub copy_word_lines : List Line
-copy_word_lines = lw 8 (pos 0) 4 ∷ sw 8 (pos 0) 11 ∷ addiu 4 4 (pos 4) ∷ addiu 11 11 (pos 4) ∷ j copy_words ∷ []
+copy_word_lines = lw T0 (pos 0) A0 ∷ sw T0 (pos 0) T3 ∷ addiu A0 A0 (pos 4) ∷ addiu T3 T3 (pos 4) ∷ j copy_words ∷ []
 
 abbrev pub copy_words_lines : List Line
-copy_words_lines = label copy_words ∷ bne 4 9 ∷ j copy_end ∷ copy_word_lines
+copy_words_lines = label copy_words ∷ bne A0 T1 ∷ j copy_end ∷ copy_word_lines
 
 abbrev pub copy_end_lines : List Line
-copy_end_lines = label copy_end ∷ addiu 4 28 (pos 4) ∷ move 28 10 ∷ jr 31 ∷ []
+copy_end_lines = label copy_end ∷ addiu A0 GP (pos 4) ∷ move GP T2 ∷ jr RA ∷ []
 
 abbrev pub copy_lines : List Line
 copy_lines = copy_first_lines ++ (copy_words_lines ++ copy_end_lines)
@@ -91,48 +91,48 @@ copy_lines = copy_first_lines ++ (copy_words_lines ++ copy_end_lines)
 -- Puts the object of an Int with the value of $t5 at $gp, which stays.
 abbrev pub int_head_lines : List Line
 int_head_lines =
-    la 5 int_prototype ∷ lw 2 (pos 0) 5 ∷ lw 3 (pos 8) 5
-    ∷ addiu 8 0 (negsuc 0) ∷ sw 8 (pos 0) 28 ∷ sw 2 (pos 4) 28 ∷ addiu 2 0 (pos 4) ∷ sw 2 (pos 8) 28 ∷ sw 3 (pos 12) 28 ∷ sw 13 (pos 16) 28 ∷ []
+    la A1 int_prototype ∷ lw V0 (pos 0) A1 ∷ lw V1 (pos 8) A1
+    ∷ addiu T0 ZERO (negsuc 0) ∷ sw T0 (pos 0) GP ∷ sw V0 (pos 4) GP ∷ addiu V0 ZERO (pos 4) ∷ sw V0 (pos 8) GP ∷ sw V1 (pos 12) GP ∷ sw T5 (pos 16) GP ∷ []
 
 -- Puts the head of a String of $t5 bytes after that Int.
 abbrev pub string_head_lines : List Line
 string_head_lines =
-    la 5 string_prototype ∷ lw 2 (pos 0) 5 ∷ lw 3 (pos 8) 5
-    ∷ addiu 8 0 (negsuc 0) ∷ sw 8 (pos 20) 28 ∷ sw 2 (pos 24) 28
-    ∷ srl 2 13 2 ∷ addiu 2 2 (pos 5) ∷ sw 2 (pos 28) 28 ∷ sw 3 (pos 32) 28 ∷ addiu 2 28 (pos 4) ∷ sw 2 (pos 36) 28 ∷ []
+    la A1 string_prototype ∷ lw V0 (pos 0) A1 ∷ lw V1 (pos 8) A1
+    ∷ addiu T0 ZERO (negsuc 0) ∷ sw T0 (pos 20) GP ∷ sw V0 (pos 24) GP
+    ∷ srl V0 T5 2 ∷ addiu V0 V0 (pos 5) ∷ sw V0 (pos 28) GP ∷ sw V1 (pos 32) GP ∷ addiu V0 GP (pos 4) ∷ sw V0 (pos 36) GP ∷ []
 
 -- Puts zeros into the last word of that String, which ends at $t1; its first byte's address to $t4.
 abbrev pub string_zeros_lines : List Line
-string_zeros_lines = sw 0 (negsuc 3) 9 ∷ addiu 12 28 (pos 40) ∷ []
+string_zeros_lines = sw ZERO (negsuc 3) T1 ∷ addiu T4 GP (pos 40) ∷ []
 
 -- Copies $t3 bytes from $t2 to $t4.
 abbrev pub bytes_lines : Name → Name → List Line
 bytes_lines begin end =
-    label begin ∷ bne 11 0 ∷ j end
-    ∷ lbu 8 (pos 0) 10 ∷ sb 8 (pos 0) 12 ∷ addiu 10 10 (pos 1) ∷ addiu 12 12 (pos 1) ∷ addiu 11 11 (negsuc 0) ∷ j begin ∷ []
+    label begin ∷ bne T3 ZERO ∷ j end
+    ∷ lbu T0 (pos 0) T2 ∷ sb T0 (pos 0) T4 ∷ addiu T2 T2 (pos 1) ∷ addiu T4 T4 (pos 1) ∷ addiu T3 T3 (negsuc 0) ∷ j begin ∷ []
 
 -- The String after $gp is the result, $t1 the new $gp; so many bytes of arguments are taken from the stack.
 abbrev pub string_end_lines : Name → ℕ → List Line
-string_end_lines name arguments = label name ∷ addiu 4 28 (pos 24) ∷ move 28 9 ∷ addiu 29 29 (pos arguments) ∷ jr 31 ∷ []
+string_end_lines name arguments = label name ∷ addiu A0 GP (pos 24) ∷ move GP T1 ∷ addiu SP SP (pos arguments) ∷ jr RA ∷ []
 
 -- The same without arguments and without a label.
 abbrev pub string_return_lines : List Line
-string_return_lines = addiu 4 28 (pos 24) ∷ move 28 9 ∷ jr 31 ∷ []
+string_return_lines = addiu A0 GP (pos 24) ∷ move GP T1 ∷ jr RA ∷ []
 
 -- The String in $a0, then the one at $sp: $t6 is the second one, $t3 and $t7 the lengths, $t5 their sum, $t1 the new $gp.
 abbrev pub concat_begin_lines : List Line
 concat_begin_lines =
     label string_concat
-    ∷ lw 14 (pos 0) 29
-    ∷ lw 11 (pos 12) 4 ∷ lw 11 (pos 12) 11
-    ∷ lw 15 (pos 12) 14 ∷ lw 15 (pos 12) 15
-    ∷ addu 13 11 15
-    ∷ srl 8 13 2 ∷ sll 8 8 2 ∷ addu 9 28 8 ∷ addiu 9 9 (pos 44)
-    ∷ sltu 8 23 9 ∷ beq 8 0 ∷ j heap_limit
-    ∷ addiu 10 4 (pos 16) ∷ []
+    ∷ lw T6 (pos 0) SP
+    ∷ lw T3 (pos 12) A0 ∷ lw T3 (pos 12) T3
+    ∷ lw T7 (pos 12) T6 ∷ lw T7 (pos 12) T7
+    ∷ addu T5 T3 T7
+    ∷ srl T0 T5 2 ∷ sll T0 T0 2 ∷ addu T1 GP T0 ∷ addiu T1 T1 (pos 44)
+    ∷ sltu T0 S7 T1 ∷ beq T0 ZERO ∷ j heap_limit
+    ∷ addiu T2 A0 (pos 16) ∷ []
 
 abbrev pub concat_turn_lines : List Line
-concat_turn_lines = label concat_second ∷ addiu 10 14 (pos 16) ∷ move 11 15 ∷ []
+concat_turn_lines = label concat_second ∷ addiu T2 T6 (pos 16) ∷ move T3 T7 ∷ []
 
 abbrev pub concat_lines : List Line
 concat_lines =
@@ -143,18 +143,18 @@ concat_lines =
 abbrev pub substr_begin_lines : List Line
 substr_begin_lines =
     label string_substr
-    ∷ lw 13 (pos 0) 29 ∷ lw 13 (pos 12) 13
-    ∷ lw 10 (pos 4) 29 ∷ lw 10 (pos 12) 10
-    ∷ lw 11 (pos 12) 4 ∷ lw 11 (pos 12) 11
-    ∷ sltu 8 11 10 ∷ beq 8 0 ∷ j substr_abort
-    ∷ subu 11 11 10
-    ∷ sltu 8 11 13 ∷ beq 8 0 ∷ j substr_abort ∷ []
+    ∷ lw T5 (pos 0) SP ∷ lw T5 (pos 12) T5
+    ∷ lw T2 (pos 4) SP ∷ lw T2 (pos 12) T2
+    ∷ lw T3 (pos 12) A0 ∷ lw T3 (pos 12) T3
+    ∷ sltu T0 T3 T2 ∷ beq T0 ZERO ∷ j substr_abort
+    ∷ subu T3 T3 T2
+    ∷ sltu T0 T3 T5 ∷ beq T0 ZERO ∷ j substr_abort ∷ []
 
 abbrev pub substr_size_lines : List Line
 substr_size_lines =
-    addiu 10 10 (pos 16) ∷ addu 10 4 10 ∷ move 11 13
-    ∷ srl 8 13 2 ∷ sll 8 8 2 ∷ addu 9 28 8 ∷ addiu 9 9 (pos 44)
-    ∷ sltu 8 23 9 ∷ beq 8 0 ∷ j heap_limit ∷ []
+    addiu T2 T2 (pos 16) ∷ addu T2 A0 T2 ∷ move T3 T5
+    ∷ srl T0 T5 2 ∷ sll T0 T0 2 ∷ addu T1 GP T0 ∷ addiu T1 T1 (pos 44)
+    ∷ sltu T0 S7 T1 ∷ beq T0 ZERO ∷ j heap_limit ∷ []
 
 abbrev pub substr_lines : List Line
 substr_lines =
@@ -165,36 +165,36 @@ substr_lines =
 abbrev pub in_string_begin_lines : List Line
 in_string_begin_lines =
     label in_string
-    ∷ addiu 9 28 (pos 44) ∷ sltu 8 23 9 ∷ beq 8 0 ∷ j heap_limit
-    ∷ sw 0 (pos 40) 28 ∷ addiu 12 28 (pos 40) ∷ addiu 11 0 (pos 10) ∷ []
+    ∷ addiu T1 GP (pos 44) ∷ sltu T0 S7 T1 ∷ beq T0 ZERO ∷ j heap_limit
+    ∷ sw ZERO (pos 40) GP ∷ addiu T4 GP (pos 40) ∷ addiu T3 ZERO (pos 10) ∷ []
 
 -- Takes a byte, and stores it, unless the input is at its end or at a newline.
 abbrev pub in_string_byte_lines : List Line
 in_string_byte_lines =
     label in_string_bytes
     ∷ call_number READ_CHAR ∷ syscall
-    ∷ bgez 2 ∷ j in_string_end
-    ∷ bne 2 11 ∷ j in_string_end
-    ∷ sb 2 (pos 0) 12 ∷ addiu 12 12 (pos 1) ∷ []
+    ∷ bgez V0 ∷ j in_string_end
+    ∷ bne V0 T3 ∷ j in_string_end
+    ∷ sb V0 (pos 0) T4 ∷ addiu T4 T4 (pos 1) ∷ []
 
 -- Stores a word of zeros after the one that the bytes have filled.
 abbrev pub in_string_zeros_lines : List Line
-in_string_zeros_lines = sw 0 (pos 0) 9 ∷ addiu 9 9 (pos 4) ∷ j in_string_bytes ∷ []
+in_string_zeros_lines = sw ZERO (pos 0) T1 ∷ addiu T1 T1 (pos 4) ∷ j in_string_bytes ∷ []
 
 -- Asks for that word.
 abbrev pub in_string_room_lines : List Line
-in_string_room_lines = bne 9 23 ∷ j heap_limit ∷ in_string_zeros_lines
+in_string_room_lines = bne T1 S7 ∷ j heap_limit ∷ in_string_zeros_lines
 
 -- Goes on where the bytes have not filled their word.
 abbrev pub in_string_word_lines : List Line
-in_string_word_lines = beq 12 9 ∷ j in_string_bytes ∷ in_string_room_lines
+in_string_word_lines = beq T4 T1 ∷ j in_string_bytes ∷ in_string_room_lines
 
 abbrev pub in_string_bytes_lines : List Line
 in_string_bytes_lines = in_string_byte_lines ++ in_string_word_lines
 
 -- The number of bytes to $t5.
 abbrev pub in_string_end_lines : List Line
-in_string_end_lines = label in_string_end ∷ subu 13 12 28 ∷ addiu 13 13 (negsuc 39) ∷ []
+in_string_end_lines = label in_string_end ∷ subu T5 T4 GP ∷ addiu T5 T5 (negsuc 39) ∷ []
 
 abbrev pub in_string_lines : List Line
 in_string_lines =
@@ -204,72 +204,72 @@ in_string_lines =
 abbrev pub error_lines : Name → Name → List Line
 error_lines name text =
     label name
-    ∷ addiu 4 24 (pos 16) ∷ call_number PRINT_STRING ∷ syscall
-    ∷ la 4 colon_text ∷ syscall
-    ∷ move 4 25 ∷ call_number PRINT_INT ∷ syscall
-    ∷ la 4 text ∷ call_number PRINT_STRING ∷ syscall
-    ∷ addiu 4 0 (pos 3) ∷ call_number EXIT2 ∷ syscall ∷ []
+    ∷ addiu A0 T8 (pos 16) ∷ call_number PRINT_STRING ∷ syscall
+    ∷ la A0 colon_text ∷ syscall
+    ∷ move A0 T9 ∷ call_number PRINT_INT ∷ syscall
+    ∷ la A0 text ∷ call_number PRINT_STRING ∷ syscall
+    ∷ addiu A0 ZERO (pos 3) ∷ call_number EXIT2 ∷ syscall ∷ []
 
 -- Compares the objects in $t1 and $t2: the same address is equal, void and other tags are not, and then Ints and Bools are compared
 -- by value, Strings by their bytes.
 abbrev pub equal_begin_lines : List Line
 equal_begin_lines =
     label equality
-    ∷ bne 9 10 ∷ j equal_true
-    ∷ bne 9 0 ∷ j equal_false
-    ∷ bne 10 0 ∷ j equal_false
-    ∷ lw 11 (pos 0) 9 ∷ lw 12 (pos 0) 10 ∷ beq 11 12 ∷ j equal_false
-    ∷ la 13 int_prototype ∷ lw 13 (pos 0) 13 ∷ bne 11 13 ∷ j equal_values
-    ∷ la 13 bool_prototype ∷ lw 13 (pos 0) 13 ∷ bne 11 13 ∷ j equal_values
-    ∷ la 13 string_prototype ∷ lw 13 (pos 0) 13 ∷ bne 11 13 ∷ j equal_strings
+    ∷ bne T1 T2 ∷ j equal_true
+    ∷ bne T1 ZERO ∷ j equal_false
+    ∷ bne T2 ZERO ∷ j equal_false
+    ∷ lw T3 (pos 0) T1 ∷ lw T4 (pos 0) T2 ∷ beq T3 T4 ∷ j equal_false
+    ∷ la T5 int_prototype ∷ lw T5 (pos 0) T5 ∷ bne T3 T5 ∷ j equal_values
+    ∷ la T5 bool_prototype ∷ lw T5 (pos 0) T5 ∷ bne T3 T5 ∷ j equal_values
+    ∷ la T5 string_prototype ∷ lw T5 (pos 0) T5 ∷ bne T3 T5 ∷ j equal_strings
     ∷ j equal_false ∷ []
 
 abbrev pub equal_values_lines : List Line
-equal_values_lines = label equal_values ∷ lw 11 (pos 12) 9 ∷ lw 12 (pos 12) 10 ∷ beq 11 12 ∷ j equal_false ∷ j equal_true ∷ []
+equal_values_lines = label equal_values ∷ lw T3 (pos 12) T1 ∷ lw T4 (pos 12) T2 ∷ beq T3 T4 ∷ j equal_false ∷ j equal_true ∷ []
 
 abbrev pub equal_strings_lines : List Line
 equal_strings_lines =
     label equal_strings
-    ∷ lw 11 (pos 12) 9 ∷ lw 11 (pos 12) 11 ∷ lw 12 (pos 12) 10 ∷ lw 12 (pos 12) 12 ∷ beq 11 12 ∷ j equal_false
-    ∷ addiu 9 9 (pos 16) ∷ addiu 10 10 (pos 16) ∷ []
+    ∷ lw T3 (pos 12) T1 ∷ lw T3 (pos 12) T3 ∷ lw T4 (pos 12) T2 ∷ lw T4 (pos 12) T4 ∷ beq T3 T4 ∷ j equal_false
+    ∷ addiu T1 T1 (pos 16) ∷ addiu T2 T2 (pos 16) ∷ []
 
 abbrev pub equal_bytes_lines : List Line
 equal_bytes_lines =
-    label equal_bytes ∷ bne 11 0 ∷ j equal_true
-    ∷ lbu 12 (pos 0) 9 ∷ lbu 13 (pos 0) 10 ∷ beq 12 13 ∷ j equal_false
-    ∷ addiu 9 9 (pos 1) ∷ addiu 10 10 (pos 1) ∷ addiu 11 11 (negsuc 0) ∷ j equal_bytes ∷ []
+    label equal_bytes ∷ bne T3 ZERO ∷ j equal_true
+    ∷ lbu T4 (pos 0) T1 ∷ lbu T5 (pos 0) T2 ∷ beq T4 T5 ∷ j equal_false
+    ∷ addiu T1 T1 (pos 1) ∷ addiu T2 T2 (pos 1) ∷ addiu T3 T3 (negsuc 0) ∷ j equal_bytes ∷ []
 
 abbrev pub equal_true_lines : List Line
-equal_true_lines = label equal_true ∷ la 4 true_constant ∷ jr 31 ∷ []
+equal_true_lines = label equal_true ∷ la A0 true_constant ∷ jr RA ∷ []
 
 abbrev pub equal_false_lines : List Line
-equal_false_lines = label equal_false ∷ la 4 false_constant ∷ jr 31 ∷ []
+equal_false_lines = label equal_false ∷ la A0 false_constant ∷ jr RA ∷ []
 
 abbrev pub equal_lines : List Line
 equal_lines = equal_begin_lines ++ (equal_values_lines ++ (equal_strings_lines ++ (equal_bytes_lines ++ (equal_true_lines ++ equal_false_lines))))
 
 -- Makes Main, calls main, writes the end text, and exits with 0.
 abbrev pub start_copy_lines : List Line
-start_copy_lines = label start_name ∷ la 4 main_prototype ∷ jal copy ∷ []
+start_copy_lines = label start_name ∷ la A0 main_prototype ∷ jal copy ∷ []
 
 abbrev pub start_end_lines : List Line
-start_end_lines = la 4 end_text ∷ call_number PRINT_STRING ∷ syscall ∷ call_number EXIT ∷ syscall ∷ []
+start_end_lines = la A0 end_text ∷ call_number PRINT_STRING ∷ syscall ∷ call_number EXIT ∷ syscall ∷ []
 
 abbrev pub start_lines : List Line
 start_lines = start_copy_lines ++ (jal main_init ∷ jal main_main ∷ start_end_lines)
 
 -- the String with the name of the class of the object in $a0 to $t0
 abbrev pub name_lines : List Line
-name_lines = lw 8 (pos 0) 4 ∷ sll 8 8 2 ∷ la 9 name_table ∷ addu 8 9 8 ∷ lw 8 (pos 0) 8 ∷ []
+name_lines = lw T0 (pos 0) A0 ∷ sll T0 T0 2 ∷ la T1 name_table ∷ addu T0 T1 T0 ∷ lw T0 (pos 0) T0 ∷ []
 
 abbrev pub type_name_lines : List Line
-type_name_lines = label type_name ∷ (name_lines ++ (move 4 8 ∷ jr 31 ∷ []))
+type_name_lines = label type_name ∷ (name_lines ++ (move A0 T0 ∷ jr RA ∷ []))
 
 -- Writes a text of data, the String in $t0 and another text, and exits with 3.
 abbrev pub named_end_lines : Name → Name → List Line
 named_end_lines before behind =
-    la 4 before ∷ call_number PRINT_STRING ∷ syscall ∷ addiu 4 8 (pos 16) ∷ syscall ∷ la 4 behind ∷ syscall
-    ∷ addiu 4 0 (pos 3) ∷ call_number EXIT2 ∷ syscall ∷ []
+    la A0 before ∷ call_number PRINT_STRING ∷ syscall ∷ addiu A0 T0 (pos 16) ∷ syscall ∷ la A0 behind ∷ syscall
+    ∷ addiu A0 ZERO (pos 3) ∷ call_number EXIT2 ∷ syscall ∷ []
 
 abbrev pub abort_lines : List Line
 abort_lines = label abort ∷ (name_lines ++ named_end_lines abort_text newline_text)
@@ -277,14 +277,14 @@ abort_lines = label abort ∷ (name_lines ++ named_end_lines abort_text newline_
 -- Writes the String in $t8, a colon and the number in $t9.
 abbrev pub place_lines : List Line
 place_lines =
-    addiu 4 24 (pos 16) ∷ call_number PRINT_STRING ∷ syscall ∷ la 4 colon_text ∷ syscall ∷ move 4 25 ∷ call_number PRINT_INT ∷ syscall ∷ []
+    addiu A0 T8 (pos 16) ∷ call_number PRINT_STRING ∷ syscall ∷ la A0 colon_text ∷ syscall ∷ move A0 T9 ∷ call_number PRINT_INT ∷ syscall ∷ []
 
 abbrev pub no_branch_lines : List Line
 no_branch_lines = label case_abort ∷ (name_lines ++ (place_lines ++ named_end_lines no_branch_text stop_text))
 
 -- exits with a code
 abbrev pub limit_lines : Name → ℕ → List Line
-limit_lines name code = label name ∷ addiu 4 0 (pos code) ∷ call_number EXIT2 ∷ syscall ∷ []
+limit_lines name code = label name ∷ addiu A0 ZERO (pos code) ∷ call_number EXIT2 ∷ syscall ∷ []
 
 abbrev pub heap_limit_lines : List Line
 heap_limit_lines = limit_lines heap_limit 4

@@ -1,14 +1,12 @@
-//! Lines of data that are added after others: objects, and texts.
+//! Lines of data: objects, and texts.
 
-ghost use Rattle.std.specs.Prelude.{◌≡◌, ℕ, ◌+◌, ◌<◌, ◌^◌, ◌++◌, ◌∷◌, [], map, length, OnOk, IfOk};
-ghost use Rattle.mips_isa.specs.Lines.{lines_of, statement_of, item_of};
-ghost use Rattle.mips_isa.specs.Lines.{Asciiz, Align};
-ghost use Rattle.mips_isa.specs.Assembly.{unlabelled, data_line};
-ghost use Rattle.cool_runtime.specs.Contents.{words_of_bytes};
+ghost use Rattle.std.specs.Prelude.{◌≡◌, ◌<◌, ◌^◌, map, IfOk};
+ghost use Rattle.mips_isa.specs.Lines.{lines_of, line_of, item_of, Asciiz};
+ghost use Rattle.mips_isa.specs.Assembly.{data_line};
 ghost use Rattle.cool_runtime.specs.Instructions as instructions;
 ghost use Rattle.cool_runtime.specs.LinesOfData as written;
 
-use crate::draft::{label, unlabelled, write};
+use crate::draft::{full_line, label, unlabelled};
 use mips_isa::{AsmDirective, DataItem, Label, Line, Statement, WordItem};
 use std::alloc::{AllocError, Global};
 
@@ -20,58 +18,44 @@ pub fn number(value: usize) -> WordItem
     WordItem::Number(value as i64)
 }
 
-/// A word that is the address of a label.
+/// A word that is the address of a label. `Err` comes only for want of memory.
 pub fn address(alloc: Global, name: &[u8]) -> Result<WordItem, AllocError>
     ensures { IfOk result (λ item. item_of item ≡ written.address name.now) }
 {
     Ok(WordItem::Address(Label::new(alloc, name)?))
 }
 
-/// Adds a statement without a label.
-fn add(lines: &mut Vec<Line>, statement: Statement) -> Result<(), AllocError>
-    ensures { OnOk result (lines_of lines.new.items ≡ lines_of lines.old.items ++ unlabelled (statement_of statement) ∷ []) }
+/// A label alone. `Err` comes only for want of memory.
+pub fn label_line(alloc: Global, name: &[u8]) -> Result<Line, AllocError>
+    ensures { IfOk result (λ line. line_of line ≡ instructions.label name.now) }
 {
-    lines.push(unlabelled(statement))?;
-    Ok(())
+    full_line(alloc, &label(name))
 }
 
-/// Adds a label.
-pub fn label_line(alloc: Global, lines: &mut Vec<Line>, name: &[u8]) -> Result<(), AllocError>
-    ensures { OnOk result (lines_of lines.new.items ≡ lines_of lines.old.items ++ instructions.label name.now ∷ []) }
+/// A line of words. `Err` comes only for want of memory.
+pub fn word_line(alloc: Global, items: Vec<WordItem>) -> Result<Line, AllocError>
+    ensures { IfOk result (λ line. line_of line ≡ written.words (map item_of items.items)) }
 {
-    write(alloc, lines, &[label(name)])
+    let statement = Statement::of_item(alloc, DataItem::Word(items))?;
+    Ok(unlabelled(statement))
 }
 
-/// Adds words.
-pub fn word_line(
-    alloc: Global,
-    lines: &mut Vec<Line>,
-    items: Vec<WordItem>,
-) -> Result<(), AllocError>
-    ensures { OnOk result (lines_of lines.new.items ≡ lines_of lines.old.items ++ written.words (map item_of items.items) ∷ []) }
-{
-    add(lines, Statement::of_item(alloc, DataItem::Word(items))?)
-}
-
-/// Adds bytes and a zero.
-pub fn text(alloc: Global, lines: &mut Vec<Line>, bytes: &[u8]) -> Result<(), AllocError>
-    ensures { OnOk result (lines_of lines.new.items ≡ lines_of lines.old.items ++ data_line (Asciiz bytes.now) ∷ []) }
+/// A line of bytes and a zero. `Err` comes only for want of memory.
+fn text_line(alloc: Global, bytes: &[u8]) -> Result<Line, AllocError>
+    ensures { IfOk result (λ line. line_of line ≡ data_line (Asciiz bytes.now)) }
 {
     let item = DataItem::Asciiz(Vec::from_slice(alloc, bytes)?);
-    add(lines, Statement::of_item(alloc, item)?)
+    let statement = Statement::of_item(alloc, item)?;
+    Ok(unlabelled(statement))
 }
 
-/// Adds bytes and a zero under a label.
-pub fn labelled_text(
-    alloc: Global,
-    lines: &mut Vec<Line>,
-    name: &[u8],
-    bytes: &[u8],
-) -> Result<(), AllocError>
-    ensures { OnOk result (lines_of lines.new.items ≡ lines_of lines.old.items ++ written.text_lines name.now bytes.now) }
+/// Bytes and a zero under a label. `Err` comes only for want of memory.
+pub fn labelled_text(alloc: Global, name: &[u8], bytes: &[u8]) -> Result<Vec<Line>, AllocError>
+    ensures { IfOk result (λ lines. lines_of lines.items ≡ written.text_lines name.now bytes.now) }
 {
-    label_line(alloc, lines, name)?;
-    text(alloc, lines, bytes)
+    let first = label_line(alloc, name)?;
+    let text = text_line(alloc, bytes)?;
+    Ok(vec![in alloc; first, text]?)
 }
 
 /// The words of an object: its head, and what stands after that.
@@ -95,68 +79,65 @@ fn object_words(
     Ok(items)
 }
 
-/// Adds an object with a tag, a size in words and a dispatch table, and what stands after its head.
+/// An object with a tag, a size in words and a dispatch table, and what stands after its head. `Err` comes only for want of memory.
 pub fn object(
     alloc: Global,
-    lines: &mut Vec<Line>,
     name: &[u8],
     tag: u32,
     size: usize,
     table: &[u8],
     fields: Vec<WordItem>,
-) -> Result<(), AllocError>
+) -> Result<Vec<Line>, AllocError>
     requires { size < 2 ^ 63 }
-    ensures { OnOk result (lines_of lines.new.items ≡ lines_of lines.old.items ++ written.object_lines name.now tag size table.now (map item_of fields.items)) }
+    ensures { IfOk result (λ lines. lines_of lines.items ≡ written.object_lines name.now tag size table.now (map item_of fields.items)) }
 {
-    word_line(alloc, lines, vec![in alloc; WordItem::Number(-1)]?)?;
-    label_line(alloc, lines, name)?;
-    word_line(alloc, lines, object_words(alloc, tag, size, table, fields)?)
+    let mark = word_line(alloc, vec![in alloc; WordItem::Number(-1)]?)?;
+    let under = label_line(alloc, name)?;
+    let words = word_line(alloc, object_words(alloc, tag, size, table, fields)?)?;
+    Ok(vec![in alloc; mark, under, words]?)
 }
 
-/// Adds an object that holds one number.
+/// An object that holds one number.
 fn number_object(
     alloc: Global,
-    lines: &mut Vec<Line>,
     name: &[u8],
     tag: u32,
     table: &[u8],
     value: usize,
-) -> Result<(), AllocError>
+) -> Result<Vec<Line>, AllocError>
     requires { value < 2 ^ 63 }
-    ensures { OnOk result (lines_of lines.new.items ≡ lines_of lines.old.items ++ written.number_lines name.now tag table.now value) }
+    ensures { IfOk result (λ lines. lines_of lines.items ≡ written.number_lines name.now tag table.now value) }
 {
     let fields = vec![in alloc; number(value)]?;
-    object(alloc, lines, name, tag, 4, table, fields)
+    object(alloc, name, tag, 4, table, fields)
 }
 
-/// Adds an Int.
+/// An Int. `Err` comes only for want of memory.
 #[tactic(auto, unfolding(crate::specs::Labels::int_table))]
 pub fn int_object(
     alloc: Global,
-    lines: &mut Vec<Line>,
     name: &[u8],
     tag: u32,
     value: usize,
-) -> Result<(), AllocError>
+) -> Result<Vec<Line>, AllocError>
     requires { value < 2 ^ 63 }
-    ensures { OnOk result (lines_of lines.new.items ≡ lines_of lines.old.items ++ written.int_lines name.now tag value) }
+    ensures { IfOk result (λ lines. lines_of lines.items ≡ written.int_lines name.now tag value) }
 {
-    number_object(alloc, lines, name, tag, b"Int_dispTab", value)
+    number_object(alloc, name, tag, b"Int_dispTab", value)
 }
 
-/// Adds a Bool.
+/// A Bool. `Err` comes only for want of memory.
 #[tactic(auto, unfolding(crate::specs::Labels::bool_table))]
 pub fn bool_object(
     alloc: Global,
-    lines: &mut Vec<Line>,
     name: &[u8],
     tag: u32,
     value: usize,
-) -> Result<(), AllocError>
+) -> Result<Vec<Line>, AllocError>
     requires { value < 2 ^ 63 }
-    ensures { OnOk result (lines_of lines.new.items ≡ lines_of lines.old.items ++ written.bool_lines name.now tag value) }
+    ensures { IfOk result (λ lines. lines_of lines.items ≡ written.bool_lines name.now tag value) }
 {
-    number_object(alloc, lines, name, tag, b"Bool_dispTab", value)
+    number_object(alloc, name, tag, b"Bool_dispTab", value)
 }
 
 /// The tags of the classes Int and String.
@@ -166,37 +147,36 @@ pub struct StringTags {
     pub string: u32,
 }
 
-/// Adds a String without its bytes.
+/// A String without its bytes.
 #[tactic(auto, unfolding(crate::specs::Labels::string_table))]
 fn string_head(
     alloc: Global,
-    lines: &mut Vec<Line>,
     name: &[u8],
     length_name: &[u8],
     tag: u32,
     size: usize,
-) -> Result<(), AllocError>
+) -> Result<Vec<Line>, AllocError>
     requires { size < 2 ^ 63 }
-    ensures { OnOk result (lines_of lines.new.items ≡ lines_of lines.old.items ++ written.string_head_lines name.now length_name.now tag size) }
+    ensures { IfOk result (λ lines. lines_of lines.items ≡ written.string_head_lines name.now length_name.now tag size) }
 {
     let fields = vec![in alloc; address(alloc, length_name)?]?;
-    object(alloc, lines, name, tag, size, b"String_dispTab", fields)
+    object(alloc, name, tag, size, b"String_dispTab", fields)
 }
 
-/// Adds a String, and in front of it the Int of its length.
+/// A String, and in front of it the Int of its length. `Err` comes only for want of memory.
 pub fn string_object(
     alloc: Global,
-    lines: &mut Vec<Line>,
     name: &[u8],
     length_name: &[u8],
     tags: StringTags,
     bytes: &[u8],
-) -> Result<(), AllocError>
-    ensures { OnOk result (lines_of lines.new.items ≡ lines_of lines.old.items ++ written.string_lines name.now length_name.now tags.int tags.string bytes.now) }
+) -> Result<Vec<Line>, AllocError>
+    ensures { IfOk result (λ lines. lines_of lines.items ≡ written.string_lines name.now length_name.now tags.int tags.string bytes.now) }
 {
     let length = bytes.len();
-    int_object(alloc, lines, length_name, tags.int, length)?;
-    string_head(alloc, lines, name, length_name, tags.string, length / 4 + 5)?;
-    text(alloc, lines, bytes)?;
-    add(lines, Statement::Directive(AsmDirective::Align(2)))
+    let mut lines = int_object(alloc, length_name, tags.int, length)?;
+    lines.append(&mut string_head(alloc, name, length_name, tags.string, length / 4 + 5)?)?;
+    lines.push(text_line(alloc, bytes)?)?;
+    lines.push(unlabelled(Statement::Directive(AsmDirective::Align(2))))?;
+    Ok(lines)
 }

@@ -1,6 +1,6 @@
 //! Lines of assembly by borrowed names, as a template gives them, and adding them after others.
 
-ghost use Rattle.std.specs.Prelude.{◌≡◌, ◌++◌, ◌∷◌, [], ◌<◌, map, IfOk, OnOk};
+ghost use Rattle.std.specs.Prelude.{◌≡◌, ◌++◌, ◌<◌, length, map, take, IfOk, OnErr, OnOk};
 ghost use Rattle.mips_isa.specs.Lines.{line_of, lines_of, instruction_of, statement_of};
 ghost use Rattle.mips_isa.specs.Assembly.{unlabelled, instruction_line};
 ghost use Rattle.cool_runtime.specs.Drafts.{drafted};
@@ -30,9 +30,25 @@ pub enum Draft<'a> {
     Move(Reg, Reg),
 }
 
-/// Adds the lines of a template. `Err` comes only for want of memory.
+/// Adds the lines of a template. `Err` comes only for want of memory, and then the lines are those before.
 pub fn write(alloc: Global, lines: &mut Vec<Line>, drafts: &[Draft<'_>]) -> Result<(), AllocError>
-    ensures { OnOk result (lines_of lines.new.items ≡ lines_of lines.old.items ++ map drafted drafts.now) }
+    ensures written { OnOk result (lines_of lines.new.items ≡ lines_of lines.old.items ++ map drafted drafts.now) }
+    ensures refused { OnErr result (lines.new.items ≡ lines.old.items) }
+{
+    let before = lines.len();
+    match add_lines(alloc, lines, drafts) {
+        Ok(()) => Ok(()),
+        Err(error) => {
+            lines.truncate(before);
+            Err(error)
+        }
+    }
+}
+
+/// Adds the lines of a template. Before an `Err`, which comes only for want of memory, the first ones may be added.
+fn add_lines(alloc: Global, lines: &mut Vec<Line>, drafts: &[Draft<'_>]) -> Result<(), AllocError>
+    ensures written { OnOk result (lines_of lines.new.items ≡ lines_of lines.old.items ++ map drafted drafts.now) }
+    ensures front { take (length lines.old.items) lines.new.items ≡ lines.old.items }
 {
     for draft in drafts {
         lines.push(full_line(alloc, draft)?)?;
@@ -41,7 +57,7 @@ pub fn write(alloc: Global, lines: &mut Vec<Line>, drafts: &[Draft<'_>]) -> Resu
 }
 
 /// The line of a draft. `Err` comes only for want of memory.
-fn full_line(alloc: Global, draft: &Draft<'_>) -> Result<Line, AllocError>
+pub(crate) fn full_line(alloc: Global, draft: &Draft<'_>) -> Result<Line, AllocError>
     ensures { IfOk result (λ line. line_of line ≡ drafted draft.now) }
 {
     match *draft {

@@ -1,14 +1,15 @@
 //! The lines of the run-time routines.
 
-ghost use Rattle.std.specs.Prelude.{◌≡◌, ◌++◌, ◌<◌, IfOk, OnOk};
+ghost use Rattle.std.specs.Prelude.{◌≡◌, ◌++◌, ◌<◌, map, IfOk, OnOk};
 ghost use Rattle.mips_isa.specs.Lines.{lines_of};
+ghost use Rattle.cool_runtime.specs.Drafts.{drafted};
 ghost use Rattle.cool_runtime.specs.Reaches.{World};
 ghost use Rattle.cool_runtime.specs.Meanings.{Means};
 ghost use Rattle.cool_runtime.specs.Routines.{copy_lines, in_int_lines, in_string_lines, concat_lines, substr_lines, equal_lines, string_end_lines};
 ghost use Rattle.cool_runtime.specs.RoutineLines.{all_routine_lines, error_routines_lines, io_routines_lines, limit_routines_lines, object_routines_lines, routine_lines, value_routines_lines};
 
 use crate::catalogue::Routine;
-use crate::draft::{addiu, copied, jr, label, write};
+use crate::draft::{Draft, addiu, copied, jr, label, write};
 use crate::piece::{bytes, error, int_head, new_int, string_head, string_return, string_zeros};
 use crate::routine_part::{
     abort, concat_begin, concat_turn, copy_end, copy_first, copy_words, equal_begin, equal_bytes,
@@ -30,15 +31,17 @@ pub fn routine(alloc: Global, routine: Routine) -> Result<Vec<Line>, AllocError>
     Ok(lines)
 }
 
-/// Adds the lines of all routines. `Err` comes only for want of memory.
-pub fn routines(alloc: Global, lines: &mut Vec<Line>) -> Result<(), AllocError>
-    ensures { OnOk result (lines_of lines.new.items ≡ lines_of lines.old.items ++ all_routine_lines) }
+/// The lines of all routines. `Err` comes only for want of memory.
+pub fn routines(alloc: Global) -> Result<Vec<Line>, AllocError>
+    ensures { IfOk result (λ lines. lines_of lines.items ≡ all_routine_lines) }
 {
-    object_routines(alloc, lines)?;
-    io_routines(alloc, lines)?;
-    value_routines(alloc, lines)?;
-    error_routines(alloc, lines)?;
-    limit_routines(alloc, lines)
+    let mut lines = Vec::new(alloc);
+    object_routines(alloc, &mut lines)?;
+    io_routines(alloc, &mut lines)?;
+    value_routines(alloc, &mut lines)?;
+    error_routines(alloc, &mut lines)?;
+    limit_routines(alloc, &mut lines)?;
+    Ok(lines)
 }
 
 /// The begin, and the routines of Object.
@@ -96,26 +99,26 @@ fn add_routine(alloc: Global, lines: &mut Vec<Line>, routine: Routine) -> Result
     ensures { OnOk result (lines_of lines.new.items ≡ lines_of lines.old.items ++ routine_lines routine) }
 {
     match routine {
-        Routine::Start => start(alloc, lines),
+        Routine::Start => write(alloc, lines, &start()),
         Routine::Copy => copy(alloc, lines),
-        Routine::Abort => abort(alloc, lines),
-        Routine::TypeName => type_name(alloc, lines),
-        Routine::OutString => out_string(alloc, lines),
-        Routine::OutInt => out_int(alloc, lines),
+        Routine::Abort => write(alloc, lines, &abort()),
+        Routine::TypeName => write(alloc, lines, &type_name()),
+        Routine::OutString => write(alloc, lines, &out_string()),
+        Routine::OutInt => write(alloc, lines, &out_int()),
         Routine::InString => in_string(alloc, lines),
         Routine::InInt => in_int(alloc, lines),
-        Routine::Length => length(alloc, lines),
+        Routine::Length => write(alloc, lines, &length()),
         Routine::Concat => concat(alloc, lines),
         Routine::Substr => substr(alloc, lines),
         Routine::Equal => equal(alloc, lines),
-        Routine::DispatchVoid => error(alloc, lines, b"dispatch_abort", b"__dispatch_text"),
-        Routine::CaseVoid => error(alloc, lines, b"case_abort2", b"__case_text"),
-        Routine::NoBranch => no_branch(alloc, lines),
-        Routine::DivZero => error(alloc, lines, b"div_abort", b"__division_text"),
-        Routine::SubstrRange => error(alloc, lines, b"substr_abort", b"__substring_text"),
-        Routine::Overflow => error(alloc, lines, b"overflow_abort", b"__overflow_text"),
-        Routine::HeapLimit => limit(alloc, lines, b"heap_limit", 4),
-        Routine::StackLimit => limit(alloc, lines, b"stack_limit", 5),
+        Routine::DispatchVoid => write(alloc, lines, &error(b"dispatch_abort", b"__dispatch_text")),
+        Routine::CaseVoid => write(alloc, lines, &error(b"case_abort2", b"__case_text")),
+        Routine::NoBranch => write(alloc, lines, &no_branch()),
+        Routine::DivZero => write(alloc, lines, &error(b"div_abort", b"__division_text")),
+        Routine::SubstrRange => write(alloc, lines, &error(b"substr_abort", b"__substring_text")),
+        Routine::Overflow => write(alloc, lines, &error(b"overflow_abort", b"__overflow_text")),
+        Routine::HeapLimit => write(alloc, lines, &limit(b"heap_limit", 4)),
+        Routine::StackLimit => write(alloc, lines, &limit(b"stack_limit", 5)),
     }
 }
 
@@ -123,30 +126,30 @@ fn add_routine(alloc: Global, lines: &mut Vec<Line>, routine: Routine) -> Result
 fn copy(alloc: Global, lines: &mut Vec<Line>) -> Result<(), AllocError>
     ensures { OnOk result (lines_of lines.new.items ≡ lines_of lines.old.items ++ copy_lines) }
 {
-    copy_first(alloc, lines)?;
-    copy_words(alloc, lines)?;
-    copy_end(alloc, lines)
+    write(alloc, lines, &copy_first())?;
+    write(alloc, lines, &copy_words())?;
+    write(alloc, lines, &copy_end())
 }
 
 /// Reads a line.
 fn in_string(alloc: Global, lines: &mut Vec<Line>) -> Result<(), AllocError>
     ensures { OnOk result (lines_of lines.new.items ≡ lines_of lines.old.items ++ in_string_lines) }
 {
-    in_string_begin(alloc, lines)?;
-    in_string_bytes(alloc, lines)?;
-    in_string_end(alloc, lines)?;
-    int_head(alloc, lines)?;
-    string_head(alloc, lines)?;
-    string_return(alloc, lines)
+    write(alloc, lines, &in_string_begin())?;
+    write(alloc, lines, &in_string_bytes())?;
+    write(alloc, lines, &in_string_end())?;
+    write(alloc, lines, &int_head())?;
+    write(alloc, lines, &string_head())?;
+    write(alloc, lines, &string_return())
 }
 
 /// Reads an Int.
 fn in_int(alloc: Global, lines: &mut Vec<Line>) -> Result<(), AllocError>
     ensures { OnOk result (lines_of lines.new.items ≡ lines_of lines.old.items ++ in_int_lines) }
 {
-    read_number(alloc, lines)?;
-    new_int(alloc, lines)?;
-    return_call(alloc, lines)
+    write(alloc, lines, &read_number())?;
+    write(alloc, lines, &new_int())?;
+    write(alloc, lines, &return_call())
 }
 
 /// Joins two Strings.
@@ -154,14 +157,14 @@ fn in_int(alloc: Global, lines: &mut Vec<Line>) -> Result<(), AllocError>
 fn concat(alloc: Global, lines: &mut Vec<Line>) -> Result<(), AllocError>
     ensures { OnOk result (lines_of lines.new.items ≡ lines_of lines.old.items ++ concat_lines) }
 {
-    concat_begin(alloc, lines)?;
-    int_head(alloc, lines)?;
-    string_head(alloc, lines)?;
-    string_zeros(alloc, lines)?;
-    bytes(alloc, lines, b"concat_first", b"concat_second")?;
-    concat_turn(alloc, lines)?;
-    bytes(alloc, lines, b"concat_third", b"concat_end")?;
-    string_end(alloc, lines, b"concat_end", 4)
+    write(alloc, lines, &concat_begin())?;
+    write(alloc, lines, &int_head())?;
+    write(alloc, lines, &string_head())?;
+    write(alloc, lines, &string_zeros())?;
+    write(alloc, lines, &bytes(b"concat_first", b"concat_second"))?;
+    write(alloc, lines, &concat_turn())?;
+    write(alloc, lines, &bytes(b"concat_third", b"concat_end"))?;
+    write(alloc, lines, &string_end(b"concat_end", 4))
 }
 
 /// A part of a String.
@@ -169,46 +172,37 @@ fn concat(alloc: Global, lines: &mut Vec<Line>) -> Result<(), AllocError>
 fn substr(alloc: Global, lines: &mut Vec<Line>) -> Result<(), AllocError>
     ensures { OnOk result (lines_of lines.new.items ≡ lines_of lines.old.items ++ substr_lines) }
 {
-    substr_begin(alloc, lines)?;
-    substr_size(alloc, lines)?;
-    int_head(alloc, lines)?;
-    string_head(alloc, lines)?;
-    string_zeros(alloc, lines)?;
-    bytes(alloc, lines, b"substr_bytes", b"substr_end")?;
-    string_end(alloc, lines, b"substr_end", 8)
+    write(alloc, lines, &substr_begin())?;
+    write(alloc, lines, &substr_size())?;
+    write(alloc, lines, &int_head())?;
+    write(alloc, lines, &string_head())?;
+    write(alloc, lines, &string_zeros())?;
+    write(alloc, lines, &bytes(b"substr_bytes", b"substr_end"))?;
+    write(alloc, lines, &string_end(b"substr_end", 8))
 }
 
 /// Returns a String, and takes so many bytes of arguments.
-fn string_end(
-    alloc: Global,
-    lines: &mut Vec<Line>,
-    name: &[u8],
-    arguments: u32,
-) -> Result<(), AllocError>
+fn string_end(name: &[u8], arguments: u32) -> [Draft<'_>; 5]
     requires { arguments < 16 }
-    ensures { OnOk result (lines_of lines.new.items ≡ lines_of lines.old.items ++ string_end_lines name.now arguments) }
+    ensures { map drafted result ≡ string_end_lines name.now arguments }
 {
-    write(
-        alloc,
-        lines,
-        &[
-            label(name),
-            addiu(A0, GP, 24),
-            copied(GP, T1),
-            addiu(SP, SP, arguments as i32),
-            jr(RA),
-        ],
-    )
+    [
+        label(name),
+        addiu(A0, GP, 24),
+        copied(GP, T1),
+        addiu(SP, SP, arguments as i32),
+        jr(RA),
+    ]
 }
 
 /// Compares two objects.
 fn equal(alloc: Global, lines: &mut Vec<Line>) -> Result<(), AllocError>
     ensures { OnOk result (lines_of lines.new.items ≡ lines_of lines.old.items ++ equal_lines) }
 {
-    equal_begin(alloc, lines)?;
-    equal_values(alloc, lines)?;
-    equal_strings(alloc, lines)?;
-    equal_bytes(alloc, lines)?;
-    equal_true(alloc, lines)?;
-    equal_false(alloc, lines)
+    write(alloc, lines, &equal_begin())?;
+    write(alloc, lines, &equal_values())?;
+    write(alloc, lines, &equal_strings())?;
+    write(alloc, lines, &equal_bytes())?;
+    write(alloc, lines, &equal_true())?;
+    write(alloc, lines, &equal_false())
 }

@@ -8,6 +8,7 @@ use Rattle.cool_syntax.specs.NodeLists.{all_trees, at_id, twig_at}
 use Rattle.cool_syntax.specs.TreesWithinLimits.{AreTreesWithin, AreCasesWithin}
 use Rattle.cool_rules.specs.Conformance.{IsType}
 use Rattle.cool_codegen.specs.Arms.{arm_of}
+use Rattle.cool_codegen.specs.Asked.{Keeps}
 use Rattle.cool_codegen.specs.Numbered.{all_asked, arguments_lines, branch_sizes_at, branches_arms, branches_asked, branches_type_at, items_lines, last_type_at, sizes_at, AreBodies, AreRoots}
 use Rattle.cool_codegen.specs.Settings.{context}
 use Rattle.cool_codegen.specs.Types.{object}
@@ -55,6 +56,7 @@ decreases-call::arguments l = 8 * l.end.0
 abbrev pub invariant-expression::items-loop-item : goal.invariant-expression::items-loop-item
 invariant-expression::items-loop-item l = record {
   scope : l.variables ≡ l.fn.variables;
+  kept : Keeps l.fn.consts l.consts;
   last : IsType l.setting.table.now l.last;
   typed : last_type_at (context l.setting) l.setting.body.now l.fn.variables l.depth l.last (drop l.item-index l.items)
       ≡ last_type_at (context l.setting) l.setting.body.now l.fn.variables l.depth object l.items;
@@ -72,6 +74,7 @@ invariant-expression::items-loop-item l = record {
 abbrev pub invariant-call::arguments-loop-arg : goal.invariant-call::arguments-loop-arg
 invariant-call::arguments-loop-arg l = record {
   scope : l.variables ≡ l.fn.variables;
+  kept : Keeps l.fn.consts l.consts;
   lines : lines_of l.lines.items ++ arguments_lines (context l.setting) l.setting.body.now l.consts l.fn.variables l.inner (drop l.arg-index l.args)
       ≡ lines_of l.fn.lines.items ++ arguments_lines (context l.setting) l.setting.body.now l.fn.consts l.fn.variables l.depth l.args;
   asked : all_asked (context l.setting).files l.setting.body.now l.consts (drop l.arg-index l.args) ≡ all_asked (context l.setting).files l.setting.body.now l.fn.consts l.args;
@@ -87,6 +90,7 @@ invariant-call::arguments-loop-arg l = record {
 abbrev pub invariant-binding::arms-loop-branch : goal.invariant-binding::arms-loop-branch
 invariant-binding::arms-loop-branch l = record {
   scope : l.variables ≡ l.fn.variables;
+  kept : Keeps l.fn.consts l.consts;
   same : l.lines ≡ l.fn.lines;
   joined : IfSome l.joined (IsType l.setting.table.now);
   typed : branches_type_at (context l.setting) l.setting.body.now l.fn.variables l.depth l.joined (drop l.branch-index l.branches)

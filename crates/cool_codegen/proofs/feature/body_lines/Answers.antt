@@ -20,8 +20,8 @@ expression-requires-clause-room c =
     let room = c.requires.room in
     record { deep = omega arith; integers = omega arith; strings = omega arith }
 
-pub returns : goal.returns
-returns c =
+pub returns-clause-made : goal.returns-clause-made
+returns-clause-made c =
     let s = context c.args.setting.now in
     let b = c.args.setting.now.body.now in
     let asked = c.in_ok-expression.ensures.made.asked in

@@ -7,10 +7,11 @@ use Rattle.cool_syntax.specs.declared.file_tree.Formal.{Formal}
 use Rattle.cool_syntax.specs.Tree.{Tree}
 use Rattle.cool_classes.specs.Chains.{Class, features_of}
 use Rattle.cool_consts.specs.Constants.{Constants}
-use Rattle.cool_codegen.specs.Asked.{with_integers, with_strings, Extends}
+use Rattle.cool_codegen.specs.Asked.{with_integers, with_strings, Extends, Keeps}
 use Rattle.cool_codegen.specs.Code.{Context}
 use Rattle.cool_codegen.specs.Features.{feature_code, feature_integers, feature_strings, initial_integers, initial_strings, initial_value_code, method_code}
 use Rattle.cool_codegen.proofs.AttributesOfClasses.{attribute_there}
+use Rattle.cool_codegen.proofs.ConstantsKept.{extended_kept, kept_same}
 use Rattle.cool_codegen.proofs.FeaturesThere.{one_there, small_value, stands}
 use Rattle.cool_codegen.proofs.feature.feature_lines.Goals.{in-Method+in_ok-method_lines-in-Method, in-Attribute+in-Some+in_ok-attribute_lines-in-Attribute, in-Attribute+in_default}
 use Rattle.cool_codegen.proofs.feature.feature_lines.Goals as goal
@@ -46,12 +47,12 @@ returns-clause-lines c x is g more =
       | in-Method+in_ok-method_lines-in-Method w ↦
           let m = w.in-Method.method in
           ap (λ ls. lines_of ls.items) w.lines-is
-          ∙ (w.in_ok-method_lines-in-Method.ensures.lines g (subst (λ (t : Constants). Extends t g) w.consts-is more)
+          ∙ (w.in_ok-method_lines-in-Method.ensures.made.lines g (subst (λ (t : Constants). Extends t g) w.consts-is more)
           ∙ (ap (λ (ls : List Line). ls ++ method_code s g w.as_slice.result.now m.body) nothing
           ∙ (ap (λ (fs : List Formal). method_code s g fs m.body) w.as_slice.ensures ∙ sym (ap (feature_code s g) w.in-Method.is))))
       | in-Attribute+in-Some+in_ok-attribute_lines-in-Attribute w ↦
           ap (λ ls. lines_of ls.items) w.lines-is
-          ∙ (w.in_ok-attribute_lines-in-Attribute.ensures.lines g (subst (λ (t : Constants). Extends t g) w.consts-is more)
+          ∙ (w.in_ok-attribute_lines-in-Attribute.ensures.made.lines g (subst (λ (t : Constants). Extends t g) w.consts-is more)
           ∙ (ap (λ (ls : List Line). ls ++ initial_value_code s g (Some w.in-Some.body)) nothing
           ∙ (sym (ap (initial_value_code s g) w.in-Some.is) ∙ sym (ap (feature_code s g) w.in-Attribute.is))))
       | in-Attribute+in_default w ↦
@@ -70,10 +71,10 @@ returns-clause-integers c x is =
     let by_kind : c.match-features-feature.consts.integers ≡ with_integers old (feature_integers found) =
     elim c.match-features-feature.branch [
       | in-Method+in_ok-method_lines-in-Method w ↦
-          ap (λ (t : Constants). t.integers) w.consts-is ∙ (w.in_ok-method_lines-in-Method.ensures.integers ∙ sym (ap (λ (f : Feature). with_integers old (feature_integers f)) w.in-Method.is))
+          ap (λ (t : Constants). t.integers) w.consts-is ∙ (w.in_ok-method_lines-in-Method.ensures.made.integers ∙ sym (ap (λ (f : Feature). with_integers old (feature_integers f)) w.in-Method.is))
       | in-Attribute+in-Some+in_ok-attribute_lines-in-Attribute w ↦
           ap (λ (t : Constants). t.integers) w.consts-is
-          ∙ (w.in_ok-attribute_lines-in-Attribute.ensures.integers
+          ∙ (w.in_ok-attribute_lines-in-Attribute.ensures.made.integers
           ∙ (sym (ap (λ (o : Option Tree). with_integers old (initial_integers o)) w.in-Some.is) ∙ sym (ap (λ (f : Feature). with_integers old (feature_integers f)) w.in-Attribute.is)))
       | in-Attribute+in_default w ↦
           ap (λ (t : Constants). t.integers) w.consts-is
@@ -92,13 +93,31 @@ returns-clause-strings c x is =
     let by_kind : c.match-features-feature.consts.strings ≡ with_strings old (feature_strings files found) =
     elim c.match-features-feature.branch [
       | in-Method+in_ok-method_lines-in-Method w ↦
-          ap (λ (t : Constants). t.strings) w.consts-is ∙ (w.in_ok-method_lines-in-Method.ensures.strings ∙ sym (ap (λ (f : Feature). with_strings old (feature_strings files f)) w.in-Method.is))
+          ap (λ (t : Constants). t.strings) w.consts-is ∙ (w.in_ok-method_lines-in-Method.ensures.made.strings ∙ sym (ap (λ (f : Feature). with_strings old (feature_strings files f)) w.in-Method.is))
       | in-Attribute+in-Some+in_ok-attribute_lines-in-Attribute w ↦
           ap (λ (t : Constants). t.strings) w.consts-is
-          ∙ (w.in_ok-attribute_lines-in-Attribute.ensures.strings
+          ∙ (w.in_ok-attribute_lines-in-Attribute.ensures.made.strings
           ∙ (sym (ap (λ (o : Option Tree). with_strings old (initial_strings files o)) w.in-Some.is) ∙ sym (ap (λ (f : Feature). with_strings old (feature_strings files f)) w.in-Attribute.is)))
       | in-Attribute+in_default w ↦
           ap (λ (t : Constants). t.strings) w.consts-is
           ∙ (sym (ap (λ (o : Option Tree). with_strings old (initial_strings files o)) w.in_default.is) ∙ sym (ap (λ (f : Feature). with_strings old (feature_strings files f)) w.in-Attribute.is))
     ] in
     by_kind ∙ sym (ap (λ (f : Feature). with_strings old (feature_strings files f)) (one_there (features_of p c.args.c) c.args.feature found x here is))
+
+pub returns-in_err-method_lines-in-Method-clause-kept : goal.returns-in_err-method_lines-in-Method-clause-kept
+returns-in_err-method_lines-in-Method-clause-kept c = extended_kept _ _ c.method_lines.ensures.kept
+
+pub returns-in_err-attribute_lines-in-Attribute-clause-kept : goal.returns-in_err-attribute_lines-in-Attribute-clause-kept
+returns-in_err-attribute_lines-in-Attribute-clause-kept c = extended_kept _ _ c.attribute_lines.ensures.kept
+
+pub returns-clause-kept : goal.returns-clause-kept
+returns-clause-kept c =
+    let old = c.args.consts.now in
+    let now = c.match-features-feature.consts in
+    let kept : Keeps old now =
+    elim c.match-features-feature.branch [
+      | in-Method+in_ok-method_lines-in-Method w ↦ subst (λ (u : Constants). Keeps old u) (sym w.consts-is) w.in_ok-method_lines-in-Method.ensures.kept
+      | in-Attribute+in-Some+in_ok-attribute_lines-in-Attribute w ↦ subst (λ (u : Constants). Keeps old u) (sym w.consts-is) w.in_ok-attribute_lines-in-Attribute.ensures.kept
+      | in-Attribute+in_default w ↦ kept_same old now w.consts-is
+    ] in
+    extended_kept old now kept

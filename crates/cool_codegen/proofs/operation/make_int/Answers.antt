@@ -12,8 +12,10 @@ use Rattle.cool_codegen.proofs.operation.make_int.Goals as goal
 pub returns-clause-lines : goal.returns-clause-lines
 unfolding overflow_abort
 returns-clause-lines c g more =
-    let fits = c.as_bytes.ensures.value ∙ c.in_ok-fits.ensures in
-    let file = c.as_bytes-2.ensures.value ∙ c.in_ok-file.ensures.label g more in
-    c.in_ok-new_int.ensures
-    ∙ ap (λ xs. xs ++ new_int_lines) (c.in_ok-ends_where.ensures ∙ (λ i. lines_of c.args.lines.now.items ++ ends_where_lines (fits i) (file i) c.args.at.line overflow_abort))
-    ∙ append_assoc (lines_of c.args.lines.now.items) (ends_where_lines (label_at (context c.args.setting.now) (codes "fits") c.args.id) (file_label (context c.args.setting.now) g c.args.at) c.args.at.line overflow_abort) new_int_lines
+    let fits = c.deref.ensures.value ∙ c.in_ok-fits.ensures in
+    let file = c.deref-2.ensures.value ∙ c.in_ok-file.ensures.label g more in
+    let before = lines_of c.args.lines.now.items in
+    let ends = c.in_ok-write.ensures.written ∙ ap (λ xs. before ++ xs) (c.ends_where.ensures ∙ (λ i. ends_where_lines (fits i) (file i) c.args.at.line overflow_abort)) in
+    c.in_ok-write-2.ensures.written
+    ∙ (λ i. ends i ++ c.new_int.ensures i)
+    ∙ append_assoc before (ends_where_lines (label_at (context c.args.setting.now) (codes "fits") c.args.id) (file_label (context c.args.setting.now) g c.args.at) c.args.at.line overflow_abort) new_int_lines

@@ -25,7 +25,7 @@ returns-clause-lines c =
     let is = asked_is s.files op at old now (c.make_int.ensures.integers ∙ c.operate.ensures.integers) (c.in_ok-make_int.ensures.strings ∙ ap (λ xs. with_string xs file) c.in_ok-operate.ensures.strings) in
     let more = extends_before between now [] (file ∷ []) (subst (λ (u : Constants). Extends u now) last (extends_same now)) in
     c.in_ok-make_int.ensures.lines now (extends_same now)
-    ∙ ap (λ xs. xs ++ int_code s now at id) (c.in_ok-operate.ensures.lines now more ∙ ap (λ xs. xs ++ operation_code s now op at id) c.in_ok-values.ensures ∙ append_assoc (lines_of c.args.lines.now.items) values_lines (operation_code s now op at id))
+    ∙ ap (λ xs. xs ++ int_code s now at id) (c.in_ok-operate.ensures.lines now more ∙ ap (λ xs. xs ++ operation_code s now op at id) (c.in_ok-write.ensures.written ∙ ap (λ xs. lines_of c.args.lines.now.items ++ xs) c.values.ensures) ∙ append_assoc (lines_of c.args.lines.now.items) values_lines (operation_code s now op at id))
     ∙ append_assoc (lines_of c.args.lines.now.items) (values_lines ++ operation_code s now op at id) (int_code s now at id)
     ∙ ap (λ xs. lines_of c.args.lines.now.items ++ xs) (append_assoc values_lines (operation_code s now op at id) (int_code s now at id))
     ∙ ap (λ g. lines_of c.args.lines.now.items ++ (values_lines ++ (operation_code s g op at id ++ int_code s g at id))) is

@@ -1,15 +1,10 @@
-use Rattle.std.proofs.Common.{◌≡◌, ◌++◌, OnOk, map, subst, [], ◌∷◌, ap, ◌∙◌}
+use Rattle.std.proofs.Common.{[], ◌∷◌, ap, ◌∙◌}
 use Rattle.std.specs.Prelude.{ℤ}
 use Rattle.std.proofs.lemmas.Int.{to_z-of_z}
 use Rattle.cool_runtime.specs.Instructions.{addiu, sltiu}
-use Rattle.mips_isa.specs.Lines.{lines_of}
-use Rattle.cool_runtime.specs.Drafts.{drafted}
 use Rattle.cool_codegen.specs.Pieces.{try_tags_lines}
 use Rattle.cool_codegen.proofs.piece.try_tags.Goals as goal
 
 pub returns : goal.returns
 unfolding try_tags_lines
-returns c =
-    let e : map drafted (c.addiu.result ∷ c.sltiu.result ∷ c.bne.result ∷ c.j.result ∷ []) ≡ try_tags_lines c.args.low c.args.count c.args.next.now =
-    λ i. (c.addiu.ensures ∙ ap (λ (z : ℤ). addiu 8 9 z) (to_z-of_z _ _ c.ranges.low)) i ∷ (c.sltiu.ensures ∙ ap (λ (z : ℤ). sltiu 8 8 z) (to_z-of_z _ _ c.ranges.count)) i ∷ c.bne.ensures i ∷ c.j.ensures i ∷ [] in
-    subst (λ xs. OnOk c.write.result (lines_of c.write.new.lines.items ≡ lines_of c.args.lines.now.items ++ xs)) e c.write.ensures
+returns c = λ i. (c.addiu.ensures ∙ ap (λ (z : ℤ). addiu 8 9 z) (to_z-of_z _ _ c.ranges.low)) i ∷ (c.sltiu.ensures ∙ ap (λ (z : ℤ). sltiu 8 8 z) (to_z-of_z _ _ c.ranges.count)) i ∷ c.bne.ensures i ∷ c.j.ensures i ∷ []

@@ -3,6 +3,7 @@ use Rattle.std.proofs.Common.{◌≡◌, ℕ, ◌+◌, ◌<◌, List, ◌++◌, 
 use Rattle.std.proofs.lemmas.List.{take_more, length-take-le}
 use Rattle.mips_isa.specs.Lines.{Name, Line, lines_of}
 use Rattle.cool_runtime.specs.LinesOfData.{int_lines}
+use Rattle.cool_runtime.proofs.AddedLines.{with_lines}
 use Rattle.cool_consts.specs.Labels.{int_constant}
 use Rattle.cool_consts.specs.LinesOfConstants.{integers_lines}
 use Rattle.cool_consts.proofs.MoreLines.{one_more_integer}
@@ -21,5 +22,5 @@ loop-index-preserved c =
     let name : c.as_slice.result.now ≡ int_constant i = c.as_slice.ensures.value ∙ c.in_ok-name.ensures in
     let more : integers_lines tag 0 (take (i + 1) ns) ≡ done ++ here (int_constant i) =
     ap (integers_lines tag 0) (take_more ns i 0 inside) ∙ one_more_integer tag 0 (take i ns) (get_or ns i 0) ∙ ap (λ (j : ℕ). done ++ here (int_constant j)) (let e : 0 + length (take i ns) ≡ i = omega arith in e) in
-    c.in_ok-int_object.ensures ∙ ap (λ (n : Name). lines_of c.loop-index.lines.items ++ here n) name ∙ ap (λ (l : List Line). l ++ here (int_constant i)) c.loop-index.invariant
+    with_lines _ _ _ _ c.in_ok-append.ensures.items c.in_ok-int.ensures ∙ ap (λ (n : Name). lines_of c.loop-index.lines.items ++ here n) name ∙ ap (λ (l : List Line). l ++ here (int_constant i)) c.loop-index.invariant
     ∙ append_assoc before done (here (int_constant i)) ∙ ap (λ (l : List Line). before ++ l) (sym more)

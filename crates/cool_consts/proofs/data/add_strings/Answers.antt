@@ -4,6 +4,7 @@ use Rattle.std.specs.Global.{Vec}
 use Rattle.std.proofs.lemmas.List.{take_more, length-take-le, length-map, map_push}
 use Rattle.mips_isa.specs.Lines.{Name, Line, lines_of}
 use Rattle.cool_runtime.specs.LinesOfData.{string_lines}
+use Rattle.cool_runtime.proofs.AddedLines.{with_lines}
 use Rattle.cool_consts.specs.Labels.{string_constant, string_length}
 use Rattle.cool_consts.specs.LinesOfConstants.{strings_lines}
 use Rattle.cool_consts.proofs.StringKeys.{bytes_of}
@@ -29,7 +30,7 @@ loop-index-preserved c =
     let more : strings_lines tags.int tags.string 0 (bytes_of (take (i + 1) all)) ≡ done ++ here (string_constant i) (string_length i) key.items =
     ap (strings_lines tags.int tags.string 0) taken ∙ one_more_string tags.int tags.string 0 (bytes_of (take i all)) key.items
     ∙ ap (λ (j : ℕ). done ++ here (string_constant j) (string_length j) key.items) (let e : 0 + length (bytes_of (take i all)) ≡ i = omega arith in e) in
-    c.in_ok-string_object.ensures
+    with_lines _ _ _ _ c.in_ok-append.ensures.items c.in_ok-string.ensures
     ∙ ap (λ (n : Name). lines_of c.loop-index.lines.items ++ here n c.as_slice-in-loop-index.result.now c.as_slice-in-loop-index-2.result.now) name
     ∙ ap (λ (n : Name). lines_of c.loop-index.lines.items ++ here (string_constant i) n c.as_slice-in-loop-index-2.result.now) length_name
     ∙ ap (λ (bs : List ℕ). lines_of c.loop-index.lines.items ++ here (string_constant i) (string_length i) bs) bytes

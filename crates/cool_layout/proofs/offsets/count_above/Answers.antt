@@ -1,13 +1,30 @@
--- The attributes of the parent.
-use Rattle.std.proofs.Common.{length, ap, ◌∙◌}
-use Rattle.cool_classes.specs.ClimbedChains.{chain}
-use Rattle.cool_layout.specs.Offsets.{attributes_above}
-use Rattle.cool_layout.proofs.ShortChains.{chain_is}
+-- The count that stands at the tag of the parent.
+use Rattle.std.proofs.Common.{ℕ, ◌<◌, length, Some, None, sym, ◌∙◌, subst, arith}
+use Rattle.cool_layout.specs.Preorder.{tag}
+use Rattle.cool_layout.specs.SlotTables.{IsAbove}
+use Rattle.cool_layout.proofs.AttributesCounted.{above_by_tag, none_above}
 use Rattle.cool_layout.proofs.offsets.count_above.Goals as goal
 
-pub returns-in_ok-attributes-in-Some : goal.returns-in_ok-attributes-in-Some
-returns-in_ok-attributes-in-Some c =
+pub bounds-counts-above : goal.bounds-counts-above
+bounds-counts-above c =
     let p = c.args.t.now in
-    let q = c.in-Some.above in
-    c.len.ensures ∙ c.in_ok-attributes-in-Some.field-0.ok.0
-    ∙ ap length (c.in_ok-attributes-in-Some.ensures.attributes (chain p q) (chain_is p c.requires.rooted q c.in-Some.ensures.above)) ∙ ap (attributes_above p) c.in-Some.ensures.parent
+    let up : IsAbove p (tag p c.args.class) (Some c.in-Some.above) = subst (IsAbove p (tag p c.args.class)) c.in-Some.is c.tag_above.ensures in
+    let known = c.requires.known in
+    let low = up.0 in
+    omega arith
+
+pub returns-in-Some : goal.returns-in-Some
+returns-in-Some c =
+    let p = c.args.t.now in
+    let j : ℕ = c.in-Some.above in
+    let up : IsAbove p (tag p c.args.class) (Some j) = subst (IsAbove p (tag p c.args.class)) c.in-Some.is c.tag_above.ensures in
+    let known = c.requires.known in
+    let below = up.0 in
+    let low : j < length c.args.counts.now = omega arith in
+    c.requires.counts j 0 low ∙ sym (above_by_tag p c.requires.rooted c.args.class c.requires.class j up)
+
+pub returns-in-None : goal.returns-in-None
+returns-in-None c =
+    let p = c.args.t.now in
+    let top : IsAbove p (tag p c.args.class) None = subst (IsAbove p (tag p c.args.class)) c.in-None.is c.tag_above.ensures in
+    sym (none_above p c.requires.rooted c.args.class c.requires.class top)

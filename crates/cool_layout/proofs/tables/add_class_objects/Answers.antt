@@ -4,6 +4,7 @@ use Rattle.mips_isa.specs.Lines.{Line, lines_of, Address}
 use Rattle.cool_runtime.specs.Instructions.{label}
 use Rattle.cool_runtime.specs.LinesOfData.{words}
 use Rattle.cool_runtime.specs.RoutineLabels.{class_objects}
+use Rattle.cool_runtime.proofs.AddedLines.{with_line}
 use Rattle.cool_classes.specs.declared.class_id.ClassId.{ClassId}
 use Rattle.cool_layout.specs.Labels.{prototype, initializer}
 use Rattle.cool_layout.proofs.tables.add_class_objects.Goals as goal
@@ -16,5 +17,5 @@ returns c =
     let old : List Line = lines_of c.args.lines.now.items in
     let one : ClassId → Line = λ d. words (Address (prototype p d) ∷ Address (initializer p d) ∷ []) in
     let end : length order ≤ c.loop-class.class-index = (let e = c.loop-class-test.false in omega arith) in
-    c.loop-class.invariant ∙ ap (λ (ds : List ClassId). lines_of c.label_line.new.lines.items ++ map one ds) (take_all c.loop-class.class-index order end)
-    ∙ ap (λ (l : List Line). l ++ map one order) c.in_ok-label_line.ensures ∙ append_assoc old (label class_objects ∷ []) (map one order)
+    c.loop-class.invariant ∙ ap (λ (ds : List ClassId). lines_of c.push.new.self.items ++ map one ds) (take_all c.loop-class.class-index order end)
+    ∙ ap (λ (l : List Line). l ++ map one order) (with_line _ _ _ _ c.in_ok-push.ensures.items c.in_ok-label_line.ensures) ∙ append_assoc old (label class_objects ∷ []) (map one order)

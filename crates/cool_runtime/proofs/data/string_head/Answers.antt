@@ -1,5 +1,6 @@
 -- The one field is the address of the length.
-use Rattle.std.proofs.Common.{◌≡◌, List, [], ◌∷◌, ◌++◌, map, OnOk, ap, ◌∙◌, subst}
+use Rattle.std.proofs.Common.{◌≡◌, List, [], ◌∷◌, map, ap, ◌∙◌, subst}
+use Rattle.std.specs.Prelude.{IfOk}
 use Rattle.mips_isa.specs.Lines.{WordItem, lines_of, item_of}
 use Rattle.cool_runtime.specs.Labels.{string_table}
 use Rattle.cool_runtime.specs.LinesOfData.{object_lines}
@@ -9,5 +10,5 @@ pub returns : goal.returns
 unfolding string_table
 returns c =
     subst
-    (λ (fields : List WordItem). OnOk c.object.result (lines_of c.object.new.lines.items ≡ lines_of c.args.lines.now.items ++ object_lines c.args.name.now c.args.tag c.args.size string_table fields))
+    (λ (fields : List WordItem). IfOk c.object.result (λ lines. lines_of lines.items ≡ object_lines c.args.name.now c.args.tag c.args.size string_table fields))
     (ap (map item_of) c.in_ok-fields.ensures.items ∙ ap (λ (item : WordItem). item ∷ []) c.in_ok-address.ensures) c.object.ensures

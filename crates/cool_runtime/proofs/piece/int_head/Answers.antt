@@ -1,12 +1,7 @@
-use Rattle.std.proofs.Common.{◌≡◌, ◌++◌, OnOk, map, subst, [], ◌∷◌}
-use Rattle.mips_isa.specs.Lines.{lines_of}
-use Rattle.cool_runtime.specs.Drafts.{drafted}
+-- The line of each draft is that of the template.
 use Rattle.cool_runtime.specs.Labels.{int_prototype}
-use Rattle.cool_runtime.specs.Routines.{int_head_lines}
 use Rattle.cool_runtime.proofs.piece.int_head.Goals as goal
 
 pub returns : goal.returns
 unfolding int_prototype
-returns c =
-    let e : map drafted (c.la.result ∷ c.lw.result ∷ c.lw-2.result ∷ c.addiu.result ∷ c.sw.result ∷ c.sw-2.result ∷ c.addiu-2.result ∷ c.sw-3.result ∷ c.sw-4.result ∷ c.sw-5.result ∷ []) ≡ int_head_lines = cc in
-    subst (λ xs. OnOk c.write.result (lines_of c.write.new.lines.items ≡ lines_of c.args.lines.now.items ++ xs)) e c.write.ensures
+returns c = cc

@@ -1,12 +1,11 @@
-use Rattle.std.proofs.Common.{◌≡◌, ◌++◌, OnOk, map, subst, [], ◌∷◌}
-use Rattle.mips_isa.specs.Lines.{lines_of}
-use Rattle.cool_runtime.specs.Drafts.{drafted}
+-- The line of each draft is that of the template.
+use Rattle.std.proofs.Common.{◌≡◌, map, [], ◌∷◌}
 use Rattle.cool_runtime.specs.Labels.{abort, abort_text, name_table, newline_text}
+use Rattle.cool_runtime.specs.Drafts.{drafted}
 use Rattle.cool_runtime.specs.Routines.{abort_lines}
 use Rattle.cool_runtime.proofs.routine_part.abort.Goals as goal
 
 pub returns : goal.returns
 unfolding abort abort_text name_table newline_text
-returns c =
-    let e : map drafted (c.label.result ∷ c.lw.result ∷ c.sll.result ∷ c.la.result ∷ c.addu.result ∷ c.lw-2.result ∷ c.la-2.result ∷ c.call_number.result ∷ c.syscall.result ∷ c.addiu.result ∷ c.syscall-2.result ∷ c.la-3.result ∷ c.syscall-3.result ∷ c.addiu-2.result ∷ c.call_number-2.result ∷ c.syscall-4.result ∷ []) ≡ abort_lines = cc in
-    subst (λ xs. OnOk c.write.result (lines_of c.write.new.lines.items ≡ lines_of c.args.lines.now.items ++ xs)) e c.write.ensures
+returns c = let e : map drafted (c.label.result ∷ c.lw.result ∷ c.sll.result ∷ c.la.result ∷ c.addu.result ∷ c.lw-2.result ∷ c.la-2.result ∷ c.call_number.result ∷ c.syscall.result ∷ c.addiu.result ∷ c.syscall-2.result ∷ c.la-3.result ∷ c.syscall-3.result ∷ c.addiu-2.result ∷ c.call_number-2.result ∷ c.syscall-4.result ∷ []) ≡ abort_lines = cc in
+    e

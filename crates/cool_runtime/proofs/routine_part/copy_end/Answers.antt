@@ -1,12 +1,7 @@
-use Rattle.std.proofs.Common.{◌≡◌, ◌++◌, OnOk, map, subst, [], ◌∷◌}
-use Rattle.mips_isa.specs.Lines.{lines_of}
-use Rattle.cool_runtime.specs.Drafts.{drafted}
+-- The line of each draft is that of the template.
 use Rattle.cool_runtime.specs.Labels.{copy_end}
-use Rattle.cool_runtime.specs.Routines.{copy_end_lines}
 use Rattle.cool_runtime.proofs.routine_part.copy_end.Goals as goal
 
 pub returns : goal.returns
 unfolding copy_end
-returns c =
-    let e : map drafted (c.label.result ∷ c.addiu.result ∷ c.copied.result ∷ c.jr.result ∷ []) ≡ copy_end_lines = cc in
-    subst (λ xs. OnOk c.write.result (lines_of c.write.new.lines.items ≡ lines_of c.args.lines.now.items ++ xs)) e c.write.ensures
+returns c = cc

@@ -6,9 +6,10 @@ use Rattle.std.proofs.lemmas.Result.{IfOk-weaker}
 use Rattle.cool_consts.specs.Constants.{Constants, integer_number}
 use Rattle.cool_consts.specs.Labels.{int_constant}
 use Rattle.cool_codegen.specs.Asked.{Extends}
+use Rattle.cool_codegen.proofs.ConstantsKept.{kept_integer, kept_same}
 use Rattle.cool_codegen.proofs.NumbersStay.{stays}
 use Rattle.cool_codegen.proofs.NatsAreEqual.{nat_eq-same}
-use Rattle.cool_codegen.proofs.label.int_label.Goals as goal
+use Rattle.cool_codegen.proofs.constant_labels.int_label.Goals as goal
 
 pub returns-clause-label : goal.returns-clause-label
 returns-clause-label c =
@@ -18,3 +19,9 @@ returns-clause-label c =
     λ g more. ap (position_or_len (nat_eq v)) (more.integers.1 ∙ ap (λ xs. xs ++ more.integers.0) c.in_ok-number.ensures.integers)
     ∙ stays (nat_eq v) old more.integers.0 v (nat_eq-same v) ∙ sym c.in_ok-number.ensures.number in
     IfOk-weaker c.int_name.result _ _ (λ label e g more. e ∙ sym (ap int_constant (same g more))) c.int_name.ensures
+
+pub returns-in_err-number-clause-kept : goal.returns-in_err-number-clause-kept
+returns-in_err-number-clause-kept c = kept_same c.args.consts.now c.int.new.self c.in_err-number.ensures.refused
+
+pub returns-clause-kept : goal.returns-clause-kept
+returns-clause-kept c = kept_integer c.args.consts.now c.int.new.self c.args.value c.in_ok-number.ensures.integers c.int.ensures.strings

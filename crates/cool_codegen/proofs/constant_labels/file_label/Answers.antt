@@ -5,7 +5,7 @@ use Rattle.std.proofs.lemmas.Result.{IfOk-weaker}
 use Rattle.std.proofs.lemmas.List.{get_or-map}
 use Rattle.cool_codegen.specs.Code.{file_name, string_label}
 use Rattle.cool_codegen.specs.Settings.{context}
-use Rattle.cool_codegen.proofs.label.file_label.Goals as goal
+use Rattle.cool_codegen.proofs.constant_labels.file_label.Goals as goal
 
 pub returns-clause-label : goal.returns-clause-label
 returns-clause-label c =

@@ -1,0 +1,21 @@
+-- The file has its number in the table after its name was asked for.
+use Rattle.std.proofs.Common.{◌≡◌, ◌++◌, ap, ◌∙◌}
+use Rattle.mips_isa.specs.Lines.{lines_of}
+use Rattle.cool_consts.specs.Constants.{Constants}
+use Rattle.cool_layout.specs.Labels.{method_label}
+use Rattle.cool_codegen.specs.Code.{file_label, file_name}
+use Rattle.cool_codegen.specs.Numbered.{with_bytes}
+use Rattle.cool_codegen.specs.Pieces.{call_static_lines}
+use Rattle.cool_codegen.specs.Settings.{context}
+use Rattle.cool_codegen.proofs.NumbersAgree.{extends_same}
+use Rattle.cool_codegen.proofs.call.call_by_label.Goals as goal
+
+pub returns-clause-lines : goal.returns-clause-lines
+returns-clause-lines c =
+    let s = context c.args.setting.now in
+    let now = c.file_label.new.consts in
+    let asked : now ≡ with_bytes c.args.consts.now (file_name s c.args.at) = λ i. record { integers = c.file_label.ensures.integers i; strings = c.in_ok-file.ensures.strings i } in
+    let file = c.deref.ensures.value ∙ c.in_ok-file.ensures.label now (extends_same now) ∙ ap (λ (t : Constants). file_label s t c.args.at) asked in
+    let method = c.deref-2.ensures.value ∙ c.in_ok-label.ensures ∙ ap (method_label s.table) c.method.ensures.method in
+    c.in_ok-write.ensures.written
+    ∙ ap (λ xs. lines_of c.args.lines.now.items ++ xs) (c.call_static.ensures ∙ (λ i. call_static_lines (file i) c.args.at.line (method i)))

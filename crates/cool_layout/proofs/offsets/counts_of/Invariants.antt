@@ -1,0 +1,7 @@
+-- The counts so far.
+use Rattle.std.proofs.Common.{◌≡◌, length}
+use Rattle.cool_layout.specs.Offsets.{AreCounts}
+use Rattle.cool_layout.proofs.offsets.counts_of.Given as goal
+
+abbrev pub invariant-loop-tag : goal.invariant-loop-tag
+invariant-loop-tag l = (length l.counts.items ≡ l.tag) × AreCounts l.t l.counts.items

@@ -1,0 +1,42 @@
+-- The parts one after the other.
+use Rattle.std.proofs.Common.{◌≡◌, List, ◌++◌, ap, ◌∙◌}
+use Rattle.mips_isa.specs.Lines.{Line, lines_of}
+use Rattle.cool_runtime.specs.Labels.{concat_first, concat_second, concat_third, concat_end}
+use Rattle.cool_runtime.specs.Routines.{bytes_lines, concat_begin_lines, concat_turn_lines, int_head_lines, string_end_lines, string_head_lines, string_zeros_lines}
+use Rattle.cool_runtime.proofs.AddedLines.{then_as, then_in_turn}
+use Rattle.cool_runtime.proofs.lines.concat.Goals as goal
+
+pub returns : goal.returns
+unfolding concat_first concat_second concat_third concat_end
+returns c =
+    let l0 : List Line = lines_of c.args.lines.now.items in
+    let l1 : List Line = lines_of c.write.new.lines.items in
+    let l2 : List Line = lines_of c.write-2.new.lines.items in
+    let l3 : List Line = lines_of c.write-3.new.lines.items in
+    let l4 : List Line = lines_of c.write-4.new.lines.items in
+    let l5 : List Line = lines_of c.write-5.new.lines.items in
+    let l6 : List Line = lines_of c.write-6.new.lines.items in
+    let l7 : List Line = lines_of c.write-7.new.lines.items in
+    let l8 : List Line = lines_of c.write-8.new.lines.items in
+    let e1 : l1 ≡ l0 ++ concat_begin_lines = c.in_ok-write.ensures.written ∙ ap (λ (ls : List Line). l0 ++ ls) c.concat_begin.ensures in
+    let e2 : l2 ≡ l1 ++ int_head_lines = c.in_ok-write-2.ensures.written ∙ ap (λ (ls : List Line). l1 ++ ls) c.int_head.ensures in
+    let e3 : l3 ≡ l2 ++ string_head_lines = c.in_ok-write-3.ensures.written ∙ ap (λ (ls : List Line). l2 ++ ls) c.string_head.ensures in
+    let e4 : l4 ≡ l3 ++ string_zeros_lines = c.in_ok-write-4.ensures.written ∙ ap (λ (ls : List Line). l3 ++ ls) c.string_zeros.ensures in
+    let e5 : l5 ≡ l4 ++ bytes_lines concat_first concat_second = c.in_ok-write-5.ensures.written ∙ ap (λ (ls : List Line). l4 ++ ls) c.bytes.ensures in
+    let e6 : l6 ≡ l5 ++ concat_turn_lines = c.in_ok-write-6.ensures.written ∙ ap (λ (ls : List Line). l5 ++ ls) c.concat_turn.ensures in
+    let e7 : l7 ≡ l6 ++ bytes_lines concat_third concat_end = c.in_ok-write-7.ensures.written ∙ ap (λ (ls : List Line). l6 ++ ls) c.bytes-2.ensures in
+    let a8 : List Line = string_end_lines concat_end 4 in
+    let a7 : List Line = bytes_lines concat_third concat_end ++ a8 in
+    let a6 : List Line = concat_turn_lines ++ a7 in
+    let a5 : List Line = bytes_lines concat_first concat_second ++ a6 in
+    let a4 : List Line = string_zeros_lines ++ a5 in
+    let a3 : List Line = string_head_lines ++ a4 in
+    let a2 : List Line = int_head_lines ++ a3 in
+    then_in_turn c.write-8.result l0 l1 l8 concat_begin_lines a2 e1 (
+    then_in_turn c.write-8.result l1 l2 l8 int_head_lines a3 e2 (
+    then_in_turn c.write-8.result l2 l3 l8 string_head_lines a4 e3 (
+    then_in_turn c.write-8.result l3 l4 l8 string_zeros_lines a5 e4 (
+    then_in_turn c.write-8.result l4 l5 l8 (bytes_lines concat_first concat_second) a6 e5 (
+    then_in_turn c.write-8.result l5 l6 l8 concat_turn_lines a7 e6 (
+    then_in_turn c.write-8.result l6 l7 l8 (bytes_lines concat_third concat_end) a8 e7 (
+    then_as c.write-8.result l7 l8 _ a8 c.string_end.ensures c.write-8.ensures.written)))))))
