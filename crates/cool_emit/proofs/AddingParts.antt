@@ -1,5 +1,6 @@
 -- What parts of a program add, put together: lines and constants after lines and constants.
-use Rattle.std.proofs.Common.{◌≡◌, ℕ, zero, suc, ◌+◌, ◌≤◌, ◌<◌, List, [], ◌∷◌, ◌++◌, length, flat_map, take, get_or, Bool, true, false, ap, refl, sym, subst, ◌∙◌, arith, append_assoc, append-nil}
+use Rattle.std.proofs.Common.{◌≡◌, ℕ, zero, suc, ◌+◌, ◌≤◌, ◌<◌, List, [], ◌∷◌, ◌++◌, length, flat_map, take, get_or}
+use Rattle.std.proofs.Common.{Bool, true, false, ap, refl, sym, subst, ◌∙◌, arith, append_assoc, append-nil}
 use native.Mathlib.Numerals.{add-one}
 use Rattle.std.proofs.lemmas.Grind.{flat_map-append}
 use Rattle.std.proofs.lemmas.List.{length-take-le}
@@ -18,7 +19,8 @@ use Rattle.cool_emit.specs.declared.emission.Part.TheVariants.{Attributes, Metho
 use Rattle.cool_emit.specs.Programs.{Placed, attributes_from, methods_from, placed_code}
 
 -- lines that ask for no constants
-pub adds_lines : (files : List (List ℕ)) (t : Constants) (ls front behind : List Line) → behind ≡ front ++ ls → Adds files [] (λ _. ls) t t front behind
+pub adds_lines : (files : List (List ℕ)) (t : Constants) (ls front behind : List Line) → behind ≡ front ++ ls
+    → Adds files [] (λ _. ls) t t front behind
 adds_lines files t ls front behind e = record { lines = λ g _. e; constants = refl }
 
 -- nothing
@@ -26,15 +28,18 @@ pub adds_nothing : (files : List (List ℕ)) (t : Constants) (ls : List Line) �
 adds_nothing files t ls = adds_lines files t [] ls ls (sym (append-nil ls))
 
 -- the constants after a part extend those before it
-pub extended : (files : List (List ℕ)) (fs : List Placed) (code : Constants → List Line) (a b g : Constants) (x y : List Line) → Adds files fs code a b x y → Extends b g → Extends a g
-extended files fs code a b g x y h e = extends_before a g (integers_asked fs) (strings_asked files fs) (subst (λ (t : Constants). Extends t g) h.constants e)
+pub extended : (files : List (List ℕ)) (fs : List Placed) (code : Constants → List Line) (a b g : Constants)
+    (x y : List Line) → Adds files fs code a b x y → Extends b g → Extends a g
+extended files fs code a b g x y h e =
+    extends_before a g (integers_asked fs) (strings_asked files fs) (subst (λ (t : Constants). Extends t g) h.constants e)
 
 -- one part after another
 pub adds_both : (files : List (List ℕ)) (fs gs : List Placed) (code more : Constants → List Line) (a b c : Constants) (x y z : List Line)
     → Adds files fs code a b x y → Adds files gs more b c y z → Adds files (fs ++ gs) (λ g. code g ++ more g) a c x z
 adds_both files fs gs code more a b c x y z h k = record {
   lines = λ g e.
-      k.lines g e ∙ (ap (λ (ls : List Line). ls ++ more g) (h.lines g (extended files gs more b c g y z k e)) ∙ append_assoc x (code g) (more g));
+      k.lines g e ∙ (ap (λ (ls : List Line). ls ++ more g) (h.lines g (extended files gs more b c g y z k e))
+      ∙ append_assoc x (code g) (more g));
   constants =
       k.constants
       ∙ (ap (λ (t : Constants). after t (integers_asked gs) (strings_asked files gs)) h.constants
@@ -63,14 +68,18 @@ abbrev pub one_more : Bool → ℕ → Feature → List Placed
 one_more true k x = record { place = k; feature = x } ∷ []
 one_more false k x = []
 
-pub part_more : (part : Part) (k : ℕ) (fs : List Feature) (n : ℕ) (x : Feature) → n ≡ k + length fs → part_from part k (fs ++ x ∷ []) ≡ part_from part k fs ++ one_more (belongs part x) n x
+pub part_more : (part : Part) (k : ℕ) (fs : List Feature) (n : ℕ) (x : Feature) → n ≡ k + length fs
+    → part_from part k (fs ++ x ∷ []) ≡ part_from part k fs ++ one_more (belongs part x) n x
 part_more Attributes k [] n (Method m) e = refl
 part_more Attributes k [] n (Attribute a) e = let same : k ≡ n = omega arith in λ i. record { place = same i; feature = Attribute a } ∷ []
 part_more Attributes k (Method m ∷ fs) n x e = part_more Attributes (k + 1) fs n x (omega arith)
-part_more Attributes k (Attribute a ∷ fs) n x e = ap (λ (ps : List Placed). record { place = k; feature = Attribute a } ∷ ps) (part_more Attributes (k + 1) fs n x (omega arith))
+part_more Attributes k (Attribute a ∷ fs) n x e =
+    ap (λ (ps : List Placed). record { place = k; feature = Attribute a } ∷ ps)
+    (part_more Attributes (k + 1) fs n x (omega arith))
 part_more Methods k [] n (Attribute a) e = refl
 part_more Methods k [] n (Method m) e = let same : k ≡ n = omega arith in λ i. record { place = same i; feature = Method m } ∷ []
-part_more Methods k (Method m ∷ fs) n x e = ap (λ (ps : List Placed). record { place = k; feature = Method m } ∷ ps) (part_more Methods (k + 1) fs n x (omega arith))
+part_more Methods k (Method m ∷ fs) n x e =
+    ap (λ (ps : List Placed). record { place = k; feature = Method m } ∷ ps) (part_more Methods (k + 1) fs n x (omega arith))
 part_more Methods k (Attribute a ∷ fs) n x e = part_more Methods (k + 1) fs n x (omega arith)
 
 -- the front of items up to one, and that one
@@ -87,31 +96,39 @@ abbrev pub code_in : List Class → List (List ℕ) → ClassId → List Placed 
 code_in p files c fs g = flat_map (placed_code p files g c) fs
 
 -- a feature of the part is added after others
-pub one_belongs : (p : List Class) (files : List (List ℕ)) (c : ClassId) (part : Part) (fs : List Feature) (n : ℕ) (x : Feature) (a b d : Constants) (front middle behind : List Line)
+pub one_belongs : (p : List Class) (files : List (List ℕ)) (c : ClassId) (part : Part) (fs : List Feature)
+    (n : ℕ) (x : Feature) (a b d : Constants) (front middle behind : List Line)
     → belongs part x ≡ true → n ≡ length fs
     → Adds files (part_from part 0 fs) (code_in p files c (part_from part 0 fs)) a b front middle
-    → Adds files (record { place = n; feature = x } ∷ []) (λ g. placed_code p files g c (record { place = n; feature = x })) b d middle behind
+    → Adds files (record { place = n; feature = x } ∷ [])
+    (λ g. placed_code p files g c (record { place = n; feature = x })) b d middle behind
     → Adds files (part_from part 0 (fs ++ x ∷ [])) (code_in p files c (part_from part 0 (fs ++ x ∷ []))) a d front behind
 one_belongs p files c part fs n x a b d front middle behind here last h k =
     let one : Placed = record { place = n; feature = x } in
-    let more : part_from part 0 (fs ++ x ∷ []) ≡ part_from part 0 fs ++ one ∷ [] =
-    part_more part 0 fs n x (omega arith) ∙ ap (λ (t : Bool). part_from part 0 fs ++ one_more t n x) here in
-    let both = adds_both files (part_from part 0 fs) (one ∷ []) (code_in p files c (part_from part 0 fs)) (λ g. placed_code p files g c one) a b d front middle behind h k in
-    adds_same files (part_from part 0 fs ++ one ∷ []) (part_from part 0 (fs ++ x ∷ []))
-    (λ g. code_in p files c (part_from part 0 fs) g ++ placed_code p files g c one) (code_in p files c (part_from part 0 (fs ++ x ∷ []))) a d front behind (sym more)
-    (λ g. ap (λ (ls : List Line). code_in p files c (part_from part 0 fs) g ++ ls) (sym (append-nil (placed_code p files g c one)))
-    ∙ (sym (flat_map-append (placed_code p files g c) (part_from part 0 fs) (one ∷ [])) ∙ ap (flat_map (placed_code p files g c)) (sym more)))
+    let before = part_from part 0 fs in
+    let whole = part_from part 0 (fs ++ x ∷ []) in
+    let code = code_in p files c before in
+    let more : whole ≡ before ++ one ∷ [] =
+    part_more part 0 fs n x (omega arith) ∙ ap (λ (t : Bool). before ++ one_more t n x) here in
+    let both = adds_both files before (one ∷ []) code (λ g. placed_code p files g c one) a b d front middle behind h k in
+    adds_same files (before ++ one ∷ []) whole (λ g. code g ++ placed_code p files g c one) (code_in p files c whole) a d front
+    behind (sym more)
+    (λ g. ap (λ (ls : List Line). code g ++ ls) (sym (append-nil (placed_code p files g c one)))
+    ∙ (sym (flat_map-append (placed_code p files g c) before (one ∷ [])) ∙ ap (flat_map (placed_code p files g c)) (sym more)))
     both
 
 -- any other is passed over
-pub one_passed : (p : List Class) (files : List (List ℕ)) (c : ClassId) (part : Part) (fs : List Feature) (n : ℕ) (x : Feature) (a b : Constants) (front behind : List Line)
+pub one_passed : (p : List Class) (files : List (List ℕ)) (c : ClassId) (part : Part) (fs : List Feature)
+    (n : ℕ) (x : Feature) (a b : Constants) (front behind : List Line)
     → belongs part x ≡ false → n ≡ length fs
     → Adds files (part_from part 0 fs) (code_in p files c (part_from part 0 fs)) a b front behind
     → Adds files (part_from part 0 (fs ++ x ∷ [])) (code_in p files c (part_from part 0 (fs ++ x ∷ []))) a b front behind
 one_passed p files c part fs n x a b front behind here last h =
-    let same : part_from part 0 fs ≡ part_from part 0 (fs ++ x ∷ []) =
-    sym (part_more part 0 fs n x (omega arith) ∙ (ap (λ (t : Bool). part_from part 0 fs ++ one_more t n x) here ∙ append-nil (part_from part 0 fs))) in
-    adds_same files (part_from part 0 fs) (part_from part 0 (fs ++ x ∷ [])) (code_in p files c (part_from part 0 fs)) (code_in p files c (part_from part 0 (fs ++ x ∷ []))) a b front behind same
+    let before = part_from part 0 fs in
+    let whole = part_from part 0 (fs ++ x ∷ []) in
+    let same : before ≡ whole =
+    sym (part_more part 0 fs n x (omega arith) ∙ (ap (λ (t : Bool). before ++ one_more t n x) here ∙ append-nil before)) in
+    adds_same files before whole (code_in p files c before) (code_in p files c whole) a b front behind same
     (λ g. ap (flat_map (placed_code p files g c)) same) h
 
 -- fronts

@@ -1,5 +1,6 @@
 -- Totals over the classes of a table, by their numbers.
-use Rattle.std.proofs.Common.{◌≡◌, ℕ, ◌+◌, ◌≤◌, List, [], ◌∷◌, ◌++◌, length, take, drop, refl, ap, ◌∙◌, subst, arith, length-append, append_assoc}
+use Rattle.std.proofs.Common.{◌≡◌, ℕ, ◌+◌, ◌≤◌, List, [], ◌∷◌, ◌++◌, length, take, drop}
+use Rattle.std.proofs.Common.{refl, ap, ◌∙◌, subst, arith, length-append, append_assoc}
 use Rattle.std.proofs.Math.Seq.{get_or-append_seam}
 use Rattle.std.proofs.lemmas.List.{take-append-drop}
 use Rattle.cool_syntax.specs.declared.file_tree.Feature.{Feature}
@@ -25,7 +26,8 @@ numbers_after g front (c ∷ p) =
     let long : length (front ++ c ∷ []) ≡ length front + 1 = length-append front (c ∷ []) in
     let same : total (λ d. g (class_at (front ++ c ∷ p) d)) (numbers_from (length front + 1) (length p)) ≡ total g p =
     subst (λ (n : ℕ). total (λ d. g (class_at (front ++ c ∷ p) d)) (numbers_from n (length p)) ≡ total g p) long
-    (subst (λ (all : List Class). total (λ d. g (class_at all d)) (numbers_from (length (front ++ c ∷ [])) (length p)) ≡ total g p) (append_assoc front (c ∷ []) p) next) in
+    (subst (λ (all : List Class). total (λ d. g (class_at all d)) (numbers_from (length (front ++ c ∷ [])) (length p))
+    ≡ total g p) (append_assoc front (c ∷ []) p) next) in
     omega arith
 
 -- the same from the first class on
@@ -57,7 +59,8 @@ pub features_weigh : (p : List Class) → total placed_weight (all_features p) �
 features_weigh p =
     let all : total placed_weight (all_features p) ≡ total (λ c. total placed_weight (class_features p c)) (numbers_from 0 (length p)) =
     total-flat_map placed_weight (class_features p) (numbers_from 0 (length p)) in
-    let each : total (λ c. total placed_weight (class_features p c)) (numbers_from 0 (length p)) ≤ total (λ c. class_weight (class_at p c)) (numbers_from 0 (length p)) =
+    let each : total (λ c. total placed_weight (class_features p c)) (numbers_from 0 (length p))
+    ≤ total (λ c. class_weight (class_at p c)) (numbers_from 0 (length p)) =
     total-le (λ c. total placed_weight (class_features p c)) (λ c. class_weight (class_at p c)) (numbers_from 0 (length p)) (λ c. one c) in
     let weight : total (λ c. class_weight (class_at p c)) (numbers_from 0 (length p)) ≡ total class_weight p = by_number class_weight p in
     let is : weight_of p ≡ total class_weight p = weight_is_total p in

@@ -1,5 +1,6 @@
 -- How many constants the features of a program ask for: no more integers than the program weighs, and no more than twice as many strings.
-use Rattle.std.proofs.Common.{◌≡◌, ℕ, ◌+◌, ◌*◌, ◌≤◌, List, [], ◌∷◌, ◌++◌, length, flat_map, Option, Some, None, Bool, true, false, ap, arith, length-append}
+use Rattle.std.proofs.Common.{◌≡◌, ℕ, ◌+◌, ◌*◌, ◌≤◌, List, [], ◌∷◌, ◌++◌, length, flat_map}
+use Rattle.std.proofs.Common.{Option, Some, None, Bool, true, false, ap, arith, length-append}
 use Rattle.std.specs.Prelude.{nat_eq, bytes_eq, if◌then◌else◌}
 use Rattle.std.specs.List.{list_any}
 use Rattle.cool_syntax.specs.declared.place.Place.{Place}
@@ -7,13 +8,16 @@ use Rattle.cool_syntax.specs.declared.operator.ArithOp.{ArithOp}
 use Rattle.cool_syntax.specs.declared.operator.ArithOp.TheVariants as arith_op
 use Rattle.cool_syntax.specs.declared.file_tree.Feature.{Feature}
 use Rattle.cool_syntax.specs.declared.file_tree.Feature.TheVariants.{Method, Attribute}
-use Rattle.cool_syntax.specs.Tree.{Tree, Trees, MaybeTree, Cases, Last, More, Without, With, NoCase, CaseOf, tree_size, trees_size, maybe_size, cases_size}
+use Rattle.cool_syntax.specs.Tree.{Tree, Trees, MaybeTree, Cases, Last, More, Without, With}
+use Rattle.cool_syntax.specs.Tree.{NoCase, CaseOf, tree_size, trees_size, maybe_size, cases_size}
 use Rattle.cool_syntax.specs.Tree as trees
 use Rattle.cool_syntax.specs.FeatureSizes.{value_size}
 use Rattle.cool_syntax.specs.Weights.{feature_weight, text_of_value}
 use Rattle.cool_consts.specs.Constants.{with_integer, with_string}
 use Rattle.cool_classes.specs.Chains.{Class}
-use Rattle.cool_codegen.specs.Asked.{with_integers, with_strings, integers_in, integers_in_all, integers_in_maybe, integers_in_cases, strings_in, strings_in_all, strings_in_maybe, strings_in_cases, files_of}
+use Rattle.cool_codegen.specs.Asked.{with_integers, with_strings, integers_in, integers_in_all}
+use Rattle.cool_codegen.specs.Asked.{integers_in_maybe, integers_in_cases, strings_in, strings_in_all}
+use Rattle.cool_codegen.specs.Asked.{strings_in_maybe, strings_in_cases, files_of}
 use Rattle.cool_codegen.specs.Features.{feature_integers, feature_strings, initial_integers, initial_strings}
 use Rattle.cool_emit.specs.Programs.{Placed, all_features, program_constants, IsBuildable}
 use Rattle.cool_emit.proofs.Totals.{total, total-append}

@@ -1,5 +1,6 @@
 -- The constants of a program are in range: its integers are those of the source, and its strings those of the source and names of files.
-use Rattle.std.proofs.Common.{ℕ, zero, suc, ◌+◌, ◌≤◌, ◌<◌, List, [], ◌∷◌, ◌++◌, length, get_or, flat_map, Option, Some, None, Bool, true, false, arith}
+use Rattle.std.proofs.Common.{ℕ, zero, suc, ◌+◌, ◌≤◌, ◌<◌, List, [], ◌∷◌, ◌++◌, length, get_or}
+use Rattle.std.proofs.Common.{flat_map, Option, Some, None, Bool, true, false, arith}
 use Rattle.std.specs.Prelude.{nat_eq, bytes_eq, if◌then◌else◌, IfSome}
 use Rattle.std.specs.List.{AllByRecursion, list_any}
 use Rattle.cool_syntax.specs.declared.TheConstants.{MOST_BYTES}
@@ -16,8 +17,12 @@ use Rattle.cool_classes.specs.Chains.{Class, features_of}
 use Rattle.cool_classes.proofs.AllOfLists.{all_append, all_with}
 use Rattle.cool_layout.specs.Preorder.{numbers_from}
 use Rattle.cool_consts.specs.Constants.{with_integer, with_string}
-use Rattle.cool_codegen.specs.Asked.{with_integers, with_strings, integers_in, integers_in_all, integers_in_maybe, integers_in_cases, file_of, files_of, strings_in, strings_in_all, strings_in_maybe, strings_in_cases}
+use Rattle.cool_codegen.specs.Asked.{with_integers, with_strings, integers_in, integers_in_all}
+use Rattle.cool_codegen.specs.Asked.{integers_in_maybe, integers_in_cases, file_of, files_of}
+use Rattle.cool_codegen.specs.Asked.{strings_in, strings_in_all, strings_in_maybe, strings_in_cases}
 use Rattle.cool_codegen.specs.Features.{feature_integers, initial_integers, feature_strings, initial_strings}
+use Rattle.cool_emit.specs.declared.TheConstants.{MOST_FILE_NAME}
+use Rattle.cool_emit.specs.FileNames.{AreShortNames}
 use Rattle.cool_emit.specs.Programs.{Placed, attributes_from, methods_from, class_features, all_features, program_constants, IsBuildable}
 
 -- what holds of the lists that are made for the elements of a list holds of them joined
@@ -67,12 +72,14 @@ mutual
   integers_low n (trees.Block at ts) h = all_low n ts h.1
   integers_low n (trees.Let at name declared o t) h =
       all_append IsInt (integers_in_maybe o) (integers_in t) (maybe_low n o h.3) (integers_low n t h.4)
-  integers_low n (trees.Case at t cs) h = all_append IsInt (integers_in t) (integers_in_cases cs) (integers_low n t h.1) (cases_low n cs h.2)
+  integers_low n (trees.Case at t cs) h =
+      all_append IsInt (integers_in t) (integers_in_cases cs) (integers_low n t h.1) (cases_low n cs h.2)
   integers_low n (trees.New at class) h = tt
   integers_low n (trees.IsVoid at t) h = integers_low n t h.1
   integers_low n (trees.Arith at op a b) h = all_append IsInt (integers_in a) (integers_in b) (integers_low n a h.1) (integers_low n b h.2)
   integers_low n (trees.Neg at t) h = integers_low n t h.1
-  integers_low n (trees.Compare at op a b) h = all_append IsInt (integers_in a) (integers_in b) (integers_low n a h.1) (integers_low n b h.2)
+  integers_low n (trees.Compare at op a b) h =
+      all_append IsInt (integers_in a) (integers_in b) (integers_low n a h.1) (integers_low n b h.2)
   integers_low n (trees.Not at t) h = integers_low n t h.1
   integers_low n (trees.Id at name) h = tt
   integers_low n (trees.Int at value) h = (h.1, tt)
@@ -92,14 +99,14 @@ mutual
   cases_low n (CaseOf at name declared t cs) h =
       all_append IsInt (integers_in t) (integers_in_cases cs) (integers_low n t h.3) (cases_low n cs h.4)
 
-module _ (files : List (List ℕ)) (named : AllByRecursion (λ name. length name ≤ 4096) files) where
+module _ (files : List (List ℕ)) (named : AreShortNames files) where
   -- the name of a file is short
   file_short : (at : Place) → AllByRecursion IsShort (file_of files at)
   file_short at = (by files named at.file, tt)
     where
-      by : (names : List (List ℕ)) → AllByRecursion (λ name. length name ≤ 4096) names → (k : ℕ) → length (get_or names k []) ≤ MOST_BYTES
+      by : (names : List (List ℕ)) → AreShortNames names → (k : ℕ) → length (get_or names k []) ≤ MOST_BYTES
       by [] all k = omega arith
-      by (name ∷ names) all zero = let few : length name ≤ 4096 = all.0 in omega arith
+      by (name ∷ names) all zero = let few : length name ≤ MOST_FILE_NAME = all.0 in omega arith
       by (name ∷ names) all (suc k) = by names all.1 k
 
   files_short : (op : ArithOp) (at : Place) → AllByRecursion IsShort (files_of files op at)
@@ -145,7 +152,8 @@ module _ (files : List (List ℕ)) (named : AllByRecursion (λ name. length name
 
     all_short : (n : ℕ) (ts : Trees) → AreTreesWithin n ts → AllByRecursion IsShort (strings_in_all files ts)
     all_short n Last h = tt
-    all_short n (More t ts) h = all_append IsShort (strings_in files t) (strings_in_all files ts) (strings_short n t h.0) (all_short n ts h.1)
+    all_short n (More t ts) h =
+        all_append IsShort (strings_in files t) (strings_in_all files ts) (strings_short n t h.0) (all_short n ts h.1)
 
     maybe_short : (n : ℕ) (o : MaybeTree) → IsMaybeWithin n o → AllByRecursion IsShort (strings_in_maybe files o)
     maybe_short n Without h = tt
@@ -185,7 +193,8 @@ attributes_within n j [] all = tt
 attributes_within n j (Method m ∷ fs) all = attributes_within n (j + 1) fs all.1
 attributes_within n j (Attribute a ∷ fs) all = (all.0, attributes_within n (j + 1) fs all.1)
 
-methods_within : (n j : ℕ) (fs : List Feature) → AllByRecursion (IsFeatureWithin n) fs → AllByRecursion (IsPlacedWithin n) (methods_from j fs)
+methods_within : (n j : ℕ) (fs : List Feature) → AllByRecursion (IsFeatureWithin n) fs
+    → AllByRecursion (IsPlacedWithin n) (methods_from j fs)
 methods_within n j [] all = tt
 methods_within n j (Method m ∷ fs) all = (all.0, methods_within n (j + 1) fs all.1)
 methods_within n j (Attribute a ∷ fs) all = methods_within n (j + 1) fs all.1

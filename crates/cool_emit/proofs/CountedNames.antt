@@ -1,5 +1,6 @@
 -- How often a name stands among names, and how large a sum over numbers is of which at most one counts.
-use Rattle.std.proofs.Common.{◌≡◌, ◌≢◌, ℕ, zero, suc, ◌+◌, ◌<◌, ◌≤◌, List, [], ◌∷◌, ◌++◌, Bool, true, false, not, ◌&&◌, ◌||◌, true≢false, refl, sym, ap, ◌∙◌, arith}
+use Rattle.std.proofs.Common.{◌≡◌, ◌≢◌, ℕ, zero, suc, ◌+◌, ◌<◌, ◌≤◌, List, [], ◌∷◌, ◌++◌, Bool}
+use Rattle.std.proofs.Common.{true, false, not, ◌&&◌, ◌||◌, true≢false, refl, sym, ap, ◌∙◌, arith}
 use Rattle.std.specs.Prelude.{nat_eq, nat_le, nat_lt, bytes_eq}
 use Rattle.std.specs.List.{AllByRecursion, list_all, list_any}
 use Rattle.std.proofs.lemmas.Bool.{not-true}
@@ -37,7 +38,9 @@ is_same x y e = (bytes_eq-Decides x y).0 e
 others : (x : List ℕ) (ys : List (List ℕ)) → times x ys ≤ 0 → AllByRecursion (λ other. other ≢ x) ys
 others x [] none = tt
 others x (y ∷ ys) none = (
-  λ i. let e : one (bytes_eq x y) ≡ 1 = ap one (ap (bytes_eq x) i ∙ same x) in let all : one (bytes_eq x y) + times x ys ≤ 0 = none in omega arith,
+  λ i. let e : one (bytes_eq x y) ≡ 1 = ap one (ap (bytes_eq x) i ∙ same x) in
+      let all : one (bytes_eq x y) + times x ys ≤ 0 = none in
+      omega arith,
   let all : one (bytes_eq x y) + times x ys ≤ 0 = none in others x ys (omega arith),
 )
 
@@ -145,7 +148,8 @@ listed P x (y ∷ ys) h l =
     and_both true t h = (refl, h)
     and_both false t h = absurd (true≢false (sym h))
 
-    by : (b : Bool) → bytes_eq x y ≡ b → list_any (bytes_eq y) ys ≡ false → P y ≡ true → times x ys ≤ one (P x) → one b + times x ys ≤ one (P x)
+    by : (b : Bool) → bytes_eq x y ≡ b → list_any (bytes_eq y) ys ≡ false → P y ≡ true → times x ys ≤ one (P x)
+        → one b + times x ys ≤ one (P x)
     by true e apart has rest =
         let is : x ≡ y = is_same x y e in
         let z : times x ys ≡ 0 = ap (λ (z : List ℕ). times z ys) is ∙ none_there y ys apart in

@@ -1,6 +1,7 @@
--- The data of a program: each line is a label's line, words of numbers in their ranges and of names that are labels of the program, a text up
--- to a zero, or a fill-up to a word.
-use Rattle.std.proofs.Common.{◌≡◌, ℕ, zero, suc, ◌+◌, ◌-◌, ◌≤◌, ◌<◌, List, [], ◌∷◌, ◌++◌, length, get_or, drop, flat_map, map, Bool, true, false, refl, ap, ◌∙◌, subst, arith, Contains, inl, inr}
+-- The data of a program: each line is a label's line, words of numbers in their ranges and of names that are labels of the
+-- program, a text up to a zero, or a fill-up to a word.
+use Rattle.std.proofs.Common.{◌≡◌, ℕ, zero, suc, ◌+◌, ◌-◌, ◌≤◌, ◌<◌, List, [], ◌∷◌, ◌++◌, length, get_or, drop}
+use Rattle.std.proofs.Common.{flat_map, map, Bool, true, false, refl, ap, ◌∙◌, subst, arith, Contains, inl, inr}
 use Rattle.std.specs.Prelude.{pos, codes, bytes_eq, nat_eq, ◌||◌, if◌then◌else◌}
 use Rattle.std.specs.List.{AllByRecursion}
 use Rattle.std.proofs.lemmas.Bool.{cases_lt}
@@ -21,7 +22,9 @@ use Rattle.cool_runtime.specs.LinesOfData.{words, object_lines, int_lines, bool_
 use Rattle.cool_layout.specs.Preorder.{preorder, tag}
 use Rattle.cool_layout.specs.Members.{attributes, methods}
 use Rattle.cool_layout.specs.Labels.{prototype, initializer, dispatch_table, method_label, class_name, class_name_length}
-use Rattle.cool_layout.specs.LinesOfLayout.{int_tag, string_tag, class_names_lines, class_objects_lines, dispatch_table_lines, default_value, empty_string_fields, new_fields, prototype_lines, default_lines, name_lines, texts_lines, layout_lines}
+use Rattle.cool_layout.specs.LinesOfLayout.{int_tag, string_tag, class_names_lines, class_objects_lines}
+use Rattle.cool_layout.specs.LinesOfLayout.{dispatch_table_lines, default_value, empty_string_fields, new_fields}
+use Rattle.cool_layout.specs.LinesOfLayout.{prototype_lines, default_lines, name_lines, texts_lines, layout_lines}
 use Rattle.cool_layout.proofs.MethodsThere.{methods_have}
 use Rattle.cool_layout.proofs.ShortChains.{chain_is}
 use Rattle.cool_layout.proofs.TagRanges.{at_tag, preorder_in}
@@ -30,7 +33,11 @@ use Rattle.cool_consts.specs.LinesOfConstants.{integers_lines, strings_lines}
 use Rattle.cool_emit.specs.SoundLines.{IsData, IsDataWord, AreData, labels_of}
 use Rattle.cool_emit.specs.Programs.{program_constants, heap_lines, program_data, program_lines, IsBuildable}
 use Rattle.cool_emit.proofs.RootedTables.{rooted}
-use Rattle.cool_emit.proofs.LabelsThere.{bytes_after, string_after, lines_of_default_string, text_there, initializer_there, method_there, from_defaults, from_prototypes, from_tables, from_objects, lines_of_constants, default_int_there, default_string_there, dispatch_table_there, prototype_there, class_name_there, class_name_length_there}
+use Rattle.cool_emit.proofs.LabelsThere.{bytes_after, string_after, lines_of_default_string, text_there}
+use Rattle.cool_emit.proofs.LabelsThere.{initializer_there, method_there, from_defaults, from_prototypes}
+use Rattle.cool_emit.proofs.LabelsThere.{from_tables, from_objects, lines_of_constants, default_int_there}
+use Rattle.cool_emit.proofs.LabelsThere.{default_string_there, dispatch_table_there, prototype_there}
+use Rattle.cool_emit.proofs.LabelsThere.{class_name_there, class_name_length_there}
 use Rattle.cool_emit.proofs.ConstantsThere.{false_constant_there, string_length_there}
 use Rattle.cool_emit.proofs.FixedNamesThere.{basic_within, basic_named, int_table_there, bool_table_there, string_table_there}
 use Rattle.cool_emit.proofs.ConstantsInRange.{all_flat, IsInt, IsShort, integers_in_range, strings_in_range}
@@ -83,7 +90,8 @@ module _ (known : Name → Type 0) where
       → AreData known (strings_lines of_int of_string k bs)
   strings_data of_int of_string k [] int_low string_low int_there string_there there all = tt
   strings_data of_int of_string k (bytes ∷ bs) int_low string_low int_there string_there there all =
-      all_append IsPart (string_lines (string_constant k) (string_length k) of_int of_string bytes) (strings_lines of_int of_string (k + 1) bs)
+      all_append IsPart (string_lines (string_constant k) (string_length k) of_int of_string bytes)
+      (strings_lines of_int of_string (k + 1) bs)
       (string_data (string_constant k) (string_length k) of_int of_string bytes int_low string_low (let few = all.0 in omega arith)
       (let e : k + 0 ≡ k = omega arith in subst (λ i. known (string_length i)) e (there 0 (omega arith))) int_there string_there)
       (strings_data of_int of_string (k + 1) bs int_low string_low int_there string_there
@@ -202,7 +210,8 @@ module _ (p : List Class) (files : List (List ℕ)) (b : IsBuildable p files) wh
   default_data name = by (bytes_eq name (codes "Int")) (bytes_eq name (codes "Bool")) (bytes_eq name (codes "String"))
     where
       by : (i t s : Bool)
-          → IsDataWord Known (if i then Address default_int else if t then Address false_constant else if s then Address default_string else Number (pos 0))
+          → IsDataWord Known (if i then Address default_int else if t then Address false_constant
+          else if s then Address default_string else Number (pos 0))
       by true t s = default_int_there p files
       by false true s = false_constant_there p files
       by false false true = default_string_there p files
@@ -221,7 +230,8 @@ module _ (p : List Class) (files : List (List ℕ)) (b : IsBuildable p files) wh
 
       by : (t s : Bool)
           → AllByRecursion (IsDataWord Known)
-          (if t then Number (pos 0) ∷ [] else if s then empty_string_fields else map (λ a. default_value (attribute_type p a)) (attributes p c))
+          (if t then Number (pos 0) ∷ [] else if s then empty_string_fields
+          else map (λ a. default_value (attribute_type p a)) (attributes p c))
       by true s = (omega arith, tt)
       by false true = empty_data
       by false false = all_map (IsDataWord Known) (λ a. default_value (attribute_type p a)) (attributes p c) (each (attributes p c))
@@ -230,12 +240,14 @@ module _ (p : List Class) (files : List (List ℕ)) (b : IsBuildable p files) wh
   few_fields c within = by (nat_eq c.0 2 || nat_eq c.0 3) (nat_eq c.0 4)
     where
       by : (t s : Bool)
-          → length (if t then Number (pos 0) ∷ [] else if s then empty_string_fields else map (λ a. default_value (attribute_type p a)) (attributes p c))
+          → length (if t then Number (pos 0) ∷ [] else if s then empty_string_fields
+          else map (λ a. default_value (attribute_type p a)) (attributes p c))
           ≤ 2000
       by true s = omega arith
       by false true = omega arith
       by false false =
-          let most : length (attributes p c) ≤ 2000 = b.fits.table.attributes c (chain p c) within (chain_is p (rooted p b.typed.whole) c within) in
+          let most : length (attributes p c) ≤ 2000 =
+          b.fits.table.attributes c (chain p c) within (chain_is p (rooted p b.typed.whole) c within) in
           let same : length (map (λ a. default_value (attribute_type p a)) (attributes p c)) ≡ length (attributes p c) =
           length-map (attributes p c) (λ a. default_value (attribute_type p a)) in
           omega arith
@@ -265,7 +277,8 @@ module _ (p : List Class) (files : List (List ℕ)) (b : IsBuildable p files) wh
   layout_data =
       all_append IsLine (class_names_lines (preorder p)) (from_objects p) names_data
       (all_append IsLine (class_objects_lines p (preorder p)) (from_tables p) objects_data
-      (all_append IsLine (flat_map (dispatch_table_lines p) (preorder p)) (from_prototypes p) (of_classes (dispatch_table_lines p) table_data)
+      (all_append IsLine (flat_map (dispatch_table_lines p) (preorder p)) (from_prototypes p)
+      (of_classes (dispatch_table_lines p) table_data)
       (all_append IsLine (flat_map (prototype_lines p) (preorder p)) (from_defaults p) (of_classes (prototype_lines p) prototype_data)
       (all_append IsLine (default_lines p) (flat_map (name_lines p) (preorder p) ++ texts_lines) defaults_data
       (all_append IsLine (flat_map (name_lines p) (preorder p)) texts_lines (of_classes (name_lines p) name_data) (texts_data Known))))))
@@ -283,7 +296,8 @@ module _ (p : List Class) (files : List (List ℕ)) (b : IsBuildable p files) wh
       (all_append IsLine ints strings
       (integers_data Known (tag p (class_number 2)) 0 (program_constants p files).integers (basic_tag 2 (omega arith))
       (int_table_there p files b) (integers_in_range p files b))
-      (strings_data Known (tag p (class_number 2)) (tag p (class_number 4)) 0 (program_constants p files).strings (basic_tag 2 (omega arith))
+      (strings_data Known (tag p (class_number 2)) (tag p (class_number 4)) 0 (program_constants p files).strings
+      (basic_tag 2 (omega arith))
       (basic_tag 4 (omega arith)) (int_table_there p files b) (string_table_there p files b)
       (λ j less. let e : j ≡ 0 + j = omega arith in subst (λ i. Known (string_length i)) e (string_length_there p files j less))
       (strings_in_range p files b))))

@@ -1,5 +1,6 @@
 -- The labels with fixed names are there: those of the basic classes, those of Main, and the texts that routines write.
-use Rattle.std.proofs.Common.{◌≡◌, ℕ, zero, suc, ◌+◌, ◌<◌, List, [], ◌∷◌, ◌++◌, length, Contains, Option, Some, None, Bool, true, false, cond, refl, sym, ap, ◌∙◌, subst, arith}
+use Rattle.std.proofs.Common.{◌≡◌, ℕ, zero, suc, ◌+◌, ◌<◌, List, [], ◌∷◌, ◌++◌, length, Contains, Option}
+use Rattle.std.proofs.Common.{Some, None, Bool, true, false, cond, refl, sym, ap, ◌∙◌, subst, arith}
 use Rattle.std.specs.Prelude.{codes, slice_get, nat_lt, bytes_eq, option_map}
 use Rattle.cool_syntax.specs.declared.file_tree.Feature.{Feature}
 use Rattle.cool_syntax.specs.declared.file_tree.Feature.TheVariants.{Method, Attribute}
@@ -12,7 +13,9 @@ use Rattle.cool_classes.specs.Chains.{Class, class_number, name_of, features_of}
 use Rattle.cool_classes.specs.Features.{basic_methods, method_among, first_method, user_method, own_method, name_in}
 use Rattle.cool_classes.specs.Tables.{basic_classes}
 use Rattle.cool_classes.proofs.Methods.{found_has}
-use Rattle.cool_runtime.specs.Labels.{int_prototype, bool_prototype, string_prototype, int_table, bool_table, string_table, main_prototype, main_init, main_main, end_text, abort_text, newline_text, colon_text, no_branch_text, stop_text}
+use Rattle.cool_runtime.specs.Labels.{int_prototype, bool_prototype, string_prototype, int_table, bool_table}
+use Rattle.cool_runtime.specs.Labels.{string_table, main_prototype, main_init, main_main, end_text}
+use Rattle.cool_runtime.specs.Labels.{abort_text, newline_text, colon_text, no_branch_text, stop_text}
 use Rattle.cool_runtime.specs.RoutineLabels.{dispatch_text, case_text, division_text, substring_text, overflow_text}
 use Rattle.cool_layout.specs.Labels.{method_label}
 use Rattle.cool_layout.proofs.BasicNames.{five, basic_name}
@@ -62,7 +65,8 @@ main_label p c m e = by (nat_lt c.0 5) e
         ap (method_label p) (sym is) ∙ ap (λ n. name_of p c ++ (codes "." ++ n)) named
 
     by : (t : Bool)
-        → cond t (option_map Basic (method_among (basic_methods c.0) (codes "main"))) (user_method c (first_method 0 (features_of p c) (codes "main"))) ≡ Some m
+        → cond t (option_map Basic (method_among (basic_methods c.0) (codes "main")))
+        (user_method c (first_method 0 (features_of p c) (codes "main"))) ≡ Some m
         → method_label p m ≡ name_of p c ++ (codes "." ++ codes "main")
     by true g =
         let none : None ≡ Some m = ap (λ (o : Option BasicMethod). option_map Basic o) (sym (no_basic_main c.0)) ∙ g in

@@ -1,5 +1,6 @@
 -- The labels of the code of the classes stand once.
-use Rattle.std.proofs.Common.{◌≡◌, ℕ, zero, suc, ◌+◌, ◌^◌, ◌<◌, ◌≤◌, List, [], ◌∷◌, ◌++◌, length, flat_map, Option, Some, None, Bool, true, false, ◌&&◌, refl, sym, ap, ◌∙◌, subst, arith}
+use Rattle.std.proofs.Common.{◌≡◌, ℕ, zero, suc, ◌+◌, ◌^◌, ◌<◌, ◌≤◌, List, [], ◌∷◌, ◌++◌, length, flat_map}
+use Rattle.std.proofs.Common.{Option, Some, None, Bool, true, false, ◌&&◌, refl, sym, ap, ◌∙◌, subst, arith}
 use Rattle.std.specs.Prelude.{pos, nat_eq, nat_lt, bytes_eq, codes, IfSome, if◌then◌else◌}
 use Rattle.std.specs.List.{AllByRecursion}
 use Rattle.cool_syntax.specs.declared.TheConstants.{MOST_TOKENS}
@@ -17,7 +18,8 @@ use Rattle.cool_layout.specs.Preorder.{numbers_from}
 use Rattle.cool_layout.proofs.Counting.{one}
 use Rattle.cool_consts.specs.Constants.{Constants}
 use Rattle.cool_codegen.specs.Pieces.{begin_init_lines, call_init_lines, leave_lines, return_basic_lines, take_self_lines}
-use Rattle.cool_emit.specs.Programs.{Placed, attributes_from, methods_from, attributes_in, methods_in, placed_code, parent_code, initializer_code, class_code, classes_code, IsBuildable}
+use Rattle.cool_emit.specs.Programs.{Placed, attributes_from, methods_from, attributes_in, methods_in, placed_code}
+use Rattle.cool_emit.specs.Programs.{parent_code, initializer_code, class_code, classes_code, IsBuildable}
 use Rattle.cool_emit.proofs.CountedNames.{between, total_from, hit, total_one, under, beside}
 use Rattle.cool_emit.proofs.NamesApart.{word_starts, sort, initializer_sort, initializer_class}
 use Rattle.cool_emit.proofs.NamesOfClasses.{is_word, own_place, not_basic, no_features}
@@ -26,7 +28,8 @@ use Rattle.cool_emit.proofs.LabelsOfCode.{marks, marks-append}
 use Rattle.cool_emit.proofs.LabelsOfFeatures.{class_by_name, label_class, label_feature, of_class, equal, IsSmallFeature, feature_once}
 
 -- features, each with two properties
-each_both : (P Q : ℕ → Feature → Type 0) (k : ℕ) (fs : List Feature) → EachInPlace P k fs → EachInPlace Q k fs → EachInPlace (λ j f. P j f × Q j f) k fs
+each_both : (P Q : ℕ → Feature → Type 0) (k : ℕ) (fs : List Feature) → EachInPlace P k fs → EachInPlace Q k fs
+    → EachInPlace (λ j f. P j f × Q j f) k fs
 each_both P Q k [] a b = tt
 each_both P Q k (f ∷ fs) a b = ((a.0, b.0), each_both P Q (k + 1) fs a.1 b.1)
 
@@ -39,13 +42,16 @@ small (Attribute a) h = by a.init h
     by None h = tt
     by (Some t) h = omega arith
 
-each_small : (k : ℕ) (fs : List Feature) → k + length fs ≤ 2 ^ 64 → AllByRecursion IsBoundedFeature fs → EachInPlace (λ j f. (j < 2 ^ 64) × IsSmallFeature f) k fs
+each_small : (k : ℕ) (fs : List Feature) → k + length fs ≤ 2 ^ 64 → AllByRecursion IsBoundedFeature fs
+    → EachInPlace (λ j f. (j < 2 ^ 64) × IsSmallFeature f) k fs
 each_small k [] l h = tt
 each_small k (f ∷ fs) l h = ((omega arith, small f h.0), each_small (k + 1) fs (omega arith) h.1)
 
 -- attributes and methods are all the features
-both_parts : (x : Name) (F : Placed → List Line) (o : ℕ) (b : Bool) (k : ℕ) (fs : List Feature) → EachInPlace (λ j f. marks x (F (record { place = j; feature = f })) ≤ one (nat_eq j o && b)) k fs
-    → marks x (flat_map F (attributes_from k fs)) + marks x (flat_map F (methods_from k fs)) ≤ total_from (λ i. one (nat_eq i o && b)) k (length fs)
+both_parts : (x : Name) (F : Placed → List Line) (o : ℕ) (b : Bool) (k : ℕ) (fs : List Feature)
+    → EachInPlace (λ j f. marks x (F (record { place = j; feature = f })) ≤ one (nat_eq j o && b)) k fs
+    → marks x (flat_map F (attributes_from k fs)) + marks x (flat_map F (methods_from k fs))
+    ≤ total_from (λ i. one (nat_eq i o && b)) k (length fs)
 both_parts x F o b k [] h = omega arith
 both_parts x F o b k (Method m ∷ fs) h =
     let f : Placed = record { place = k; feature = Method m } in
@@ -55,12 +61,15 @@ both_parts x F o b k (Attribute a ∷ fs) h =
     omega (arith, h.0, both_parts x F o b (k + 1) fs h.1, marks-append x (F f) (flat_map F (attributes_from (k + 1) fs)))
 
 -- of the labels of all features a name is one at most
-pub parts_once : (x : Name) (F : Placed → List Line) (o : ℕ) (b : Bool) (fs : List Feature) → EachInPlace (λ j f. marks x (F (record { place = j; feature = f })) ≤ one (nat_eq j o && b)) 0 fs
+pub parts_once : (x : Name) (F : Placed → List Line) (o : ℕ) (b : Bool) (fs : List Feature)
+    → EachInPlace (λ j f. marks x (F (record { place = j; feature = f })) ≤ one (nat_eq j o && b)) 0 fs
     → marks x (flat_map F (attributes_from 0 fs)) + marks x (flat_map F (methods_from 0 fs)) ≤ one b
-parts_once x F o b fs h = omega (arith, both_parts x F o b 0 fs h, total_one (λ i. one (nat_eq i o && b)) 0 (length fs) o b (λ i l u. omega arith))
+parts_once x F o b fs h =
+    omega (arith, both_parts x F o b 0 fs h, total_one (λ i. one (nat_eq i o && b)) 0 (length fs) o b (λ i l u. omega arith))
 
 -- classes by number
-pub by_number : (x : Name) (F : ClassId → List Line) (k n : ℕ) → marks x (flat_map F (numbers_from k n)) ≡ total_from (λ i. marks x (F (class_number i))) k n
+pub by_number : (x : Name) (F : ClassId → List Line) (k n : ℕ)
+    → marks x (flat_map F (numbers_from k n)) ≡ total_from (λ i. marks x (F (class_number i))) k n
 by_number x F k zero = refl
 by_number x F k (suc n) = omega (arith, marks-append x (F (class_number k)) (flat_map F (numbers_from (k + 1) n)), by_number x F (k + 1) n)
 
@@ -93,11 +102,14 @@ module _ (x : Name) where
 
   -- an initializer holds its own label and those of the attributes
   initializer_marks : (p : List Class) (files : List (List ℕ)) (g : Constants) (c : ClassId)
-      → marks x (initializer_code p files g c) ≤ one (bytes_eq x (initializer p c)) + marks x (flat_map (placed_code p files g c) (attributes_in p c))
+      → marks x (initializer_code p files g c)
+      ≤ one (bytes_eq x (initializer p c)) + marks x (flat_map (placed_code p files g c) (attributes_in p c))
   initializer_marks p files g c = by (nat_lt c.0 5)
     where
       by : (b : Bool)
-          → marks x (if b then return_basic_lines (initializer p c) else begin_init_lines (initializer p c) ++ (enter_lines ++ (parent_code p (parent_of p c) ++ (flat_map (placed_code p files g c) (attributes_in p c) ++ (take_self_lines ++ leave_lines (pos 12))))))
+          → marks x (if b then return_basic_lines (initializer p c)
+          else begin_init_lines (initializer p c) ++ (enter_lines ++ (parent_code p (parent_of p c)
+          ++ (flat_map (placed_code p files g c) (attributes_in p c) ++ (take_self_lines ++ leave_lines (pos 12))))))
           ≤ one (bytes_eq x (initializer p c)) + marks x (flat_map (placed_code p files g c) (attributes_in p c))
       by true = omega (arith, basic_marks (initializer p c))
       by false =
@@ -127,25 +139,34 @@ module _ (x : Name) where
         let y = initializer p c in
         let word = is_word (name_of p c) (b.fits.names c within) in
         let class : label_class p y ≡ c.0 =
-        class_by_name p y (name_of p c) (word_starts (name_of p c) (codes "_init") word) (initializer_class (name_of p c) word) ∙ own_place p table c within in
+        class_by_name p y (name_of p c) (word_starts (name_of p c) (codes "_init") word) (initializer_class (name_of p c) word)
+        ∙ own_place p table c within in
         hit (of_class p c.0 1 2) x y (rw (class, equal c.0) (ap (between 1 2) (initializer_sort (name_of p c) word)))
 
+    -- the code of a feature in its place holds the name once at most, and only where the name is of this feature
+    abbrev IsOnce : Constants → ClassId → ℕ → Feature → Type 0
+    IsOnce g c j f =
+        marks x (placed_code p files g c (record { place = j; feature = f }))
+        ≤ one (nat_eq j (label_feature p x) && of_class p c.0 2 4 x)
+
     -- what the code of a class holds
-    features_once : (g : Constants) (c : ClassId) → c.0 < length p → EachInPlace (λ j f. marks x (placed_code p files g c (record { place = j; feature = f })) ≤ one (nat_eq j (label_feature p x) && of_class p c.0 2 4 x)) 0 (features_of p c)
+    features_once : (g : Constants) (c : ClassId) → c.0 < length p → EachInPlace (IsOnce g c) 0 (features_of p c)
     features_once g c within = by (nat_lt c.0 5) refl
       where
-        by : (t : Bool) → nat_lt c.0 5 ≡ t → EachInPlace (λ j f. marks x (placed_code p files g c (record { place = j; feature = f })) ≤ one (nat_eq j (label_feature p x) && of_class p c.0 2 4 x)) 0 (features_of p c)
+        by : (t : Bool) → nat_lt c.0 5 ≡ t → EachInPlace (IsOnce g c) 0 (features_of p c)
         by true e =
             let low : c.0 < 5 = is_basic c.0 e in
-            subst (EachInPlace (λ j f. marks x (placed_code p files g c (record { place = j; feature = f })) ≤ one (nat_eq j (label_feature p x) && of_class p c.0 2 4 x)) 0) (sym (no_features p table c within low)) tt
+            subst (EachInPlace (IsOnce g c) 0) (sym (no_features p table c within low)) tt
         by false e =
             let high : 5 ≤ c.0 = no_basic c.0 e in
             let few : length p < 2 ^ 32 = table.few in
             let few_features : length (features_of p c) < 2 ^ 32 = table.few_features c within in
             let found = all_found (features_of p c) (b.typed.lawful.methods c within) in
             let little = each_small 0 (features_of p c) (omega arith) (b.fits.bounded c within) in
-            each-weaker (λ j f. IsFound (features_of p c) j f × ((j < 2 ^ 64) × IsSmallFeature f)) (λ j f. marks x (placed_code p files g c (record { place = j; feature = f })) ≤ one (nat_eq j (label_feature p x) && of_class p c.0 2 4 x)) 0 (features_of p c)
-            (λ j f h. feature_once p x table c within (is_word (name_of p c) (b.fits.names c within)) files g j f (omega arith) h.1.0 (not_basic p table c within high) h.0 h.1.1)
+            let word = is_word (name_of p c) (b.fits.names c within) in
+            let other = not_basic p table c within high in
+            each-weaker (λ j f. IsFound (features_of p c) j f × ((j < 2 ^ 64) × IsSmallFeature f)) (IsOnce g c) 0 (features_of p c)
+            (λ j f h. feature_once p x table c within word files g j f (omega arith) h.1.0 other h.0 h.1.1)
             (each_both (IsFound (features_of p c)) (λ j f. (j < 2 ^ 64) × IsSmallFeature f) 0 (features_of p c) found little)
 
     -- the code of a class, and that of all
@@ -167,4 +188,9 @@ module _ (x : Name) where
     pub classes_once : (g : Constants) → marks x (classes_code p files g) ≤ one (between 1 4 (sort x))
     classes_once g =
         let F = class_code p files g in
-        omega (arith, by_number x F 0 (length p), total_one (λ i. marks x (F (class_number i))) 0 (length p) (label_class p x) (between 1 4 (sort x)) (λ i l u. class_once g (class_number i) (omega arith)))
+        omega (
+          arith,
+          by_number x F 0 (length p),
+          total_one (λ i. marks x (F (class_number i))) 0 (length p) (label_class p x) (between 1 4 (sort x))
+              (λ i l u. class_once g (class_number i) (omega arith)),
+        )

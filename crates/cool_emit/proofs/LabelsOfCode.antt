@@ -1,5 +1,6 @@
 -- How often a name is a label of the code of an expression: no more often than it is a label of one kind at one of the expression's nodes.
-use Rattle.std.proofs.Common.{◌≡◌, ℕ, ◌+◌, ◌-◌, ◌≤◌, List, [], ◌∷◌, ◌++◌, Option, Some, None, Bool, true, false, refl, ap, ◌∙◌, arith, get_or}
+use Rattle.std.proofs.Common.{◌≡◌, ℕ, ◌+◌, ◌-◌, ◌≤◌, List, [], ◌∷◌, ◌++◌, Option, Some}
+use Rattle.std.proofs.Common.{None, Bool, true, false, refl, ap, ◌∙◌, arith, get_or}
 use Rattle.std.specs.Prelude.{ℤ, pos, ◌*◌, length, unwrap_or, bytes_eq, codes, nat_eq, nat_lt, if◌then◌else◌}
 use Rattle.std.proofs.lemmas.Grind.{flat_map-append}
 use Rattle.cool_syntax.specs.declared.place.Place.{Place}
@@ -8,7 +9,8 @@ use Rattle.cool_syntax.specs.declared.operator.ArithOp.{ArithOp}
 use Rattle.cool_syntax.specs.declared.operator.ArithOp.TheVariants as arith_op
 use Rattle.cool_syntax.specs.declared.operator.CompareOp.{CompareOp}
 use Rattle.cool_syntax.specs.declared.operator.CompareOp.TheVariants as compare_op
-use Rattle.cool_syntax.specs.Tree.{Tree, Trees, MaybeTree, Cases, Last, More, Without, With, NoCase, CaseOf, tree_size, trees_size, maybe_size, cases_size}
+use Rattle.cool_syntax.specs.Tree.{Tree, Trees, MaybeTree, Cases, Last, More, Without, With}
+use Rattle.cool_syntax.specs.Tree.{NoCase, CaseOf, tree_size, trees_size, maybe_size, cases_size}
 use Rattle.cool_syntax.specs.Tree as trees
 use Rattle.cool_syntax.specs.NodeLists.{root}
 use Rattle.mips_isa.specs.Lines.{Name, Line}
@@ -29,9 +31,19 @@ use Rattle.cool_layout.proofs.Counting.{one}
 use Rattle.cool_consts.specs.Constants.{Constants}
 use Rattle.cool_codegen.specs.declared.variables.Variable.{Variable}
 use Rattle.cool_codegen.specs.Arms.{Arm, with_arm, arms_lines}
-use Rattle.cool_codegen.specs.Code.{Context, label_at, load_of, store_of, name_code, assign_code, new_code, default_code, int_code, bool_code, operation_code, arith_code, compare_code, slot_code, static_code, range_code, minus, truth_label, integer_label, string_label, file_label, code, arguments_code, items_code, initial_code, arms_code}
+use Rattle.cool_codegen.specs.Code.{Context, label_at, load_of, store_of, name_code, assign_code}
+use Rattle.cool_codegen.specs.Code.{new_code, default_code, int_code, bool_code, operation_code}
+use Rattle.cool_codegen.specs.Code.{arith_code, compare_code, slot_code, static_code, range_code}
+use Rattle.cool_codegen.specs.Code.{minus, truth_label, integer_label, string_label, file_label}
+use Rattle.cool_codegen.specs.Code.{code, arguments_code, items_code, initial_code, arms_code}
 use Rattle.cool_codegen.specs.Labels.{inner}
-use Rattle.cool_codegen.specs.Pieces.{pop_lines, load_lines, store_lines, take_self_lines, take_void_lines, take_lines, test_lines, mark_lines, turn_lines, repeat_lines, values_lines, compare_equal_lines, less_lines, less_equal_lines, is_void_lines, complement_lines, flag_lines, add_lines, subtract_lines, multiply_lines, divide_lines, negate_lines, is_zero_lines, ends_where_lines, create_lines, create_self_lines, call_lines, call_static_lines, case_begin_lines, try_tags_lines, case_end_lines}
+use Rattle.cool_codegen.specs.Pieces.{pop_lines, load_lines, store_lines, take_self_lines, take_void_lines}
+use Rattle.cool_codegen.specs.Pieces.{take_lines, test_lines, mark_lines, turn_lines, repeat_lines}
+use Rattle.cool_codegen.specs.Pieces.{values_lines, compare_equal_lines, less_lines, less_equal_lines}
+use Rattle.cool_codegen.specs.Pieces.{is_void_lines, complement_lines, flag_lines, add_lines, subtract_lines}
+use Rattle.cool_codegen.specs.Pieces.{multiply_lines, divide_lines, negate_lines, is_zero_lines}
+use Rattle.cool_codegen.specs.Pieces.{ends_where_lines, create_lines, create_self_lines, call_lines}
+use Rattle.cool_codegen.specs.Pieces.{call_static_lines, case_begin_lines, try_tags_lines, case_end_lines}
 use Rattle.cool_codegen.specs.Types.{is_self, class_meant, method_in, trees_count, type_in}
 use Rattle.cool_codegen.specs.Variables.{Named, bind, found}
 use Rattle.cool_emit.specs.SoundLines.{labels_of}
@@ -103,7 +115,8 @@ module _ (x : Name) where
   no_default SelfType = refl
   no_default (IsClass c) = by (nat_eq c.0 2) (nat_eq c.0 3) (nat_eq c.0 4)
     where
-      by : (i b s : Bool) → marks x (if i then take_lines default_int else if b then take_lines false_constant else if s then take_lines default_string else take_void_lines) ≡ 0
+      by : (i b s : Bool) → marks x (if i then take_lines default_int else if b then take_lines false_constant
+          else if s then take_lines default_string else take_void_lines) ≡ 0
       by true b s = refl
       by false true s = refl
       by false false true = refl
@@ -147,10 +160,12 @@ module _ (x : Name) where
   four_parts : (a b c d : List Line) → marks x (a ++ (b ++ (c ++ d))) ≡ marks x a + (marks x b + (marks x c + marks x d))
   four_parts a b c d = marks-append x a (b ++ (c ++ d)) ∙ ap (λ n. marks x a + n) (three_parts b c d)
 
-  five_parts : (a b c d e : List Line) → marks x (a ++ (b ++ (c ++ (d ++ e)))) ≡ marks x a + (marks x b + (marks x c + (marks x d + marks x e)))
+  five_parts : (a b c d e : List Line)
+      → marks x (a ++ (b ++ (c ++ (d ++ e)))) ≡ marks x a + (marks x b + (marks x c + (marks x d + marks x e)))
   five_parts a b c d e = marks-append x a (b ++ (c ++ (d ++ e))) ∙ ap (λ n. marks x a + n) (four_parts b c d e)
 
-  six_parts : (a b c d e f : List Line) → marks x (a ++ (b ++ (c ++ (d ++ (e ++ f))))) ≡ marks x a + (marks x b + (marks x c + (marks x d + (marks x e + marks x f))))
+  six_parts : (a b c d e f : List Line) → marks x (a ++ (b ++ (c ++ (d ++ (e ++ f)))))
+      ≡ marks x a + (marks x b + (marks x c + (marks x d + (marks x e + marks x f))))
   six_parts a b c d e f = marks-append x a (b ++ (c ++ (d ++ (e ++ f)))) ∙ ap (λ n. marks x a + n) (five_parts b c d e f)
 
   -- whether a name is the label of a kind at a node, as a number
@@ -162,7 +177,8 @@ module _ (x : Name) where
   node_hits c f n = total_from (λ i. kind_hit c f n (get_or kinds i [])) 0 6
 
   hits_are : (c f n : ℕ) → node_hits c f n
-      ≡ kind_hit c f n (codes "else") + kind_hit c f n (codes "end") + kind_hit c f n (codes "loop") + kind_hit c f n (codes "some") + kind_hit c f n (codes "fits") + kind_hit c f n (codes "next")
+      ≡ kind_hit c f n (codes "else") + kind_hit c f n (codes "end") + kind_hit c f n (codes "loop")
+      + kind_hit c f n (codes "some") + kind_hit c f n (codes "fits") + kind_hit c f n (codes "next")
   hits_are c f n = omega arith
 
   -- those of so many nodes, from one on
@@ -259,7 +275,13 @@ module _ (x : Name) where
     arith_marks : (op : ArithOp) (at : Place) (id : NodeId)
         → marks x (arith_code s g op at id) ≤ own_hit id.0 (codes "some") + own_hit id.0 (codes "fits")
     arith_marks op at id =
-        omega (arith, three_parts values_lines (operation_code s g op at id) (int_code s g at id), no_values, operation_marks op at id, int_marks at id)
+        omega (
+          arith,
+          three_parts values_lines (operation_code s g op at id) (int_code s g at id),
+          no_values,
+          operation_marks op at id,
+          int_marks at id,
+        )
 
     compare_marks : (op : CompareOp) (id : NodeId) → marks x (compare_code s op id) ≤ own_hit id.0 (codes "end")
     unfolding values_lines less_lines less_equal_lines compare_equal_lines flag_lines
@@ -273,7 +295,8 @@ module _ (x : Name) where
     arm_marks (a ∷ rest) arm = by (nat_lt a.depth arm.depth) (arm_marks rest arm)
       where
         by : (b : Bool) → marks x (arms_lines (with_arm rest arm)) ≡ marks x (arms_lines rest) + marks x arm.lines
-            → marks x (arms_lines (if b then arm ∷ a ∷ rest else a ∷ with_arm rest arm)) ≡ marks x (arms_lines (a ∷ rest)) + marks x arm.lines
+            → marks x (arms_lines (if b then arm ∷ a ∷ rest else a ∷ with_arm rest arm))
+            ≡ marks x (arms_lines (a ∷ rest)) + marks x arm.lines
         by true e = omega (arith, two_parts arm.lines (arms_lines (a ∷ rest)))
         by false e = omega (arith, e, two_parts a.lines (arms_lines (with_arm rest arm)), two_parts a.lines (arms_lines rest))
 
@@ -313,11 +336,20 @@ module _ (x : Name) where
           let first : marks x (code s g vs d k t) ≤ within k a = omega (arith, code_marks vs d k t) in
           let second : marks x (code s g vs d (k + a) y) ≤ within (k + a) b = omega (arith, code_marks vs d (k + a) y) in
           let third : marks x (code s g vs d (k + a + b) n) ≤ within (k + a + b) c = omega (arith, code_marks vs d (k + a + b) n) in
-          let sum = six_parts (code s g vs d k t) (test_lines (label_at s (codes "else") own)) (code s g vs d (k + a) y) (turn_lines (label_at s (codes "end") own) (label_at s (codes "else") own)) (code s g vs d (k + a + b) n) (mark_lines (label_at s (codes "end") own)) in
+          let sum = six_parts (code s g vs d k t) (test_lines (label_at s (codes "else") own))
+          (code s g vs d (k + a) y) (turn_lines (label_at s (codes "end") own) (label_at s (codes "else") own))
+          (code s g vs d (k + a + b) n) (mark_lines (label_at s (codes "end") own)) in
           let m = marks x (code s g vs d k t) + (marks x (code s g vs d (k + a) y) + marks x (code s g vs d (k + a + b) n)) in
           let parts : m ≤ within k (a + b + c) = omega (arith, first, second, third, hits_three k a b c) in
           let all = with_own k (a + b + c) m (own_hit own.0 (codes "else") + own_hit own.0 (codes "end")) parts (else_end own.0) in
-          omega (arith, all, sum, test_marks (label_at s (codes "else") own), turn_marks (label_at s (codes "end") own) (label_at s (codes "else") own), mark_marks (label_at s (codes "end") own))
+          omega (
+            arith,
+            all,
+            sum,
+            test_marks (label_at s (codes "else") own),
+            turn_marks (label_at s (codes "end") own) (label_at s (codes "else") own),
+            mark_marks (label_at s (codes "end") own),
+          )
       code_marks vs d k (trees.Assign at name t) =
           let first : marks x (code s g vs d k t) ≤ within k (tree_size t) = omega (arith, code_marks vs d k t) in
           let all = with_own k (tree_size t) (marks x (code s g vs d k t)) 0 first (no_label (root k (trees.Assign at name t)).0) in
@@ -326,18 +358,30 @@ module _ (x : Name) where
           let e = d + trees_count ts in
           let first : marks x (code s g vs e k t) ≤ within k (tree_size t) = omega (arith, code_marks vs e k t) in
           let m = marks x (code s g vs e k t) + marks x (arguments_code s g vs d (k + tree_size t) ts) in
-          let parts : m ≤ within k (tree_size t + trees_size ts) = omega (arith, first, arguments_marks vs d (k + tree_size t) ts, hits_two k (tree_size t) (trees_size ts)) in
+          let parts : m ≤ within k (tree_size t + trees_size ts) =
+          omega (arith, first, arguments_marks vs d (k + tree_size t) ts, hits_two k (tree_size t) (trees_size ts)) in
           let all = with_own k (tree_size t + trees_size ts) m 0 parts (no_label (root k (trees.Dispatch at t name ts)).0) in
           let class = class_of s.class (type_in s.table s.class vs e t) in
-          omega (arith, all, three_parts (arguments_code s g vs d (k + tree_size t) ts) (code s g vs e k t) (slot_code s g at class name), slot_marks at class name)
+          omega (
+            arith,
+            all,
+            three_parts (arguments_code s g vs d (k + tree_size t) ts) (code s g vs e k t) (slot_code s g at class name),
+            slot_marks at class name,
+          )
       code_marks vs d k (trees.StaticDispatch at t class name ts) =
           let e = d + trees_count ts in
           let first : marks x (code s g vs e k t) ≤ within k (tree_size t) = omega (arith, code_marks vs e k t) in
           let m = marks x (code s g vs e k t) + marks x (arguments_code s g vs d (k + tree_size t) ts) in
-          let parts : m ≤ within k (tree_size t + trees_size ts) = omega (arith, first, arguments_marks vs d (k + tree_size t) ts, hits_two k (tree_size t) (trees_size ts)) in
+          let parts : m ≤ within k (tree_size t + trees_size ts) =
+          omega (arith, first, arguments_marks vs d (k + tree_size t) ts, hits_two k (tree_size t) (trees_size ts)) in
           let all = with_own k (tree_size t + trees_size ts) m 0 parts (no_label (root k (trees.StaticDispatch at t class name ts)).0) in
           let meant = class_meant s.table s.class class.name in
-          omega (arith, all, three_parts (arguments_code s g vs d (k + tree_size t) ts) (code s g vs e k t) (static_code s g at meant name), static_marks at meant name)
+          omega (
+            arith,
+            all,
+            three_parts (arguments_code s g vs d (k + tree_size t) ts) (code s g vs e k t) (static_code s g at meant name),
+            static_marks at meant name,
+          )
       code_marks vs d k (trees.While at t b) =
           let own = root k (trees.While at t b) in
           let a = tree_size t in
@@ -351,17 +395,25 @@ module _ (x : Name) where
           let sum = five_parts (mark_lines begin) (code s g vs d k t) (test_lines end) (code s g vs d (k + a) b) (repeat_lines begin end) in
           omega (arith, all, sum, mark_marks begin, test_marks end, repeat_marks begin end)
       code_marks vs d k (trees.Block at ts) =
-          let all = with_own k (trees_size ts) (marks x (items_code s g vs d k ts)) 0 (items_marks vs d k ts) (no_label (root k (trees.Block at ts)).0) in
+          let all = with_own k (trees_size ts) (marks x (items_code s g vs d k ts)) 0 (items_marks vs d k ts)
+          (no_label (root k (trees.Block at ts)).0) in
           omega (arith, all)
       code_marks vs d k (trees.Let at name declared o t) =
           let type = type_meant s.table declared.name in
           let n = maybe_size o in
           let inside = bind d name type vs in
-          let second : marks x (code s g inside (d + 1) (k + n) t) ≤ within (k + n) (tree_size t) = omega (arith, code_marks inside (d + 1) (k + n) t) in
+          let second : marks x (code s g inside (d + 1) (k + n) t) ≤ within (k + n) (tree_size t) =
+          omega (arith, code_marks inside (d + 1) (k + n) t) in
           let m = marks x (initial_code s g vs d k type o) + marks x (code s g inside (d + 1) (k + n) t) in
           let parts : m ≤ within k (n + tree_size t) = omega (arith, initial_marks vs d k type o, second, hits_two k n (tree_size t)) in
           let all = with_own k (n + tree_size t) m 0 parts (no_label (root k (trees.Let at name declared o t)).0) in
-          omega (arith, all, four_parts (initial_code s g vs d k type o) push_lines (code s g inside (d + 1) (k + n) t) pop_lines, no_push, no_pop)
+          omega (
+            arith,
+            all,
+            four_parts (initial_code s g vs d k type o) push_lines (code s g inside (d + 1) (k + n) t) pop_lines,
+            no_push,
+            no_pop,
+          )
       code_marks vs d k (trees.Case at t cs) =
           let own = root k (trees.Case at t cs) in
           let a = tree_size t in
@@ -373,7 +425,14 @@ module _ (x : Name) where
           let parts : m ≤ within k (a + cases_size cs) = omega (arith, first, second, hits_two k a (cases_size cs)) in
           let all = with_own k (a + cases_size cs) m (own_hit own.0 (codes "end")) parts (end_alone own.0) in
           let begin = case_begin_lines (file_label s g at) at.line in
-          omega (arith, all, five_parts (code s g vs d k t) begin push_lines (arms_lines arms) (case_end_lines end), no_begin (file_label s g at) at.line, no_push, case_end_marks end)
+          omega (
+            arith,
+            all,
+            five_parts (code s g vs d k t) begin push_lines (arms_lines arms) (case_end_lines end),
+            no_begin (file_label s g at) at.line,
+            no_push,
+            case_end_marks end,
+          )
       code_marks vs d k (trees.New at class) =
           let type = type_meant s.table class.name in
           leaf k (marks x (new_code s.table type)) (no_new s.table type)
@@ -386,11 +445,18 @@ module _ (x : Name) where
           let own = root k (trees.Arith at op l r) in
           let a = tree_size l in
           let first : marks x (code s g vs d k l) ≤ within k a = omega (arith, code_marks vs d k l) in
-          let second : marks x (code s g vs (d + 1) (k + a) r) ≤ within (k + a) (tree_size r) = omega (arith, code_marks vs (d + 1) (k + a) r) in
+          let second : marks x (code s g vs (d + 1) (k + a) r) ≤ within (k + a) (tree_size r) =
+          omega (arith, code_marks vs (d + 1) (k + a) r) in
           let m = marks x (code s g vs d k l) + marks x (code s g vs (d + 1) (k + a) r) in
           let parts : m ≤ within k (a + tree_size r) = omega (arith, first, second, hits_two k a (tree_size r)) in
           let all = with_own k (a + tree_size r) m (own_hit own.0 (codes "some") + own_hit own.0 (codes "fits")) parts (some_fits own.0) in
-          omega (arith, all, four_parts (code s g vs d k l) push_lines (code s g vs (d + 1) (k + a) r) (arith_code s g op at own), no_push, arith_marks op at own)
+          omega (
+            arith,
+            all,
+            four_parts (code s g vs d k l) push_lines (code s g vs (d + 1) (k + a) r) (arith_code s g op at own),
+            no_push,
+            arith_marks op at own,
+          )
       code_marks vs d k (trees.Neg at t) =
           let own = root k (trees.Neg at t) in
           let first : marks x (code s g vs d k t) ≤ within k (tree_size t) = omega (arith, code_marks vs d k t) in
@@ -400,11 +466,18 @@ module _ (x : Name) where
           let own = root k (trees.Compare at op l r) in
           let a = tree_size l in
           let first : marks x (code s g vs d k l) ≤ within k a = omega (arith, code_marks vs d k l) in
-          let second : marks x (code s g vs (d + 1) (k + a) r) ≤ within (k + a) (tree_size r) = omega (arith, code_marks vs (d + 1) (k + a) r) in
+          let second : marks x (code s g vs (d + 1) (k + a) r) ≤ within (k + a) (tree_size r) =
+          omega (arith, code_marks vs (d + 1) (k + a) r) in
           let m = marks x (code s g vs d k l) + marks x (code s g vs (d + 1) (k + a) r) in
           let parts : m ≤ within k (a + tree_size r) = omega (arith, first, second, hits_two k a (tree_size r)) in
           let all = with_own k (a + tree_size r) m (own_hit own.0 (codes "end")) parts (end_alone own.0) in
-          omega (arith, all, four_parts (code s g vs d k l) push_lines (code s g vs (d + 1) (k + a) r) (compare_code s op own), no_push, compare_marks op own)
+          omega (
+            arith,
+            all,
+            four_parts (code s g vs d k l) push_lines (code s g vs (d + 1) (k + a) r) (compare_code s op own),
+            no_push,
+            compare_marks op own,
+          )
       code_marks vs d k (trees.Not at t) =
           let own = root k (trees.Not at t) in
           let first : marks x (code s g vs d k t) ≤ within k (tree_size t) = omega (arith, code_marks vs d k t) in
@@ -439,7 +512,8 @@ module _ (x : Name) where
             two_parts (code s g vs d k t) (items_code s g vs d (k + a) ts),
           )
 
-      pub initial_marks : (vs : List Named) (d k : ℕ) (type : Ty) (o : MaybeTree) → marks x (initial_code s g vs d k type o) ≤ within k (maybe_size o)
+      pub initial_marks : (vs : List Named) (d k : ℕ) (type : Ty) (o : MaybeTree)
+          → marks x (initial_code s g vs d k type o) ≤ within k (maybe_size o)
       initial_marks vs d k type Without = omega (arith, no_default type)
       initial_marks vs d k type (With t) = omega (arith, code_marks vs d k t)
 

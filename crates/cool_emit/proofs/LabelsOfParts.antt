@@ -1,5 +1,6 @@
 -- The labels of lines are those of their parts: of lines joined, of a first line, and of the lines made for each element of a list.
-use Rattle.std.proofs.Common.{◌≡◌, ℕ, zero, suc, ◌+◌, ◌<◌, ◌≤◌, List, [], ◌∷◌, ◌++◌, length, get_or, flat_map, Contains, Bool, true, false, not, cond, refl, sym, ap, ◌∙◌, subst, arith, inl, inr}
+use Rattle.std.proofs.Common.{◌≡◌, ℕ, zero, suc, ◌+◌, ◌<◌, ◌≤◌, List, [], ◌∷◌, ◌++◌, length, get_or, flat_map}
+use Rattle.std.proofs.Common.{Contains, Bool, true, false, not, cond, refl, sym, ap, ◌∙◌, subst, arith, inl, inr}
 use Rattle.std.specs.Prelude.{nat_lt}
 use Rattle.std.specs.List.{position_or_len}
 use Rattle.std.proofs.lemmas.Bool.{cases_eq}
@@ -56,7 +57,8 @@ has_left xs ys n h =
 
 pub has_right : (xs ys : List Line) (n : Name) → Has ys n → Has (xs ++ ys) n
 has_right xs ys n h =
-    subst (λ ns. Contains ns n) (sym (flat_map-append (λ line. line.labels) xs ys)) (Contains-append_right (labels_of xs) (labels_of ys) n h)
+    subst (λ ns. Contains ns n) (sym (flat_map-append (λ line. line.labels) xs ys))
+    (Contains-append_right (labels_of xs) (labels_of ys) n h)
 
 -- the label of a first line, and the labels after a line
 pub has_label : (n : Name) (rest : List Line) → Has (label n ∷ rest) n

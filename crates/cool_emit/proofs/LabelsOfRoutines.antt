@@ -3,8 +3,14 @@ use Rattle.std.proofs.Common.{◌≡◌, List, [], ◌∷◌, Contains, refl, sy
 use Rattle.mips_isa.specs.Lines.{Name}
 use Rattle.mips_isa.specs.Assembly.{start_name}
 use Rattle.cool_classes.specs.declared.method.BasicMethod.{BasicMethod}
-use Rattle.cool_classes.specs.declared.method.BasicMethod.TheVariants.{Abort, TypeName, Copy, OutString, OutInt, InString, InInt, Length, Concat, Substr}
-use Rattle.cool_runtime.specs.Labels.{heap_limit, stack_limit, out_string, out_int, in_int, string_length, copy, copy_words, copy_end, string_concat, concat_first, concat_second, concat_third, concat_end, in_string, in_string_bytes, in_string_end, string_substr, substr_bytes, substr_end, substr_abort, equality, equal_values, equal_strings, equal_bytes, equal_true, equal_false, type_name, abort, case_abort, dispatch_abort, div_abort}
+use Rattle.cool_classes.specs.declared.method.BasicMethod.TheVariants.{Abort, TypeName, Copy, OutString, OutInt}
+use Rattle.cool_classes.specs.declared.method.BasicMethod.TheVariants.{InString, InInt, Length, Concat, Substr}
+use Rattle.cool_runtime.specs.Labels.{heap_limit, stack_limit, out_string, out_int, in_int, string_length}
+use Rattle.cool_runtime.specs.Labels.{copy, copy_words, copy_end, string_concat, concat_first, concat_second}
+use Rattle.cool_runtime.specs.Labels.{concat_third, concat_end, in_string, in_string_bytes, in_string_end}
+use Rattle.cool_runtime.specs.Labels.{string_substr, substr_bytes, substr_end, substr_abort, equality}
+use Rattle.cool_runtime.specs.Labels.{equal_values, equal_strings, equal_bytes, equal_true, equal_false}
+use Rattle.cool_runtime.specs.Labels.{type_name, abort, case_abort, dispatch_abort, div_abort}
 use Rattle.cool_runtime.specs.RoutineLabels.{case_void, overflow_abort}
 use Rattle.cool_runtime.specs.RoutineLines.{routine_lines, all_routine_lines}
 use Rattle.cool_layout.specs.Labels.{basic_label}

@@ -41,7 +41,8 @@ all_after P (name ∷ front) back h = all_after P front back h.1
 -- of different names, the last are different from the first
 after_new : (front back : List Name) → AreDifferent (front ++ back) → AreNew front back
 after_new [] back apart = nothing_seen back
-after_new (name ∷ front) back apart = one_more_seen name front back (all_after (λ (other : Name). other ≢ name) front back apart.0) (after_new front back apart.1)
+after_new (name ∷ front) back apart =
+    one_more_seen name front back (all_after (λ (other : Name). other ≢ name) front back apart.0) (after_new front back apart.1)
 
 -- and from each other
 after_different : (front back : List Name) → AreDifferent (front ++ back) → AreDifferent back

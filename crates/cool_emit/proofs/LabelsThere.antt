@@ -22,7 +22,9 @@ use Rattle.cool_runtime.specs.RoutineLines.{all_routine_lines}
 use Rattle.cool_layout.specs.Preorder.{numbers_from, preorder, tag}
 use Rattle.cool_layout.specs.Roots.{IsRooted}
 use Rattle.cool_layout.specs.Labels.{prototype, initializer, dispatch_table, method_label, class_name, class_name_length}
-use Rattle.cool_layout.specs.LinesOfLayout.{int_tag, string_tag, class_names_lines, class_objects_lines, dispatch_table_lines, empty_string_fields, new_fields, prototype_lines, default_lines, name_lines, texts_lines, layout_lines}
+use Rattle.cool_layout.specs.LinesOfLayout.{int_tag, string_tag, class_names_lines, class_objects_lines}
+use Rattle.cool_layout.specs.LinesOfLayout.{dispatch_table_lines, empty_string_fields, new_fields}
+use Rattle.cool_layout.specs.LinesOfLayout.{prototype_lines, default_lines, name_lines, texts_lines, layout_lines}
 use Rattle.cool_layout.specs.Members.{methods}
 use Rattle.cool_layout.proofs.TagRanges.{once, there_times}
 use Rattle.cool_consts.specs.Constants.{Constants}
@@ -30,9 +32,12 @@ use Rattle.cool_consts.specs.LinesOfConstants.{constants_lines}
 use Rattle.cool_codegen.specs.Pieces.{begin_init_lines, return_basic_lines, mark_lines, leave_lines}
 use Rattle.cool_codegen.specs.Code.{Context, code}
 use Rattle.cool_codegen.specs.Features.{with_formals, attributes_in}
-use Rattle.cool_emit.specs.Programs.{methods_from, methods_in, placed_code, initializer_code, class_code, classes_code, program_constants, program_text, heap_lines, program_data, program_lines, IsBuildable}
+use Rattle.cool_emit.specs.Programs.{methods_from, methods_in, placed_code, initializer_code}
+use Rattle.cool_emit.specs.Programs.{class_code, classes_code, program_constants, program_text}
+use Rattle.cool_emit.specs.Programs.{heap_lines, program_data, program_lines, IsBuildable}
 use Rattle.cool_emit.proofs.RootedTables.{rooted}
-use Rattle.cool_emit.proofs.LabelsOfParts.{Has, first_there, later_there, number_there, has_left, has_right, has_label, has_later, has_among}
+use Rattle.cool_emit.proofs.LabelsOfParts.{Has, first_there, later_there, number_there, has_left}
+use Rattle.cool_emit.proofs.LabelsOfParts.{has_right, has_label, has_later, has_among}
 use Rattle.cool_emit.proofs.LabelsOfRoutines.{basic_there}
 
 -- each class stands in preorder
@@ -46,7 +51,8 @@ module _ (p : List Class) (files : List (List ℕ)) where
 
   pub data_there : (n : Name) → Has (program_data p files) n → Has (program_lines p files) n
   data_there n h =
-      has_right (program_text p files) (directive_line ToData ∷ program_data p files) n (has_later (directive_line ToData) (program_data p files) n h)
+      has_right (program_text p files) (directive_line ToData ∷ program_data p files) n
+      (has_later (directive_line ToData) (program_data p files) n h)
 
   -- a label of a routine is one of the text
   pub routine_there : (n : Name) → Has all_routine_lines n → Has (program_text p files) n
@@ -115,7 +121,8 @@ module _ (p : List Class) (files : List (List ℕ)) where
       subst (λ i. Contains (methods_in p c) (record { place = i; feature = Method placed.0 })) e placed.1 in
       class_there p files c h.0 (method_label p (User c k))
       (has_right (initializer_code p files g c) (flat_map (placed_code p files g c) (methods_in p c)) (method_label p (User c k))
-      (has_among (placed_code p files g c) (methods_in p c) (record { place = k; feature = Method placed.0 }) (method_label p (User c k)) there
+      (has_among (placed_code p files g c) (methods_in p c) (record { place = k; feature = Method placed.0 })
+      (method_label p (User c k)) there
       (placed_label p files g c k placed.0)))
 
 -- The data

@@ -40,3 +40,5 @@ pub mod LabelsOfData
 pub mod LabelsAreDifferent
 pub mod ProgramsAreSound
 pub mod PartsAreLight
+pub mod SectionsInTurn
+pub mod PassesEnd

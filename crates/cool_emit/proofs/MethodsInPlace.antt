@@ -1,5 +1,6 @@
 -- Where the methods of a class stand among its features: the one of a name at the place at which a search for the name ends.
-use Rattle.std.proofs.Common.{◌≡◌, ◌≢◌, ℕ, suc, ◌+◌, List, [], ◌∷◌, ◌++◌, length, Some, Bool, true, false, refl, sym, ap, ◌∙◌, subst, arith, append_assoc, length-append}
+use Rattle.std.proofs.Common.{◌≡◌, ◌≢◌, ℕ, suc, ◌+◌, List, [], ◌∷◌, ◌++◌, length, Some, Bool, true}
+use Rattle.std.proofs.Common.{false, refl, sym, ap, ◌∙◌, subst, arith, append_assoc, length-append}
 use Rattle.std.specs.Prelude.{bytes_eq, slice_get, if◌then◌else◌}
 use Rattle.std.specs.List.{AllByRecursion}
 use Rattle.cool_syntax.specs.declared.file_tree.Feature.{Feature}
@@ -15,7 +16,8 @@ EachInPlace P k [] = Unit {0}
 EachInPlace P k (f ∷ fs) = P k f × EachInPlace P (k + 1) fs
 
 -- what follows from a property that each has
-pub each-weaker : (P Q : ℕ → Feature → Type 0) (k : ℕ) (fs : List Feature) → ((j : ℕ) (f : Feature) → P j f → Q j f) → EachInPlace P k fs → EachInPlace Q k fs
+pub each-weaker : (P Q : ℕ → Feature → Type 0) (k : ℕ) (fs : List Feature) → ((j : ℕ) (f : Feature) → P j f → Q j f)
+    → EachInPlace P k fs → EachInPlace Q k fs
 each-weaker P Q k [] w h = tt
 each-weaker P Q k (f ∷ fs) w h = (w k f h.0, each-weaker P Q (k + 1) fs w h.1)
 
@@ -30,13 +32,15 @@ get_there [] f fs = refl
 get_there (g ∷ front) f fs = get_there front f fs
 
 -- the method after others has a property that the names of all have
-last_of : (P : List ℕ → Type 0) (front : List Feature) (name : List ℕ) (names : List (List ℕ)) (all : List Feature) → method_names all ≡ name ∷ names → AllByRecursion P (method_names (front ++ all)) → P name
+last_of : (P : List ℕ → Type 0) (front : List Feature) (name : List ℕ) (names : List (List ℕ)) (all : List Feature)
+    → method_names all ≡ name ∷ names → AllByRecursion P (method_names (front ++ all)) → P name
 last_of P [] name names all e h = (subst (AllByRecursion P) e h).0
 last_of P (Method m ∷ front) name names all e h = last_of P front name names all e h.1
 last_of P (Attribute a ∷ front) name names all e h = last_of P front name names all e h
 
 -- the search passes over methods of other names
-search : (k : ℕ) (front all : List Feature) (name : List ℕ) (names : List (List ℕ)) → method_names all ≡ name ∷ names → AreDifferent (method_names (front ++ all))
+search : (k : ℕ) (front all : List Feature) (name : List ℕ) (names : List (List ℕ))
+    → method_names all ≡ name ∷ names → AreDifferent (method_names (front ++ all))
     → first_method k (front ++ all) name ≡ first_method (k + length front) all name
 search k [] all name names e d = let l : k ≡ k + 0 = omega arith in ap (λ j. first_method j all name) l
 search k (Method m ∷ front) all name names e d = by (bytes_eq m.name name) refl (search (k + 1) front all name names e d.1)
@@ -58,15 +62,19 @@ found_after front [] d = tt
 found_after front (f ∷ fs) d =
     let back : (front ++ f ∷ []) ++ fs ≡ front ++ f ∷ fs = append_assoc front (f ∷ []) fs in
     let l : length (front ++ f ∷ []) ≡ length front + 1 = length-append front (f ∷ []) in
-    let rest = found_after (front ++ f ∷ []) fs (subst (λ (gs : List Feature). AreDifferent (method_names gs)) (sym back) d) in
-    (here f d, subst (λ (j : ℕ). EachInPlace (IsFound (front ++ f ∷ fs)) j fs) l (subst (λ (gs : List Feature). EachInPlace (IsFound gs) (length (front ++ f ∷ [])) fs) back rest))
+    let rest = found_after (front ++ f ∷ []) fs (subst (λ (gs : List Feature). AreDifferent (method_names gs)) (sym back) d) in (
+      here f d,
+      subst (λ (j : ℕ). EachInPlace (IsFound (front ++ f ∷ fs)) j fs) l
+          (subst (λ (gs : List Feature). EachInPlace (IsFound gs) (length (front ++ f ∷ [])) fs) back rest),
+    )
   where
     here : (f : Feature) → AreDifferent (method_names (front ++ f ∷ fs)) → IsFound (front ++ f ∷ fs) (length front) f
     here (Attribute a) d = tt
     here (Method m) d =
         let l : 0 + length front ≡ length front = omega arith in (
           get_there front (Method m) fs,
-          search 0 front (Method m ∷ fs) m.name (method_names fs) refl d ∙ ap (λ (b : Bool). if b then Some (0 + length front) else first_method (0 + length front + 1) fs m.name) (same m.name) ∙ ap Some l,
+          search 0 front (Method m ∷ fs) m.name (method_names fs) refl d ∙ ap (λ (b : Bool). if b then Some (0 + length front)
+              else first_method (0 + length front + 1) fs m.name) (same m.name) ∙ ap Some l,
         )
 
 -- each feature of a class is found

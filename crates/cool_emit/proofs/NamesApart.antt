@@ -1,5 +1,7 @@
 -- What a label says of itself: to which sort it belongs, of which class it is, and which numbers it has.
-use Rattle.std.proofs.Common.{◌≡◌, ℕ, zero, suc, ◌-◌, ◌^◌, ◌<◌, List, [], ◌∷◌, ◌++◌, length, take, get_or, Bool, true, false, ◌&&◌, ◌||◌, refl, sym, ap, ◌∙◌, arith, true≢false, decimal, All, length-append}
+use Rattle.std.proofs.Common.{◌≡◌, ℕ, zero, suc, ◌-◌, ◌^◌, ◌<◌, List, [], ◌∷◌, ◌++◌, length}
+use Rattle.std.proofs.Common.{take, get_or, Bool, true, false, ◌&&◌, ◌||◌, refl, sym, ap}
+use Rattle.std.proofs.Common.{◌∙◌, arith, true≢false, decimal, All, length-append}
 use Rattle.std.specs.Prelude.{nat_eq, bytes_eq, codes, if◌then◌else◌}
 use Rattle.std.specs.List.{list_all, list_any, position_or_len}
 use Rattle.std.specs.Int.{IsInRange}
@@ -31,7 +33,8 @@ pub before_first : (b : ℕ) (xs ys : List ℕ) → has b xs ≡ false → befor
 before_first b [] ys h = let e : nat_eq b b ≡ true = grind arith in rw e refl
 before_first b (x ∷ xs) ys h = by (nat_eq x b) refl h (before_first b xs ys)
   where
-    by : (t : Bool) → nat_eq x b ≡ t → (t || has b xs) ≡ false → (has b xs ≡ false → before b (xs ++ b ∷ ys) ≡ xs) → before b (x ∷ xs ++ b ∷ ys) ≡ x ∷ xs
+    by : (t : Bool) → nat_eq x b ≡ t → (t || has b xs) ≡ false → (has b xs ≡ false → before b (xs ++ b ∷ ys) ≡ xs)
+        → before b (x ∷ xs ++ b ∷ ys) ≡ x ∷ xs
     by true e h rest = absurd (true≢false h)
     by false e h rest = rw e (ap (λ (zs : List ℕ). x ∷ zs) (rest h))
 
@@ -39,7 +42,8 @@ pub after_first : (b : ℕ) (xs ys : List ℕ) → has b xs ≡ false → after 
 after_first b [] ys h = let e : nat_eq b b ≡ true = grind arith in rw e refl
 after_first b (x ∷ xs) ys h = by (nat_eq x b) refl h (after_first b xs ys)
   where
-    by : (t : Bool) → nat_eq x b ≡ t → (t || has b xs) ≡ false → (has b xs ≡ false → after b (xs ++ b ∷ ys) ≡ ys) → after b (x ∷ xs ++ b ∷ ys) ≡ ys
+    by : (t : Bool) → nat_eq x b ≡ t → (t || has b xs) ≡ false → (has b xs ≡ false → after b (xs ++ b ∷ ys) ≡ ys)
+        → after b (x ∷ xs ++ b ∷ ys) ≡ ys
     by true e h rest = absurd (true≢false h)
     by false e h rest = rw e (rest h)
 
@@ -72,7 +76,9 @@ all_digits [] h = refl
 all_digits (d ∷ ds) h = rw (digit_range d (All-head (IsInRange 48 57) d ds h)) (all_digits ds (All-tail (IsInRange 48 57) d ds h))
 
 pub digits_only : (n : ℕ) → n < 2 ^ 64 → list_all is_digit (decimal n) ≡ true
-digits_only n fits = all_digits (decimal n) (All-from_get_or (IsInRange 48 57) (decimal n) 0 (λ i h. digit_at (decimal n) i (decimal_is_IsNumeral n fits).0.1 h))
+digits_only n fits =
+    all_digits (decimal n)
+    (All-from_get_or (IsInRange 48 57) (decimal n) 0 (λ i h. digit_at (decimal n) i (decimal_is_IsNumeral n fits).0.1 h))
 
 pub number_read : (n : ℕ) → n < 2 ^ 64 → digits_value 10 (decimal n) ≡ n
 number_read n fits = (decimal_is_IsNumeral n fits).1
@@ -82,7 +88,8 @@ pub no_underscore : (ds : List ℕ) → list_all is_digit ds ≡ true → has 95
 no_underscore [] h = refl
 no_underscore (d ∷ ds) h = by (is_digit d) refl h (no_underscore ds)
   where
-    by : (t : Bool) → is_digit d ≡ t → (t && list_all is_digit ds) ≡ true → (list_all is_digit ds ≡ true → has 95 ds ≡ false) → has 95 (d ∷ ds) ≡ false
+    by : (t : Bool) → is_digit d ≡ t → (t && list_all is_digit ds) ≡ true
+        → (list_all is_digit ds ≡ true → has 95 ds ≡ false) → has 95 (d ∷ ds) ≡ false
     by true e h rest = let other : nat_eq d 95 ≡ false = grind arith in rw other (rest h)
     by false e h rest = absurd (true≢false (sym h))
 
@@ -128,7 +135,8 @@ no_dot_in : (bs : List ℕ) → list_all is_in_word bs ≡ true → has 46 bs �
 no_dot_in [] h = refl
 no_dot_in (b ∷ bs) h = by (is_in_word b) refl h (no_dot_in bs)
   where
-    by : (t : Bool) → is_in_word b ≡ t → (t && list_all is_in_word bs) ≡ true → (list_all is_in_word bs ≡ true → has 46 bs ≡ false) → has 46 (b ∷ bs) ≡ false
+    by : (t : Bool) → is_in_word b ≡ t → (t && list_all is_in_word bs) ≡ true
+        → (list_all is_in_word bs ≡ true → has 46 bs ≡ false) → has 46 (b ∷ bs) ≡ false
     by true e h rest = let other : nat_eq b 46 ≡ false = grind arith in rw other (rest h)
     by false e h rest = absurd (true≢false (sym h))
 
@@ -165,7 +173,8 @@ stems =
     ∷ stem_as (codes "__default_int") 8 ∷ stem_as (codes "__default_string") 9
     ∷ stem_as (codes "__name_length") 10 ∷ stem_as (codes "__name") 11
     ∷ stem_as (codes "__end") 12 ∷ stem_as (codes "__abort") 12 ∷ stem_as (codes "__newline") 12 ∷ stem_as (codes "__colon") 12
-    ∷ stem_as (codes "__no_branch") 12 ∷ stem_as (codes "__stop") 12 ∷ stem_as (codes "__dispatch_text") 12 ∷ stem_as (codes "__case_text") 12
+    ∷ stem_as (codes "__no_branch") 12 ∷ stem_as (codes "__stop") 12 ∷ stem_as (codes "__dispatch_text") 12
+    ∷ stem_as (codes "__case_text") 12
     ∷ stem_as (codes "__division_text") 12 ∷ stem_as (codes "__substring_text") 12 ∷ stem_as (codes "__overflow_text") 12
     ∷ stem_as (codes "bool_const") 13 ∷ stem_as (codes "int_const") 14
     ∷ stem_as (codes "__length") 15 ∷ stem_as (codes "str_const") 16 ∷ stem_as (codes "heap_start") 17 ∷ []
@@ -208,28 +217,55 @@ method_text x = after 46 x
 -- the sorts of what a class is named by
 
 pub initializer_sort : (name : List ℕ) → IsWord name → sort (name ++ codes "_init") ≡ 1
-initializer_sort name w = rw (word_starts name (codes "_init") w, no_dot_before name (codes "_init") w refl, last_of_append name 95 (codes "init")) refl
+initializer_sort name w =
+    rw (
+      word_starts name (codes "_init") w,
+      no_dot_before name (codes "_init") w refl,
+      last_of_append name 95 (codes "init"),
+    ) refl
 
 pub table_sort : (name : List ℕ) → IsWord name → sort (name ++ codes "_dispTab") ≡ 6
-table_sort name w = rw (word_starts name (codes "_dispTab") w, no_dot_before name (codes "_dispTab") w refl, last_of_append name 95 (codes "dispTab")) refl
+table_sort name w =
+    rw (
+      word_starts name (codes "_dispTab") w,
+      no_dot_before name (codes "_dispTab") w refl,
+      last_of_append name 95 (codes "dispTab"),
+    ) refl
 
 pub prototype_sort : (name : List ℕ) → IsWord name → sort (name ++ codes "_protObj") ≡ 7
-prototype_sort name w = rw (word_starts name (codes "_protObj") w, no_dot_before name (codes "_protObj") w refl, last_of_append name 95 (codes "protObj")) refl
+prototype_sort name w =
+    rw (
+      word_starts name (codes "_protObj") w,
+      no_dot_before name (codes "_protObj") w refl,
+      last_of_append name 95 (codes "protObj"),
+    ) refl
 
-pub method_sort : (name method : List ℕ) → IsWord name → list_any (bytes_eq name) basic_texts ≡ false → sort (name ++ (codes "." ++ method)) ≡ 2
+pub method_sort : (name method : List ℕ) → IsWord name → list_any (bytes_eq name) basic_texts ≡ false
+    → sort (name ++ (codes "." ++ method)) ≡ 2
 method_sort name method w other =
-    rw (word_starts name (codes "." ++ method) w, list_any-append (λ c. nat_eq c 46) name (codes "." ++ method), no_dot name w, before_first 46 name method (no_dot name w), other) refl
+    rw (
+      word_starts name (codes "." ++ method) w,
+      list_any-append (λ c. nat_eq c 46) name (codes "." ++ method),
+      no_dot name w,
+      before_first 46 name method (no_dot name w),
+      other,
+    ) refl
 
 -- the class that they name
 
 pub initializer_class : (name : List ℕ) → IsWord name → class_text (name ++ codes "_init") ≡ name
-initializer_class name w = rw (no_dot_before name (codes "_init") w refl, last_of_append name 95 (codes "init")) (without_end name (codes "_init"))
+initializer_class name w =
+    rw (no_dot_before name (codes "_init") w refl, last_of_append name 95 (codes "init")) (without_end name (codes "_init"))
 
 pub table_class : (name : List ℕ) → IsWord name → class_text (name ++ codes "_dispTab") ≡ name
-table_class name w = rw (no_dot_before name (codes "_dispTab") w refl, last_of_append name 95 (codes "dispTab")) (without_end name (codes "_dispTab"))
+table_class name w =
+    rw (no_dot_before name (codes "_dispTab") w refl, last_of_append name 95 (codes "dispTab"))
+    (without_end name (codes "_dispTab"))
 
 pub prototype_class : (name : List ℕ) → IsWord name → class_text (name ++ codes "_protObj") ≡ name
-prototype_class name w = rw (no_dot_before name (codes "_protObj") w refl, last_of_append name 95 (codes "protObj")) (without_end name (codes "_protObj"))
+prototype_class name w =
+    rw (no_dot_before name (codes "_protObj") w refl, last_of_append name 95 (codes "protObj"))
+    (without_end name (codes "_protObj"))
 
 pub method_class : (name method : List ℕ) → IsWord name → class_text (name ++ (codes "." ++ method)) ≡ name
 method_class name method w =
@@ -338,7 +374,8 @@ module _ (place : ℕ) (kind : List ℕ) (is : IsKind place kind) (class feature
     unfolding rest
     class_is =
         ap (λ zs. digits_value 10 (before 95 zs)) after_kind
-        ∙ ap (digits_value 10) (before_first 95 (decimal class) (decimal feature ++ (codes "_" ++ decimal node)) class_plain) ∙ number_read class few
+        ∙ ap (digits_value 10) (before_first 95 (decimal class) (decimal feature ++ (codes "_" ++ decimal node)) class_plain)
+        ∙ number_read class few
 
     after_class : after 95 (after 95 (inner kind class feature node)) ≡ decimal feature ++ (codes "_" ++ decimal node)
     unfolding rest

@@ -31,7 +31,8 @@ named_low k (name ∷ names) f n low = by (bytes_eq f name) (named_low (k + 1) n
 
 class_low : (p : List Class) (f : List ℕ) → IfSome (class_named p f) (λ c. c.0 < length p)
 class_low p f =
-    let long : length (map (λ (c : Class). c.name) p) ≡ length p = length-map p (λ c. c.name) in named_low 0 (map (λ (c : Class). c.name) p) f
+    let long : length (map (λ (c : Class). c.name) p) ≡ length p = length-map p (λ c. c.name) in
+    named_low 0 (map (λ (c : Class). c.name) p) f
     (length p) (omega arith)
 
 -- a name means a type of the table
@@ -60,7 +61,8 @@ implementation_has p (d ∷ ds) f within = by (own_method p d f) (own_has p d f 
 pub method_in_there : (p : List Class) → IsRooted p → (c : ClassId) (f : List ℕ) → c.0 < length p → HasMethod p (method_in p c f)
 unfolding method_of
 method_in_there p r c f within =
-    by (implementation p (chain p c) f) (implementation_has p (chain p c) f (chain_in p r (Some c) within (chain p c) (chain_is p r c within)))
+    by (implementation p (chain p c) f)
+    (implementation_has p (chain p c) f (chain_in p r (Some c) within (chain p c) (chain_is p r c within)))
   where
     by : (o : Option MethodRef) → IfSome o (HasMethod p) → HasMethod p (unwrap_or o (Basic Abort))
     by None h = tt

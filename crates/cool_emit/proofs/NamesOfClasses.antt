@@ -1,12 +1,16 @@
 -- The names of classes are words, tell each class from the others, and are no basic names after the basic classes.
-use Rattle.std.proofs.Common.{◌≡◌, ℕ, zero, suc, ◌<◌, ◌≤◌, List, [], ◌∷◌, length, map, get_or, get_or-take, Option, Some, None, Bool, true, false, ◌==◌, refl, sym, ap, ◌∙◌, arith, true≢false}
+use Rattle.std.proofs.Common.{◌≡◌, ℕ, zero, suc, ◌<◌, ◌≤◌, List, [], ◌∷◌, length, map, get_or, get_or-take, Option}
+use Rattle.std.proofs.Common.{Some, None, Bool, true, false, ◌==◌, refl, sym, ap, ◌∙◌, arith, true≢false}
 use Rattle.std.specs.Prelude.{bytes_eq, if◌then◌else◌}
 use Rattle.std.specs.List.{list_all, list_any, position_or_len}
 use Rattle.std.proofs.lemmas.List.Sums.{position_or_len_is}
 use Rattle.cool_syntax.specs.declared.token.TokenKind.{TokenKind}
 use Rattle.cool_syntax.specs.declared.token.TokenKind.TheVariants as kind
 use Rattle.cool_syntax.specs.declared.token.Key.{Key}
-use Rattle.cool_syntax.specs.Lexemes.{Form, Lexeme, Space, Comment, form, form_of, class_of, lexeme_if, comment_if, string_of, dash, open_sign, angle, equals, alone, word, named, key_among, keywords, lower, is_truth, is_capital, is_small, is_in_word, is_digit, is_whole, comment_size, constant, value}
+use Rattle.cool_syntax.specs.Lexemes.{Form, Lexeme, Space, Comment, form, form_of, class_of, lexeme_if}
+use Rattle.cool_syntax.specs.Lexemes.{comment_if, string_of, dash, open_sign, angle, equals, alone, word}
+use Rattle.cool_syntax.specs.Lexemes.{named, key_among, keywords, lower, is_truth, is_capital, is_small}
+use Rattle.cool_syntax.specs.Lexemes.{is_in_word, is_digit, is_whole, comment_size, constant, value}
 use Rattle.cool_syntax.specs.Lexemes as classes
 use Rattle.cool_syntax.specs.TreesWithinLimits.{IsTypeName}
 use Rattle.cool_classes.specs.declared.class_id.ClassId.{ClassId}
@@ -107,7 +111,9 @@ is_word (b ∷ bs) h = by (is_capital b) refl
 
         all : (t : Bool) → list_all is_in_word bs ≡ t → list_all is_in_word bs ≡ true
         all true g = g
-        all false g = absurd (true≢false (sym (ap is_type h) ∙ ap (λ (c : classes.Class). is_type (form_of c b bs)) capital_class ∙ ap (λ (t : Bool). is_type (lexeme_if t (word b bs))) g))
+        all false g =
+            absurd (true≢false (sym (ap is_type h) ∙ ap (λ (c : classes.Class). is_type (form_of c b bs)) capital_class
+            ∙ ap (λ (t : Bool). is_type (lexeme_if t (word b bs))) g))
 
 -- the place of the class with a name
 abbrev pub class_place : List Class → List ℕ → ℕ
@@ -116,12 +122,16 @@ class_place p name = position_or_len (λ (c : Class). bytes_eq c.name name) p
 module _ (p : List Class) (table : IsTable p) (c : ClassId) (within : c.0 < length p) where
   -- a class stands at its own number
   pub own_place : class_place p (name_of p c) ≡ c.0
-  own_place = position_or_len_is (λ (d : Class). bytes_eq d.name (name_of p c)) p c.0 nothing (omega arith) (λ k l. other k l (bytes_eq (name_of p (class_number k)) (name_of p c)) refl) (λ l. same (name_of p c))
+  own_place =
+      position_or_len_is (λ (d : Class). bytes_eq d.name (name_of p c)) p c.0 nothing (omega arith)
+      (λ k l. other k l (bytes_eq (name_of p (class_number k)) (name_of p c)) refl) (λ l. same (name_of p c))
     where
-      other : (k : ℕ) → k < c.0 → (b : Bool) → bytes_eq (name_of p (class_number k)) (name_of p c) ≡ b → bytes_eq (name_of p (class_number k)) (name_of p c) ≡ false
+      other : (k : ℕ) → k < c.0 → (b : Bool) → bytes_eq (name_of p (class_number k)) (name_of p c) ≡ b
+          → bytes_eq (name_of p (class_number k)) (name_of p c) ≡ false
       other k l false e = e
       other k l true e =
-          let is : class_number k ≡ c = table.names (class_number k) c (omega arith) within (is_same (name_of p (class_number k)) (name_of p c) e) in
+          let is : class_number k ≡ c =
+          table.names (class_number k) c (omega arith) within (is_same (name_of p (class_number k)) (name_of p c) e) in
           let n : k ≡ c.0 = ap (λ (d : ClassId). d.0) is in
           absurd (omega arith)
 
@@ -129,11 +139,14 @@ module _ (p : List Class) (table : IsTable p) (c : ClassId) (within : c.0 < leng
   other_name : (k : ℕ) → k < 5 → 5 ≤ c.0 → bytes_eq (name_of p c) (name_of basic_classes (class_number k)) ≡ false
   other_name k low high = by (bytes_eq (name_of p c) (name_of basic_classes (class_number k))) refl
     where
-      by : (b : Bool) → bytes_eq (name_of p c) (name_of basic_classes (class_number k)) ≡ b → bytes_eq (name_of p c) (name_of basic_classes (class_number k)) ≡ false
+      by : (b : Bool) → bytes_eq (name_of p c) (name_of basic_classes (class_number k)) ≡ b
+          → bytes_eq (name_of p c) (name_of basic_classes (class_number k)) ≡ false
       by false e = e
       by true e =
           let l = five p table.basic in
-          let is : c ≡ class_number k = table.names c (class_number k) within (omega arith) (is_same (name_of p c) (name_of basic_classes (class_number k)) e ∙ sym (basic_name p table.basic k low)) in
+          let is : c ≡ class_number k =
+          table.names c (class_number k) within (omega arith)
+          (is_same (name_of p c) (name_of basic_classes (class_number k)) e ∙ sym (basic_name p table.basic k low)) in
           let n : c.0 ≡ k = ap (λ (d : ClassId). d.0) is in
           absurd (omega arith)
 
@@ -143,7 +156,9 @@ module _ (p : List Class) (table : IsTable p) (c : ClassId) (within : c.0 < leng
 
   -- the basic classes have no features of the text
   pub no_features : c.0 < 5 → features_of p c ≡ []
-  no_features low = ap (λ (d : Class). d.features) (sym (get_or-take 5 p c.0 nothing low) ∙ ap (λ ps. get_or ps c.0 nothing) table.basic) ∙ none c.0 low
+  no_features low =
+      ap (λ (d : Class). d.features) (sym (get_or-take 5 p c.0 nothing low) ∙ ap (λ ps. get_or ps c.0 nothing) table.basic)
+      ∙ none c.0 low
     where
       none : (k : ℕ) → k < 5 → features_of basic_classes (class_number k) ≡ []
       none zero l = refl

@@ -36,26 +36,32 @@ class_weight (c ∷ p) zero = omega arith
 class_weight (c ∷ p) (suc k) = omega (arith, class_weight p k)
 
 -- the features of a class weigh little
-pub light_class : (p : List Class) (files : List (List ℕ)) → IsBuildable p files → (c : ClassId) → features_weight (features_of p c) ≤ 1048602
+pub light_class : (p : List Class) (files : List (List ℕ)) → IsBuildable p files → (c : ClassId)
+    → features_weight (features_of p c) ≤ 1048602
 light_class p files b c = omega (arith, class_weight p c.0, table_weight p files b)
 
 -- and so do the first features of a part of it
-pub light_part : (p : List Class) (files : List (List ℕ)) → IsBuildable p files → (c : ClassId) (part : Part) (i : ℕ) → total placed_weight (part_from part 0 (take i (features_of p c))) ≤ 1048602
-light_part p files b c part i = omega (arith, part_weight part (take i (features_of p c)), front_weight i (features_of p c), light_class p files b c)
+pub light_part : (p : List Class) (files : List (List ℕ)) → IsBuildable p files → (c : ClassId) (part : Part) (i : ℕ)
+    → total placed_weight (part_from part 0 (take i (features_of p c))) ≤ 1048602
+light_part p files b c part i =
+    omega (arith, part_weight part (take i (features_of p c)), front_weight i (features_of p c), light_class p files b c)
 
 -- what is added is no more than it weighs
-pub few_more_integers : (files : List (List ℕ)) (fs : List Placed) (code : Constants → List Line) (a b : Constants) (x y : List Line) → Adds files fs code a b x y → length b.integers ≤ length a.integers + total placed_weight fs
+pub few_more_integers : (files : List (List ℕ)) (fs : List Placed) (code : Constants → List Line) (a b : Constants)
+    (x y : List Line) → Adds files fs code a b x y → length b.integers ≤ length a.integers + total placed_weight fs
 few_more_integers files fs code a b x y h =
     let same : length b.integers ≡ _ = ap (λ (t : Constants). length t.integers) h.constants in
     omega (arith, same, few_with_integers a.integers (integers_asked fs), few_integers_asked fs)
 
-pub few_more_strings : (files : List (List ℕ)) (fs : List Placed) (code : Constants → List Line) (a b : Constants) (x y : List Line) → Adds files fs code a b x y → length b.strings ≤ length a.strings + 2 * total placed_weight fs
+pub few_more_strings : (files : List (List ℕ)) (fs : List Placed) (code : Constants → List Line) (a b : Constants)
+    (x y : List Line) → Adds files fs code a b x y → length b.strings ≤ length a.strings + 2 * total placed_weight fs
 few_more_strings files fs code a b x y h =
     let same : length b.strings ≡ _ = ap (λ (t : Constants). length t.strings) h.constants in
     omega (arith, same, few_with_strings a.strings (strings_asked files fs), few_strings_asked files fs)
 
 -- the attributes of a class weigh little
-pub light_attributes : (p : List Class) (files : List (List ℕ)) → IsBuildable p files → (c : ClassId) → total placed_weight (attributes_in p c) ≤ 1048602
+pub light_attributes : (p : List Class) (files : List (List ℕ)) → IsBuildable p files → (c : ClassId)
+    → total placed_weight (attributes_in p c) ≤ 1048602
 light_attributes p files b c = omega (arith, parts_weigh 0 (features_of p c), light_class p files b c)
 
 -- numbers of classes in two parts
@@ -65,13 +71,16 @@ numbers_parts k zero b m j whole from =
     let here : k ≡ j = omega arith in
     ap (numbers_from k) same ∙ ap (λ (i : ℕ). numbers_from i b) here
 numbers_parts k (suc a) b zero j whole from = absurd (omega arith)
-numbers_parts k (suc a) b (suc m) j whole from = ap (λ (cs : List ClassId). class_number k ∷ cs) (numbers_parts (k + 1) a b m j (omega arith) (omega arith))
+numbers_parts k (suc a) b (suc m) j whole from =
+    ap (λ (cs : List ClassId). class_number k ∷ cs) (numbers_parts (k + 1) a b m j (omega arith) (omega arith))
 
 -- and so do the first classes of a program
-pub light_classes : (p : List Class) (files : List (List ℕ)) → IsBuildable p files → (n : ℕ) → n ≤ length p → total placed_weight (flat_map (class_features p) (numbers_from 0 n)) ≤ 1048602
+pub light_classes : (p : List Class) (files : List (List ℕ)) → IsBuildable p files → (n : ℕ) → n ≤ length p
+    → total placed_weight (flat_map (class_features p) (numbers_from 0 n)) ≤ 1048602
 light_classes p files b n low =
     let rest : ℕ = length p - n in
-    let parts : numbers_from 0 (length p) ≡ numbers_from 0 n ++ numbers_from n rest = numbers_parts 0 n rest (length p) n (omega arith) (omega arith) in
+    let parts : numbers_from 0 (length p) ≡ numbers_from 0 n ++ numbers_from n rest =
+    numbers_parts 0 n rest (length p) n (omega arith) (omega arith) in
     let front = flat_map (class_features p) (numbers_from 0 n) in
     let behind = flat_map (class_features p) (numbers_from n rest) in
     let all : all_features p ≡ front ++ behind =

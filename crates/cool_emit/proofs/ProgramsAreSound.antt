@@ -1,8 +1,7 @@
 -- The lines of a program are sound: so they assemble without a fault.
-use Rattle.std.proofs.Common.{◌≡◌, ◌≤◌, ℕ, List, ◌∷◌, drop, length, map, refl, subst, sym}
+use Rattle.std.proofs.Common.{◌≡◌, ℕ, List, ◌∷◌, drop, length, map, refl, subst, sym}
 use Rattle.std.specs.Prelude.{String, string_bytes}
 use Rattle.std.specs.Global.{Global}
-use Rattle.std.specs.List.{AllByRecursion}
 use Rattle.std.proofs.lemmas.List.{length-map}
 use Rattle.mips_isa.specs.Assembly.{start_name}
 use Rattle.cool_classes.specs.Chains.{Class}
@@ -11,6 +10,7 @@ use Rattle.cool_rules.specs.TypedTables.{IsTypedTable}
 use Rattle.cool_runtime.specs.Instructions.{label, la}
 use Rattle.cool_runtime.specs.Labels.{main_prototype}
 use Rattle.cool_runtime.specs.RoutineLines.{routine_lines}
+use Rattle.cool_emit.specs.FileNames.{AreShortNames}
 use Rattle.cool_emit.specs.Programs.{program_text, program_data, IsBuildable}
 use Rattle.cool_emit.specs.SoundLines.{AreSound}
 use Rattle.cool_emit.proofs.DataOfPrograms.{data_sound}
@@ -20,7 +20,8 @@ use Rattle.cool_emit.proofs.RoomOfText.{text_fits}
 use Rattle.cool_emit.proofs.TextOfPrograms.{text_sound}
 
 -- the text begins with the start of the run
-text_starts : (p : List Class) (files : List (List ℕ)) → program_text p files ≡ label start_name ∷ la 4 main_prototype ∷ drop 2 (program_text p files)
+text_starts : (p : List Class) (files : List (List ℕ))
+    → program_text p files ≡ label start_name ∷ la 4 main_prototype ∷ drop 2 (program_text p files)
 unfolding routine_lines
 text_starts p files = refl
 
@@ -37,7 +38,8 @@ programs_sound p files b = record {
 }
 
 -- the same, where the names are those of strings
-pub names_sound : (p q : List Class) (names : List (String Global)) → q ≡ p → Fits p (length names) → AllByRecursion (λ name. length name ≤ 4096) (map string_bytes names) → IsTypedTable q
+pub names_sound : (p q : List Class) (names : List (String Global)) → q ≡ p → Fits p (length names)
+    → AreShortNames (map string_bytes names) → IsTypedTable q
     → AreSound (program_text p (map string_bytes names)) (program_data p (map string_bytes names))
 names_sound p q names same fits short typed =
     programs_sound p (map string_bytes names) (record {

@@ -1,5 +1,6 @@
 -- The data of a program fits: tables and prototypes by the limits of classes, constants by what the source holds.
-use Rattle.std.proofs.Common.{◌≡◌, ℕ, pos, ◌+◌, ◌*◌, ◌≤◌, ◌<◌, List, [], ◌∷◌, ◌++◌, length, map, flat_map, Bool as Truth, true, false, ◌||◌, refl, arith}
+use Rattle.std.proofs.Common.{◌≡◌, ℕ, pos, ◌+◌, ◌*◌, ◌≤◌, ◌<◌, List, [], ◌∷◌, ◌++◌, length}
+use Rattle.std.proofs.Common.{map, flat_map, Bool as Truth, true, false, ◌||◌, refl, arith}
 use Rattle.std.proofs.lemmas.List.{length-map}
 use Rattle.std.specs.Prelude.{if◌then◌else◌, nat_eq}
 use Rattle.std.specs.List.{AllByRecursion}
@@ -16,7 +17,9 @@ use Rattle.cool_runtime.specs.LinesOfData.{words, object_lines, int_lines, bool_
 use Rattle.cool_layout.specs.Preorder.{preorder, tag}
 use Rattle.cool_layout.specs.Members.{attributes}
 use Rattle.cool_layout.specs.Labels.{prototype, initializer, dispatch_table, class_name, class_name_length}
-use Rattle.cool_layout.specs.LinesOfLayout.{class_names_lines, dispatch_table_lines, default_value, empty_string_fields, new_fields, prototype_lines, default_lines, name_lines, texts_lines, layout_lines, int_tag, string_tag}
+use Rattle.cool_layout.specs.LinesOfLayout.{class_names_lines, dispatch_table_lines, default_value}
+use Rattle.cool_layout.specs.LinesOfLayout.{empty_string_fields, new_fields, prototype_lines, default_lines}
+use Rattle.cool_layout.specs.LinesOfLayout.{name_lines, texts_lines, layout_lines, int_tag, string_tag}
 use Rattle.cool_layout.specs.Roots.{IsRooted}
 use Rattle.cool_layout.proofs.TagRanges.{preorder_in, preorder_long}
 use Rattle.cool_consts.specs.Constants.{Constants}
@@ -99,7 +102,8 @@ module _ (p : List Class) (r : IsRooted p) (limits : KeepsLimits p) where
   few_fields c within = by (nat_eq c.0 2 || nat_eq c.0 3) (nat_eq c.0 4)
     where
       by : (a b : Truth)
-          → length (if a then Number (pos 0) ∷ [] else if b then empty_string_fields else map (λ a. default_value (attribute_type p a)) (attributes p c))
+          → length (if a then Number (pos 0) ∷ [] else if b then empty_string_fields
+          else map (λ a. default_value (attribute_type p a)) (attributes p c))
           ≤ 2000
       by true b = omega arith
       by false true = omega arith
@@ -140,7 +144,8 @@ module _ (p : List Class) (r : IsRooted p) (limits : KeepsLimits p) where
   all_tables =
       omega (
         arith,
-        data_room-flat_map (λ (c : ClassId). c.0 < length p) (dispatch_table_lines p) (λ c. 8008) (room_of_table p r limits) (preorder p) (preorder_in p r),
+        data_room-flat_map (λ (c : ClassId). c.0 < length p) (dispatch_table_lines p) (λ c. 8008)
+            (room_of_table p r limits) (preorder p) (preorder_in p r),
         total-const 8008 (preorder p),
       )
 
@@ -148,7 +153,8 @@ module _ (p : List Class) (r : IsRooted p) (limits : KeepsLimits p) where
   all_prototypes =
       omega (
         arith,
-        data_room-flat_map (λ (c : ClassId). c.0 < length p) (prototype_lines p) (λ c. 8028) (room_of_prototype p r limits) (preorder p) (preorder_in p r),
+        data_room-flat_map (λ (c : ClassId). c.0 < length p) (prototype_lines p) (λ c. 8028)
+            (room_of_prototype p r limits) (preorder p) (preorder_in p r),
         total-const 8028 (preorder p),
       )
 
@@ -156,7 +162,8 @@ module _ (p : List Class) (r : IsRooted p) (limits : KeepsLimits p) where
   all_names =
       omega (
         arith,
-        data_room-flat_map (λ (c : ClassId). c.0 < length p) (name_lines p) (λ c. 73 + length (name_of p c)) (room_of_name p r limits) (preorder p) (preorder_in p r),
+        data_room-flat_map (λ (c : ClassId). c.0 < length p) (name_lines p) (λ c. 73 + length (name_of p c))
+            (room_of_name p r limits) (preorder p) (preorder_in p r),
         total-sum (λ (c : ClassId). 73) (λ c. length (name_of p c)) (preorder p),
         total-const 73 (preorder p),
         by_tag (λ c. length c.name) p r,

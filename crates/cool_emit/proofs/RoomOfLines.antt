@@ -6,7 +6,8 @@ use Rattle.mips_isa.specs.declared.place.Segment.{Segment}
 use Rattle.mips_isa.specs.declared.place.Segment.TheVariants.{Text, Data}
 use Rattle.mips_isa.specs.Lines as statements
 use Rattle.mips_isa.specs.Lines.{Name, Word, Asciiz, Align, Statement, Empty, Instruction, Directive, Line}
-use Rattle.mips_isa.specs.Assembly.{Need, Nothing, Words, Item, Switch, Padding, need, Position, start_position, up, padded, after_need, after_line, is_text, is_wrong, is_too_large}
+use Rattle.mips_isa.specs.Assembly.{Need, Nothing, Words, Item, Switch, Padding, need, Position, start_position}
+use Rattle.mips_isa.specs.Assembly.{up, padded, after_need, after_line, is_text, is_wrong, is_too_large}
 use Rattle.cool_runtime.specs.Images.{IsTextNeed}
 use Rattle.cool_emit.specs.SoundLines.{IsText, IsData, AreText, AreData, text_need, text_room, data_need, data_room, joined_lines}
 
@@ -55,8 +56,11 @@ pub record HasRoom (p : Position) (segment : Segment) (words bytes : ℕ) : Type
   pub bytes_left : p.bytes + bytes ≤ 268435456
 
 -- after text
-pub after_text : (n : Need) (p : Position) (words bytes : ℕ) → IsTextNeed n → HasRoom p Text (text_need n + words) bytes → HasRoom (after_need n p) Text words bytes
-after_text Nothing p words bytes fits room = let w = room.words_left in record { in_segment = room.in_segment; words_left = omega arith; bytes_left = room.bytes_left }
+pub after_text : (n : Need) (p : Position) (words bytes : ℕ) → IsTextNeed n
+    → HasRoom p Text (text_need n + words) bytes → HasRoom (after_need n p) Text words bytes
+after_text Nothing p words bytes fits room =
+    let w = room.words_left in
+    record { in_segment = room.in_segment; words_left = omega arith; bytes_left = room.bytes_left }
 after_text (Words n) p words bytes fits room =
     let w = room.words_left in
     let most = at_least n in
@@ -70,8 +74,11 @@ after_text (Switch segment) p words bytes fits room = absurd fits
 after_text (Padding unit) p words bytes fits room = absurd fits
 
 -- after data
-pub after_data : (n : Need) (p : Position) (words bytes : ℕ) → IsDataNeed n → HasRoom p Data words (data_need n + bytes) → HasRoom (after_need n p) Data words bytes
-after_data Nothing p words bytes fits room = let b = room.bytes_left in record { in_segment = room.in_segment; words_left = room.words_left; bytes_left = omega arith }
+pub after_data : (n : Need) (p : Position) (words bytes : ℕ) → IsDataNeed n
+    → HasRoom p Data words (data_need n + bytes) → HasRoom (after_need n p) Data words bytes
+after_data Nothing p words bytes fits room =
+    let b = room.bytes_left in
+    record { in_segment = room.in_segment; words_left = room.words_left; bytes_left = omega arith }
 after_data (Words n) p words bytes fits room = absurd fits
 after_data (Item unit size) p words bytes fits room =
     let b = room.bytes_left in
@@ -82,7 +89,10 @@ after_data (Padding unit) p words bytes fits room = by p.segment room.in_segment
   where
     by : (g : Segment) → g ≡ Data → HasRoom (padded g unit p) Data words bytes
     by Text e = cc
-    by Data e = let b = room.bytes_left in let pad = fits p.bytes in record { in_segment = room.in_segment; words_left = room.words_left; bytes_left = omega arith }
+    by Data e =
+        let b = room.bytes_left in
+        let pad = fits p.bytes in
+        record { in_segment = room.in_segment; words_left = room.words_left; bytes_left = omega arith }
 
 -- in the data from here on
 pub in_data : (p : Position) (words bytes : ℕ) → HasRoom p Text words bytes → HasRoom (after_need (Switch Data) p) Data words bytes
@@ -93,7 +103,8 @@ not_too_large : (p : Position) (segment : Segment) (words bytes : ℕ) → HasRo
 not_too_large p segment words bytes room =
     let w = room.words_left in
     let b = room.bytes_left in
-    or_from (nat_lt 66060288 p.words) (nat_lt 268435456 p.bytes) (le-ltb 66060288 p.words (omega arith)) (le-ltb 268435456 p.bytes (omega arith))
+    or_from (nat_lt 66060288 p.words) (nat_lt 268435456 p.bytes) (le-ltb 66060288 p.words (omega arith))
+    (le-ltb 268435456 p.bytes (omega arith))
 
 -- what a statement needs is right in its segment
 
@@ -114,7 +125,9 @@ data_not_wrong (Padding unit) g e fits = ap (λ (x : Segment). is_text x && nat_
 -- Lines that stand where they may, from a position on: none is in the wrong segment, and none makes a segment too large.
 abbrev pub StandWell : Position → List Line → Type 0
 StandWell p [] = Unit {0}
-StandWell p (line ∷ rest) = (is_wrong (need line.statement) p.segment ≡ false) × (is_too_large (after_line line p) ≡ false) × StandWell (after_line line p) rest
+StandWell p (line ∷ rest) =
+    (is_wrong (need line.statement) p.segment ≡ false) × (is_too_large (after_line line p) ≡ false)
+    × StandWell (after_line line p) rest
 
 -- data that has room stands well
 data_stands : (known : Name → Type 0) (p : Position) (words : ℕ) (lines : List Line) → AreData known lines
@@ -132,8 +145,11 @@ data_stands known p words (line ∷ rest) all room =
 text_stands : (target known : Name → Type 0) (p : Position) (text items : List Line) → AreText target known text → AreData known items
     → HasRoom p Text (text_room text) (data_room items) → StandWell p (joined_lines text items)
 text_stands target known p [] items all more room =
-    let next = in_data p 0 (data_room items) room in
-    (refl, not_too_large (after_need (Switch Data) p) Data 0 (data_room items) next, data_stands known (after_need (Switch Data) p) 0 items more next)
+    let next = in_data p 0 (data_room items) room in (
+      refl,
+      not_too_large (after_need (Switch Data) p) Data 0 (data_room items) next,
+      data_stands known (after_need (Switch Data) p) 0 items more next,
+    )
 text_stands target known p (line ∷ rest) items all more room =
     let fits = needs_text target known line.statement all.0 in
     let next = after_text (need line.statement) p (text_room rest) (data_room items) fits room in (
@@ -146,4 +162,5 @@ text_stands target known p (line ∷ rest) items all more room =
 pub lines_stand : (target known : Name → Type 0) (text items : List Line) → AreText target known text → AreData known items
     → text_room text ≤ 66000000 → data_room items ≤ 268435456 → StandWell start_position (joined_lines text items)
 lines_stand target known text items all more words bytes =
-    text_stands target known start_position text items all more (record { in_segment = refl; words_left = omega arith; bytes_left = omega arith })
+    text_stands target known start_position text items all more
+    (record { in_segment = refl; words_left = omega arith; bytes_left = omega arith })

@@ -1,5 +1,6 @@
 -- How much room the pieces of code take: a word for each instruction, two for an address or a number, and one for a label.
-use Rattle.std.proofs.Common.{◌≡◌, ℕ, ℤ, ◌+◌, ◌≤◌, List, [], ◌∷◌, ◌++◌, flat_map, Option, Some, None, Bool as Truth, true, false, refl, arith}
+use Rattle.std.proofs.Common.{◌≡◌, ℕ, ℤ, ◌+◌, ◌≤◌, List, [], ◌∷◌, ◌++◌, flat_map, Option}
+use Rattle.std.proofs.Common.{Some, None, Bool as Truth, true, false, refl, arith}
 use Rattle.std.specs.Prelude.{if◌then◌else◌, nat_eq, nat_lt, codes}
 use Rattle.cool_syntax.specs.declared.place.Place.{Place}
 use Rattle.cool_syntax.specs.declared.node.NodeId.{NodeId}
@@ -17,11 +18,20 @@ use Rattle.cool_runtime.specs.Routines.{new_int_lines}
 use Rattle.cool_layout.specs.Labels.{prototype, initializer}
 use Rattle.cool_consts.specs.Constants.{Constants}
 use Rattle.cool_codegen.specs.declared.variables.Variable.{Variable}
-use Rattle.cool_codegen.specs.Pieces.{pop_lines, load_lines, store_lines, take_self_lines, take_void_lines, take_lines, test_lines, mark_lines, turn_lines, repeat_lines, values_lines, compare_equal_lines, less_lines, less_equal_lines, is_void_lines, complement_lines, flag_lines, add_lines, subtract_lines, multiply_lines, divide_lines, negate_lines, is_zero_lines, ends_where_lines, create_lines, create_self_lines, call_lines, call_static_lines, case_begin_lines, try_tags_lines, case_end_lines, leave_lines, begin_init_lines, call_init_lines, return_basic_lines}
+use Rattle.cool_codegen.specs.Pieces.{pop_lines, load_lines, store_lines, take_self_lines, take_void_lines}
+use Rattle.cool_codegen.specs.Pieces.{take_lines, test_lines, mark_lines, turn_lines, repeat_lines}
+use Rattle.cool_codegen.specs.Pieces.{values_lines, compare_equal_lines, less_lines, less_equal_lines}
+use Rattle.cool_codegen.specs.Pieces.{is_void_lines, complement_lines, flag_lines, add_lines, subtract_lines}
+use Rattle.cool_codegen.specs.Pieces.{multiply_lines, divide_lines, negate_lines, is_zero_lines}
+use Rattle.cool_codegen.specs.Pieces.{ends_where_lines, create_lines, create_self_lines, call_lines}
+use Rattle.cool_codegen.specs.Pieces.{call_static_lines, case_begin_lines, try_tags_lines, case_end_lines}
+use Rattle.cool_codegen.specs.Pieces.{leave_lines, begin_init_lines, call_init_lines, return_basic_lines}
 use Rattle.cool_codegen.specs.Variables.{Named, found}
 use Rattle.cool_codegen.specs.Types.{is_self}
 use Rattle.cool_codegen.specs.Arms.{Arm, with_arm, arms_lines}
-use Rattle.cool_codegen.specs.Code.{Context, label_at, file_label, divisor_code, load_of, name_code, store_of, assign_code, new_code, default_code, bool_code, int_code, operation_code, arith_code, compare_code}
+use Rattle.cool_codegen.specs.Code.{Context, label_at, file_label, divisor_code, load_of}
+use Rattle.cool_codegen.specs.Code.{name_code, store_of, assign_code, new_code, default_code}
+use Rattle.cool_codegen.specs.Code.{bool_code, int_code, operation_code, arith_code, compare_code}
 use Rattle.cool_emit.specs.SoundLines.{text_room}
 use Rattle.cool_emit.proofs.Totals.{total}
 
@@ -209,7 +219,8 @@ room_default SelfType = omega (arith, room_take_void)
 room_default (IsClass c) = one (nat_eq c.0 2) (nat_eq c.0 3) (nat_eq c.0 4)
   where
     one : (a b d : Truth)
-        → text_room (if a then take_lines default_int else if b then take_lines false_constant else if d then take_lines default_string else take_void_lines)
+        → text_room (if a then take_lines default_int else if b then take_lines false_constant
+        else if d then take_lines default_string else take_void_lines)
         ≤ 2
     one true b d = omega (arith, room_take default_int)
     one false true d = omega (arith, room_take false_constant)

@@ -1,7 +1,9 @@
 -- The text of a program fits: the code of an expression takes at most 55 words for each of its nodes and branches, less 19.
-use Rattle.std.proofs.Common.{◌≡◌, ℕ, zero, suc, pos, ◌+◌, ◌*◌, ◌≤◌, List, [], ◌∷◌, ◌++◌, length, flat_map, Option, Some, None, Bool as Truth, true, false, refl, arith}
+use Rattle.std.proofs.Common.{◌≡◌, ℕ, zero, suc, pos, ◌+◌, ◌*◌, ◌≤◌, List, [], ◌∷◌, ◌++◌, length}
+use Rattle.std.proofs.Common.{flat_map, Option, Some, None, Bool as Truth, true, false, refl, arith}
 use Rattle.std.specs.Prelude.{if◌then◌else◌, nat_lt, codes}
-use Rattle.cool_syntax.specs.Tree.{Tree, Trees, MaybeTree, Cases, Last, More, Without, With, NoCase, CaseOf, tree_size, trees_size, maybe_size, cases_size}
+use Rattle.cool_syntax.specs.Tree.{Tree, Trees, MaybeTree, Cases, Last, More, Without, With}
+use Rattle.cool_syntax.specs.Tree.{NoCase, CaseOf, tree_size, trees_size, maybe_size, cases_size}
 use Rattle.cool_syntax.specs.Tree as trees
 use Rattle.cool_syntax.specs.FeatureSizes.{value_size, branches_in, branches_in_all, branches_in_maybe, branches_of}
 use Rattle.cool_syntax.specs.NodeLists.{root}
@@ -26,18 +28,27 @@ use Rattle.cool_runtime.specs.CodeOfCalls.{enter_lines}
 use Rattle.cool_runtime.specs.RoutineLines.{routine_lines, all_routine_lines}
 use Rattle.cool_runtime.specs.Routines.{push_lines}
 use Rattle.cool_consts.specs.Constants.{Constants}
-use Rattle.cool_codegen.specs.Pieces.{turn_lines, negate_lines, store_lines, take_self_lines, leave_lines, begin_init_lines, return_basic_lines}
+use Rattle.cool_codegen.specs.Pieces.{turn_lines, negate_lines, store_lines, take_self_lines}
+use Rattle.cool_codegen.specs.Pieces.{leave_lines, begin_init_lines, return_basic_lines}
 use Rattle.cool_codegen.specs.Variables.{Named, bind}
 use Rattle.cool_codegen.specs.Types.{trees_count, class_meant}
 use Rattle.cool_codegen.specs.Arms.{Arm, with_arm, arms_lines}
-use Rattle.cool_codegen.specs.Code.{Context, code, arguments_code, items_code, initial_code, arms_code, label_at, int_code, arith_code, compare_code, range_code, integer_label, string_label, truth_label}
+use Rattle.cool_codegen.specs.Code.{Context, code, arguments_code, items_code, initial_code}
+use Rattle.cool_codegen.specs.Code.{arms_code, label_at, int_code, arith_code, compare_code}
+use Rattle.cool_codegen.specs.Code.{range_code, integer_label, string_label, truth_label}
 use Rattle.cool_codegen.specs.Features.{feature_code, method_code, initial_value_code, with_formals, attributes_in}
 use Rattle.cool_emit.specs.SoundLines.{text_room}
-use Rattle.cool_emit.specs.Programs.{Placed, placed_code, parent_code, initializer_code, class_code, classes_code, methods_in, program_text, program_constants, IsBuildable}
+use Rattle.cool_emit.specs.Programs.{Placed, placed_code, parent_code, initializer_code, class_code}
+use Rattle.cool_emit.specs.Programs.{classes_code, methods_in, program_text, program_constants, IsBuildable}
 use Rattle.cool_emit.specs.Programs.{attributes_in as class_attributes}
 use Rattle.cool_emit.proofs.Totals.{total}
 use Rattle.cool_emit.proofs.ClassesInTurn.{placed_weight, class_weight, by_number, weight_is_total, parts_weigh, table_weight}
-use Rattle.cool_emit.proofs.RoomOfPieces.{text_room-append, room_store, room_take_self, room_leave, room_begin_init, room_call_init, room_return_basic, room_pop, room_take, room_test, room_mark, room_turn, room_repeat, room_is_void, room_complement, room_negate, room_call, room_call_static, room_case_begin, room_try_tags, room_case_end, room_name, room_assign, room_new, room_default, room_bool, room_int, room_arith, room_compare, room_with_arm}
+use Rattle.cool_emit.proofs.RoomOfPieces.{text_room-append, room_store, room_take_self, room_leave, room_begin_init}
+use Rattle.cool_emit.proofs.RoomOfPieces.{room_call_init, room_return_basic, room_pop, room_take, room_test}
+use Rattle.cool_emit.proofs.RoomOfPieces.{room_mark, room_turn, room_repeat, room_is_void, room_complement}
+use Rattle.cool_emit.proofs.RoomOfPieces.{room_negate, room_call, room_call_static, room_case_begin, room_try_tags}
+use Rattle.cool_emit.proofs.RoomOfPieces.{room_case_end, room_name, room_assign, room_new, room_default, room_bool}
+use Rattle.cool_emit.proofs.RoomOfPieces.{room_int, room_arith, room_compare, room_with_arm}
 
 -- the push of a value
 room_push : text_room push_lines ≡ 5
@@ -170,7 +181,8 @@ room_of_value s g None = omega arith
 room_of_value s g (Some t) =
     omega (
       arith,
-      text_room-append (code s g (attributes_in s.table s.class) 0 0 t) (store_lines (pos (offset s.table s.class (record { owner = s.class; index = s.feature }))) 16),
+      text_room-append (code s g (attributes_in s.table s.class) 0 0 t)
+          (store_lines (pos (offset s.table s.class (record { owner = s.class; index = s.feature }))) 16),
       room_store (pos (offset s.table s.class (record { owner = s.class; index = s.feature }))) 16,
       room_of_code s g (attributes_in s.table s.class) 0 0 t,
     )
@@ -216,13 +228,15 @@ module _ (p : List Class) (files : List (List ℕ)) (g : Constants) (c : ClassId
       attributes_code = flat_map (placed_code p files g c) (class_attributes p c)
 
       by : (b : Truth)
-          → text_room (if b then return_basic_lines (initializer p c) else begin_init_lines (initializer p c) ++ (enter_lines ++ (parent_code p (parent_of p c) ++ (attributes_code ++ (take_self_lines ++ leave_lines (pos 12))))))
+          → text_room (if b then return_basic_lines (initializer p c) else begin_init_lines (initializer p c)
+          ++ (enter_lines ++ (parent_code p (parent_of p c) ++ (attributes_code ++ (take_self_lines ++ leave_lines (pos 12))))))
           ≤ 55 * total placed_weight (class_attributes p c) + 17
       by true = omega (arith, room_return_basic (initializer p c))
       by false =
           omega (
             arith,
-            text_room-append (begin_init_lines (initializer p c)) (enter_lines ++ (parent_code p (parent_of p c) ++ (attributes_code ++ (take_self_lines ++ leave_lines (pos 12))))),
+            text_room-append (begin_init_lines (initializer p c))
+                (enter_lines ++ (parent_code p (parent_of p c) ++ (attributes_code ++ (take_self_lines ++ leave_lines (pos 12))))),
             room_three enter_lines (parent_code p (parent_of p c)) (attributes_code ++ (take_self_lines ++ leave_lines (pos 12))),
             room_three attributes_code take_self_lines (leave_lines (pos 12)),
             room_begin_init (initializer p c),

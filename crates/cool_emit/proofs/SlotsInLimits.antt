@@ -1,5 +1,6 @@
 -- The limits of a table, as the layout sees them: no class has more than 2,000 slots, or more than 2,000 attributes.
-use Rattle.std.proofs.Common.{◌≡◌, ◌≢◌, ℕ, ◌≤◌, ◌<◌, List, [], ◌∷◌, ◌++◌, length, Bool, true, false, ◌||◌, is_some, refl, sym, ap, ◌∙◌, subst, true≢false, append_assoc}
+use Rattle.std.proofs.Common.{◌≡◌, ◌≢◌, ℕ, ◌≤◌, ◌<◌, List, [], ◌∷◌, ◌++◌, length, Bool, true, false}
+use Rattle.std.proofs.Common.{◌||◌, is_some, refl, sym, ap, ◌∙◌, subst, true≢false, append_assoc}
 use Rattle.std.specs.Prelude.{bytes_eq, if◌then◌else◌}
 use Rattle.std.specs.List.{AllByRecursion}
 use Rattle.std.proofs.lemmas.List.Folds.{list_any-append}
@@ -57,11 +58,13 @@ weaker P Q h (x ∷ xs) all = (h x all.0, weaker P Q h xs all.1)
 
 pub slots_implemented : (p : List Class) (ds : List ClassId) → AllByRecursion (IsImplemented p ds) (slots_of p ds)
 slots_implemented p ds =
-    weaker (λ f. has f (slots_of p ds) ≡ true) (IsImplemented p ds) (λ f h e. true≢false (sym h ∙ slots_any p ds f ∙ ap is_some e)) (slots_of p ds) (all_there [] (slots_of p ds))
+    weaker (λ f. has f (slots_of p ds) ≡ true) (IsImplemented p ds)
+    (λ f h e. true≢false (sym h ∙ slots_any p ds f ∙ ap is_some e)) (slots_of p ds) (all_there [] (slots_of p ds))
 
 pub few_slots : (p : List Class) → IsRooted p → KeepsLimits p → (c : ClassId) → c.0 < length p → length (slots p c) ≤ 2000
 few_slots p r limits c within =
-    limits.methods c (chain p c) (slots p c) within (chain_is p r c within) (different_slots p (chain p c)) (slots_implemented p (chain p c))
+    limits.methods c (chain p c) (slots p c) within (chain_is p r c within) (different_slots p (chain p c))
+    (slots_implemented p (chain p c))
 
 pub few_attributes : (p : List Class) → IsRooted p → KeepsLimits p → (c : ClassId) → c.0 < length p → length (attributes p c) ≤ 2000
 few_attributes p r limits c within = limits.attributes c (chain p c) within (chain_is p r c within)

@@ -1,5 +1,6 @@
 -- Sound lines assemble without a fault, their numbers are in range, and they are few.
-use Rattle.std.proofs.Common.{◌≡◌, ℕ, zero, suc, ◌+◌, ◌*◌, ◌<◌, ◌≤◌, List, [], ◌∷◌, ◌++◌, length, refl, sym, ap, ◌∙◌, subst, arith, Bool, true, false, not, ◌||◌, ◌&&◌, Option, Some, None, length-append}
+use Rattle.std.proofs.Common.{◌≡◌, ℕ, zero, suc, ◌+◌, ◌*◌, ◌<◌, ◌≤◌, List, [], ◌∷◌, ◌++◌, length, refl, sym, ap, ◌∙◌}
+use Rattle.std.proofs.Common.{subst, arith, Bool, true, false, not, ◌||◌, ◌&&◌, Option, Some, None, length-append}
 use Rattle.std.specs.Prelude.{if◌then◌else◌, Contains, bytes_eq, is_some}
 use Rattle.std.specs.List.{AllByRecursion}
 use Rattle.std.proofs.lemmas.Bool.{lt-ltb}
@@ -12,12 +13,19 @@ use Rattle.mips_isa.specs.declared.place.Segment.{Segment}
 use Rattle.mips_isa.specs.declared.place.Segment.TheVariants.{Text, Data}
 use Rattle.mips_isa.specs.declared.address_map.TheConstants.{TEXT_START}
 use Rattle.mips_isa.specs.Lines as statements
-use Rattle.mips_isa.specs.Lines.{Name, WordItem, Number, Address, Plain, ToJump, La, Li, Move, Word, Asciiz, ToData, Align, Statement, Empty, Instruction, Directive, Line, IsItem, IsInRange, AreInRange}
-use Rattle.mips_isa.specs.Assembly.{Need, Nothing, Words, Item, Switch, Padding, need, Position, start_position, after_line, place_in, place_from, place_of, has, in_text, start_name, main_name, directive_line, added_lines, completed, is_wrong, any_twice, is_too_large, fault_or, first_pass, names_of_items, used, jump_reaches, reaches, any_without_place, start_fault, second_pass, first_or, fault_of_all, fault_of}
+use Rattle.mips_isa.specs.Lines.{Name, WordItem, Number, Address, Plain, ToJump, La, Li}
+use Rattle.mips_isa.specs.Lines.{Move, Word, Asciiz, ToData, Align, Statement, Empty}
+use Rattle.mips_isa.specs.Lines.{Instruction, Directive, Line, IsItem, IsInRange, AreInRange}
+use Rattle.mips_isa.specs.Assembly.{Need, Nothing, Words, Item, Switch, Padding, need, Position, start_position}
+use Rattle.mips_isa.specs.Assembly.{after_line, place_in, place_from, place_of, has, in_text, start_name, main_name}
+use Rattle.mips_isa.specs.Assembly.{directive_line, added_lines, completed, is_wrong, any_twice, is_too_large}
+use Rattle.mips_isa.specs.Assembly.{fault_or, first_pass, names_of_items, used, jump_reaches, reaches}
+use Rattle.mips_isa.specs.Assembly.{any_without_place, start_fault, second_pass, first_or, fault_of_all, fault_of}
 use Rattle.cool_runtime.specs.Images.{after_lines}
 use Rattle.cool_runtime.specs.Instructions.{label, la}
 use Rattle.cool_classes.specs.Limits.{AreDifferent}
-use Rattle.cool_emit.specs.SoundLines.{IsText, IsDataWord, IsData, AreText, AreData, labels_of, text_need, text_room, data_need, data_room, joined_lines, AreSound}
+use Rattle.cool_emit.specs.SoundLines.{IsText, IsDataWord, IsData, AreText, AreData, labels_of, text_need}
+use Rattle.cool_emit.specs.SoundLines.{text_room, data_need, data_room, joined_lines, AreSound}
 use Rattle.cool_classes.proofs.AllOfLists.{all_append, all_then}
 use Rattle.cool_runtime.proofs.PlacesOfLabels.{words_grow}
 use Rattle.cool_emit.proofs.LabelsSeenOnce.{AreNew, found_among, left_once, nothing_seen}
@@ -26,7 +34,8 @@ use Rattle.cool_emit.proofs.RoomOfLines.{HasRoom, StandWell, needs_text, after_t
 -- The first pass
 
 -- where no test finds one, there is none
-no_first_fault : (a b c : Bool) → a ≡ false → b ≡ false → c ≡ false → (if a then Some A8 else (if b then Some A5 else (if c then Some A9 else None))) ≡ None
+no_first_fault : (a b c : Bool) → a ≡ false → b ≡ false → c ≡ false
+    → (if a then Some A8 else (if b then Some A5 else (if c then Some A9 else None))) ≡ None
 no_first_fault true b c h k l = cc
 no_first_fault false true c h k l = cc
 no_first_fault false false true h k l = cc
@@ -39,7 +48,8 @@ first_passes seen p number [] well new apart = refl
 first_passes seen p number (line ∷ rest) well new apart =
     let left = left_once seen line.labels (labels_of rest) new apart in
     ap (λ (o : Option AsmKind). fault_or number o (first_pass (seen ++ line.labels) (after_line line p) (suc number) rest))
-    (no_first_fault (is_wrong (need line.statement) p.segment) (any_twice seen line.labels) (is_too_large (after_line line p)) well.0 left.once well.1)
+    (no_first_fault (is_wrong (need line.statement) p.segment) (any_twice seen line.labels)
+    (is_too_large (after_line line p)) well.0 left.once well.1)
     ∙ first_passes (seen ++ line.labels) (after_line line p) (suc number) rest well.2 left.new left.different
 
 -- The places of names
@@ -53,12 +63,14 @@ one_of false b h e = h
 has_label : (line : Line) (rest : List Line) (name : Name) → has (labels_of (line ∷ rest)) name ≡ true → has line.labels name ≡ false
     → has (labels_of rest) name ≡ true
 has_label line rest name there not_here =
-    one_of (has line.labels name) (has (labels_of rest) name) (sym (list_any-append (bytes_eq name) line.labels (labels_of rest)) ∙ there) not_here
+    one_of (has line.labels name) (has (labels_of rest) name)
+    (sym (list_any-append (bytes_eq name) line.labels (labels_of rest)) ∙ there) not_here
 
 -- a label of lines has a place
 has_place : (p : Position) (lines : List Line) (name : Name) → has (labels_of lines) name ≡ true → is_some (place_from p lines name) ≡ true
 has_place p [] name there = there
-has_place p (line ∷ rest) name there = by (has line.labels name) (λ e. has_place (after_line line p) rest name (has_label line rest name there e))
+has_place p (line ∷ rest) name there =
+    by (has line.labels name) (λ e. has_place (after_line line p) rest name (has_label line rest name there e))
   where
     by : (b : Bool) → (b ≡ false → is_some (place_from (after_line line p) rest name) ≡ true)
         → is_some (if b then Some (place_in p.segment p (line ∷ rest)) else place_from (after_line line p) rest name) ≡ true
@@ -72,10 +84,12 @@ has_target target known p [] back bytes name all room there = absurd (cc)
 has_target target known p (line ∷ text) back bytes name all room there =
     by (has line.labels name) p.segment room.in_segment
     (λ e. has_target target known (after_line line p) text back bytes name all.1
-    (after_text (need line.statement) p (text_room text) bytes (needs_text target known line.statement all.0) room) (has_label line text name there e))
+    (after_text (need line.statement) p (text_room text) bytes (needs_text target known line.statement all.0) room)
+    (has_label line text name there e))
   where
     by : (b : Bool) (g : Segment) → g ≡ Text → (b ≡ false → jump_reaches (place_from (after_line line p) (text ++ back) name) ≡ true)
-        → jump_reaches (if b then Some (place_in g p (line ∷ (text ++ back))) else place_from (after_line line p) (text ++ back) name) ≡ true
+        → jump_reaches (if b then Some (place_in g p (line ∷ (text ++ back)))
+        else place_from (after_line line p) (text ++ back) name) ≡ true
     by true Text e more = let w = room.words_left in lt-ltb (TEXT_START + 4 * p.words) 268435456 (omega arith)
     by true Data e more = cc
     by false g e more = more refl
@@ -95,7 +109,8 @@ no_second_fault false false h k = cc
 
 -- lines that use places, and a start, have no fault in the second pass
 second_passes : (place : Name → Option Place) (p : Position) (number : ℕ) (lines : List Line)
-    → AllByRecursion (λ (line : Line). UsesPlaces place line.statement) lines → start_fault (place start_name) (after_lines p lines) ≡ None → second_pass place p number lines ≡ None
+    → AllByRecursion (λ (line : Line). UsesPlaces place line.statement) lines
+    → start_fault (place start_name) (after_lines p lines) ≡ None → second_pass place p number lines ≡ None
 second_passes place p number [] all start = ap (λ (o : Option AsmKind). fault_or number o None) start
 second_passes place p number (line ∷ rest) all start =
     ap (λ (o : Option AsmKind). fault_or number o (second_pass place (after_line line p) (suc number) rest))
@@ -120,7 +135,10 @@ module _ (place : Name → Option Place) (target known : Name → Type 0) (place
   text_uses : (s : Statement) → IsText target known s → UsesPlaces place s
   text_uses Empty h = record { placed = refl; reached = λ at. refl }
   text_uses (Instruction (Plain i)) h = record { placed = refl; reached = λ at. refl }
-  text_uses (Instruction (ToJump op name)) h = record { placed = one_placed (place name) false (reached_is_some (place name) (reached name h)) refl; reached = λ at. reached name h }
+  text_uses (Instruction (ToJump op name)) h = record {
+    placed = one_placed (place name) false (reached_is_some (place name) (reached name h)) refl;
+    reached = λ at. reached name h;
+  }
   text_uses (Instruction (La rd name)) h = record { placed = one_placed (place name) false (placed name h.1) refl; reached = λ at. refl }
   text_uses (Instruction (Li rd value)) h = record { placed = refl; reached = λ at. refl }
   text_uses (Instruction (Move rd rs)) h = record { placed = refl; reached = λ at. refl }
@@ -130,7 +148,8 @@ module _ (place : Name → Option Place) (target known : Name → Type 0) (place
   items_placed : (items : List WordItem) → AllByRecursion (IsDataWord known) items → any_without_place place (names_of_items items) ≡ false
   items_placed [] all = refl
   items_placed (Number n ∷ rest) all = items_placed rest all.1
-  items_placed (Address name ∷ rest) all = one_placed (place name) (any_without_place place (names_of_items rest)) (placed name all.0) (items_placed rest all.1)
+  items_placed (Address name ∷ rest) all =
+      one_placed (place name) (any_without_place place (names_of_items rest)) (placed name all.0) (items_placed rest all.1)
 
   -- and so does one of data
   data_uses : (s : Statement) → IsData known s → UsesPlaces place s
@@ -145,8 +164,11 @@ module _ (place : Name → Option Place) (target known : Name → Type 0) (place
       → AllByRecursion (λ (line : Line). UsesPlaces place line.statement) (joined_lines text items)
   all_use text items h k =
       let uses : Line → Type 0 = λ line. UsesPlaces place line.statement in
-      all_append uses text (directive_line ToData ∷ items) (all_then (λ (line : Line). IsText target known line.statement) uses text (λ line. text_uses line.statement) h)
-      (record { placed = refl; reached = λ at. refl }, all_then (λ (line : Line). IsData known line.statement) uses items (λ line. data_uses line.statement) k)
+      all_append uses text (directive_line ToData ∷ items)
+      (all_then (λ (line : Line). IsText target known line.statement) uses text (λ line. text_uses line.statement) h) (
+        record { placed = refl; reached = λ at. refl },
+        all_then (λ (line : Line). IsData known line.statement) uses items (λ line. data_uses line.statement) k,
+      )
 
 -- The start
 
@@ -163,7 +185,8 @@ some_words text items main behind e =
     (words_grow (record { words = 2; bytes = 0; segment = Text }) (behind ++ directive_line ToData ∷ items))
 
 -- a run can start there
-starts_at : (place : Option Place) (p : Position) → place ≡ Some (record { segment = Text; address = TEXT_START }) → 2 ≤ p.words → start_fault place p ≡ None
+starts_at : (place : Option Place) (p : Position) → place ≡ Some (record { segment = Text; address = TEXT_START })
+    → 2 ≤ p.words → start_fault place p ≡ None
 starts_at place p e some =
     ap (λ (o : Option Place). start_fault o p) e
     ∙ ap (λ (b : Bool). if b then None else Some A6) (lt-ltb TEXT_START (TEXT_START + 4 * p.words) (omega arith))
@@ -182,17 +205,22 @@ no_fault text items sound =
     let known : Name → Type 0 = Contains (labels_of lines) in
     let start = start_found text items sound.main sound.behind sound.starts in
     let first : first_pass [] start_position 1 lines ≡ None =
-    first_passes [] start_position 1 lines (lines_stand target known text items sound.text_lines sound.data_lines sound.text_fits sound.data_fits)
+    first_passes [] start_position 1 lines
+    (lines_stand target known text items sound.text_lines sound.data_lines sound.text_fits sound.data_fits)
     (nothing_seen (labels_of lines)) sound.different in
     let words = sound.text_fits in
-    let room : HasRoom start_position Text (text_room text) 0 = record { in_segment = refl; words_left = omega arith; bytes_left = omega arith } in
+    let room : HasRoom start_position Text (text_room text) 0 =
+    record { in_segment = refl; words_left = omega arith; bytes_left = omega arith } in
     let placed : (name : Name) → known name → is_some (place_of lines name) ≡ true =
     λ name h. has_place start_position lines name (found_among (labels_of lines) name h) in
     let reached : (name : Name) → target name → jump_reaches (place_of lines name) ≡ true =
-    λ name h. has_target target known start_position text (directive_line ToData ∷ items) 0 name sound.text_lines room (found_among (labels_of text) name h) in
+    λ name h. has_target target known start_position text
+    (directive_line ToData ∷ items) 0 name sound.text_lines room (found_among (labels_of text) name h) in
     let second : second_pass (place_of lines) start_position 1 lines ≡ None =
-    second_passes (place_of lines) start_position 1 lines (all_use (place_of lines) target known placed reached text items sound.text_lines sound.data_lines)
-    (starts_at (place_of lines start_name) (after_lines start_position lines) start (some_words text items sound.main sound.behind sound.starts)) in
+    second_passes (place_of lines) start_position 1 lines
+    (all_use (place_of lines) target known placed reached text items sound.text_lines sound.data_lines)
+    (starts_at (place_of lines start_name) (after_lines start_position lines) start
+    (some_words text items sound.main sound.behind sound.starts)) in
     ap fault_of_all (complete lines (ap is_some start))
     ∙ ap (λ (o : Option AsmFault). first_or o (second_pass (place_of lines) start_position 1 lines)) first ∙ second
 
@@ -225,7 +253,8 @@ in_range text items sound =
     let known : Name → Type 0 = Contains (labels_of (joined_lines text items)) in
     let ranges : Line → Type 0 = λ line. IsInRange line.statement in
     all_append ranges text (directive_line ToData ∷ items)
-    (all_then (λ (line : Line). IsText target known line.statement) ranges text (λ line. text_in_range target known line.statement) sound.text_lines)
+    (all_then (λ (line : Line). IsText target known line.statement) ranges text
+    (λ line. text_in_range target known line.statement) sound.text_lines)
     (tt, all_then (λ (line : Line). IsData known line.statement) ranges items (λ line. data_in_range known line.statement) sound.data_lines)
 
 -- lines of text are no more than the words that they have room for

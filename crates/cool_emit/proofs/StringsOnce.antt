@@ -1,8 +1,9 @@
 -- The bytes of the strings of a program: each string is kept once, so the names of files count once each, and the others are string
 -- constants of the source.
-use Rattle.std.proofs.Common.{◌≡◌, ℕ, zero, suc, ◌+◌, ◌*◌, ◌≤◌, List, [], ◌∷◌, ◌++◌, length, get_or, flat_map, Option, Some, None, Bool, true, false, ◌||◌, ◌⊎◌, inl, inr, refl, sym, ap, ◌∙◌, subst, arith, true≢false}
+use Rattle.std.proofs.Common.{◌≡◌, ℕ, zero, suc, ◌+◌, ◌*◌, ◌≤◌, List, [], ◌∷◌, ◌++◌, length}
+use Rattle.std.proofs.Common.{get_or, flat_map, Option, Some, None, Bool, true, false, ◌||◌}
+use Rattle.std.proofs.Common.{◌⊎◌, inl, inr, refl, sym, ap, ◌∙◌, subst, arith, true≢false}
 use Rattle.std.specs.Prelude.{bytes_eq, if◌then◌else◌}
-use Rattle.std.specs.List.{AllByRecursion}
 use Rattle.std.proofs.lemmas.List.Folds.{list_any-append}
 use Rattle.cool_syntax.specs.declared.place.Place.{Place}
 use Rattle.cool_syntax.specs.declared.operator.ArithOp.{ArithOp}
@@ -16,6 +17,8 @@ use Rattle.cool_consts.specs.Constants.{with_string}
 use Rattle.cool_layout.proofs.SlotNames.{has, same_bytes, equal_self}
 use Rattle.cool_codegen.specs.Asked.{with_strings, strings_in, strings_in_all, strings_in_maybe, strings_in_cases, files_of}
 use Rattle.cool_codegen.specs.Features.{feature_strings, initial_strings}
+use Rattle.cool_emit.specs.declared.TheConstants.{MOST_FILE_NAME}
+use Rattle.cool_emit.specs.FileNames.{AreShortNames}
 use Rattle.cool_emit.specs.Programs.{Placed}
 use Rattle.cool_emit.proofs.Totals.{total, total-append, total-le}
 use Rattle.cool_emit.proofs.ClassesInTurn.{placed_weight}
@@ -208,6 +211,6 @@ module _ (files : List (List ℕ)) where
       simp total-append (omega (arith, feature_cost f.feature, features_cost fs))
 
 -- names of files that are not long have few bytes together
-pub files_bytes : (files : List (List ℕ)) → AllByRecursion (λ name. length name ≤ 4096) files → bytes_of files ≤ 4096 * length files
+pub files_bytes : (files : List (List ℕ)) → AreShortNames files → bytes_of files ≤ MOST_FILE_NAME * length files
 files_bytes [] all = omega arith
-files_bytes (f ∷ files) all = let h : length f ≤ 4096 = all.0 in omega (arith, files_bytes files all.1)
+files_bytes (f ∷ files) all = let h : length f ≤ MOST_FILE_NAME = all.0 in omega (arith, files_bytes files all.1)

@@ -3,7 +3,8 @@ use Rattle.std.proofs.Common.{ℕ, ◌+◌, ◌<◌, ◌≤◌, List, [], ◌∷
 use Rattle.std.specs.Prelude.{codes, nat_lt, if◌then◌else◌}
 use Rattle.std.specs.List.{AllByRecursion}
 use Rattle.cool_syntax.specs.declared.TheConstants.{MOST_TOKENS}
-use Rattle.cool_syntax.specs.Tree.{Tree, Trees, MaybeTree, Cases, Last, More, Without, With, NoCase, CaseOf, tree_size, trees_size, maybe_size, cases_size}
+use Rattle.cool_syntax.specs.Tree.{Tree, Trees, MaybeTree, Cases, Last, More, Without, With}
+use Rattle.cool_syntax.specs.Tree.{NoCase, CaseOf, tree_size, trees_size, maybe_size, cases_size}
 use Rattle.cool_syntax.specs.Tree as trees
 use Rattle.cool_syntax.specs.Falls.{one_le_size}
 use Rattle.cool_syntax.specs.NodeLists.{root}
@@ -20,11 +21,17 @@ use Rattle.cool_codegen.specs.Pieces.{test_lines, mark_lines, turn_lines, is_voi
 use Rattle.cool_codegen.specs.Variables.{Named, bind}
 use Rattle.cool_codegen.specs.Types.{class_meant, type_in, trees_count}
 use Rattle.cool_codegen.specs.Arms.{Arm, with_arm, arms_lines}
-use Rattle.cool_codegen.specs.Asked.{integers_in, integers_in_all, integers_in_maybe, integers_in_cases, strings_in, strings_in_all, strings_in_maybe, strings_in_cases}
-use Rattle.cool_codegen.specs.Code.{Context, code, arguments_code, items_code, initial_code, arms_code, label_at, file_label, range_code, assign_code}
+use Rattle.cool_codegen.specs.Asked.{integers_in, integers_in_all, integers_in_maybe, integers_in_cases}
+use Rattle.cool_codegen.specs.Asked.{strings_in, strings_in_all, strings_in_maybe, strings_in_cases}
+use Rattle.cool_codegen.specs.Code.{Context, code, arguments_code, items_code, initial_code}
+use Rattle.cool_codegen.specs.Code.{arms_code, label_at, file_label, range_code, assign_code}
 use Rattle.cool_emit.specs.SoundLines.{AreText}
-use Rattle.cool_emit.proofs.TextOfPieces.{AreTargets, all_both, all_left, all_right, text_of_push, text_of_pop, text_of_take, text_of_test, text_of_mark, text_of_turn, text_of_repeat, text_of_is_void, text_of_complement, text_of_negate, text_of_case_begin, text_of_case_end}
-use Rattle.cool_emit.proofs.TextOfParts.{Serves, AreReached, AreNumbers, AreStrings, bound_reached, line_low, target_of_mark, target_of_turn, target_of_repeat, target_of_case_end}
+use Rattle.cool_emit.proofs.TextOfPieces.{AreTargets, all_both, all_left, all_right, text_of_push}
+use Rattle.cool_emit.proofs.TextOfPieces.{text_of_pop, text_of_take, text_of_test, text_of_mark}
+use Rattle.cool_emit.proofs.TextOfPieces.{text_of_turn, text_of_repeat, text_of_is_void, text_of_complement}
+use Rattle.cool_emit.proofs.TextOfPieces.{text_of_negate, text_of_case_begin, text_of_case_end}
+use Rattle.cool_emit.proofs.TextOfParts.{Serves, AreReached, AreNumbers, AreStrings, bound_reached, line_low}
+use Rattle.cool_emit.proofs.TextOfParts.{target_of_mark, target_of_turn, target_of_repeat, target_of_case_end}
 use Rattle.cool_emit.proofs.TextOfParts as parts
 
 -- what holds of all branches holds of one that is put among them, and of those
@@ -50,7 +57,8 @@ all_lines : (P : Line → Type 0) (arms : List Arm) → AllByRecursion (λ a. Al
 all_lines P [] h = tt
 all_lines P (a ∷ arms) h = all_both P a.lines (arms_lines arms) h.0 (all_lines P arms h.1)
 
-each_lines : (P : Line → Type 0) (arms : List Arm) → AllByRecursion P (arms_lines arms) → AllByRecursion (λ a. AllByRecursion P a.lines) arms
+each_lines : (P : Line → Type 0) (arms : List Arm) → AllByRecursion P (arms_lines arms)
+    → AllByRecursion (λ a. AllByRecursion P a.lines) arms
 each_lines P [] h = tt
 each_lines P (a ∷ arms) h = (all_left P a.lines (arms_lines arms) h, each_lines P arms (all_right P a.lines (arms_lines arms) h))
 
@@ -59,7 +67,8 @@ count_low : (ts : Trees) → trees_count ts ≤ trees_size ts
 count_low Last = omega arith
 count_low (More t ts) = let one = one_le_size t in let rest = count_low ts in omega arith
 
-module _ (target known : Name → Type 0) (s : Context) (g : Constants) (u : Serves target known s.table) (within : s.class.0 < length s.table)
+module _ (target known : Name → Type 0) (s : Context) (g : Constants) (u : Serves target known s.table)
+    (within : s.class.0 < length s.table)
     (files : ℕ) where
   -- parts of lines, and of the constants that are asked for
 
@@ -117,7 +126,8 @@ module _ (target known : Name → Type 0) (s : Context) (g : Constants) (u : Ser
         (both (code s g vs (d + trees_count ts) k t) _
         (text_of_code t vs (d + trees_count ts) k r (omega arith) w.1 (numbers_right (integers_in_all ts) _ i)
         (strings_left (strings_in s.files t) _ js) (left (code s g vs (d + trees_count ts) k t) _ rest))
-        (parts.text_of_slot target known s u within g files at (class_of s.class (type_in s.table s.class vs (d + trees_count ts) t)) name w.0
+        (parts.text_of_slot target known s u within g files at
+        (class_of s.class (type_in s.table s.class vs (d + trees_count ts) t)) name w.0
         (strings_right (strings_in s.files t) _ js).0))
     text_of_code (trees.StaticDispatch at t class name ts) vs d k r low w i j m =
         let few = count_low ts in
@@ -145,7 +155,8 @@ module _ (target known : Name → Type 0) (s : Context) (g : Constants) (u : Ser
         (left (code s g vs d k t) _ m))
         (both (test_lines other) _ (text_of_test target known other (target_of_turn target end other (left (turn_lines end other) _ m3)))
         (both (code s g vs d (k + tree_size t) y) _
-        (text_of_code y vs d (k + tree_size t) r (omega arith) w.2 (numbers_left (integers_in y) _ is) (strings_left (strings_in s.files y) _ js)
+        (text_of_code y vs d (k + tree_size t) r (omega arith) w.2 (numbers_left (integers_in y) _ is)
+        (strings_left (strings_in s.files y) _ js)
         (left (code s g vs d (k + tree_size t) y) _ m2))
         (both (turn_lines end other) _ (text_of_turn target known end other (target_of_mark target end m5))
         (both (code s g vs d (k + tree_size t + tree_size y) n) _
@@ -165,7 +176,8 @@ module _ (target known : Name → Type 0) (s : Context) (g : Constants) (u : Ser
         (left (code s g vs d k t) _ m1))
         (both (test_lines end) _ (text_of_test target known end (target_of_repeat target begin end m4))
         (both (code s g vs d (k + tree_size t) b) _
-        (text_of_code b vs d (k + tree_size t) r (omega arith) w.2 (numbers_right (integers_in t) _ i) (strings_right (strings_in s.files t) _ j)
+        (text_of_code b vs d (k + tree_size t) r (omega arith) w.2 (numbers_right (integers_in t) _ i)
+        (strings_right (strings_in s.files t) _ j)
         (left (code s g vs d (k + tree_size t) b) _ m3))
         (text_of_repeat target known begin end (target_of_mark target begin (left (mark_lines begin) _ m))))))
     text_of_code (trees.Block at ts) vs d k r low w i j m = text_of_items ts vs d k r (omega arith) w.1 i j m
@@ -175,7 +187,8 @@ module _ (target known : Name → Type 0) (s : Context) (g : Constants) (u : Ser
         let m1 = right (initial_code s g vs d k type o) _ m in
         let m2 = right push_lines _ m1 in
         both (initial_code s g vs d k type o) _
-        (text_of_initial o type vs d k r (omega arith) w.3 (numbers_left (integers_in_maybe o) _ i) (strings_left (strings_in_maybe s.files o) _ j)
+        (text_of_initial o type vs d k r (omega arith) w.3 (numbers_left (integers_in_maybe o) _ i)
+        (strings_left (strings_in_maybe s.files o) _ j)
         (left (initial_code s g vs d k type o) _ m))
         (both push_lines _ (text_of_push target known u.ends_stack)
         (both (code s g (bind d name type vs) (d + 1) (k + maybe_size o) t) _
@@ -195,10 +208,12 @@ module _ (target known : Name → Type 0) (s : Context) (g : Constants) (u : Ser
         both (code s g vs d k t) _
         (text_of_code t vs d k r (omega arith) w.1 (numbers_left (integers_in t) _ i) (strings_left (strings_in s.files t) _ j)
         (left (code s g vs d k t) _ m))
-        (both (case_begin_lines (file_label s g at) at.line) _ (text_of_case_begin target known _ at.line js.0 (line_low files at w.0) u.ends_void)
+        (both (case_begin_lines (file_label s g at) at.line) _
+        (text_of_case_begin target known _ at.line js.0 (line_low files at w.0) u.ends_void)
         (both push_lines _ (text_of_push target known u.ends_stack)
         (both (arms_lines arms) _
-        (all_lines _ arms (text_of_arms cs vs d (k + tree_size t) end [] r (omega arith) w.2 (numbers_right (integers_in t) _ i) js.1 there tt
+        (all_lines _ arms
+        (text_of_arms cs vs d (k + tree_size t) end [] r (omega arith) w.2 (numbers_right (integers_in t) _ i) js.1 there tt
         (each_lines _ arms (left (arms_lines arms) _ m3))))
         (text_of_case_end target known end u.ends_case))))
     text_of_code (trees.New at class) vs d k r low w i j m = parts.text_of_new target known s u within class.name
@@ -218,7 +233,8 @@ module _ (target known : Name → Type 0) (s : Context) (g : Constants) (u : Ser
         (both (code s g vs (d + 1) (k + tree_size a) b) _
         (text_of_code b vs (d + 1) (k + tree_size a) r (omega arith) w.2 (numbers_right (integers_in a) _ i)
         (strings_left (strings_in s.files b) _ js) (left (code s g vs (d + 1) (k + tree_size a) b) _ m2))
-        (parts.text_of_arith target known s u within g files op at (root k (trees.Arith at op a b)) w.0 (strings_right (strings_in s.files b) _ js)
+        (parts.text_of_arith target known s u within g files op at (root k (trees.Arith at op a b)) w.0
+        (strings_right (strings_in s.files b) _ js)
         (right (code s g vs (d + 1) (k + tree_size a) b) _ m2))))
     text_of_code (trees.Neg at t) vs d k r low w i j m =
         let rest = right (code s g vs d k t) _ m in
@@ -243,7 +259,8 @@ module _ (target known : Name → Type 0) (s : Context) (g : Constants) (u : Ser
     text_of_code (trees.Not at t) vs d k r low w i j m =
         let rest = right (code s g vs d k t) _ m in
         both (code s g vs d k t) _ (text_of_code t vs d k r (omega arith) w.1 i j (left (code s g vs d k t) _ m))
-        (both complement_lines _ (text_of_complement target known) (parts.text_of_bool target known s u within _ (right complement_lines _ rest)))
+        (both complement_lines _ (text_of_complement target known)
+        (parts.text_of_bool target known s u within _ (right complement_lines _ rest)))
     text_of_code (trees.Int at value) vs d k r low w i j m = text_of_take target known _ i.0
     text_of_code (trees.Str at bytes) vs d k r low w i j m = text_of_take target known _ j.0
     text_of_code (trees.Bool at value) vs d k r low w i j m = parts.text_of_truth target known s u within value
@@ -272,18 +289,21 @@ module _ (target known : Name → Type 0) (s : Context) (g : Constants) (u : Ser
         both (code s g vs d k t) _
         (text_of_code t vs d k r (omega arith) w.0 (numbers_left (integers_in t) _ i) (strings_left (strings_in s.files t) _ j)
         (left (code s g vs d k t) _ m))
-        (text_of_items ts vs d (k + tree_size t) r (omega arith) w.1 (numbers_right (integers_in t) _ i) (strings_right (strings_in s.files t) _ j)
+        (text_of_items ts vs d (k + tree_size t) r (omega arith) w.1 (numbers_right (integers_in t) _ i)
+        (strings_right (strings_in s.files t) _ j)
         (right (code s g vs d k t) _ m))
 
     -- an initial value, or none
-    text_of_initial : (o : MaybeTree) (type : Ty) (vs : List Named) (d k : ℕ) → AreReached vs → d + maybe_size o ≤ MOST_TOKENS → IsMaybeWithin files o
+    text_of_initial : (o : MaybeTree) (type : Ty) (vs : List Named) (d k : ℕ) → AreReached vs
+        → d + maybe_size o ≤ MOST_TOKENS → IsMaybeWithin files o
         → AreNumbers known g (integers_in_maybe o) → AreStrings known g (strings_in_maybe s.files o)
         → AreTargets target (initial_code s g vs d k type o) → AreText target known (initial_code s g vs d k type o)
     text_of_initial Without type vs d k r low w i j m = parts.text_of_default target known s u within type
     text_of_initial (With t) type vs d k r low w i j m = text_of_code t vs d k r low w i j m
 
     -- the branches of a case, put among those before them
-    text_of_arms : (cs : Cases) (vs : List Named) (d k : ℕ) (end : Name) (before : List Arm) → AreReached vs → d + 1 + cases_size cs ≤ MOST_TOKENS
+    text_of_arms : (cs : Cases) (vs : List Named) (d k : ℕ) (end : Name) (before : List Arm) → AreReached vs
+        → d + 1 + cases_size cs ≤ MOST_TOKENS
         → AreCasesWithin files cs
         → AreNumbers known g (integers_in_cases cs) → AreStrings known g (strings_in_cases s.files cs) → target end
         → AllByRecursion IsTextArm before

@@ -1,5 +1,6 @@
 -- The code of features, of initializers and of classes is lines of text.
-use Rattle.std.proofs.Common.{◌≡◌, ℕ, ◌+◌, ◌<◌, ◌≤◌, pos, List, [], ◌∷◌, ◌++◌, length, flat_map, Option, Some, None, Bool, true, false, refl, arith}
+use Rattle.std.proofs.Common.{◌≡◌, ℕ, ◌+◌, ◌<◌, ◌≤◌, pos, List, [], ◌∷◌, ◌++◌, length}
+use Rattle.std.proofs.Common.{flat_map, Option, Some, None, Bool, true, false, refl, arith}
 use Rattle.std.specs.Prelude.{nat_lt, if◌then◌else◌, IfSome}
 use Rattle.std.specs.List.{AllByRecursion}
 use Rattle.cool_syntax.specs.declared.TheConstants.{MOST_TOKENS}
@@ -25,12 +26,17 @@ use Rattle.cool_codegen.specs.Pieces.{mark_lines, leave_lines, begin_init_lines,
 use Rattle.cool_codegen.specs.Variables.{Named}
 use Rattle.cool_codegen.specs.Asked.{integers_in, strings_in}
 use Rattle.cool_codegen.specs.Code.{Context, code}
-use Rattle.cool_codegen.specs.Features.{with_attributes, with_formals, attributes_in, method_code, initial_value_code, feature_code, feature_integers, feature_strings, initial_integers, initial_strings}
+use Rattle.cool_codegen.specs.Features.{with_attributes, with_formals, attributes_in, method_code}
+use Rattle.cool_codegen.specs.Features.{initial_value_code, feature_code, feature_integers}
+use Rattle.cool_codegen.specs.Features.{feature_strings, initial_integers, initial_strings}
 use Rattle.cool_codegen.proofs.AttributesOfClasses.{place_low}
 use Rattle.cool_emit.specs.SoundLines.{AreText}
-use Rattle.cool_emit.specs.Programs.{Placed, attributes_from, methods_from, placed_code, parent_code, initializer_code, class_code, class_features, classes_code}
+use Rattle.cool_emit.specs.Programs.{Placed, attributes_from, methods_from, placed_code, parent_code}
+use Rattle.cool_emit.specs.Programs.{initializer_code, class_code, class_features, classes_code}
 use Rattle.cool_emit.specs.Programs as programs
-use Rattle.cool_emit.proofs.TextOfPieces.{AreTargets, all_both, all_left, all_right, text_of_enter, text_of_leave, text_of_mark, text_of_store, text_of_take_self, text_of_begin_init, text_of_call_init, text_of_return_basic}
+use Rattle.cool_emit.proofs.TextOfPieces.{AreTargets, all_both, all_left, all_right, text_of_enter}
+use Rattle.cool_emit.proofs.TextOfPieces.{text_of_leave, text_of_mark, text_of_store, text_of_take_self}
+use Rattle.cool_emit.proofs.TextOfPieces.{text_of_begin_init, text_of_call_init, text_of_return_basic}
 use Rattle.cool_emit.proofs.TextOfParts.{Serves, AreReached, AreNumbers, AreStrings}
 use Rattle.cool_emit.proofs.TextOfCode.{text_of_code}
 
@@ -40,7 +46,8 @@ offset_low p c a few = let place = place_low (is_attribute a) (attributes p c) i
 
 -- so the variables in scope can be reached
 
-attributes_reached : (p : List Class) (c : ClassId) → length (attributes p c) ≤ 2000 → (as' : List AttributeRef) (vs : List Named) → AreReached vs
+attributes_reached : (p : List Class) (c : ClassId) → length (attributes p c) ≤ 2000
+    → (as' : List AttributeRef) (vs : List Named) → AreReached vs
     → AreReached (with_attributes p c as' vs)
 attributes_reached p c few [] vs h = h
 attributes_reached p c few (a ∷ as') vs h = attributes_reached p c few as' _ ((omega arith, offset_low p c a few), h)
@@ -54,7 +61,8 @@ formals_reached p (f ∷ fs) vs few h = formals_reached p fs _ (omega arith) ((o
 abbrev pub AsksKnown : (Name → Type 0) → List (List ℕ) → Constants → Feature → Type 0
 AsksKnown known files g f = AreNumbers known g (feature_integers f) × AreStrings known g (feature_strings files f)
 
-module _ (target known : Name → Type 0) (s : Context) (g : Constants) (u : Serves target known s.table) (within : s.class.0 < length s.table)
+module _ (target known : Name → Type 0) (s : Context) (g : Constants) (u : Serves target known s.table)
+    (within : s.class.0 < length s.table)
     (few : length (attributes s.table s.class) ≤ 2000) (files : ℕ) where
   -- the attributes of the class can be reached
   in_scope : AreReached (attributes_in s.table s.class)
@@ -94,17 +102,20 @@ module _ (target known : Name → Type 0) (s : Context) (g : Constants) (u : Ser
 
 -- what holds of all features holds of the attributes and of the methods among them
 
-all_attributes : (P : Feature → Type 0) (k : ℕ) (fs : List Feature) → AllByRecursion P fs → AllByRecursion (λ x. P x.feature) (attributes_from k fs)
+all_attributes : (P : Feature → Type 0) (k : ℕ) (fs : List Feature) → AllByRecursion P fs
+    → AllByRecursion (λ x. P x.feature) (attributes_from k fs)
 all_attributes P k [] h = tt
 all_attributes P k (Method d ∷ fs) h = all_attributes P (k + 1) fs h.1
 all_attributes P k (Attribute a ∷ fs) h = (h.0, all_attributes P (k + 1) fs h.1)
 
-all_methods : (P : Feature → Type 0) (k : ℕ) (fs : List Feature) → AllByRecursion P fs → AllByRecursion (λ x. P x.feature) (methods_from k fs)
+all_methods : (P : Feature → Type 0) (k : ℕ) (fs : List Feature) → AllByRecursion P fs
+    → AllByRecursion (λ x. P x.feature) (methods_from k fs)
 all_methods P k [] h = tt
 all_methods P k (Method d ∷ fs) h = (h.0, all_methods P (k + 1) fs h.1)
 all_methods P k (Attribute a ∷ fs) h = all_methods P (k + 1) fs h.1
 
-module _ (target known : Name → Type 0) (p : List Class) (files : List (List ℕ)) (g : Constants) (u : Serves target known p) (rooted : IsRooted p)
+module _ (target known : Name → Type 0) (p : List Class) (files : List (List ℕ)) (g : Constants)
+    (u : Serves target known p) (rooted : IsRooted p)
     (few : (c : ClassId) → c.0 < length p → length (attributes p c) ≤ 2000)
     (bounded : (c : ClassId) → c.0 < length p → AllByRecursion IsBoundedFeature (features_of p c))
     (limited : (c : ClassId) → c.0 < length p → AllByRecursion (IsFeatureWithin (length files)) (features_of p c)) where
@@ -129,7 +140,8 @@ module _ (target known : Name → Type 0) (p : List Class) (files : List (List �
       by (Some q) h = text_of_call_init target known (initializer p q) (u.initializers q (h q refl))
 
   -- an initializer
-  text_of_initializer : (c : ClassId) → c.0 < length p → AllByRecursion (λ x. AsksKnown known files g x.feature) (programs.attributes_in p c)
+  text_of_initializer : (c : ClassId) → c.0 < length p
+      → AllByRecursion (λ x. AsksKnown known files g x.feature) (programs.attributes_in p c)
       → AreTargets target (initializer_code p files g c) → AreText target known (initializer_code p files g c)
   text_of_initializer c within asks m = by (nat_lt c.0 5) m
     where

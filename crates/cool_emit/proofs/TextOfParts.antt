@@ -19,7 +19,8 @@ use Rattle.cool_classes.specs.declared.class_id.Ty.TheVariants.{Class as IsClass
 use Rattle.cool_classes.specs.Chains.{Class}
 use Rattle.cool_rules.specs.Conformance.{IsType, class_of}
 use Rattle.cool_rules.specs.Rules.{type_meant}
-use Rattle.cool_runtime.specs.Labels.{stack_limit, heap_limit, int_prototype, case_abort, copy, dispatch_abort, div_abort, equality, false_constant, true_constant}
+use Rattle.cool_runtime.specs.Labels.{stack_limit, heap_limit, int_prototype, case_abort, copy}
+use Rattle.cool_runtime.specs.Labels.{dispatch_abort, div_abort, equality, false_constant, true_constant}
 use Rattle.cool_runtime.specs.RoutineLabels.{case_void, class_objects, default_int, default_string, overflow_abort}
 use Rattle.cool_runtime.specs.Routines.{new_int_lines}
 use Rattle.cool_layout.specs.Preorder.{tag, last_tag}
@@ -30,10 +31,20 @@ use Rattle.cool_codegen.specs.declared.variables.Variable.{Variable}
 use Rattle.cool_codegen.specs.Variables.{Named, found, bind}
 use Rattle.cool_codegen.specs.Types.{is_self, method_in, class_meant}
 use Rattle.cool_codegen.specs.Asked.{files_of}
-use Rattle.cool_codegen.specs.Pieces.{mark_lines, turn_lines, repeat_lines, flag_lines, ends_where_lines, case_end_lines, values_lines, less_lines, less_equal_lines, is_zero_lines, divide_lines, take_self_lines, take_lines, take_void_lines}
-use Rattle.cool_codegen.specs.Code.{Context, integer_label, string_label, file_label, load_of, name_code, store_of, assign_code, truth_label, new_code, default_code, bool_code, int_code, divisor_code, operation_code, arith_code, compare_code, slot_code, static_code, minus, range_code}
+use Rattle.cool_codegen.specs.Pieces.{mark_lines, turn_lines, repeat_lines, flag_lines, ends_where_lines}
+use Rattle.cool_codegen.specs.Pieces.{case_end_lines, values_lines, less_lines, less_equal_lines, is_zero_lines}
+use Rattle.cool_codegen.specs.Pieces.{divide_lines, take_self_lines, take_lines, take_void_lines}
+use Rattle.cool_codegen.specs.Code.{Context, integer_label, string_label, file_label, load_of}
+use Rattle.cool_codegen.specs.Code.{name_code, store_of, assign_code, truth_label, new_code}
+use Rattle.cool_codegen.specs.Code.{default_code, bool_code, int_code, divisor_code, operation_code}
+use Rattle.cool_codegen.specs.Code.{arith_code, compare_code, slot_code, static_code, minus, range_code}
 use Rattle.cool_emit.specs.SoundLines.{AreText}
-use Rattle.cool_emit.proofs.TextOfPieces.{AreTargets, all_both, all_left, all_right, text_of_load, text_of_store, text_of_take_self, text_of_take_void, text_of_take, text_of_values, text_of_compare_equal, text_of_less, text_of_less_equal, text_of_flag, text_of_add, text_of_subtract, text_of_multiply, text_of_divide, text_of_is_zero, text_of_ends_where, text_of_new_int, text_of_create, text_of_create_self, text_of_call, text_of_call_static, text_of_try_tags}
+use Rattle.cool_emit.proofs.TextOfPieces.{AreTargets, all_both, all_left, all_right, text_of_load, text_of_store}
+use Rattle.cool_emit.proofs.TextOfPieces.{text_of_take_self, text_of_take_void, text_of_take, text_of_values}
+use Rattle.cool_emit.proofs.TextOfPieces.{text_of_compare_equal, text_of_less, text_of_less_equal, text_of_flag}
+use Rattle.cool_emit.proofs.TextOfPieces.{text_of_add, text_of_subtract, text_of_multiply, text_of_divide}
+use Rattle.cool_emit.proofs.TextOfPieces.{text_of_is_zero, text_of_ends_where, text_of_new_int, text_of_create}
+use Rattle.cool_emit.proofs.TextOfPieces.{text_of_create_self, text_of_call, text_of_call_static, text_of_try_tags}
 
 -- What code may name, by targets of jumps and names that are known, and how large its numbers become: the routines and the constants of the
 -- run-time system, the methods, initializers and prototypes of the classes of a table, its slots and its tags.
@@ -86,7 +97,8 @@ found_reached [] name h = tt
 found_reached (v ∷ vs) name h = found_here (bytes_eq v.name name) v.variable (found vs name) h.0 (found_reached vs name h.1)
 
 -- a variable on the stack is reached while few words are pushed
-pub bound_reached : (d : ℕ) (name : List ℕ) (type : Ty) (vs : List Named) → d < MOST_TOKENS → AreReached vs → AreReached (bind d name type vs)
+pub bound_reached : (d : ℕ) (name : List ℕ) (type : Ty) (vs : List Named) → d < MOST_TOKENS → AreReached vs
+    → AreReached (bind d name type vs)
 bound_reached d name type vs low h = ((omega arith, omega arith), h)
 
 -- a line's number is a word
@@ -157,14 +169,17 @@ module _ (target known : Name → Type 0) (s : Context) (u : Serves target known
     where
       by : (t : Ty) → IsType s.table t → AreText target known (new_code s.table t)
       by SelfType h = text_of_create_self target known u.objects u.copies
-      by (IsClass c) h = text_of_create target known (prototype s.table c) (initializer s.table c) (u.prototypes c h) u.copies (u.initializers c h)
+      by (IsClass c) h =
+          text_of_create target known (prototype s.table c) (initializer s.table c) (u.prototypes c h) u.copies
+          (u.initializers c h)
 
   pub text_of_default : (t : Ty) → AreText target known (default_code t)
   text_of_default SelfType = text_of_take_void target known
   text_of_default (IsClass c) = by (nat_eq c.0 2) (nat_eq c.0 3) (nat_eq c.0 4)
     where
       by : (x y z : Bool)
-          → AreText target known (if x then take_lines default_int else if y then take_lines false_constant else if z then take_lines default_string else take_void_lines)
+          → AreText target known (if x then take_lines default_int else if y then take_lines false_constant
+          else if z then take_lines default_string else take_void_lines)
       by true y z = text_of_take target known default_int u.integer_default
       by false true z = text_of_take target known false_constant u.falsity
       by false false true = text_of_take target known default_string u.string_default
@@ -222,7 +237,8 @@ module _ (target known : Name → Type 0) (s : Context) (u : Serves target known
       (text_of_operation g files op at id placed named (targets_left (operation_code s g op at id) _ rest))
       (text_of_int g files at id placed named (targets_right (operation_code s g op at id) _ rest)))
 
-  pub text_of_compare : (op : CompareOp) (id : NodeId) → AreTargets target (compare_code s op id) → AreText target known (compare_code s op id)
+  pub text_of_compare : (op : CompareOp) (id : NodeId) → AreTargets target (compare_code s op id)
+      → AreText target known (compare_code s op id)
   text_of_compare compare.Less id m =
       both values_lines _ (text_of_values target known) (both less_lines _ (text_of_less target known)
       (text_of_bool id (targets_right less_lines _ (targets_right values_lines _ m))))
@@ -252,10 +268,12 @@ module _ (target known : Name → Type 0) (s : Context) (u : Serves target known
       text_of_call_static target known _ at.line _ named (line_low files at placed) u.ends_dispatch
       (u.methods (class_meant s.table s.class class) name (meant_within class))
 
-  pub text_of_range : (name : List ℕ) (next : Name) → target next → AreText target known (range_code s (class_meant s.table s.class name) next)
+  pub text_of_range : (name : List ℕ) (next : Name) → target next
+      → AreText target known (range_code s (class_meant s.table s.class name) next)
   text_of_range name next there =
       let c = class_meant s.table s.class name in
-      text_of_try_tags target known _ _ next (signed (tag s.table c) (u.tags c (meant_within name))) (u.families c (meant_within name)) there
+      text_of_try_tags target known _ _ next (signed (tag s.table c) (u.tags c (meant_within name)))
+      (u.families c (meant_within name)) there
     where
       signed : (n : ℕ) → n < 32768 → IsSigned (minus n)
       signed zero h = omega arith

@@ -5,11 +5,19 @@ use Rattle.std.specs.Prelude.{ℤ}
 use Rattle.std.specs.List.{AllByRecursion}
 use Rattle.mips_isa.specs.Lines.{Name, Line}
 use Rattle.mips_isa.specs.Words.{IsSigned}
-use Rattle.cool_runtime.specs.Labels.{stack_limit, heap_limit, int_prototype, case_abort, copy, dispatch_abort, equality, false_constant, true_constant}
+use Rattle.cool_runtime.specs.Labels.{stack_limit, heap_limit, int_prototype, case_abort, copy}
+use Rattle.cool_runtime.specs.Labels.{dispatch_abort, equality, false_constant, true_constant}
 use Rattle.cool_runtime.specs.RoutineLabels.{case_void, class_objects}
 use Rattle.cool_runtime.specs.Routines.{push_lines, new_int_lines}
 use Rattle.cool_runtime.specs.CodeOfCalls.{enter_lines}
-use Rattle.cool_codegen.specs.Pieces.{pop_lines, load_lines, store_lines, take_self_lines, take_void_lines, take_lines, test_lines, mark_lines, turn_lines, repeat_lines, values_lines, compare_equal_lines, less_lines, less_equal_lines, is_void_lines, complement_lines, flag_lines, add_lines, subtract_lines, multiply_lines, divide_lines, negate_lines, is_zero_lines, ends_where_lines, create_lines, create_self_lines, call_lines, call_static_lines, case_begin_lines, try_tags_lines, case_end_lines, leave_lines, begin_init_lines, call_init_lines, return_basic_lines}
+use Rattle.cool_codegen.specs.Pieces.{pop_lines, load_lines, store_lines, take_self_lines, take_void_lines}
+use Rattle.cool_codegen.specs.Pieces.{take_lines, test_lines, mark_lines, turn_lines, repeat_lines}
+use Rattle.cool_codegen.specs.Pieces.{values_lines, compare_equal_lines, less_lines, less_equal_lines}
+use Rattle.cool_codegen.specs.Pieces.{is_void_lines, complement_lines, flag_lines, add_lines, subtract_lines}
+use Rattle.cool_codegen.specs.Pieces.{multiply_lines, divide_lines, negate_lines, is_zero_lines}
+use Rattle.cool_codegen.specs.Pieces.{ends_where_lines, create_lines, create_self_lines, call_lines}
+use Rattle.cool_codegen.specs.Pieces.{call_static_lines, case_begin_lines, try_tags_lines, case_end_lines}
+use Rattle.cool_codegen.specs.Pieces.{leave_lines, begin_init_lines, call_init_lines, return_basic_lines}
 use Rattle.cool_emit.specs.SoundLines.{AreText}
 
 -- the labels of lines are targets
@@ -71,7 +79,8 @@ pub text_of_turn : (target known : Name → Type 0) (end : Name) (other : Name) 
 unfolding turn_lines
 text_of_turn target known end other there = search (arith, there) depth 30
 
-pub text_of_repeat : (target known : Name → Type 0) (begin : Name) (end : Name) → target begin → AreText target known (repeat_lines begin end)
+pub text_of_repeat : (target known : Name → Type 0) (begin : Name) (end : Name) → target begin
+    → AreText target known (repeat_lines begin end)
 unfolding repeat_lines
 text_of_repeat target known begin end there = search (arith, there) depth 30
 
@@ -143,7 +152,8 @@ text_of_push target known limit = search (arith, limit) depth 30
 pub text_of_new_int : (target known : Name → Type 0) → target heap_limit → known int_prototype → AreText target known new_int_lines
 text_of_new_int target known limit there = search (arith, limit, there) depth 40
 
-pub text_of_create : (target known : Name → Type 0) (prototype : Name) (initializer : Name) → known prototype → target copy → target initializer
+pub text_of_create : (target known : Name → Type 0) (prototype : Name) (initializer : Name) → known prototype
+    → target copy → target initializer
     → AreText target known (create_lines prototype initializer)
 unfolding create_lines
 text_of_create target known prototype initializer there copies fills = search (arith, there, copies, fills) depth 30

@@ -1,5 +1,6 @@
 -- The text of a program is lines of text: each jump goes to a label of the text, and each address is that of a label of the program.
-use Rattle.std.proofs.Common.{◌≡◌, ℕ, zero, suc, ◌+◌, ◌<◌, ◌≤◌, List, [], ◌∷◌, ◌++◌, length, flat_map, Bool, true, false, refl, arith, Contains}
+use Rattle.std.proofs.Common.{◌≡◌, ℕ, zero, suc, ◌+◌, ◌<◌, ◌≤◌, List, [], ◌∷◌, ◌++◌}
+use Rattle.std.proofs.Common.{length, flat_map, Bool, true, false, refl, arith, Contains}
 use Rattle.std.specs.Prelude.{nat_eq, bytes_eq, if◌then◌else◌}
 use Rattle.std.specs.List.{AllByRecursion, list_any}
 use Rattle.std.proofs.lemmas.Map.Views.{Contains-from_any}
@@ -7,7 +8,10 @@ use Rattle.std.proofs.lemmas.Slice.Eq.{bytes_eq-Decides}
 use Rattle.mips_isa.specs.Lines.{Name, Line}
 use Rattle.cool_classes.specs.declared.class_id.ClassId.{ClassId}
 use Rattle.cool_classes.specs.Chains.{Class}
-use Rattle.cool_runtime.specs.Labels.{case_abort, concat_end, concat_first, concat_second, concat_third, copy, copy_end, copy_words, dispatch_abort, div_abort, equal_bytes, equal_false, equal_strings, equal_true, equal_values, equality, heap_limit, in_string_bytes, in_string_end, stack_limit, substr_abort, substr_bytes, substr_end}
+use Rattle.cool_runtime.specs.Labels.{case_abort, concat_end, concat_first, concat_second, concat_third, copy}
+use Rattle.cool_runtime.specs.Labels.{copy_end, copy_words, dispatch_abort, div_abort, equal_bytes, equal_false}
+use Rattle.cool_runtime.specs.Labels.{equal_strings, equal_true, equal_values, equality, heap_limit, in_string_bytes}
+use Rattle.cool_runtime.specs.Labels.{in_string_end, stack_limit, substr_abort, substr_bytes, substr_end}
 use Rattle.cool_runtime.specs.RoutineLabels.{case_void, overflow_abort}
 use Rattle.cool_runtime.specs.RoutineLines.{all_routine_lines}
 use Rattle.cool_layout.specs.Preorder.{numbers_from}
@@ -22,9 +26,16 @@ use Rattle.cool_emit.specs.SoundLines.{AreText, labels_of}
 use Rattle.cool_emit.specs.Programs.{Placed, all_features, classes_code, program_constants, program_text, program_lines, IsBuildable}
 use Rattle.cool_emit.proofs.LabelsOfRoutines as routines
 use Rattle.cool_emit.proofs.RootedTables.{rooted}
-use Rattle.cool_emit.proofs.LabelsThere.{routine_there, initializer_there, method_there, name_table_there, class_objects_there, default_int_there, default_string_there, prototype_there}
+use Rattle.cool_emit.proofs.LabelsThere.{routine_there, initializer_there, method_there}
+use Rattle.cool_emit.proofs.LabelsThere.{name_table_there, class_objects_there, default_int_there}
+use Rattle.cool_emit.proofs.LabelsThere.{default_string_there, prototype_there}
 use Rattle.cool_emit.proofs.ConstantsThere.{true_constant_there, false_constant_there, integer_there, string_there}
-use Rattle.cool_emit.proofs.FixedNamesThere.{abort_text_there, bool_prototype_there, case_text_there, colon_text_there, dispatch_text_there, division_text_there, end_text_there, int_prototype_there, main_init_there, main_main_there, main_prototype_there, newline_text_there, no_branch_text_there, overflow_text_there, stop_text_there, string_prototype_there, substring_text_there}
+use Rattle.cool_emit.proofs.FixedNamesThere.{abort_text_there, bool_prototype_there, case_text_there}
+use Rattle.cool_emit.proofs.FixedNamesThere.{colon_text_there, dispatch_text_there, division_text_there}
+use Rattle.cool_emit.proofs.FixedNamesThere.{end_text_there, int_prototype_there, main_init_there}
+use Rattle.cool_emit.proofs.FixedNamesThere.{main_main_there, main_prototype_there, newline_text_there}
+use Rattle.cool_emit.proofs.FixedNamesThere.{no_branch_text_there, overflow_text_there, stop_text_there}
+use Rattle.cool_emit.proofs.FixedNamesThere.{string_prototype_there, substring_text_there}
 use Rattle.cool_emit.proofs.SlotsInLimits.{few_attributes}
 use Rattle.cool_emit.proofs.NamesMeant.{type_there, method_in_there}
 use Rattle.cool_emit.proofs.LowNumbers.{slot_low, tag_low, family_low}
@@ -94,7 +105,8 @@ string_stays xs (c ∷ bs) b h = string_stays (with_string xs c) bs b (stays (li
 
 integers_there : (xs ns : List ℕ) → AllByRecursion (Contains (with_integers xs ns)) ns
 integers_there xs [] = tt
-integers_there xs (n ∷ ns) = (integer_stays (with_integer xs n) ns n (added nat_eq same_numbers xs n), integers_there (with_integer xs n) ns)
+integers_there xs (n ∷ ns) =
+    (integer_stays (with_integer xs n) ns n (added nat_eq same_numbers xs n), integers_there (with_integer xs n) ns)
 
 strings_there : (xs bs : List (List ℕ)) → AllByRecursion (Contains (with_strings xs bs)) bs
 strings_there xs [] = tt
@@ -117,7 +129,8 @@ module _ (p : List Class) (files : List (List ℕ)) (b : IsBuildable p files) wh
       all_pairs (λ (x : Placed). AreNumbers known g (feature_integers x.feature))
       (λ (x : Placed). AreStrings known g (feature_strings files x.feature)) (all_features p)
       (each_list (λ n. known (integer_label g n)) (λ (x : Placed). feature_integers x.feature) (all_features p)
-      (all_then (Contains g.integers) (λ n. known (integer_label g n)) (flat_map (λ (x : Placed). feature_integers x.feature) (all_features p))
+      (all_then (Contains g.integers) (λ n. known (integer_label g n))
+      (flat_map (λ (x : Placed). feature_integers x.feature) (all_features p))
       (integer_there p files)
       (integers_there [] (flat_map (λ (x : Placed). feature_integers x.feature) (all_features p)))))
       (each_list (λ bytes. known (string_label g bytes)) (λ (x : Placed). feature_strings files x.feature) (all_features p)

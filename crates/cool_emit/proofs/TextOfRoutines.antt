@@ -1,10 +1,19 @@
 -- The routines of the run-time system are lines of text.
 use Rattle.std.proofs.Common.{arith}
 use Rattle.mips_isa.specs.Lines.{Name}
-use Rattle.cool_runtime.specs.Labels.{abort_text, bool_prototype, colon_text, concat_end, concat_first, concat_second, concat_third, copy, copy_end, copy_words, dispatch_abort, div_abort, end_text, equal_bytes, equal_false, equal_strings, equal_true, equal_values, false_constant, heap_limit, in_string_bytes, in_string_end, int_prototype, main_init, main_main, main_prototype, name_table, newline_text, no_branch_text, stop_text, string_prototype, substr_abort, substr_bytes, substr_end, true_constant}
-use Rattle.cool_runtime.specs.RoutineLabels.{case_void, overflow_abort, dispatch_text, case_text, division_text, substring_text, overflow_text}
+use Rattle.cool_runtime.specs.Labels.{abort_text, bool_prototype, colon_text, concat_end, concat_first}
+use Rattle.cool_runtime.specs.Labels.{concat_second, concat_third, copy, copy_end, copy_words, dispatch_abort}
+use Rattle.cool_runtime.specs.Labels.{div_abort, end_text, equal_bytes, equal_false, equal_strings}
+use Rattle.cool_runtime.specs.Labels.{equal_true, equal_values, false_constant, heap_limit, in_string_bytes}
+use Rattle.cool_runtime.specs.Labels.{in_string_end, int_prototype, main_init, main_main, main_prototype}
+use Rattle.cool_runtime.specs.Labels.{name_table, newline_text, no_branch_text, stop_text, string_prototype}
+use Rattle.cool_runtime.specs.Labels.{substr_abort, substr_bytes, substr_end, true_constant}
+use Rattle.cool_runtime.specs.RoutineLabels.{case_void, overflow_abort, dispatch_text, case_text}
+use Rattle.cool_runtime.specs.RoutineLabels.{division_text, substring_text, overflow_text}
 use Rattle.cool_runtime.specs.Routines.{error_lines}
-use Rattle.cool_runtime.specs.RoutineLines.{routine_lines, object_routines_lines, io_routines_lines, value_routines_lines, error_routines_lines, limit_routines_lines, all_routine_lines}
+use Rattle.cool_runtime.specs.RoutineLines.{routine_lines, object_routines_lines, io_routines_lines}
+use Rattle.cool_runtime.specs.RoutineLines.{value_routines_lines, error_routines_lines}
+use Rattle.cool_runtime.specs.RoutineLines.{limit_routines_lines, all_routine_lines}
 use Rattle.cool_runtime.specs.declared.catalogue.Routine.TheVariants as routines
 use Rattle.cool_emit.specs.SoundLines.{AreText}
 use Rattle.cool_emit.proofs.TextOfPieces.{all_both}
@@ -81,7 +90,15 @@ module _ (target known : Name → Type 0) (r : ServesRoutines target known) wher
 
   text_of_in_string : AreText target known (routine_lines routines.InString)
   unfolding routine_lines
-  text_of_in_string = search (arith, r.to_heap_limit, r.to_in_string_bytes, r.to_in_string_end, r.at_int_prototype, r.at_string_prototype) depth 120
+  text_of_in_string =
+      search (
+        arith,
+        r.to_heap_limit,
+        r.to_in_string_bytes,
+        r.to_in_string_end,
+        r.at_int_prototype,
+        r.at_string_prototype,
+      ) depth 120
 
   text_of_in_int : AreText target known (routine_lines routines.InInt)
   unfolding routine_lines
@@ -96,12 +113,29 @@ module _ (target known : Name → Type 0) (r : ServesRoutines target known) wher
   text_of_concat : AreText target known (routine_lines routines.Concat)
   unfolding routine_lines
   text_of_concat =
-      search (arith, r.to_heap_limit, r.to_concat_first, r.to_concat_second, r.to_concat_third, r.to_concat_end, r.at_int_prototype, r.at_string_prototype) depth 150
+      search (
+        arith,
+        r.to_heap_limit,
+        r.to_concat_first,
+        r.to_concat_second,
+        r.to_concat_third,
+        r.to_concat_end,
+        r.at_int_prototype,
+        r.at_string_prototype,
+      ) depth 150
 
   text_of_substr : AreText target known (routine_lines routines.Substr)
   unfolding routine_lines
   text_of_substr =
-      search (arith, r.to_heap_limit, r.to_substr_abort, r.to_substr_bytes, r.to_substr_end, r.at_int_prototype, r.at_string_prototype) depth 150
+      search (
+        arith,
+        r.to_heap_limit,
+        r.to_substr_abort,
+        r.to_substr_bytes,
+        r.to_substr_end,
+        r.at_int_prototype,
+        r.at_string_prototype,
+      ) depth 150
 
   text_of_equal : AreText target known (routine_lines routines.Equal)
   unfolding routine_lines

@@ -1,3 +1,5 @@
 pub mod Additions
+pub mod FileNames
 pub mod Programs
 pub mod SoundLines
+pub mod Sections

@@ -1,7 +1,6 @@
 -- The lines of a whole program: the routines, and the initializer and the methods of each class; then the data, which is the layout, the
 -- constants, and the word at which the heap begins.
-use Rattle.std.specs.Prelude.{ℕ, pos, ◌+◌, ◌≤◌, List, [], ◌∷◌, ◌++◌, length, flat_map, codes, nat_lt, if◌then◌else◌, Option, Some, None}
-use Rattle.std.specs.List.{AllByRecursion}
+use Rattle.std.specs.Prelude.{ℕ, pos, ◌+◌, List, [], ◌∷◌, ◌++◌, length, flat_map, codes, nat_lt, if◌then◌else◌, Option, Some, None}
 use Rattle.cool_syntax.specs.declared.file_tree.Feature.{Feature}
 use Rattle.cool_syntax.specs.declared.file_tree.Feature.TheVariants.{Method, Attribute}
 use Rattle.mips_isa.specs.Lines.{Name, Line, Number}
@@ -21,6 +20,7 @@ use Rattle.cool_consts.specs.LinesOfConstants.{constants_lines}
 use Rattle.cool_codegen.specs.Asked.{with_integers, with_strings}
 use Rattle.cool_codegen.specs.Features.{feature_code, feature_integers, feature_strings}
 use Rattle.cool_codegen.specs.Pieces.{begin_init_lines, call_init_lines, leave_lines, return_basic_lines, take_self_lines}
+use Rattle.cool_emit.specs.FileNames.{AreShortNames}
 use Rattle.cool_emit.specs.SoundLines.{joined_lines}
 
 -- the features that are attributes, and those that are methods, each with its place among features that begin at a place
@@ -107,4 +107,4 @@ program_lines p files = joined_lines (program_text p files) (program_data p file
 pub record IsBuildable (p : List Class) (files : List (List ℕ)) : Type 0 where
   pub fits : Fits p (length files)
   pub typed : IsTypedTable p
-  pub names : AllByRecursion (λ name. length name ≤ 4096) files
+  pub names : AreShortNames files

@@ -34,7 +34,7 @@ pub(crate) enum Part {
 
 impl Part {
     /// Whether a feature belongs to the part.
-    fn has(self, feature: &Feature) -> bool
+    pub(crate) fn has(self, feature: &Feature) -> bool
         ensures { result ≡ belongs self feature.now }
     {
         match self {
@@ -76,7 +76,7 @@ impl<'a> Emission<'a> {
     }
 
     /// Adds the code of a feature. `Err` comes only for want of memory.
-    fn add_feature(
+    pub(crate) fn add_feature(
         &self,
         c: ClassId,
         feature: u32,

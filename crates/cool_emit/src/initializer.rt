@@ -11,6 +11,7 @@ use cool_classes::ClassId;
 use cool_codegen::piece::{begin_init, call_init, leave, return_basic, take_self};
 use cool_consts::Consts;
 use cool_layout::initializer_label;
+use cool_runtime::draft::write;
 use cool_runtime::piece::enter;
 use mips_isa::Line;
 use std::alloc::AllocError;
@@ -34,14 +35,14 @@ pub(crate) fn add_initializer(
     let alloc = emission.alloc;
     let name = initializer_label(alloc, emission.table(), c)?;
     if c.0 < BASIC_CLASSES {
-        return return_basic(alloc, lines, name.as_slice());
+        return write(alloc, lines, &return_basic(name.as_slice()));
     }
-    begin_init(alloc, lines, name.as_slice())?;
-    enter(alloc, lines)?;
+    write(alloc, lines, &begin_init(name.as_slice()))?;
+    write(alloc, lines, &enter())?;
     add_parent(emission, c, lines)?;
     emission.add_features(c, Part::Attributes, consts, lines)?;
-    take_self(alloc, lines)?;
-    leave(alloc, lines, 12)
+    write(alloc, lines, &take_self())?;
+    write(alloc, lines, &leave(12))
 }
 
 /// Adds the call of the parent's initializer, whose attributes come first. `Err` comes only for want of memory.
@@ -52,7 +53,7 @@ fn add_parent(emission: &Emission<'_>, c: ClassId, lines: &mut Vec<Line>) -> Res
     match emission.table().parent(c) {
         Some(parent) => {
             let name = initializer_label(emission.alloc, emission.table(), parent)?;
-            call_init(emission.alloc, lines, name.as_slice())
+            write(emission.alloc, lines, &call_init(name.as_slice()))
         }
         None => Ok(()),
     }

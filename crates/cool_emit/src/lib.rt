@@ -8,6 +8,10 @@ mod building;
 mod emission;
 mod initializer;
 mod program;
+mod section;
 
 pub use building::build;
 pub use program::lines;
+
+/// The most bytes of the name of a file that a program is built with.
+pub const MOST_FILE_NAME: usize = 4_096;

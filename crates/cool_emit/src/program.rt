@@ -1,21 +1,23 @@
 //! The lines of a whole program.
 
-ghost use Rattle.std.specs.Prelude.{◌≡◌, ◌≤◌, ◌++◌, ◌∷◌, ◌<◌, ◌^◌, [], length, map, string_bytes, IfOk, OnOk};
-ghost use Rattle.std.specs.List.{AllByRecursion};
+ghost use Rattle.std.specs.Prelude.{◌≡◌, ◌++◌, ◌∷◌, [], length, map, string_bytes, IfOk, OnOk};
 ghost use Rattle.mips_isa.specs.Assembly.{directive_line};
 ghost use Rattle.mips_isa.specs.Lines.{lines_of, ToData};
 ghost use Rattle.cool_rules.specs.Fits.{Fits};
+ghost use Rattle.cool_runtime.specs.RoutineLines.{all_routine_lines};
+ghost use Rattle.cool_emit.specs.FileNames.{AreShortNames};
 ghost use Rattle.cool_emit.specs.Additions.{Adds, files_of, IsSound};
-ghost use Rattle.cool_emit.specs.Programs.{all_features, class_code, class_features, classes_code, data_lines, heap_lines, program_data, program_lines, program_text};
+ghost use Rattle.cool_emit.specs.Programs.{all_features, classes_code, data_lines, heap_lines, program_data, program_lines, program_text};
+ghost use Rattle.cool_emit.specs.Sections.{sections_in};
 ghost use Rattle.cool_emit.specs.SoundLines.{AreSound};
 
-use crate::emission::{Emission, Part, add_lines};
-use crate::initializer::add_initializer;
-use cool_classes::{BOOL, ClassId, INT, STRING};
+use crate::emission::{Emission, add_lines};
+use crate::section::Section;
+use cool_classes::{BOOL, INT, STRING};
 use cool_consts::Consts;
 use cool_layout::Layout;
 use cool_rules::TypedProgram;
-use cool_runtime::{label_line, number, routines, word_line};
+use cool_runtime::{label_line, number, word_line};
 use mips_isa::{AsmDirective, Line, LineLabels, Statement};
 use std::alloc::{AllocError, Global};
 
@@ -23,7 +25,7 @@ use std::alloc::{AllocError, Global};
 /// `Err` comes only for want of memory.
 pub fn lines(alloc: Global, p: &TypedProgram, names: &[String]) -> Result<Vec<Line>, AllocError>
     requires fits { Fits p.now (length names.now) }
-    requires names { AllByRecursion (λ name. length name ≤ 4096) (map string_bytes names.now) }
+    requires names { AreShortNames (map string_bytes names.now) }
     ensures lines { IfOk result (λ lines. lines_of lines.items ≡ program_lines p.now (map string_bytes names.now)) }
     ensures sound { AreSound (program_text p.now (map string_bytes names.now)) (program_data p.now (map string_bytes names.now)) }
 {
@@ -34,50 +36,35 @@ pub fn lines(alloc: Global, p: &TypedProgram, names: &[String]) -> Result<Vec<Li
         layout: &layout,
         names,
     };
+    let sections = emission.sections()?;
     let mut consts = Consts::new(alloc);
     let mut lines = Vec::new(alloc);
-    routines(alloc, &mut lines)?;
-    add_classes(&emission, &mut consts, &mut lines)?;
+    add_text(&emission, &sections, &mut consts, &mut lines)?;
     add_data(&emission, &consts, &mut lines)?;
     Ok(lines)
 }
 
-/// Adds the initializers and the methods of all classes. `Err` comes only for want of memory.
-fn add_classes(
+/// Adds the text: the routines, and the initializers and the methods of all classes. `Err` comes only for want of memory.
+fn add_text(
     emission: &Emission<'_>,
+    sections: &[Section],
     consts: &mut Consts,
     lines: &mut Vec<Line>,
 ) -> Result<(), AllocError>
     requires sound { IsSound emission.now }
+    requires sections { sections.now ≡ sections_in emission.now.program.now }
     requires no_integers { consts.old.integers ≡ [] }
     requires no_strings { consts.old.strings ≡ [] }
-    ensures { OnOk result (Adds (files_of emission.now) (all_features emission.now.program.now) (classes_code emission.now.program.now (files_of emission.now)) consts.old consts.new (lines_of lines.old.items) (lines_of lines.new.items)) }
+    ensures { OnOk result (Adds (files_of emission.now) (all_features emission.now.program.now) (λ g. all_routine_lines ++ classes_code emission.now.program.now (files_of emission.now) g) consts.old consts.new (lines_of lines.old.items) (lines_of lines.new.items)) }
 {
-    for number in 0..emission.table().count() {
-        add_class(emission, ClassId(number), consts, lines)?;
+    for section in sections {
+        emission.add_section(section, consts, lines)?;
     }
     Ok(())
 }
 
-/// Adds the initializer and the methods of a class. `Err` comes only for want of memory.
-fn add_class(
-    emission: &Emission<'_>,
-    c: ClassId,
-    consts: &mut Consts,
-    lines: &mut Vec<Line>,
-) -> Result<(), AllocError>
-    requires sound { IsSound emission.now }
-    requires class { c.0 < length emission.now.program.now }
-    requires few_integers { length consts.old.integers < 2 ^ 29 }
-    requires few_strings { length consts.old.strings < 2 ^ 29 }
-    ensures { OnOk result (Adds (files_of emission.now) (class_features emission.now.program.now c) (λ g. class_code emission.now.program.now (files_of emission.now) g c) consts.old consts.new (lines_of lines.old.items) (lines_of lines.new.items)) }
-{
-    add_initializer(emission, c, consts, lines)?;
-    emission.add_features(c, Part::Methods, consts, lines)
-}
-
 /// Adds the data: the layout, the constants, and the begin of the heap. `Err` comes only for want of memory.
-fn add_data(
+pub(crate) fn add_data(
     emission: &Emission<'_>,
     consts: &Consts,
     lines: &mut Vec<Line>,
@@ -101,6 +88,7 @@ fn add_data(
 fn add_heap(alloc: Global, lines: &mut Vec<Line>) -> Result<(), AllocError>
     ensures { OnOk result (lines_of lines.new.items ≡ lines_of lines.old.items ++ heap_lines) }
 {
-    label_line(alloc, lines, b"heap_start")?;
-    word_line(alloc, lines, vec![in alloc; number(0)]?)
+    lines.push(label_line(alloc, b"heap_start")?)?;
+    lines.push(word_line(alloc, vec![in alloc; number(0)]?)?)?;
+    Ok(())
 }

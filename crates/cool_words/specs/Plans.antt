@@ -15,6 +15,7 @@ use Rattle.cool_words.specs.declared.command_word.CommandWord.TheVariants.{Check
 use Rattle.cool_words.specs.declared.plan.RunLimits.{RunLimits}
 use Rattle.cool_words.specs.declared.plan.Plan.{Plan}
 use Rattle.cool_words.specs.declared.plan.Plan.TheVariants as plan
+use Rattle.cool_words.specs.declared.names.TheConstants.{MOST_NAME_BYTES}
 use Rattle.cool_words.specs.declared.words_error.WordsError.{WordsError}
 use Rattle.cool_words.specs.declared.words_error.WordsError.TheVariants.{Usage}
 
@@ -49,7 +50,7 @@ asked_by plan.Session = session
 
 -- a file's name has at most 4,096 bytes, none of them 0
 abbrev pub is_file_name : Text → Bool
-is_file_name name = nat_le (length name) 4096 && not (list_any (λ b. b == 0) name)
+is_file_name name = nat_le (length name) MOST_NAME_BYTES && not (list_any (λ b. b == 0) name)
 
 -- worked examples
 longest_name : is_file_name (repeat 4096 (codes "a")) ≡ true

@@ -7,7 +7,7 @@ ghost use Rattle.cool_words.specs.Plans.{are_file_names, is_file_name, words_of}
 use std::alloc::{AllocError, Global};
 
 /// The most bytes of a file's name.
-const MOST_NAME_BYTES: usize = 4_096;
+pub const MOST_NAME_BYTES: usize = 4_096;
 
 /// Whether they are the names of files, one or more.
 pub(crate) fn are_file_names(names: &[&str]) -> bool

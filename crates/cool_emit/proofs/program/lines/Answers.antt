@@ -16,32 +16,40 @@ pub returns-clause-lines : goal.returns-clause-lines
 returns-clause-lines c =
     let p = c.args.p.now in
     let files = map string_bytes c.args.names.now in
-    let constants = c.add_classes.new.consts in
-    let classes = c.in_ok-add_classes.ensures in
+    let constants = c.add_text.new.consts in
+    let classes = c.in_ok-add_text.ensures in
     let all : constants ≡ program_constants p files =
     classes.constants
     ∙ (λ i. record {
       integers = with_integers (c.new-consts.ensures.integers i) (integers_asked (all_features p));
       strings = with_strings (c.new-consts.ensures.strings i) (strings_asked files (all_features p));
     }) in
-    let text : lines_of c.routines.new.lines.items ≡ all_routine_lines =
-    c.in_ok-routines.ensures ∙ ap (λ ls. lines_of ls ++ all_routine_lines) c.new-lines.ensures.items in
     c.in_ok-add_data.ensures
     ∙ (ap (λ (ls : List Line). ls ++ directive_line ToData ∷ data_lines p constants)
-    (classes.lines constants (extends_same constants) ∙ ap (λ (ls : List Line). ls ++ classes_code p files constants) text)
+    (classes.lines constants (extends_same constants) ∙ ap (λ ls. lines_of ls ++ (all_routine_lines ++ classes_code p files constants)) c.new-lines.ensures.items)
     ∙ ap (λ (t : Constants). (all_routine_lines ++ classes_code p files t) ++ directive_line ToData ∷ data_lines p t) all)
 
 pub returns-in_err-layout-clause-sound : goal.returns-in_err-layout-clause-sound
-returns-in_err-layout-clause-sound c = names_sound c.args.p.now c.table.result.now c.args.names.now c.table.ensures.table c.requires.fits c.requires.names c.table.ensures.typed
+returns-in_err-layout-clause-sound c =
+    names_sound c.args.p.now c.table.result.now c.args.names.now c.table.ensures.table c.requires.fits
+    c.requires.names c.table.ensures.typed
 
-pub returns-in_err-routines-clause-sound : goal.returns-in_err-routines-clause-sound
-returns-in_err-routines-clause-sound c = names_sound c.args.p.now c.table.result.now c.args.names.now c.table.ensures.table c.requires.fits c.requires.names c.table.ensures.typed
+pub returns-in_err-sections-clause-sound : goal.returns-in_err-sections-clause-sound
+returns-in_err-sections-clause-sound c =
+    names_sound c.args.p.now c.table.result.now c.args.names.now c.table.ensures.table c.requires.fits
+    c.requires.names c.table.ensures.typed
 
-pub returns-in_err-add_classes-clause-sound : goal.returns-in_err-add_classes-clause-sound
-returns-in_err-add_classes-clause-sound c = names_sound c.args.p.now c.table.result.now c.args.names.now c.table.ensures.table c.requires.fits c.requires.names c.table.ensures.typed
+pub returns-in_err-add_text-clause-sound : goal.returns-in_err-add_text-clause-sound
+returns-in_err-add_text-clause-sound c =
+    names_sound c.args.p.now c.table.result.now c.args.names.now c.table.ensures.table c.requires.fits
+    c.requires.names c.table.ensures.typed
 
 pub returns-in_err-add_data-clause-sound : goal.returns-in_err-add_data-clause-sound
-returns-in_err-add_data-clause-sound c = names_sound c.args.p.now c.table.result.now c.args.names.now c.table.ensures.table c.requires.fits c.requires.names c.table.ensures.typed
+returns-in_err-add_data-clause-sound c =
+    names_sound c.args.p.now c.table.result.now c.args.names.now c.table.ensures.table c.requires.fits
+    c.requires.names c.table.ensures.typed
 
 pub returns-clause-sound : goal.returns-clause-sound
-returns-clause-sound c = names_sound c.args.p.now c.table.result.now c.args.names.now c.table.ensures.table c.requires.fits c.requires.names c.table.ensures.typed
+returns-clause-sound c =
+    names_sound c.args.p.now c.table.result.now c.args.names.now c.table.ensures.table c.requires.fits
+    c.requires.names c.table.ensures.typed

@@ -48,12 +48,14 @@ loop-index-preserved c =
     let next : Done (take i fs ++ x ∷ []) c.if-has.consts (lines_of c.if-has.lines.items) =
     elim c.if-has.branch [
       | then-has+in_ok-add_feature w ↦
-          let added = one_belongs p files c.args.c c.args.part (take i fs) i x old c.loop-index.consts w.add_feature.new.consts front (lines_of c.loop-index.lines.items) (lines_of w.add_feature.new.lines.items)
+          let added = one_belongs p files c.args.c c.args.part (take i fs) i x old c.loop-index.consts
+          w.add_feature.new.consts front (lines_of c.loop-index.lines.items) (lines_of w.add_feature.new.lines.items)
           (sym c.has.ensures ∙ w.if-has.true) long c.loop-index.invariant (w.in_ok-add_feature.ensures x here) in
           subst (λ (t : Constants). Done (take i fs ++ x ∷ []) t (lines_of c.if-has.lines.items)) (sym w.consts-is)
           (subst (λ ls. Done (take i fs ++ x ∷ []) w.add_feature.new.consts (lines_of ls.items)) (sym w.lines-is) added)
       | else-has w ↦
-          let passed = one_passed p files c.args.c c.args.part (take i fs) i x old c.loop-index.consts front (lines_of c.loop-index.lines.items) (sym c.has.ensures ∙ w.if-has.false) long c.loop-index.invariant in
+          let passed = one_passed p files c.args.c c.args.part (take i fs) i x old c.loop-index.consts front
+          (lines_of c.loop-index.lines.items) (sym c.has.ensures ∙ w.if-has.false) long c.loop-index.invariant in
           subst (λ (t : Constants). Done (take i fs ++ x ∷ []) t (lines_of c.if-has.lines.items)) (sym w.consts-is)
           (subst (λ ls. Done (take i fs ++ x ∷ []) c.loop-index.consts (lines_of ls.items)) (sym w.lines-is) passed)
     ] in
@@ -68,5 +70,9 @@ returns c =
     let i = c.loop-index.index in
     let same = c.features-features.ensures.features ∙ ap (λ (q : List Class). features_of q c.args.c) c.table.ensures in
     let all : take i fs ≡ fs = whole_front fs i (let no = c.loop-index-test.false in let long = ap length same in omega arith) in
-    let added = subst (λ (gs : List Feature). Adds files (part_from c.args.part 0 gs) (code_in p files c.args.c (part_from c.args.part 0 gs)) c.args.consts.now c.loop-index.consts (lines_of c.args.lines.now.items) (lines_of c.loop-index.lines.items)) all c.loop-index.invariant in
-    subst (λ (ps : List Placed). Adds files ps (code_in p files c.args.c ps) c.args.consts.now c.loop-index.consts (lines_of c.args.lines.now.items) (lines_of c.loop-index.lines.items)) (whole_part c.args.part p c.args.c) added
+    let front = lines_of c.args.lines.now.items in
+    let behind = lines_of c.loop-index.lines.items in
+    let Done : List Placed → Type 0 =
+    λ ps. Adds files ps (code_in p files c.args.c ps) c.args.consts.now c.loop-index.consts front behind in
+    let added = subst (λ (gs : List Feature). Done (part_from c.args.part 0 gs)) all c.loop-index.invariant in
+    subst Done (whole_part c.args.part p c.args.c) added

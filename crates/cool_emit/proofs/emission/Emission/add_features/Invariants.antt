@@ -10,5 +10,6 @@ use Rattle.cool_emit.proofs.emission.Emission.add_features.Given as goal
 abbrev pub invariant-loop-index : goal.invariant-loop-index
 invariant-loop-index l =
     Adds (files_of l.fn.self) (part_from l.part 0 (take l.index (features_of l.fn.self.program.now l.c)))
-    (λ g. flat_map (placed_code l.fn.self.program.now (files_of l.fn.self) g l.c) (part_from l.part 0 (take l.index (features_of l.fn.self.program.now l.c))))
+    (λ g. flat_map (placed_code l.fn.self.program.now (files_of l.fn.self) g l.c)
+    (part_from l.part 0 (take l.index (features_of l.fn.self.program.now l.c))))
     l.fn.consts l.consts (lines_of l.fn.lines.items) (lines_of l.lines.items)
