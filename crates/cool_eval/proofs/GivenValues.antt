@@ -10,10 +10,10 @@ use Rattle.cool_meaning.specs.Evaluation.{exact, divide}
 use Rattle.cool_eval.specs.declared.value.Value.{Value}
 use Rattle.cool_eval.specs.declared.ending.Ending.{Ending}
 use Rattle.cool_eval.specs.declared.ending.Ending.TheVariants as ending
-use Rattle.cool_eval.specs.Configurations.{Does, Gives}
+use Rattle.cool_eval.specs.Configurations.{IsResultAt, IsResultOf}
 
 -- at one state, and at all
-does_same : (r : Result Value Ending) (d d' : Computation values.Value) (s : State) (n : ℕ) → (d' s n).outcome ≡ (d s n).outcome → Does r d s n → Does r d' s n
+does_same : (r : Result Value Ending) (d d' : Computation values.Value) (s : State) (n : ℕ) → (d' s n).outcome ≡ (d s n).outcome → IsResultAt r d s n → IsResultAt r d' s n
 does_same (Ok v) d d' s n is does = is ∙ does
 does_same (Err (ending.Error e)) d d' s n is does = is ∙ does
 does_same (Err ending.Stuck) d d' s n is does = is ∙ does
@@ -22,7 +22,7 @@ does_same (Err ending.StepLimit) d d' s n is does = does
 does_same (Err ending.ReadFault) d d' s n is does = does
 does_same (Err ending.WriteFault) d d' s n is does = does
 
-pub gives_same : (r : Result Value Ending) (d d' : Computation values.Value) → ((s : State) (n : ℕ) → (d' s n).outcome ≡ (d s n).outcome) → Gives r d → Gives r d'
+pub gives_same : (r : Result Value Ending) (d d' : Computation values.Value) → ((s : State) (n : ℕ) → (d' s n).outcome ≡ (d s n).outcome) → IsResultOf r d → IsResultOf r d'
 gives_same r d d' same gives = λ s n. does_same r d d' s n (same s n) (gives s n)
 
 -- where the divisor is not 0

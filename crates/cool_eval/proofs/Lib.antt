@@ -14,6 +14,9 @@ pub mod MethodsCalled
 pub mod NearestBranches
 pub mod NewLocations
 pub mod NewObjects
+pub mod NoStepLeft
+pub mod PartsOfRuns
+pub mod PropertiesOfMeanings
 pub mod QuietFrames
 pub mod QuietSteps
 pub mod RunBegins
@@ -21,6 +24,7 @@ pub mod RunEnds
 pub mod RunSoFar
 pub mod RunsMean
 pub mod Stacks
+pub mod SteadySteps
 pub mod StepsMean
 pub mod StepsOnDevices
 pub mod StoredValues

@@ -1,21 +1,21 @@
 -- What methods of the basic classes do to a source and a sink, from what they do to one of them or to none.
-use Rattle.std.proofs.Common.{◌≡◌, ℕ, ◌<◌, Bool, List, [], ◌++◌, refl, sym, ap, ◌∙◌, arith, append-nil}
-use Rattle.std.specs.Prelude.{Option, Result, Ok, Err, IfErr}
+use Rattle.std.proofs.Common.{◌≡◌, ℕ, ◌<◌, Bool, List, [], ◌++◌, inl, inr, refl, sym, ap, ◌∙◌, subst, arith}
+use Rattle.std.specs.Prelude.{Option, Result, Ok, Err, IfErr, IfOk}
 use Rattle.cool_ports.specs.Answers.{Past}
 use Rattle.cool_ports.specs.Counts.{Rose}
 use Rattle.cool_ports.specs.SinkBytes.{appended, GotPrefix}
-use Rattle.cool_ports.proofs.GettingBytes.{appended-nil, appended-appended}
+use Rattle.cool_ports.proofs.GettingBytes.{appended-appended}
 use Rattle.cool_ports.proofs.InputsInParts.{leaves_same}
 use Rattle.cool_meaning.specs.Values as values
-use Rattle.cool_meaning.specs.BasicMethods.{line_of}
+use Rattle.cool_meaning.specs.BasicMethods.{Line, line_of}
 use Rattle.cool_meaning.specs.Meters.{Computation, Outcome, Val}
 use Rattle.cool_eval.specs.declared.value.Value.{Value}
 use Rattle.cool_eval.specs.declared.ending.Ending.{Ending}
 use Rattle.cool_eval.specs.declared.ending.Ending.TheVariants as ending
 use Rattle.cool_eval.specs.declared.store.Store.{Store}
 use Rattle.cool_eval.specs.Counts.{Counted, IsInner}
-use Rattle.cool_eval.specs.Configurations.{Gives}
-use Rattle.cool_eval.specs.Devices.{Acts, OnDevices, CutsValue, state_at}
+use Rattle.cool_eval.specs.Configurations.{IsResultOf}
+use Rattle.cool_eval.specs.Devices.{Acts, OnDevices, state_at}
 use Rattle.cool_eval.specs.Methods.{Makes, TookLine, ActsOnSink}
 use Rattle.cool_eval.specs.Values.{value_of}
 
@@ -34,7 +34,8 @@ counted_inner (Err ending.ReadFault) source sink inner = absurd inner
 counted_inner (Err ending.WriteFault) source sink inner = absurd inner
 
 -- only the count of the sink, or of the source, rose
-pub counted_sink : (r : Result Value Ending) (source sink sink' : ℕ) → Counted r 0 0 sink sink' → Counted r source source sink sink'
+pub counted_sink : (r : Result Value Ending) (source sink sink' : ℕ) → Counted r 0 0 sink sink'
+    → Counted r source source sink sink'
 counted_sink (Ok v) source sink sink' c = (refl, c.1)
 counted_sink (Err (ending.Error e)) source sink sink' c = (refl, c.1)
 counted_sink (Err ending.StepLimit) source sink sink' c = (refl, c.1)
@@ -43,7 +44,8 @@ counted_sink (Err ending.Stuck) source sink sink' c = (refl, c.1)
 counted_sink (Err ending.ReadFault) source sink sink' c = absurd (none_rose 0 c.0)
 counted_sink (Err ending.WriteFault) source sink sink' c = (refl, c.1)
 
-pub counted_source : (r : Result Value Ending) (source source' sink : ℕ) → Counted r source source' 0 0 → Counted r source source' sink sink
+pub counted_source : (r : Result Value Ending) (source source' sink : ℕ) → Counted r source source' 0 0
+    → Counted r source source' sink sink
 counted_source (Ok v) source source' sink c = (c.0, refl)
 counted_source (Err (ending.Error e)) source source' sink c = (c.0, refl)
 counted_source (Err ending.StepLimit) source source' sink c = (c.0, refl)
@@ -53,21 +55,27 @@ counted_source (Err ending.ReadFault) source source' sink c = (c.0, refl)
 counted_source (Err ending.WriteFault) source source' sink c = absurd (none_rose 0 c.1)
 
 -- what leaves the input acts on the source and the sink alike
-acts_made : (r : Result Value Ending) (store : Store) (first : Option (List ℕ)) (output input : List ℕ) (held : Option (List ℕ)) (n : ℕ) (o : Outcome values.Value) → held ≡ appended first output → Makes r store input output n o → Acts r store first output input held n o
+acts_made : (r : Result Value Ending) (store : Store) (first : Option (List ℕ)) (output input : List ℕ)
+    (held : Option (List ℕ)) (n : ℕ) (o : Outcome values.Value) → held ≡ appended first output
+    → Makes r store input output n o → Acts r store first output input input held n o
 acts_made (Ok v) store first output input held n o is made = (output, is, made)
 acts_made (Err (ending.Error e)) store first output input held n o is made = (output, is, made)
 acts_made (Err ending.Stuck) store first output input held n o is made = made
-acts_made (Err ending.Memory) store first output input held n o is made = is
+acts_made (Err ending.Memory) store first output input held n o is made = (is, inl refl)
 acts_made (Err ending.StepLimit) store first output input held n o is made = absurd made
 acts_made (Err ending.ReadFault) store first output input held n o is made = absurd made
 acts_made (Err ending.WriteFault) store first output input held n o is made = absurd made
 
-pub acts_by_making : (r : Result Value Ending) (old new : Store) (ended : Bool) (past : Past) (held : Option (List ℕ)) (d : Computation values.Value) → ((input output : List ℕ) (n : ℕ) → Makes r new input output n (d (state_at old input output) n).outcome) → OnDevices ended past past held (λ first output input rest. (n : ℕ) → Acts r new first output rest held n (d (state_at old input output) n).outcome)
+pub acts_by_making : (r : Result Value Ending) (old new : Store) (ended : Bool) (past : Past) (held : Option (List ℕ))
+    (d : Computation values.Value)
+    → ((input output : List ℕ) (n : ℕ) → Makes r new input output n (d (state_at old input output) n).outcome)
+    → OnDevices ended past past held (λ first output input rest. (n : ℕ) → Acts r new first output input rest held n (d (state_at old input output) n).outcome)
 acts_by_making r old new ended past held d makes = λ first output input rest is leaves at_end n.
     rw (leaves_same past input rest leaves) (acts_made r new first output input held n (d (state_at old input output) n).outcome is (makes input output n))
 
 -- what leaves the store too makes a value
-makes_given : (r : Result Value Ending) (store : Store) (d : Computation values.Value) (input output : List ℕ) (n : ℕ) → Gives r d → Makes r store input output n (d (state_at store input output) n).outcome
+makes_given : (r : Result Value Ending) (store : Store) (d : Computation values.Value) (input output : List ℕ) (n : ℕ)
+    → IsResultOf r d → Makes r store input output n (d (state_at store input output) n).outcome
 makes_given (Ok v) store d input output n gives = gives (state_at store input output) n
 makes_given (Err (ending.Error e)) store d input output n gives = gives (state_at store input output) n
 makes_given (Err ending.Stuck) store d input output n gives = gives (state_at store input output) n
@@ -76,38 +84,63 @@ makes_given (Err ending.StepLimit) store d input output n gives = gives (state_a
 makes_given (Err ending.ReadFault) store d input output n gives = gives (state_at store input output) n
 makes_given (Err ending.WriteFault) store d input output n gives = gives (state_at store input output) n
 
-pub acts_by_giving : (r : Result Value Ending) (store : Store) (ended : Bool) (past : Past) (held : Option (List ℕ)) (d : Computation values.Value) → Gives r d → OnDevices ended past past held (λ first output input rest. (n : ℕ) → Acts r store first output rest held n (d (state_at store input output) n).outcome)
-acts_by_giving r store ended past held d gives = acts_by_making r store store ended past held d (λ input output n. makes_given r store d input output n gives)
+pub acts_by_giving : (r : Result Value Ending) (store : Store) (ended : Bool) (past : Past) (held : Option (List ℕ))
+    (d : Computation values.Value) → IsResultOf r d
+    → OnDevices ended past past held (λ first output input rest. (n : ℕ) → Acts r store first output input rest held n (d (state_at store input output) n).outcome)
+acts_by_giving r store ended past held d gives =
+    acts_by_making r store store ended past held d (λ input output n. makes_given r store d input output n gives)
 
 -- what leaves the source acts on both
-pub acts_on_sink : (r : Result Value Ending) (store : Store) (ended : Bool) (past : Past) (held held' : Option (List ℕ)) (d : Computation values.Value) → ActsOnSink r held held' d → OnDevices ended past past held (λ first output input rest. (n : ℕ) → Acts r store first output rest held' n (d (state_at store input output) n).outcome)
-acts_on_sink r store ended past held held' d acts = λ first output input rest is leaves at_end n. rw (leaves_same past input rest leaves) (acts store first output input n is)
+pub acts_on_sink : (r : Result Value Ending) (store : Store) (ended : Bool) (past : Past) (held held' : Option (List ℕ))
+    (d : Computation values.Value) → ActsOnSink r held held' d
+    → OnDevices ended past past held (λ first output input rest. (n : ℕ) → Acts r store first output input rest held' n (d (state_at store input output) n).outcome)
+acts_on_sink r store ended past held held' d acts =
+    λ first output input rest is leaves at_end n. rw (leaves_same past input rest leaves) (acts store first output input n is)
 
 -- all bytes were put
-pub acts_put : (v : Value) (store : Store) (first held held' : Option (List ℕ)) (output input bytes : List ℕ) (n : ℕ) (o : Outcome values.Value) → held ≡ appended first output → held' ≡ appended held bytes → o ≡ Val (value_of v) (state_at store input (output ++ bytes)) n → Acts (Ok v) store first output input held' n o
-acts_put v store first held held' output input bytes n o before put is = (output ++ bytes, put ∙ ap (λ h. appended h bytes) before ∙ appended-appended first output bytes, is)
+pub acts_put : (v : Value) (store : Store) (first held held' : Option (List ℕ)) (output input bytes : List ℕ) (n : ℕ)
+    (o : Outcome values.Value) → held ≡ appended first output → held' ≡ appended held bytes
+    → o ≡ Val (value_of v) (state_at store input (output ++ bytes)) n → Acts (Ok v) store first output input input held' n o
+acts_put v store first held held' output input bytes n o before put is =
+    (output ++ bytes, put ∙ ap (λ h. appended h bytes) before ∙ appended-appended first output bytes, is)
 
 -- some of the bytes were put
-pub cuts_put : (w : values.Value) (store : Store) (first held held' : Option (List ℕ)) (output input bytes : List ℕ) (n : ℕ) (o : Outcome values.Value) → held ≡ appended first output → GotPrefix held bytes held' → o ≡ Val w (state_at store input (output ++ bytes)) n → CutsValue first output input held' o
-cuts_put w store first held held' output input bytes n o before got is = record {
-  value = w;
-  state = state_at store input (output ++ bytes);
-  left = n;
-  is = is;
-  cut = record { printed = bytes; output_is = refl; got = rw before at got; kept = []; rest_is = refl };
-}
+pub cuts_put : (w : values.Value) (store : Store) (first held held' : Option (List ℕ)) (output input bytes : List ℕ) (n : ℕ)
+    (o : Outcome values.Value) → held ≡ appended first output → GotPrefix held bytes held'
+    → o ≡ Val w (state_at store input (output ++ bytes)) n
+    → Acts (Err ending.WriteFault) store first output input input held' n o
+cuts_put w store first held held' output input bytes n o before got is = (
+  refl,
+  record { value = w; state = state_at store input (output ++ bytes); is = is; there = (bytes, refl, rw before at got) },
+)
 
 -- no line was taken
-pub acts_untaken : (e : Ending) (w : values.Value) (store : Store) (first held : Option (List ℕ)) (output input rest : List ℕ) (n : ℕ) (o : Outcome values.Value) → held ≡ appended first output → TookLine {A = Unit {0}} (Err e) input rest → o ≡ Val w (state_at store (line_of input).rest output) n → Acts (Err e) store first output rest held n o
-acts_untaken ending.ReadFault w store first held output input rest n o before (kept, left) is = record {
-  value = w;
-  state = state_at store (line_of input).rest output;
-  left = n;
-  is = is;
-  cut = record { printed = []; output_is = sym (append-nil output); got = ([], record { front = []; cut = refl; got = before ∙ sym (appended-nil (appended first output)) }); kept = kept; rest_is = left };
-}
-acts_untaken ending.Memory w store first held output input rest n o before took is = before
+pub acts_untaken : (e : Ending) (w : values.Value) (store : Store) (first held : Option (List ℕ)) (output input rest : List ℕ) (n : ℕ) (o : Outcome values.Value) → held ≡ appended first output → TookLine {A = Unit {0}} (Err e) input rest → o ≡ Val w (state_at store (line_of input).rest output) n
+    → Acts (Err e) store first output input rest held n o
+acts_untaken ending.ReadFault w store first held output input rest n o before left is =
+    (before, record { value = w; state = state_at store (line_of input).rest output; is = is; there = left })
+acts_untaken ending.Memory w store first held output input rest n o before left is =
+    (before, inr (record { value = w; state = state_at store (line_of input).rest output; is = is; there = left }))
 acts_untaken (ending.Error e) w store first held output input rest n o before took is = absurd took
 acts_untaken ending.Stuck w store first held output input rest n o before took is = absurd took
 acts_untaken ending.StepLimit w store first held output input rest n o before took is = absurd took
 acts_untaken ending.WriteFault w store first held output input rest n o before took is = absurd took
+
+-- a line was taken, and there was no memory for its string
+acts_unmade : (line rest input output : List ℕ) (w : values.Value) (store : Store) (first held : Option (List ℕ)) (n : ℕ) (o : Outcome values.Value) → held ≡ appended first output → line_of input ≡ record { bytes = line; rest = rest } → o ≡ Val w (state_at store (line_of input).rest output) n
+    → Acts (Err ending.Memory) store first output input rest held n o
+acts_unmade line rest input output w store first held n o before took is =
+    (before, inr (record { value = w; state = state_at store (line_of input).rest output; is = is; there = ([], sym (ap (λ (l : Line). l.rest) took)) }))
+
+-- a line was taken, and its string made where there was memory
+pub acts_string : (r : Result Value Ending) (line rest input output : List ℕ) (store : Store) (first held : Option (List ℕ))
+    (n : ℕ) (o : Outcome values.Value) → IfOk r (λ v. value_of v ≡ values.Str line) → IfErr r (λ e. e ≡ ending.Memory)
+    → held ≡ appended first output → line_of input ≡ record { bytes = line; rest = rest } → o ≡ Val (values.Str (line_of input).bytes) (state_at store (line_of input).rest output) n → Acts r store first output input rest held n o
+acts_string (Ok v) line rest input output store first held n o made memory before took is = (
+  output,
+  before,
+  is
+      ∙ (ap (λ (l : Line). Val (values.Str l.bytes) (state_at store l.rest output) n) took ∙ ap (λ (w : values.Value). Val w (state_at store rest output) n) (sym made)),
+)
+acts_string (Err e) line rest input output store first held n o made memory before took is =
+    subst (λ (x : Ending). Acts (Err x) store first output input rest held n o) (sym memory) (acts_unmade line rest input output (values.Str (line_of input).bytes) store first held n o before took is)

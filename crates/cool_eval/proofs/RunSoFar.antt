@@ -1,13 +1,13 @@
--- What holds along a run, and how it ends: each configuration means what the whole program comes to.
-use Rattle.std.proofs.Common.{◌≡◌, ℕ, ◌≤◌, List, [], ◌∷◌, ◌++◌, Option, Some, None, Ok, Err, ap, sym, ◌∙◌, refl, subst, arith, append_assoc, append-nil}
-use Rattle.std.specs.Prelude.{Bool, true, false, codes}
+-- What holds along a run, and how it ends: each configuration means what the whole program comes to, with any number of steps left.
+use Rattle.std.proofs.Common.{◌≡◌, ℕ, suc, ◌+◌, ◌<◌, List, [], ◌∷◌, ◌++◌, Option, Some, None, Ok, Err, inl, inr, ap, sym, ◌∙◌, refl, subst, arith, append_assoc, append-nil}
+use Rattle.std.specs.Prelude.{◌⊎◌, Bool, true, false, codes}
+use Rattle.std.proofs.lemmas.List.{append_cancel_left}
 use Rattle.cool_ports.specs.Answers.{Past, Leaves}
 use Rattle.cool_ports.specs.Taking.{EndsOnce, Took}
 use Rattle.cool_ports.specs.SinkBytes.{appended, GotPrefix}
 use Rattle.cool_syntax.specs.Bare.{nowhere}
 use Rattle.cool_syntax.specs.Tree.{New}
 use Rattle.cool_classes.specs.Chains.{Class}
-use Rattle.cool_rules.specs.Rules.{class_named}
 use Rattle.cool_meaning.specs.Values as values
 use Rattle.cool_meaning.specs.Values.{State, start}
 use Rattle.cool_meaning.specs.Meters.{Outcome, Val, Stop, On, Stuck}
@@ -18,10 +18,14 @@ use Rattle.cool_eval.specs.declared.ending.Ending.TheVariants as ending
 use Rattle.cool_eval.specs.declared.frame.Focus.{Focus}
 use Rattle.cool_eval.specs.declared.machine.Machine.{Machine}
 use Rattle.cool_eval.specs.Configurations.{focus_of, frames_of, state_of, error_of}
-use Rattle.cool_eval.specs.Devices.{IsCut, CutsStep, Reaches}
-use Rattle.cool_eval.specs.Machine.{Begin, Receiver, Next, Continue, Halt, begun, begin_args, begin_new, step}
-use Rattle.cool_eval.specs.Running.{outcome_of, Steps, IsBefore, OfState, Ended}
+use Rattle.cool_eval.specs.Counts.{FaultsInCalls}
+use Rattle.cool_eval.specs.Devices.{HasLeft, HasPut, ToStep, Reaches}
+use Rattle.cool_eval.specs.Machine as machine
+use Rattle.cool_eval.specs.Machine.{Begin, Receiver, Next, Continue, Halt, begun, begin_args, step}
+use Rattle.cool_eval.specs.Running.{outcome_of, Steps, OfState, HasTaken, FailsReading, FailsWriting, RunsShort, Ended}
 use Rattle.cool_eval.proofs.StepsMean.{means, step_means}
+use Rattle.cool_eval.proofs.SteadySteps.{StopsBefore, step_kind, advance}
+use Rattle.cool_eval.proofs.NoStepLeft.{IsStill, means_still}
 use Rattle.cool_eval.proofs.Growth.{means_later}
 use Rattle.cool_eval.proofs.RunsMean.{start_means}
 
@@ -37,121 +41,276 @@ unfolding appended
 appended_twice None a b = refl
 appended_twice (Some bytes) a b = ap Some (append_assoc bytes a b)
 
--- all of a front is a prefix
-pub prefix_front : (first : Option (List ℕ)) (a b : List ℕ) → GotPrefix first (a ++ b) (appended first a)
-prefix_front first a b = (b, record { front = a; cut = refl; got = refl })
-
 -- a prefix of a front
-pub prefix_longer : (first : Option (List ℕ)) (a b : List ℕ) (held : Option (List ℕ)) → GotPrefix first a held → GotPrefix first (a ++ b) held
+pub prefix_longer : (first : Option (List ℕ)) (a b : List ℕ) (held : Option (List ℕ)) → GotPrefix first a held
+    → GotPrefix first (a ++ b) held
 prefix_longer first a b held (rest, h) =
     (rest ++ b, record { front = h.front; cut = ap (λ (xs : List ℕ). xs ++ b) h.cut ∙ append_assoc h.front rest b; got = h.got })
 
--- a prefix of what comes after a front
-pub prefix_later : (first : Option (List ℕ)) (a b : List ℕ) (held : Option (List ℕ)) → GotPrefix (appended first a) b held → GotPrefix first (a ++ b) held
-prefix_later first a b held (rest, h) = (
-  rest,
-  record {
-    front = a ++ h.front;
-    cut = ap (λ (xs : List ℕ). a ++ xs) h.cut ∙ sym (append_assoc a h.front rest);
-    got = h.got ∙ appended_twice first a h.front;
-  },
+-- What is left and what was put, of a state that comes later
+
+left_before : (rest : List ℕ) (s t : State) → HasLeft rest s → Later s t → HasLeft rest t
+left_before rest s t (kept, is) h =
+    (kept ++ h.taken, is ∙ (ap (λ (xs : List ℕ). kept ++ xs) h.input ∙ sym (append_assoc kept h.taken t.input)))
+
+left_within : (rest : List ℕ) (s : State) (o : Outcome values.Value) → HasLeft rest s → After s o → OfState o (HasLeft rest)
+left_within rest s (Val v t n) has h = left_before rest s t has h
+left_within rest s (Stop e t) has h = left_before rest s t has h
+left_within rest s (On t) has h = left_before rest s t has h
+left_within rest s Stuck has h = tt
+
+put_before : (first held : Option (List ℕ)) (output : List ℕ) (s t : State) → HasPut first output held s → Later s t
+    → HasPut first output held t
+put_before first held output s t (printed, is, got) h = (
+  printed ++ h.printed,
+  h.output ∙ (ap (λ (xs : List ℕ). xs ++ h.printed) is ∙ append_assoc output printed h.printed),
+  prefix_longer (appended first output) printed h.printed held got,
 )
 
--- What was put at a state, of a state that comes later
+put_within : (first held : Option (List ℕ)) (output : List ℕ) (s : State) (o : Outcome values.Value)
+    → HasPut first output held s → After s o → OfState o (HasPut first output held)
+put_within first held output s (Val v t n) has h = put_before first held output s t has h
+put_within first held output s (Stop e t) has h = put_before first held output s t has h
+put_within first held output s (On t) has h = put_before first held output s t has h
+put_within first held output s Stuck has h = tt
 
-cut_before : (first held : Option (List ℕ)) (output rest : List ℕ) (s t : State) → IsCut first output rest held s → Later s t → IsBefore t first rest held
-cut_before first held output rest s t c h =
-    let printed : t.output ≡ output ++ (c.printed ++ h.printed) = h.output ∙ (ap (λ (xs : List ℕ). xs ++ h.printed) c.output_is ∙ append_assoc output c.printed h.printed) in (
-      subst (λ (xs : List ℕ). GotPrefix first xs held) (sym printed) (prefix_later first output (c.printed ++ h.printed) held (prefix_longer (appended first output) c.printed h.printed held c.got)),
-      (c.kept ++ h.taken, c.rest_is ∙ (ap (λ (xs : List ℕ). c.kept ++ xs) h.input ∙ sym (append_assoc c.kept h.taken t.input))),
-    )
+-- an outcome with the console as it was
+taken_within : (taken rest : List ℕ) (s : State) (o : Outcome values.Value) → s.input ≡ taken ++ rest → IsStill s o
+    → OfState o (HasTaken s.output rest)
+taken_within taken rest s (Val v t n) is (same, none) = (same.output, (taken, same.input ∙ is))
+taken_within taken rest s (Stop e t) is same = (same.output, (taken, same.input ∙ is))
+taken_within taken rest s (On t) is same = (same.output, (taken, same.input ∙ is))
+taken_within taken rest s Stuck is same = tt
 
-cut_within : (first held : Option (List ℕ)) (output rest : List ℕ) (s : State) (o : Outcome values.Value) → IsCut first output rest held s → After s o → OfState o (λ t. IsBefore t first rest held)
-cut_within first held output rest s (Val v t n) c h = cut_before first held output rest s t c h
-cut_within first held output rest s (Stop e t) c h = cut_before first held output rest s t c h
-cut_within first held output rest s (On t) c h = cut_before first held output rest s t c h
-cut_within first held output rest s Stuck c h = tt
+-- Configurations along a run
 
-put_before : (first held : Option (List ℕ)) (s t : State) → held ≡ appended first s.output → Later s t → GotPrefix first t.output held
-put_before first held s t put h = (h.printed, record { front = s.output; cut = h.output; got = put })
+-- With so many steps spent the machine comes to this configuration, however many are left: with k left it means what the program comes to
+-- with so many more.
+abbrev pub IsReached : List Class → List ℕ → ℕ → machine.Focus → List machine.Frame → State → Type 0
+IsReached p input spent focus fs s = (k : ℕ) → means p (spent + k) (Continue focus fs s k) ≡ outcome_of p input (spent + k)
 
-put_within : (first held : Option (List ℕ)) (s : State) (o : Outcome values.Value) → held ≡ appended first s.output → After s o → OfState o (λ t. GotPrefix first t.output held)
-put_within first held s (Val v t n) put h = put_before first held s t put h
-put_within first held s (Stop e t) put h = put_before first held s t put h
-put_within first held s (On t) put h = put_before first held s t put h
-put_within first held s Stuck put h = tt
+-- The configuration after one step more, with so many steps left before it and after it.
+pub record NextReached (p : List Class) (input : List ℕ) (spent n n' : ℕ) (focus : machine.Focus) (fs : List machine.Frame)
+    (s : State) : Type 0 where
+  pub after : ℕ
+  pub whole : spent + n ≡ after + n'
+  pub reached : IsReached p input after focus fs s
+
+module _ (p : List Class) (input : List ℕ) (spent : ℕ) (focus : machine.Focus) (fs : List machine.Frame) (s : State) (reached : IsReached p input spent focus fs s) where
+  -- the step from there, with so many steps left
+  abbrev next : ℕ → Next
+  next n = step p focus fs s n
+
+  next_same : (n : ℕ) → means p (spent + n) (next n) ≡ outcome_of p input (spent + n)
+  next_same n = step_means p (spent + n) focus fs s n (omega arith) ∙ reached n
+
+  next_means : (n : ℕ) (next' : Next) → next n ≡ next' → means p (spent + n) next' ≡ outcome_of p input (spent + n)
+  next_means n next' is = ap (means p (spent + n)) (sym is) ∙ next_same n
+
+  pub next_reached : (n n' : ℕ) (focus' : machine.Focus) (fs' : List machine.Frame) (t : State)
+      → next n ≡ Continue focus' fs' t n' → NextReached p input spent n n' focus' fs' t
+  next_reached n n' focus' fs' t is = by (advance s next (step_kind p focus fs s) n n' focus' fs' t is)
+    where
+      later : StopsBefore s next n n' focus' fs' t → (k : ℕ)
+          → means p (suc spent + k) (Continue focus' fs' t k) ≡ outcome_of p input (suc spent + k)
+      later c k =
+          let level : spent + suc k ≡ suc spent + k = omega arith in
+          subst (λ (a : ℕ). means p a (Continue focus' fs' t k) ≡ outcome_of p input a) level (next_means (suc k) (Continue focus' fs' t k) (c.any k))
+
+      by : ((n' ≡ n) × ((k : ℕ) → next k ≡ Continue focus' fs' t k)) ⊎ StopsBefore s next n n' focus' fs' t
+          → NextReached p input spent n n' focus' fs' t
+      by (inl (same, any)) =
+          record { after = spent; whole = omega (arith, same); reached = λ k. next_means k (Continue focus' fs' t k) (any k) }
+      by (inr c) = record { after = suc spent; whole = omega (arith, c.spent); reached = later c }
+
+  -- the step was spent
+  call_stops : (n n' : ℕ) (focus' : machine.Focus) (fs' : List machine.Frame) (t : State) → next n ≡ Continue focus' fs' t n'
+      → n' < n → StopsBefore s next n n' focus' fs' t
+  call_stops n n' focus' fs' t is less = by (advance s next (step_kind p focus fs s) n n' focus' fs' t is)
+    where
+      by : ((n' ≡ n) × ((k : ℕ) → next k ≡ Continue focus' fs' t k)) ⊎ StopsBefore s next n n' focus' fs' t
+          → StopsBefore s next n n' focus' fs' t
+      by (inl (same, any)) = absurd (omega (arith, same, less))
+      by (inr c) = c
+
+  none_spent : spent + 0 ≡ spent
+  none_spent = omega arith
+
+  -- with no step left it stops there
+  stops_there : (n n' : ℕ) (focus' : machine.Focus) (fs' : List machine.Frame) (t : State)
+      → StopsBefore s next n n' focus' fs' t → outcome_of p input spent ≡ On s
+  stops_there n n' focus' fs' t c = ap (outcome_of p input) (sym none_spent) ∙ sym (next_means 0 (Halt (On s)) c.none)
+
+  -- with one step left, it comes to what is later than the state after the step
+  after_one : (n n' : ℕ) (focus' : machine.Focus) (fs' : List machine.Frame) (t : State)
+      → StopsBefore s next n n' focus' fs' t → After t (outcome_of p input (spent + 1))
+  after_one n n' focus' fs' t c =
+      subst (λ (o : Outcome values.Value). After t o) (next_means 1 (Continue focus' fs' t 0) (c.any 0)) (means_later p (spent + 1) focus' fs' t 0)
+
+  module _ (steps n : ℕ) (whole : steps ≡ spent + n) (first held : Option (List ℕ)) (taken rest : List ℕ) (input_is : s.input ≡ taken ++ rest) where
+    -- what the program comes to with all steps
+    pub ended_with : (o : Outcome values.Value) → next n ≡ Halt o → outcome_of p input steps ≡ o
+    ended_with o is = ap (outcome_of p input) whole ∙ sym (next_means n (Halt o) is)
+
+    later_than : (focus' : machine.Focus) (fs' : List machine.Frame) (t : State) (n' : ℕ)
+        → means p (spent + n) (Continue focus' fs' t n') ≡ outcome_of p input (spent + n)
+        → After t (outcome_of p input steps)
+    later_than focus' fs' t n' is =
+        subst (λ (o : Outcome values.Value). After t o) (is ∙ ap (outcome_of p input) (sym whole)) (means_later p (spent + n) focus' fs' t n')
+
+    -- a read failed in the step
+    fails_reading : (n' : ℕ) → n' < n → held ≡ appended first s.output → ToStep n' (next n) (HasLeft rest)
+        → FailsReading (outcome_of p input) steps first rest held
+    fails_reading n' less put c =
+        let stop = call_stops n n' c.focus c.frames c.state c.is less in
+        record {
+          spent = spent;
+          fewer = omega (arith, whole, stop.spent);
+          state = s;
+          stops = stops_there n n' c.focus c.frames c.state stop;
+          put = put;
+          taken = taken;
+          left = input_is;
+          later =
+              left_within rest c.state (outcome_of p input (spent + 1)) c.there (after_one n n' c.focus c.frames c.state stop);
+        }
+
+    -- a write failed in the step
+    fails_writing : (n' : ℕ) → n' < n → rest ≡ s.input → ToStep n' (next n) (HasPut first s.output held)
+        → FailsWriting (outcome_of p input) steps first rest held
+    fails_writing n' less left c =
+        let stop = call_stops n n' c.focus c.frames c.state c.is less in
+        record {
+          spent = spent;
+          fewer = omega (arith, whole, stop.spent);
+          state = s;
+          stops = stops_there n n' c.focus c.frames c.state stop;
+          left = left;
+          later =
+              put_within first held s.output c.state (outcome_of p input (spent + 1)) c.there (after_one n n' c.focus c.frames c.state stop);
+        }
+
+    -- memory ran out
+    runs_short : held ≡ appended first s.output → OfState (outcome_of p input steps) (HasLeft rest)
+        → RunsShort (outcome_of p input) steps first rest held
+    runs_short put later =
+        let still : IsStill s (outcome_of p input spent) =
+        subst (λ (o : Outcome values.Value). IsStill s o) (reached 0 ∙ ap (outcome_of p input) none_spent) (means_still p (spent + 0) focus fs s) in
+        record {
+          spent = spent;
+          within = omega (arith, whole);
+          output = s.output;
+          put = put;
+          stands = taken_within taken rest s (outcome_of p input spent) input_is still;
+          later = later;
+        }
+
+    -- with nothing taken
+    pub short_here : held ≡ appended first s.output → rest ≡ s.input → RunsShort (outcome_of p input) steps first rest held
+    short_here put same =
+        runs_short put (left_within rest s (outcome_of p input steps) ([], same) (later_than focus fs s n (reached n)))
+
+    short_by : (n' : ℕ) → held ≡ appended first s.output → (rest ≡ s.input) ⊎ ToStep n' (next n) (HasLeft rest)
+        → RunsShort (outcome_of p input) steps first rest held
+    short_by n' put (inl same) = short_here put same
+    short_by n' put (inr c) =
+        runs_short put (left_within rest c.state (outcome_of p input steps) c.there (later_than c.focus c.frames c.state n' (next_means n (Continue c.focus c.frames c.state n') c.is)))
+
+    -- the step was the end
+    pub reached_end : (e : Ending) (m : Machine) → FaultsInCalls {A = Focus} (Err e) n m.left → Reaches p (Err e) m first s.output s.input rest held (next n) → Ended (outcome_of p input) steps first (Err e) rest held
+    reached_end (ending.Error e) m calls (now, put, is) =
+        (state_of m rest now, ended_with (Stop (error_of e) (state_of m rest now)) is, (put, refl))
+    reached_end ending.StepLimit m calls (now, put, is) =
+        (state_of m rest now, ended_with (On (state_of m rest now)) is, (put, refl))
+    reached_end ending.Stuck m calls is = ended_with Stuck is
+    reached_end ending.Memory m calls (put, more) = short_by m.left put more
+    reached_end ending.ReadFault m calls (put, c) = fails_reading m.left calls put c
+    reached_end ending.WriteFault m calls (left, c) = fails_writing m.left calls left c
 
 -- Along the run
 
--- A configuration that means what the program comes to on an input, with `rest` of it left, over a sink that held `first` at the start.
-pub record SoFar (p : List Class) (steps : ℕ) (first : Option (List ℕ)) (input : List ℕ) (f : Focus) (m : Machine) (rest : List ℕ) (held : Option (List ℕ)) : Type 0 where
+-- The configuration is reached, with `rest` of the input left, over a sink that held `first` at the start.
+pub record SoFar (p : List Class) (steps : ℕ) (first : Option (List ℕ)) (input : List ℕ) (f : Focus) (m : Machine)
+    (rest : List ℕ) (held : Option (List ℕ)) : Type 0 where
   pub now : List ℕ
   pub put : held ≡ appended first now
-  pub same : means p steps (Continue (focus_of p f) (frames_of p m) (state_of m rest now) m.left) ≡ outcome_of p input steps
+  pub spent : ℕ
+  pub whole : steps ≡ spent + m.left
+  pub reached : IsReached p input spent (focus_of p f) (frames_of p m) (state_of m rest now)
 
--- The last machine, the one at which a step was begun, and the step's answer.
-module _ (p : List Class) (steps : ℕ) (first : Option (List ℕ)) (input : List ℕ) (next : Next) (whole : means p steps next ≡ outcome_of p input steps) where
-  pub reached_on : (f : Focus) (m : Machine) (output rest : List ℕ) (held : Option (List ℕ)) → Reaches p (Ok f) m first output rest held next → SoFar p steps first input f m rest held
-  reached_on f m output rest held (now, put, is) = record { now = now; put = put; same = ap (means p steps) (sym is) ∙ whole }
+-- a step came to what is done next
+pub reached_on : (p : List Class) (steps spent n : ℕ) (first : Option (List ℕ)) (input : List ℕ) (focus : machine.Focus)
+    (fs : List machine.Frame) (s : State)
+    → IsReached p input spent focus fs s → steps ≡ spent + n → (f : Focus) (m : Machine) (output middle rest : List ℕ)
+    (held : Option (List ℕ)) → Reaches p (Ok f) m first output middle rest held (step p focus fs s n)
+    → SoFar p steps first input f m rest held
+reached_on p steps spent n first input focus fs s reached whole f m output middle rest held (now, put, is) =
+    let next = next_reached p input spent focus fs s reached n m.left (focus_of p f) (frames_of p m) (state_of m rest now) is in
+    record { now = now; put = put; spent = next.after; whole = whole ∙ next.whole; reached = next.reached }
 
-  ended_with : (o : Outcome values.Value) → next ≡ Halt o → outcome_of p input steps ≡ o
-  ended_with o is = sym whole ∙ ap (means p steps) is
-
-  -- where memory ran out, or a device failed, the state at which the step was begun or one on the way comes before that of the outcome
-  cut_ended : (output rest : List ℕ) (held : Option (List ℕ)) → CutsStep first output rest held next → OfState (outcome_of p input steps) (λ s. IsBefore s first rest held)
-  cut_ended output rest held c =
-      cut_within first held output rest c.state (outcome_of p input steps) c.cut
-      (subst (λ (o : Outcome values.Value). After c.state o) (ap (means p steps) (sym c.is) ∙ whole) (means_later p steps c.focus c.frames c.state c.left))
-
-  pub reached_end : (e : Ending) (m : Machine) (s : State) (rest : List ℕ) (held : Option (List ℕ)) → After s (outcome_of p input steps) → Reaches p (Err e) m first s.output rest held next
-      → Ended (outcome_of p input steps) first (Err e) rest held
-  reached_end (ending.Error e) m s rest held later (now, put, is) = (state_of m rest now, ended_with (Stop (error_of e) (state_of m rest now)) is, (put, refl))
-  reached_end ending.StepLimit m s rest held later (now, put, is) = (state_of m rest now, ended_with (On (state_of m rest now)) is, (put, refl))
-  reached_end ending.Stuck m s rest held later is = ended_with Stuck is
-  reached_end ending.Memory m s rest held later put = put_within first held s (outcome_of p input steps) put later
-  reached_end ending.ReadFault m s rest held later c = cut_ended s.output rest held c
-  reached_end ending.WriteFault m s rest held later c = cut_ended s.output rest held c
-
--- One step further
-
-module _ (p : List Class) (steps : ℕ) (first : Option (List ℕ)) (input middle : List ℕ) (f : Focus) (m : Machine) (held : Option (List ℕ)) (less : m.left ≤ steps) (h : SoFar p steps first input f m middle held) where
+module _ (p : List Class) (steps : ℕ) (first : Option (List ℕ)) (input middle : List ℕ) (f : Focus) (m : Machine) (held : Option (List ℕ)) (h : SoFar p steps first input f m middle held) where
   -- the step from here
   abbrev next_of : Next
   next_of = step p (focus_of p f) (frames_of p m) (state_of m middle h.now) m.left
 
-  step_whole : means p steps next_of ≡ outcome_of p input steps
-  step_whole = step_means p steps (focus_of p f) (frames_of p m) (state_of m middle h.now) m.left less ∙ h.same
+  pub goes_on : (f' : Focus) (m' : Machine) (rest : List ℕ) (held' : Option (List ℕ))
+      → Steps p (Ok (Some f')) m' first h.now middle rest held' next_of → SoFar p steps first input f' m' rest held'
+  goes_on f' m' rest held' r =
+      reached_on p steps h.spent m.left first input (focus_of p f) (frames_of p m) (state_of m middle h.now) h.reached h.whole f' m' h.now middle rest held' r
 
-  here_later : After (state_of m middle h.now) (outcome_of p input steps)
-  here_later = subst (λ (o : Outcome values.Value). After (state_of m middle h.now) o) h.same (means_later p steps (focus_of p f) (frames_of p m) (state_of m middle h.now) m.left)
+  pub ends_well : (m' : Machine) (rest : List ℕ) (held' : Option (List ℕ))
+      → Steps p (Ok None) m' first h.now middle rest held' next_of
+      → Ended (outcome_of p input) steps first (Ok tt) rest held'
+  ends_well m' rest held' (v, n, put, is) = (
+    v,
+    state_of m' rest h.now,
+    n,
+    ended_with p input h.spent (focus_of p f) (frames_of p m) (state_of m middle h.now) h.reached steps m.left h.whole first held' [] middle refl (Val v (state_of m' rest h.now) n) is,
+    (put, refl),
+  )
 
-  pub goes_on : (f' : Focus) (m' : Machine) (rest : List ℕ) (held' : Option (List ℕ)) → Steps p (Ok (Some f')) m' first h.now rest held' next_of → SoFar p steps first input f' m' rest held'
-  goes_on f' m' rest held' r = reached_on p steps first input next_of step_whole f' m' h.now rest held' r
-
-  pub ends_well : (m' : Machine) (rest : List ℕ) (held' : Option (List ℕ)) → Steps p (Ok None) m' first h.now rest held' next_of → Ended (outcome_of p input steps) first (Ok tt) rest held'
-  ends_well m' rest held' (v, n, put, is) =
-      (v, state_of m' rest h.now, n, ended_with p steps first input next_of step_whole (Val v (state_of m' rest h.now) n) is, (put, refl))
-
-  pub ends : (e : Ending) (m' : Machine) (rest : List ℕ) (held' : Option (List ℕ)) → Steps p (Err e) m' first h.now rest held' next_of → Ended (outcome_of p input steps) first (Err e) rest held'
-  ends e m' rest held' r = reached_end p steps first input next_of step_whole e m' (state_of m middle h.now) rest held' here_later r
+  pub ends : (e : Ending) (m' : Machine) (taken rest : List ℕ) (held' : Option (List ℕ)) → middle ≡ taken ++ rest → FaultsInCalls {A = Option Focus} (Err e) m.left m'.left
+      → Steps p (Err e) m' first h.now middle rest held' next_of → Ended (outcome_of p input) steps first (Err e) rest held'
+  ends e m' taken rest held' is calls r =
+      reached_end p input h.spent (focus_of p f) (frames_of p m) (state_of m middle h.now) h.reached steps m.left h.whole first held' taken rest is e m' calls r
 
   -- the loop has an end of its own
-  pub ends_here : Ended (outcome_of p input steps) first (Err ending.Memory) middle held
-  ends_here = put_within first held (state_of m middle h.now) (outcome_of p input steps) h.put here_later
+  pub ends_here : Ended (outcome_of p input) steps first (Err ending.Memory) middle held
+  ends_here =
+      short_here p input h.spent (focus_of p f) (frames_of p m) (state_of m middle h.now) h.reached steps m.left h.whole first held [] middle refl h.put refl
 
 -- where the end was answered, nothing is left
-pub none_left : (is : Bool) (p q : Past) (left left' : Option (List ℕ)) (input rest : List ℕ) → Took false is p q left left' → Leaves p q input rest → is ≡ true → rest ≡ []
+pub none_left : (is : Bool) (p q : Past) (left left' : Option (List ℕ)) (input rest : List ℕ) → Took false is p q left left'
+    → Leaves p q input rest → is ≡ true → rest ≡ []
 none_left is p q left left' input rest t l e = by is t.ends e
   where
     by : (b : Bool) → EndsOnce false b t.front p.ends q.ends left' → b ≡ true → rest ≡ []
     by true (more, end) e = l.all (omega (arith, more))
     by false same e = absurd cc
 
+-- what was taken stands in front of the rest
+pub front_taken : (was is : Bool) (p q : Past) (left left' : Option (List ℕ)) (input rest : List ℕ)
+    → (t : Took was is p q left left') → Leaves p q input rest → input ≡ t.front ++ rest
+front_taken was is p q left left' input rest t l =
+    append_cancel_left p.given input (t.front ++ rest) (l.cut ∙ (ap (λ (xs : List ℕ). xs ++ rest) t.given ∙ append_assoc p.given t.front rest))
+
 -- The start
 
--- the configuration that the object of class Main is begun in means the whole
-pub main_whole : (p : List Class) (input : List ℕ) (steps : ℕ) → means p steps (begin_new p (class_named p (codes "Main")) (Receiver nowhere None (codes "main") [] ∷ []) (start input) steps) ≡ outcome_of p input steps
+-- the configuration in which the object of class Main is made
+abbrev pub main_focus : machine.Focus
+main_focus = Begin values.Void [] (New nowhere (record { name = codes "Main"; at = nowhere }))
+
+abbrev pub main_frames : List machine.Frame
+main_frames = Receiver nowhere None (codes "main") [] ∷ []
+
+main_means : (p : List Class) (input : List ℕ) (k : ℕ)
+    → means p k (Continue main_focus main_frames (start input) k) ≡ outcome_of p input k
 unfolding step begun begin_args outcome_of
-main_whole p input steps =
-    step_means p steps (Begin values.Void [] (New nowhere (record { name = codes "Main"; at = nowhere }))) (Receiver nowhere None (codes "main") [] ∷ []) (start input) steps (omega arith)
-    ∙ (step_means p steps (Begin values.Void [] main_call) [] (start input) steps (omega arith) ∙ start_means p input steps)
+main_means p input k =
+    step_means p k (Begin values.Void [] main_call) [] (start input) k (omega arith) ∙ start_means p input k
+
+-- it is reached with no step spent
+pub main_reached : (p : List Class) (input : List ℕ) → IsReached p input 0 main_focus main_frames (start input)
+main_reached p input k =
+    let level : k ≡ 0 + k = omega arith in
+    subst (λ (a : ℕ). means p a (Continue main_focus main_frames (start input) k) ≡ outcome_of p input a) level (main_means p input k)

@@ -86,6 +86,14 @@ line_failed false ended failed said input mid rest l (is, (zeros, told)) =
     let same : (line_of input).rest ≡ (line_of rest).rest = ap (λ line. line.rest) (l.is ∙ ap (prepend said) (line_after_zeros mid rest zeros told)) in
     (later.0, rw same later.1)
 
+-- a byte of the line came, and there was no memory for it
+pub line_short : (was ended : Bool) (byte : ℕ) (said input mid rest : List ℕ) → LineUpTo was said input mid → GaveByte was (Some mid) (Ok (Some byte)) ended (Some rest) → (byte == 10) ≡ false → (kept : List ℕ) × (rest ≡ kept ++ (line_of input).rest)
+line_short was ended byte said input mid rest l g other =
+    let later = line_leaves rest in
+    let more = line_more was ended byte said input mid rest l g other in
+    let same : (line_of input).rest ≡ (line_of rest).rest = ap (λ line. line.rest) more.is in
+    (later.0, rw same later.1)
+
 -- where a byte came, it is not said that the end was answered
 pub still_ended : (was ended : Bool) (byte : ℕ) (before after : Option (List ℕ)) → GaveByte was before (Ok (Some byte)) ended after → ended ≡ was
 still_ended true ended byte before after g = absurd g

@@ -98,28 +98,28 @@ Comes p (Err ending.ReadFault) m input output next = ⊥
 Comes p (Err ending.WriteFault) m input output next = ⊥
 
 -- A value that leaves the state as it is, or its error: where there was memory, it is that of a computation.
-abbrev pub Does : Result Value Ending → Computation values.Value → State → ℕ → Type 0
-Does (Ok v) d s n = (d s n).outcome ≡ Val (value_of v) s n
-Does (Err (ending.Error e)) d s n = (d s n).outcome ≡ Stop (error_of e) s
-Does (Err ending.Stuck) d s n = (d s n).outcome ≡ Stuck
-Does (Err ending.Memory) d s n = Unit {0}
-Does (Err ending.StepLimit) d s n = ⊥
-Does (Err ending.ReadFault) d s n = ⊥
-Does (Err ending.WriteFault) d s n = ⊥
+abbrev pub IsResultAt : Result Value Ending → Computation values.Value → State → ℕ → Type 0
+IsResultAt (Ok v) d s n = (d s n).outcome ≡ Val (value_of v) s n
+IsResultAt (Err (ending.Error e)) d s n = (d s n).outcome ≡ Stop (error_of e) s
+IsResultAt (Err ending.Stuck) d s n = (d s n).outcome ≡ Stuck
+IsResultAt (Err ending.Memory) d s n = Unit {0}
+IsResultAt (Err ending.StepLimit) d s n = ⊥
+IsResultAt (Err ending.ReadFault) d s n = ⊥
+IsResultAt (Err ending.WriteFault) d s n = ⊥
 
 -- A value with the machine after it, that leaves input and output, or its error: where there was memory, it is this outcome.
-abbrev pub Keeps : Result Value Ending → Machine → List ℕ → List ℕ → Outcome values.Value → Type 0
-Keeps (Ok v) m input output o = o ≡ Val (value_of v) (state_of m input output) m.left
-Keeps (Err (ending.Error e)) m input output o = o ≡ Stop (error_of e) (state_of m input output)
-Keeps (Err ending.Stuck) m input output o = o ≡ Stuck
-Keeps (Err ending.Memory) m input output o = Unit {0}
-Keeps (Err ending.StepLimit) m input output o = ⊥
-Keeps (Err ending.ReadFault) m input output o = ⊥
-Keeps (Err ending.WriteFault) m input output o = ⊥
+abbrev pub IsResultOn : Result Value Ending → Machine → List ℕ → List ℕ → Outcome values.Value → Type 0
+IsResultOn (Ok v) m input output o = o ≡ Val (value_of v) (state_of m input output) m.left
+IsResultOn (Err (ending.Error e)) m input output o = o ≡ Stop (error_of e) (state_of m input output)
+IsResultOn (Err ending.Stuck) m input output o = o ≡ Stuck
+IsResultOn (Err ending.Memory) m input output o = Unit {0}
+IsResultOn (Err ending.StepLimit) m input output o = ⊥
+IsResultOn (Err ending.ReadFault) m input output o = ⊥
+IsResultOn (Err ending.WriteFault) m input output o = ⊥
 
--- whatever the state
-abbrev pub Gives : Result Value Ending → Computation values.Value → Type 0
-Gives r d = (s : State) (n : ℕ) → Does r d s n
+-- the same, whatever the state
+abbrev pub IsResultOf : Result Value Ending → Computation values.Value → Type 0
+IsResultOf r d = (s : State) (n : ℕ) → IsResultAt r d s n
 
 -- the number of a value
 abbrev pub IsNumberOf : Result ℤ Ending → values.Value → Type 0

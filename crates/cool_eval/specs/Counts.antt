@@ -1,5 +1,5 @@
 -- What the counts of faults of a source and a sink say of an answer.
-use Rattle.std.specs.Prelude.{◌≡◌, ℕ, Result, Ok, Err}
+use Rattle.std.specs.Prelude.{◌≡◌, ◌<◌, ℕ, Result, Ok, Err}
 use Rattle.cool_ports.specs.Counts.{Rose}
 use Rattle.cool_eval.specs.declared.ending.Ending.{Ending}
 use Rattle.cool_eval.specs.declared.ending.Ending.TheVariants as ending
@@ -38,6 +38,16 @@ CountedFinish (Err ending.ReadFault) end sink sink' = (end ≡ ReadFault) × (si
 CountedFinish (Err ending.WriteFault) end sink sink' = (end ≡ WriteFault) × (sink' ≡ sink)
 CountedFinish (Err ending.Memory) end sink sink' = (end ≡ Memory) × (sink' ≡ sink)
 CountedFinish (Err ending.Stuck) end sink sink' = (end ≡ Memory) × (sink' ≡ sink)
+
+-- A fault of reading or writing comes only after a step was spent.
+abbrev pub FaultsInCalls : {A : Type 0} → Result A Ending → ℕ → ℕ → Type 0
+FaultsInCalls (Ok x) left left' = Unit {0}
+FaultsInCalls (Err ending.ReadFault) left left' = left' < left
+FaultsInCalls (Err ending.WriteFault) left left' = left' < left
+FaultsInCalls (Err (ending.Error e)) left left' = Unit {0}
+FaultsInCalls (Err ending.StepLimit) left left' = Unit {0}
+FaultsInCalls (Err ending.Memory) left left' = Unit {0}
+FaultsInCalls (Err ending.Stuck) left left' = Unit {0}
 
 -- neither a read nor a write failed
 abbrev pub IsInner : Ending → Type 0

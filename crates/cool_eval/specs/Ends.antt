@@ -1,9 +1,12 @@
--- How evaluating a program ends, by the run of the source that the rules give, over a source and a sink that may fail.
-use Rattle.std.specs.Prelude.{◌≡◌, ℕ, List, ◌++◌, Option}
+-- How evaluating a program ends, by the runs of the source that the rules give, over a source and a sink that may fail. A run that has fewer
+-- steps stops just before the call, the new value or the turn of a loop that would be its next step. Methods that read or write are calls.
+use Rattle.std.specs.Prelude.{◌≡◌, ◌⊎◌, ℕ, ◌+◌, ◌<◌, ◌≤◌, List, [], ◌++◌, Option}
 use Rattle.cool_ports.specs.SinkBytes.{appended, GotPrefix}
+use Rattle.cool_classes.specs.Chains.{Class}
+use Rattle.cool_meaning.specs.Laws.{IsOver}
 use Rattle.cool_meaning.specs.Meters as meters
 use Rattle.cool_meaning.specs.SourceRun as runs
-use Rattle.cool_meaning.specs.SourceRun.{Run}
+use Rattle.cool_meaning.specs.SourceRun.{Run, End, run, done_text, error_text}
 use Rattle.cool_eval.specs.declared.evaluation.EvalEnd.{EvalEnd}
 use Rattle.cool_eval.specs.declared.evaluation.EvalEnd.TheVariants.{Done, Error, StepLimit, ReadFault, WriteFault, Memory}
 
@@ -15,11 +18,74 @@ IsWhole r held rest held' = (held' ≡ appended held r.output) × (rest ≡ r.le
 abbrev pub IsPart : Run → Option (List ℕ) → List ℕ → Option (List ℕ) → Type 0
 IsPart r held rest held' = GotPrefix held r.output held' × ((kept : List ℕ) × (rest ≡ kept ++ r.left))
 
--- How an evaluation ends whose run is this: as the run does, or within it, where a device failed or memory ran out.
-abbrev pub Evaluates : Run → Option (List ℕ) → EvalEnd → List ℕ → Option (List ℕ) → Type 0
-Evaluates r held Done rest held' = (r.end ≡ runs.Done) × IsWhole r held rest held'
-Evaluates r held Error rest held' = ((e : meters.Error) × (r.end ≡ runs.Failed e)) × IsWhole r held rest held'
-Evaluates r held StepLimit rest held' = (r.end ≡ runs.GoesOn) × IsWhole r held rest held'
-Evaluates r held ReadFault rest held' = IsPart r held rest held'
-Evaluates r held WriteFault rest held' = IsPart r held rest held'
-Evaluates r held Memory rest held' = GotPrefix held r.output held'
+-- Of the input that a run leaves a part was taken, and no more than a further run takes.
+pub record TookPart (shorter longer : Run) (rest : List ℕ) : Type 0 where
+  pub taken : List ℕ
+  pub left : shorter.left ≡ taken ++ rest
+  pub kept : List ℕ
+  pub later : rest ≡ kept ++ longer.left
+
+-- A read failed. The run with `spent` steps stops before the call that reads: all that it writes was put. Of the input that it leaves the
+-- call took a part, and no more than the run with one step more takes.
+pub record StoppedReading (run : ℕ → Run) (steps : ℕ) (held : Option (List ℕ)) (rest : List ℕ)
+    (held' : Option (List ℕ)) : Type 0 where
+  pub spent : ℕ
+  pub fewer : spent < steps
+  pub goes_on : (run spent).end ≡ runs.GoesOn
+  pub put : held' ≡ appended held (run spent).output
+  pub input : TookPart (run spent) (run (spent + 1)) rest
+
+-- A write of a call failed. The run with `spent` steps stops before the call that writes: all that it writes was put, and the input that it
+-- leaves is left. Of what the run with one step more writes after that, a prefix was put.
+pub record StoppedWriting (run : ℕ → Run) (steps : ℕ) (held : Option (List ℕ)) (rest : List ℕ)
+    (held' : Option (List ℕ)) : Type 0 where
+  pub spent : ℕ
+  pub fewer : spent < steps
+  pub goes_on : (run spent).end ≡ runs.GoesOn
+  pub left : rest ≡ (run spent).left
+  pub printed : List ℕ
+  pub later : (run (spent + 1)).output ≡ (run spent).output ++ printed
+  pub got : GotPrefix (appended held (run spent).output) printed held'
+
+-- the line that a run writes last, for its end
+abbrev pub last_line : List Class → List (List ℕ) → End → List ℕ
+last_line p names runs.Done = done_text
+last_line p names (runs.Failed e) = error_text p names e
+last_line p names runs.GoesOn = []
+last_line p names runs.IsStuck = []
+
+-- A write of the last line failed. The run ends, and the input that it leaves is left; all that it writes before the last line was put, and
+-- a prefix of that line.
+pub record StoppedAtLastLine (p : List Class) (names : List (List ℕ)) (r : Run) (held : Option (List ℕ)) (rest : List ℕ)
+    (held' : Option (List ℕ)) : Type 0 where
+  pub over : IsOver r.end
+  pub left : rest ≡ r.left
+  pub before : List ℕ
+  pub output : r.output ≡ before ++ last_line p names r.end
+  pub got : GotPrefix (appended held before) (last_line p names r.end) held'
+
+-- Memory ran out after `spent` steps, or in the next one. All that the run with so many steps writes was put, but for the line that it writes
+-- last where it ends. Of the input that it leaves a part was taken, and no more than the whole run takes.
+pub record StoppedShort (p : List Class) (names : List (List ℕ)) (run : ℕ → Run) (steps : ℕ) (held : Option (List ℕ))
+    (rest : List ℕ) (held' : Option (List ℕ)) : Type 0 where
+  pub spent : ℕ
+  pub within : spent ≤ steps
+  pub before : List ℕ
+  pub output : (run spent).output ≡ before ++ last_line p names (run spent).end
+  pub put : held' ≡ appended held before
+  pub input : TookPart (run spent) (run steps) rest
+
+-- How an evaluation of a program ends, whose files have these names, on an input, with so many steps: as its run does, or within it, where a
+-- device failed or memory ran out.
+abbrev pub Evaluates : List Class → List (List ℕ) → List ℕ → ℕ → Option (List ℕ) → EvalEnd → List ℕ → Option (List ℕ)
+    → Type 0
+Evaluates p names input steps held Done rest held' =
+    ((run p names input steps).end ≡ runs.Done) × IsWhole (run p names input steps) held rest held'
+Evaluates p names input steps held Error rest held' =
+    ((e : meters.Error) × ((run p names input steps).end ≡ runs.Failed e)) × IsWhole (run p names input steps) held rest held'
+Evaluates p names input steps held StepLimit rest held' =
+    ((run p names input steps).end ≡ runs.GoesOn) × IsWhole (run p names input steps) held rest held'
+Evaluates p names input steps held ReadFault rest held' = StoppedReading (run p names input) steps held rest held'
+Evaluates p names input steps held WriteFault rest held' =
+    StoppedWriting (run p names input) steps held rest held' ⊎ StoppedAtLastLine p names (run p names input steps) held rest held'
+Evaluates p names input steps held Memory rest held' = StoppedShort p names (run p names input) steps held rest held'

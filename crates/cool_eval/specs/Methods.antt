@@ -45,11 +45,11 @@ AreTwo (Err ending.StepLimit) vs = ⊥
 AreTwo (Err ending.ReadFault) vs = ⊥
 AreTwo (Err ending.WriteFault) vs = ⊥
 
--- a line was taken from an input, of which a rest is left; where a take failed, at least what the line leaves
+-- a line was taken from an input, of which a rest is left; where a take failed, or memory ran out, at least what the line leaves
 abbrev pub TookLine : {A : Type 0} → Result (Vec ℕ A) Ending → List ℕ → List ℕ → Type 0
 TookLine (Ok line) input rest = line_of input ≡ record { bytes = line.items; rest = rest }
 TookLine (Err ending.ReadFault) input rest = (kept : List ℕ) × (rest ≡ kept ++ (line_of input).rest)
-TookLine (Err ending.Memory) input rest = Unit {0}
+TookLine (Err ending.Memory) input rest = (kept : List ℕ) × (rest ≡ kept ++ (line_of input).rest)
 TookLine (Err (ending.Error e)) input rest = ⊥
 TookLine (Err ending.Stuck) input rest = ⊥
 TookLine (Err ending.StepLimit) input rest = ⊥
@@ -68,9 +68,9 @@ Makes (Err ending.WriteFault) store input output n o = ⊥
 -- What a method that leaves source and store does to a sink: whatever the state, this computation.
 abbrev pub ActsOnSink : Result Value Ending → Option (List ℕ) → Option (List ℕ) → Computation values.Value → Type 0
 ActsOnSink r held held' d =
-    (store : Store) (first : Option (List ℕ)) (output input : List ℕ) (n : ℕ) → held ≡ appended first output → Acts r store first output input held' n (d (state_at store input output) n).outcome
+    (store : Store) (first : Option (List ℕ)) (output input : List ℕ) (n : ℕ) → held ≡ appended first output → Acts r store first output input input held' n (d (state_at store input output) n).outcome
 
 -- What a method that leaves sink and store does to a source.
 abbrev pub ActsOnSource : Result Value Ending → Bool → Past → Past → Computation values.Value → Type 0
 ActsOnSource r ended past past' d =
-    (store : Store) (held : Option (List ℕ)) → OnDevices ended past past' held (λ first output input rest. (n : ℕ) → Acts r store first output rest held n (d (state_at store input output) n).outcome)
+    (store : Store) (held : Option (List ℕ)) → OnDevices ended past past' held (λ first output input rest. (n : ℕ) → Acts r store first output input rest held n (d (state_at store input output) n).outcome)

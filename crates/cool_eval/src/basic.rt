@@ -6,7 +6,7 @@ ghost use Rattle.cool_ports.specs.Taking.{Took};
 ghost use Rattle.cool_meaning.specs.BasicMethods.{basic as basic_of, copy as copy_of, part as part_of};
 ghost use Rattle.cool_meaning.specs.Values as values;
 ghost use Rattle.cool_meaning.specs.Values.{Str};
-ghost use Rattle.cool_eval.specs.Configurations.{Gives};
+ghost use Rattle.cool_eval.specs.Configurations.{IsResultOf};
 ghost use Rattle.cool_eval.specs.Counts.{Counted, IsInner};
 ghost use Rattle.cool_eval.specs.Devices.{Acts, OnDevices, state_at};
 ghost use Rattle.cool_eval.specs.Methods.{IsStringOf, IsOne, AreTwo, Makes, ActsOnSink, ActsOnSource};
@@ -82,7 +82,7 @@ fn copied(alloc: Global, bytes: &[u8]) -> Result<Value, Ending>
 
 /// `abort`: the run ends with an error that names the class.
 fn abort(setting: &Setting<'_>, me: &Value) -> Result<Value, Ending>
-    ensures value { (p : List Class) (at : Place) (vs : List values.Value) → Gives result (basic_of p BasicMethod.Abort at (value_of me.now) vs) }
+    ensures value { (p : List Class) (at : Place) (vs : List values.Value) → IsResultOf result (basic_of p BasicMethod.Abort at (value_of me.now) vs) }
     ensures inner { IfErr result IsInner }
 {
     match setting.class_of(me) {
@@ -93,7 +93,7 @@ fn abort(setting: &Setting<'_>, me: &Value) -> Result<Value, Ending>
 
 /// `type_name`: the name of the class.
 fn type_name(setting: &Setting<'_>, me: &Value) -> Result<Value, Ending>
-    ensures value { (at : Place) (vs : List values.Value) → Gives result (basic_of setting.now.table.now BasicMethod.TypeName at (value_of me.now) vs) }
+    ensures value { (at : Place) (vs : List values.Value) → IsResultOf result (basic_of setting.now.table.now BasicMethod.TypeName at (value_of me.now) vs) }
     ensures inner { IfErr result IsInner }
 {
     match setting.class_of(me) {
@@ -180,7 +180,7 @@ fn in_int<S: Source>(alloc: Global, ended: &mut bool, source: &mut S) -> Result<
 
 /// `length`: how many bytes the string has, of which the low 32 bits count.
 fn length(me: &Value) -> Result<Value, Ending>
-    ensures value { (p : List Class) (at : Place) (vs : List values.Value) → Gives result (basic_of p BasicMethod.Length at (value_of me.now) vs) }
+    ensures value { (p : List Class) (at : Place) (vs : List values.Value) → IsResultOf result (basic_of p BasicMethod.Length at (value_of me.now) vs) }
     ensures inner { IfErr result IsInner }
 {
     let bytes = bytes_of(me)?;
@@ -190,7 +190,7 @@ fn length(me: &Value) -> Result<Value, Ending>
 
 /// `concat`: the string with another after it.
 fn concat(alloc: Global, me: &Value, given: &[Value]) -> Result<Value, Ending>
-    ensures value { (p : List Class) (at : Place) → Gives result (basic_of p BasicMethod.Concat at (value_of me.now) (map value_of given.now)) }
+    ensures value { (p : List Class) (at : Place) → IsResultOf result (basic_of p BasicMethod.Concat at (value_of me.now) (map value_of given.now)) }
     ensures inner { IfErr result IsInner }
 {
     let first = bytes_of(me)?;
@@ -212,7 +212,7 @@ fn part(bytes: &[u8], start: i64, len: i64) -> Option<&[u8]>
 
 /// `substr`: a part of the string, where it has it.
 fn substr(alloc: Global, at: Place, me: &Value, given: &[Value]) -> Result<Value, Ending>
-    ensures value { (p : List Class) → Gives result (basic_of p BasicMethod.Substr at (value_of me.now) (map value_of given.now)) }
+    ensures value { (p : List Class) → IsResultOf result (basic_of p BasicMethod.Substr at (value_of me.now) (map value_of given.now)) }
     ensures inner { IfErr result IsInner }
 {
     let bytes = bytes_of(me)?;
@@ -236,7 +236,7 @@ pub(crate) fn basic<S: Source, K: Sink>(
     sink: &mut K,
 ) -> Result<Value, Ending>
     ensures took { Took ended.old ended.new (S.past source.old) (S.past source.new) (S.left source.old) (S.left source.new) }
-    ensures acts { OnDevices ended.old (S.past source.old) (S.past source.new) (K.held sink.old) (λ first output input rest. (n : ℕ) → Acts result store.new first output rest (K.held sink.new) n
+    ensures acts { OnDevices ended.old (S.past source.old) (S.past source.new) (K.held sink.old) (λ first output input rest. (n : ℕ) → Acts result store.new first output input rest (K.held sink.new) n
         (basic_of setting.now.table.now method at (value_of me) (map value_of given.items) (state_at store.old input output) n).outcome) }
     ensures counts { Counted result (S.faults source.old) (S.faults source.new) (K.faults sink.old) (K.faults sink.new) }
 {

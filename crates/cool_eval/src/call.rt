@@ -1,6 +1,6 @@
 //! Calls of methods.
 
-ghost use Rattle.std.specs.Prelude.{◌≡◌, ◌≤◌, ◌+◌, ◌∷◌, [], ◌++◌, ℕ, List, Some, IfErr, IfOk, map, option_map};
+ghost use Rattle.std.specs.Prelude.{◌≡◌, ◌+◌, ◌∷◌, [], ◌++◌, ℕ, List, Some, IfErr, IfOk, map, option_map};
 ghost use Rattle.cool_ports.specs.Answers.{Leaves};
 ghost use Rattle.cool_ports.specs.Taking.{Took};
 ghost use Rattle.cool_classes.specs.Chains.{Class};
@@ -12,7 +12,7 @@ ghost use Rattle.cool_meaning.specs.Lookups.{formal_names, located, method_at};
 ghost use Rattle.cool_meaning.specs.Meters.{given as given_of};
 ghost use Rattle.cool_meaning.specs.Values as values;
 ghost use Rattle.cool_eval.specs.Configurations.{class_name, env_of, frames_of, locals_of, state_of, Comes};
-ghost use Rattle.cool_eval.specs.Counts.{Counted, IsInner};
+ghost use Rattle.cool_eval.specs.Counts.{Counted, FaultsInCalls, IsInner};
 ghost use Rattle.cool_eval.specs.Devices.{OnDevices, Reaches};
 ghost use Rattle.cool_eval.specs.Machine.{begin_args as args_begun, begin_call as call_begun, begin_method as method_begun, call_class, class_called};
 ghost use Rattle.cool_eval.specs.Ready.{IsReady};
@@ -24,6 +24,7 @@ use crate::frame::{Focus, Frame};
 use crate::machine::{Machine, add, share, shared};
 use crate::part::{Part, Parts};
 use crate::scene::{Local, Scene, Setting};
+use crate::store::location_after;
 use crate::value::Value;
 use cool_classes::{ClassId, MethodRef};
 use cool_ports::{Sink, Source};
@@ -45,7 +46,6 @@ pub(crate) fn begin_args<'a>(
 ) -> Result<Focus<'a>, Ending>
     ensures comes { (p : List Class) (input output : List ℕ) → Comes p result machine.new input output
         (args_begun (value_of scene.entry.value.me) (env_of p scene.entry.value) (map value_of given.items) (of_list args.entry) at receiver.entry (class_name class.entry) name.now (frames_of p machine.old) (state_of machine.old input output) machine.old.left) }
-    ensures left { machine.new.left ≡ machine.old.left }
     ensures ended { machine.new.ended ≡ machine.old.ended }
     ensures inner { IfErr result IsInner }
 {
@@ -79,7 +79,7 @@ pub(crate) fn begin_args<'a>(
 }
 
 /// A call of a method on a receiver.
-#[tactic(auto, using(crate::proofs::QuietSteps::quiet_counts, crate::proofs::QuietSteps::untouched))]
+#[tactic(auto, using(crate::proofs::QuietSteps::quiet_counts, crate::proofs::QuietSteps::spent_faults, crate::proofs::QuietSteps::untouched))]
 pub(crate) fn call<'a, S: Source, K: Sink>(
     setting: &Setting<'a>,
     machine: &mut Machine<'a>,
@@ -92,10 +92,10 @@ pub(crate) fn call<'a, S: Source, K: Sink>(
     sink: &mut K,
 ) -> Result<Focus<'a>, Ending>
     requires ready { IsReady setting.now.table.now setting.now.layouts.now }
-    ensures reaches { OnDevices machine.old.ended (S.past source.old) (S.past source.new) (K.held sink.old) (λ first output input rest. Reaches setting.now.table.now result machine.new first output rest (K.held sink.new)
+    ensures reaches { OnDevices machine.old.ended (S.past source.old) (S.past source.new) (K.held sink.old) (λ first output input rest. Reaches setting.now.table.now result machine.new first output input rest (K.held sink.new)
         (call_class setting.now.table.now at name.now (value_of me) (map value_of given.items) (class_called setting.now.table.now at (class_name class.entry) (value_of me) (state_of machine.old input output) machine.old.left).outcome (frames_of setting.now.table.now machine.old))) }
     ensures took { Took machine.old.ended machine.new.ended (S.past source.old) (S.past source.new) (S.left source.old) (S.left source.new) }
-    ensures left { machine.new.left ≤ machine.old.left }
+    ensures spent { FaultsInCalls result machine.old.left machine.new.left }
     ensures counts { Counted result (S.faults source.old) (S.faults source.new) (K.faults sink.old) (K.faults sink.new) }
 {
     let Some(own) = setting.class_of(&me) else {
@@ -146,7 +146,7 @@ fn begin_call<'a, S: Source, K: Sink>(
     sink: &mut K,
 ) -> Result<Focus<'a>, Ending>
     requires ready { IsReady setting.now.table.now setting.now.layouts.now }
-    ensures reaches { OnDevices machine.old.ended (S.past source.old) (S.past source.new) (K.held sink.old) (λ first output input rest. Reaches setting.now.table.now result machine.new first output rest (K.held sink.new)
+    ensures reaches { OnDevices machine.old.ended (S.past source.old) (S.past source.new) (K.held sink.old) (λ first output input rest. Reaches setting.now.table.now result machine.new first output input rest (K.held sink.new)
         (call_begun setting.now.table.now at (value_of me) (map value_of given.items) method (frames_of setting.now.table.now machine.old) (state_of machine.old input output) machine.old.left)) }
     ensures took { Took machine.old.ended machine.new.ended (S.past source.old) (S.past source.new) (S.left source.old) (S.left source.new) }
     ensures left { machine.new.left ≡ machine.old.left }
@@ -234,15 +234,4 @@ fn arguments<'a>(
         add(&mut locals, Local { name, location })?;
     }
     Ok(locals)
-}
-
-/// The location so many after one. `Memory` comes where locations run out.
-fn location_after(first: usize, count: usize) -> Result<usize, Ending>
-    ensures after { IfOk result (λ location. location ≡ first + count) }
-    ensures memory { IfErr result (λ e. e ≡ Ending.Memory) }
-{
-    match first.checked_add(count) {
-        Some(location) => Ok(location),
-        None => Err(Ending::Memory),
-    }
 }

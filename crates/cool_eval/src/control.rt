@@ -1,6 +1,6 @@
 //! Loops, blocks, variables and branches.
 
-ghost use Rattle.std.specs.Prelude.{◌≡◌, ◌≤◌, ◌∷◌, [], ◌++◌, ℕ, List, IfErr, IfOk};
+ghost use Rattle.std.specs.Prelude.{◌≡◌, ◌∷◌, [], ◌++◌, ℕ, List, IfErr, IfOk};
 ghost use Rattle.cool_classes.specs.Chains.{Class};
 ghost use Rattle.cool_syntax.specs.Tree.{of_list, of_twigs};
 ghost use Rattle.cool_meaning.specs.Evaluation.{class_or};
@@ -29,7 +29,6 @@ pub(crate) fn begin_test<'a>(
 ) -> Result<Focus<'a>, Ending>
     ensures comes { (p : List Class) (input output : List ℕ) → Comes p result machine.new input output
         (Continue (Begin (value_of scene.entry.value.me) (env_of p scene.entry.value) test.entry) (Turn (value_of scene.entry.value.me) (env_of p scene.entry.value) test.entry body.entry ∷ frames_of p machine.old) (state_of machine.old input output) machine.old.left) }
-    ensures left { machine.new.left ≡ machine.old.left }
     ensures ended { machine.new.ended ≡ machine.old.ended }
     ensures inner { IfErr result IsInner }
 {
@@ -49,7 +48,6 @@ pub(crate) fn next_item<'a>(
 ) -> Result<Focus<'a>, Ending>
     ensures comes { (p : List Class) (input output : List ℕ) → Comes p result machine.new input output
         (item_next (value_of scene.entry.value.me) (env_of p scene.entry.value) (value_of value) (of_list items.entry) (frames_of p machine.old) (state_of machine.old input output) machine.old.left) }
-    ensures left { machine.new.left ≡ machine.old.left }
     ensures ended { machine.new.ended ≡ machine.old.ended }
     ensures inner { IfErr result IsInner }
 {
@@ -75,7 +73,6 @@ pub(crate) fn bind<'a>(
 ) -> Result<Focus<'a>, Ending>
     ensures comes { (p : List Class) (input output : List ℕ) → Comes p result machine.new input output
         (variable_bound (value_of scene.now.me) (env_of p scene.now) name.now part.entry (value_of value) (frames_of p machine.old) (state_of machine.old input output) machine.old.left) }
-    ensures left { machine.new.left ≡ machine.old.left }
     ensures ended { machine.new.ended ≡ machine.old.ended }
     ensures inner { IfErr result IsInner }
 {
@@ -101,7 +98,6 @@ pub(crate) fn pick<'a>(
     requires ready { IsReady setting.now.table.now setting.now.layouts.now }
     ensures comes { (input output : List ℕ) → Comes setting.now.table.now result machine.new input output
         (branch_picked setting.now.table.now (value_of scene.now.me) (env_of setting.now.table.now scene.now) at (of_twigs branches.now) (value_of value) (class_or (CaseVoid at) (value_of value) (state_of machine.old input output) machine.old.left).outcome (frames_of setting.now.table.now machine.old)) }
-    ensures left { machine.new.left ≡ machine.old.left }
     ensures ended { machine.new.ended ≡ machine.old.ended }
     ensures inner { IfErr result IsInner }
 {
@@ -148,7 +144,6 @@ pub(crate) fn turn<'a>(
 ) -> Result<Focus<'a>, Ending>
     ensures comes { (p : List Class) (input output : List ℕ) → Comes p result machine.new input output
         (turn_begun (value_of scene.entry.value.me) (env_of p scene.entry.value) test.entry body.entry (value_of value) (frames_of p machine.old) (state_of machine.old input output) machine.old.left) }
-    ensures left { machine.new.left ≤ machine.old.left }
     ensures ended { machine.new.ended ≡ machine.old.ended }
     ensures inner { IfErr result IsInner }
 {

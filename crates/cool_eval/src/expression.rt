@@ -1,11 +1,11 @@
 //! Expressions begun.
 
-ghost use Rattle.std.specs.Prelude.{◌≡◌, ◌≤◌, ◌∷◌, [], ◌++◌, ℕ, List, IfErr, IfOk};
+ghost use Rattle.std.specs.Prelude.{◌≡◌, ◌∷◌, [], ◌++◌, ℕ, List, IfErr, IfOk};
 ghost use Rattle.cool_classes.specs.Chains.{Class};
 ghost use Rattle.cool_meaning.specs.Evaluation as meaning;
 ghost use Rattle.cool_meaning.specs.Lookups as lookups;
 ghost use Rattle.cool_meaning.specs.Values as values;
-ghost use Rattle.cool_eval.specs.Configurations.{env_of, frame_of, frames_of, state_of, Comes, Does};
+ghost use Rattle.cool_eval.specs.Configurations.{env_of, frame_of, frames_of, state_of, Comes, IsResultAt};
 ghost use Rattle.cool_eval.specs.Counts.{IsInner};
 ghost use Rattle.cool_eval.specs.Groups.{IsBinary, IsBinding, IsCall, IsControl, IsLeaf, IsUnary};
 ghost use Rattle.cool_eval.specs.Machine.{begun, Begin, Continue};
@@ -37,7 +37,6 @@ pub(crate) fn begin<'a>(
     requires ready { IsReady setting.now.table.now setting.now.layouts.now }
     ensures comes { (input output : List ℕ) → Comes setting.now.table.now result machine.new input output
         (begun setting.now.table.now (value_of scene.entry.value.me) (env_of setting.now.table.now scene.entry.value) part.entry (frames_of setting.now.table.now machine.old) (state_of machine.old input output) machine.old.left) }
-    ensures left { machine.new.left ≤ machine.old.left }
     ensures ended { machine.new.ended ≡ machine.old.ended }
     ensures inner { IfErr result IsInner }
 {
@@ -71,7 +70,6 @@ pub(crate) fn begin_under<'a>(
 ) -> Result<Focus<'a>, Ending>
     ensures comes { (p : List Class) (input output : List ℕ) → Comes p result machine.new input output
         (Continue (Begin (value_of scene.entry.value.me) (env_of p scene.entry.value) part.entry) (frame_of p frame.entry ∷ frames_of p machine.old) (state_of machine.old input output) machine.old.left) }
-    ensures left { machine.new.left ≡ machine.old.left }
     ensures ended { machine.new.ended ≡ machine.old.ended }
     ensures inner { IfErr result IsInner }
 {
@@ -90,7 +88,6 @@ fn begin_call<'a>(
     requires group { IsCall form }
     ensures comes { (p : List Class) (input output : List ℕ) → Comes p result machine.new input output
         (begun p (value_of scene.entry.value.me) (env_of p scene.entry.value) (form_tree form.entry) (frames_of p machine.old) (state_of machine.old input output) machine.old.left) }
-    ensures left { machine.new.left ≡ machine.old.left }
     ensures ended { machine.new.ended ≡ machine.old.ended }
     ensures inner { IfErr result IsInner }
 {
@@ -126,7 +123,6 @@ fn begin_control<'a>(
     requires group { IsControl form }
     ensures comes { (p : List Class) (input output : List ℕ) → Comes p result machine.new input output
         (begun p (value_of scene.entry.value.me) (env_of p scene.entry.value) (form_tree form.entry) (frames_of p machine.old) (state_of machine.old input output) machine.old.left) }
-    ensures left { machine.new.left ≡ machine.old.left }
     ensures ended { machine.new.ended ≡ machine.old.ended }
     ensures inner { IfErr result IsInner }
 {
@@ -157,7 +153,6 @@ fn begin_binding<'a>(
     requires group { IsBinding form }
     ensures comes { (p : List Class) (input output : List ℕ) → Comes p result machine.new input output
         (begun p (value_of scene.entry.value.me) (env_of p scene.entry.value) (form_tree form.entry) (frames_of p machine.old) (state_of machine.old input output) machine.old.left) }
-    ensures left { machine.new.left ≡ machine.old.left }
     ensures ended { machine.new.ended ≡ machine.old.ended }
     ensures inner { IfErr result IsInner }
 {
@@ -206,7 +201,6 @@ fn begin_unary<'a>(
     requires group { IsUnary form }
     ensures comes { (p : List Class) (input output : List ℕ) → Comes p result machine.new input output
         (begun p (value_of scene.entry.value.me) (env_of p scene.entry.value) (form_tree form.entry) (frames_of p machine.old) (state_of machine.old input output) machine.old.left) }
-    ensures left { machine.new.left ≡ machine.old.left }
     ensures ended { machine.new.ended ≡ machine.old.ended }
     ensures inner { IfErr result IsInner }
 {
@@ -232,7 +226,6 @@ fn begin_binary<'a>(
     requires group { IsBinary form }
     ensures comes { (p : List Class) (input output : List ℕ) → Comes p result machine.new input output
         (begun p (value_of scene.entry.value.me) (env_of p scene.entry.value) (form_tree form.entry) (frames_of p machine.old) (state_of machine.old input output) machine.old.left) }
-    ensures left { machine.new.left ≡ machine.old.left }
     ensures ended { machine.new.ended ≡ machine.old.ended }
     ensures inner { IfErr result IsInner }
 {
@@ -274,7 +267,6 @@ fn begin_leaf<'a>(
     requires group { IsLeaf form }
     ensures comes { (input output : List ℕ) → Comes setting.now.table.now result machine.new input output
         (begun setting.now.table.now (value_of scene.entry.value.me) (env_of setting.now.table.now scene.entry.value) (form_tree form.entry) (frames_of setting.now.table.now machine.old) (state_of machine.old input output) machine.old.left) }
-    ensures left { machine.new.left ≤ machine.old.left }
     ensures ended { machine.new.ended ≡ machine.old.ended }
     ensures inner { IfErr result IsInner }
 {
@@ -313,7 +305,7 @@ fn value_named<'a>(
     name: &Name,
 ) -> Result<Value, Ending>
     requires ready { IsReady setting.now.table.now setting.now.layouts.now }
-    ensures value { (input output : List ℕ) (n : ℕ) → Does result (meaning.value_named (value_of scene.now.me) (env_of setting.now.table.now scene.now) name.now) (state_of machine.now input output) n }
+    ensures value { (input output : List ℕ) (n : ℕ) → IsResultAt result (meaning.value_named (value_of scene.now.me) (env_of setting.now.table.now scene.now) name.now) (state_of machine.now input output) n }
     ensures inner { IfErr result IsInner }
 {
     if name.as_slice() == b"self".as_slice() {

@@ -13,6 +13,7 @@ mod ending;
 mod evaluation;
 mod expression;
 mod frame;
+mod laws;
 mod machine;
 mod numbers;
 mod numeral;
@@ -25,3 +26,4 @@ mod store;
 mod value;
 
 pub use evaluation::{EvalEnd, evaluate};
+pub use laws::law_stopped_within;

@@ -6,7 +6,7 @@ ghost use Rattle.cool_eval.specs.Counts.{IsInner};
 ghost use Rattle.cool_meaning.specs.Evaluation as meaning;
 ghost use Rattle.cool_eval.specs.Machine.{negated, operated};
 ghost use Rattle.cool_eval.specs.Values.{value_of};
-ghost use Rattle.cool_eval.specs.Configurations.{Gives, IsNumberOf};
+ghost use Rattle.cool_eval.specs.Configurations.{IsResultOf, IsNumberOf};
 
 use crate::ending::{Ending, RunError};
 use crate::value::Value;
@@ -24,7 +24,7 @@ pub(crate) fn number(value: &Value) -> Result<i64, Ending>
 
 /// A result where it has 32 bits; one that is none has not even 64.
 fn exact(at: Place, found: Option<i64>) -> Result<Value, Ending>
-    ensures value { (z : ℤ) → SomeIff found (FitsSigned w64 z) z → Gives result (meaning.exact at z) }
+    ensures value { (z : ℤ) → SomeIff found (FitsSigned w64 z) z → IsResultOf result (meaning.exact at z) }
     ensures inner { IfErr result IsInner }
 {
     match found {
@@ -35,7 +35,7 @@ fn exact(at: Place, found: Option<i64>) -> Result<Value, Ending>
 
 /// The negative of a number.
 pub(crate) fn negate(at: Place, value: &Value) -> Result<Value, Ending>
-    ensures value { Gives result (negated at (value_of value.now)) }
+    ensures value { IsResultOf result (negated at (value_of value.now)) }
     ensures inner { IfErr result IsInner }
 {
     exact(at, number(value)?.checked_neg())
@@ -43,7 +43,7 @@ pub(crate) fn negate(at: Place, value: &Value) -> Result<Value, Ending>
 
 /// An operation on two numbers.
 pub(crate) fn operate(op: ArithOp, at: Place, left: &Value, right: &Value) -> Result<Value, Ending>
-    ensures value { Gives result (operated op at (value_of left.now) (value_of right.now)) }
+    ensures value { IsResultOf result (operated op at (value_of left.now) (value_of right.now)) }
     ensures inner { IfErr result IsInner }
 {
     let left = number(left)?;
@@ -77,7 +77,7 @@ fn same(left: &Value, right: &Value) -> bool
 
 /// A comparison.
 pub(crate) fn compare(op: CompareOp, left: &Value, right: &Value) -> Result<Value, Ending>
-    ensures value { Gives result (meaning.compare op (value_of left.now) (value_of right.now)) }
+    ensures value { IsResultOf result (meaning.compare op (value_of left.now) (value_of right.now)) }
     ensures inner { IfErr result IsInner }
 {
     match op {

@@ -1,6 +1,6 @@
 //! New objects.
 
-ghost use Rattle.std.specs.Prelude.{◌≡◌, ◌≤◌, ℕ, List, IfErr, length};
+ghost use Rattle.std.specs.Prelude.{◌≡◌, ℕ, List, IfErr, length};
 ghost use Rattle.cool_meaning.specs.Values as values;
 ghost use Rattle.cool_meaning.specs.Lookups.{attributes, default_values};
 ghost use Rattle.cool_eval.specs.Configurations.{frames_of, state_of, Comes};
@@ -16,7 +16,7 @@ use crate::frame::{Focus, Frame};
 use crate::machine::{Machine, shared};
 use crate::part::Part;
 use crate::scene::{Scene, Setting};
-use crate::store::next_location;
+use crate::store::location_after;
 use crate::value::{Object, Value};
 use cool_classes::{AttributeRef, BOOL, ClassId, INT, STRING};
 
@@ -30,7 +30,6 @@ pub(crate) fn begin_new<'a>(
     requires ready { IsReady setting.now.table.now setting.now.layouts.now }
     ensures comes { (input output : List ℕ) → Comes setting.now.table.now result machine.new input output
         (new_begun setting.now.table.now class (frames_of setting.now.table.now machine.old) (state_of machine.old input output) machine.old.left) }
-    ensures left { machine.new.left ≤ machine.old.left }
     ensures ended { machine.new.ended ≡ machine.old.ended }
     ensures inner { IfErr result IsInner }
 {
@@ -61,7 +60,6 @@ fn begin_object<'a>(
     requires ready { IsReady setting.now.table.now setting.now.layouts.now }
     ensures comes { (input output : List ℕ) → Comes setting.now.table.now result machine.new input output
         (object_begun setting.now.table.now class (locate_all (default_values setting.now.table.now (attributes setting.now.table.now class)) (state_of machine.old input output) machine.old.left).outcome (frames_of setting.now.table.now machine.old)) }
-    ensures left { machine.new.left ≡ machine.old.left }
     ensures ended { machine.new.ended ≡ machine.old.ended }
     ensures inner { IfErr result IsInner }
 {
@@ -95,7 +93,6 @@ pub(crate) fn start_values<'a>(
     requires ready { IsReady setting.now.table.now setting.now.layouts.now }
     ensures comes { (input output : List ℕ) → Comes setting.now.table.now result machine.new input output
         (values_started setting.now.table.now (values.Obj object.class object.identity (locations_from object.first object.count)) attributes.now (locations_from location (length attributes.now)) (frames_of setting.now.table.now machine.old) (state_of machine.old input output) machine.old.left) }
-    ensures left { machine.new.left ≡ machine.old.left }
     ensures ended { machine.new.ended ≡ machine.old.ended }
     ensures inner { IfErr result IsInner }
 {
@@ -105,7 +102,7 @@ pub(crate) fn start_values<'a>(
     match setting.initial(*attribute) {
         None => Ok(Focus::Start {
             object,
-            location: next_location(location)?,
+            location: location_after(location, 1)?,
             rest,
         }),
         Some(body) => {

@@ -2,13 +2,12 @@
 
 ghost use Rattle.std.specs.Prelude.{◌≡◌, ◌≢◌, ◌++◌, ℕ, List, IfOk, Option, codes, map, string_bytes};
 ghost use Rattle.cool_classes.specs.Chains.{name_of};
-ghost use Rattle.cool_meaning.specs.Meters.{Outcome, Stuck};
+ghost use Rattle.cool_meaning.specs.Meters.{Stuck};
 ghost use Rattle.cool_meaning.specs.SourceRun as runs;
-ghost use Rattle.cool_meaning.specs.Values as values;
 ghost use Rattle.cool_eval.specs.Configurations.{error_of};
 ghost use Rattle.cool_eval.specs.Counts.{CountedFinish};
 ghost use Rattle.cool_eval.specs.Ends.{Evaluates};
-ghost use Rattle.cool_eval.specs.Running.{Ended};
+ghost use Rattle.cool_eval.specs.Running.{outcome_of, Ended};
 
 use crate::console::print;
 use crate::ending::{Ending, RunError};
@@ -26,8 +25,9 @@ pub(crate) fn finish<K: Sink>(
     end: Result<(), Ending>,
     sink: &mut K,
 ) -> EvalEnd
-    ensures ends { (o : Outcome values.Value) (first : Option (List ℕ)) (rest : List ℕ) → o ≢ Stuck → Ended o first end rest (K.held sink.old)
-        → Evaluates (runs.run_of setting.now.table.now (map string_bytes names.now) o 0 0 0) first result rest (K.held sink.new) }
+    ensures ends { (input : List ℕ) (steps : ℕ) (first : Option (List ℕ)) (rest : List ℕ) → ((n : ℕ) → outcome_of setting.now.table.now input n ≢ Stuck)
+        → Ended (outcome_of setting.now.table.now input) steps first end rest (K.held sink.old)
+        → Evaluates setting.now.table.now (map string_bytes names.now) input steps first result rest (K.held sink.new) }
     ensures counts { CountedFinish end result (K.faults sink.old) (K.faults sink.new) }
 {
     match end {

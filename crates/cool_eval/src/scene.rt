@@ -19,7 +19,7 @@ use crate::basic::string;
 use crate::ending::Ending;
 use crate::machine::add;
 use crate::part::{Part, Twigs};
-use crate::store::next_location;
+use crate::store::location_after;
 use crate::value::{Object, Value};
 use cool_classes::{AttributeRef, BOOL, ClassId, ClassTable, INT, STRING};
 use cool_syntax::{AttributeDef, Body, Feature, Name};
@@ -105,7 +105,7 @@ impl<'a> Setting<'a> {
             if self.table.attribute_name(*attribute).as_slice() == name.as_slice() {
                 return Ok(location);
             }
-            location = next_location(location)?;
+            location = location_after(location, 1)?;
         }
         Err(Ending::Stuck)
     }

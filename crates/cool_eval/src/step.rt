@@ -1,14 +1,14 @@
 //! Values that come to what waits for them, and single steps.
 
-ghost use Rattle.std.specs.Prelude.{◌≡◌, ◌≤◌, ◌∷◌, [], ◌++◌, ℕ, List, None, IfErr, IfOk};
+ghost use Rattle.std.specs.Prelude.{◌≡◌, ◌∷◌, [], ◌++◌, ℕ, List, None, IfErr, IfOk};
 ghost use Rattle.cool_ports.specs.Answers.{Leaves};
 ghost use Rattle.cool_ports.specs.Taking.{Took};
 ghost use Rattle.cool_syntax.specs.Bare.{nowhere};
 ghost use Rattle.cool_classes.specs.Chains.{Class};
 ghost use Rattle.cool_rules.specs.Rules.{class_named};
 ghost use Rattle.cool_meaning.specs.Evaluation as meaning;
-ghost use Rattle.cool_eval.specs.Configurations.{env_of, focus_of, frame_of, frames_of, state_of, Comes, Keeps, IsQuiet};
-ghost use Rattle.cool_eval.specs.Counts.{Counted, IsInner};
+ghost use Rattle.cool_eval.specs.Configurations.{env_of, focus_of, frame_of, frames_of, state_of, Comes, IsResultOn, IsQuiet};
+ghost use Rattle.cool_eval.specs.Counts.{Counted, FaultsInCalls, IsInner};
 ghost use Rattle.cool_eval.specs.Devices.{OnDevices, Reaches};
 ghost use Rattle.cool_eval.specs.Groups.{WaitsInControl, WaitsToBind, WaitsToOperate};
 ghost use Rattle.cool_eval.specs.Machine as steps;
@@ -26,13 +26,13 @@ use crate::machine::{Machine, add};
 use crate::numbers::{compare, negate, operate};
 use crate::object::{begin_new, start_values};
 use crate::scene::{Scene, Setting};
-use crate::store::next_location;
+use crate::store::location_after;
 use crate::value::Value;
 use cool_ports::{Sink, Source};
 use cool_syntax::{Name, Place};
 
 /// A value comes to what waits for it.
-#[tactic(auto, using(crate::proofs::QuietFrames::quiet_else, crate::proofs::QuietSteps::quiet_counts, crate::proofs::QuietSteps::untouched), unfolding(crate::specs::Machine::returned))]
+#[tactic(auto, using(crate::proofs::QuietFrames::quiet_else, crate::proofs::QuietSteps::quiet_counts, crate::proofs::QuietSteps::quiet_faults, crate::proofs::QuietSteps::untouched), unfolding(crate::specs::Machine::returned))]
 fn give<'a, S: Source, K: Sink>(
     setting: &Setting<'a>,
     machine: &mut Machine<'a>,
@@ -42,10 +42,10 @@ fn give<'a, S: Source, K: Sink>(
     sink: &mut K,
 ) -> Result<Focus<'a>, Ending>
     requires ready { IsReady setting.now.table.now setting.now.layouts.now }
-    ensures reaches { OnDevices machine.old.ended (S.past source.old) (S.past source.new) (K.held sink.old) (λ first output input rest. Reaches setting.now.table.now result machine.new first output rest (K.held sink.new)
+    ensures reaches { OnDevices machine.old.ended (S.past source.old) (S.past source.new) (K.held sink.old) (λ first output input rest. Reaches setting.now.table.now result machine.new first output input rest (K.held sink.new)
         (returned setting.now.table.now (frame_of setting.now.table.now frame.entry) (value_of value) (frames_of setting.now.table.now machine.old) (state_of machine.old input output) machine.old.left)) }
     ensures took { Took machine.old.ended machine.new.ended (S.past source.old) (S.past source.new) (S.left source.old) (S.left source.new) }
-    ensures left { machine.new.left ≤ machine.old.left }
+    ensures spent { FaultsInCalls result machine.old.left machine.new.left }
     ensures counts { Counted result (S.faults source.old) (S.faults source.new) (K.faults sink.old) (K.faults sink.new) }
 {
     match frame {
@@ -73,7 +73,6 @@ fn resume<'a>(
     requires quiet { IsQuiet frame }
     ensures comes { (input output : List ℕ) → Comes setting.now.table.now result machine.new input output
         (returned setting.now.table.now (frame_of setting.now.table.now frame.entry) (value_of value) (frames_of setting.now.table.now machine.old) (state_of machine.old input output) machine.old.left) }
-    ensures left { machine.new.left ≤ machine.old.left }
     ensures ended { machine.new.ended ≡ machine.old.ended }
     ensures inner { IfErr result IsInner }
 {
@@ -117,7 +116,6 @@ fn resume_control<'a>(
     requires group { WaitsInControl frame }
     ensures comes { (p : List Class) (input output : List ℕ) → Comes p result machine.new input output
         (returned p (frame_of p frame.entry) (value_of value) (frames_of p machine.old) (state_of machine.old input output) machine.old.left) }
-    ensures left { machine.new.left ≤ machine.old.left }
     ensures ended { machine.new.ended ≡ machine.old.ended }
     ensures inner { IfErr result IsInner }
 {
@@ -146,7 +144,6 @@ fn resume_binding<'a>(
     requires group { WaitsToBind frame }
     ensures comes { (input output : List ℕ) → Comes setting.now.table.now result machine.new input output
         (returned setting.now.table.now (frame_of setting.now.table.now frame.entry) (value_of value) (frames_of setting.now.table.now machine.old) (state_of machine.old input output) machine.old.left) }
-    ensures left { machine.new.left ≡ machine.old.left }
     ensures ended { machine.new.ended ≡ machine.old.ended }
     ensures inner { IfErr result IsInner }
 {
@@ -168,7 +165,7 @@ fn resume_binding<'a>(
             machine.store.store(location, value);
             Ok(Focus::Start {
                 object,
-                location: next_location(location)?,
+                location: location_after(location, 1)?,
                 rest,
             })
         }
@@ -186,7 +183,6 @@ fn resume_operator<'a>(
     requires group { WaitsToOperate frame }
     ensures comes { (p : List Class) (input output : List ℕ) → Comes p result machine.new input output
         (returned p (frame_of p frame.entry) (value_of value) (frames_of p machine.old) (state_of machine.old input output) machine.old.left) }
-    ensures left { machine.new.left ≡ machine.old.left }
     ensures ended { machine.new.ended ≡ machine.old.ended }
     ensures inner { IfErr result IsInner }
 {
@@ -225,10 +221,9 @@ fn assign<'a>(
     value: Value,
 ) -> Result<Value, Ending>
     requires ready { IsReady setting.now.table.now setting.now.layouts.now }
-    ensures comes { (input output : List ℕ) → Keeps result machine.new input output
+    ensures comes { (input output : List ℕ) → IsResultOn result machine.new input output
         (meaning.assign (env_of setting.now.table.now scene.now) name.now (value_of value) (state_of machine.old input output) machine.old.left).outcome }
     ensures frames { machine.new.frames ≡ machine.old.frames }
-    ensures left { machine.new.left ≡ machine.old.left }
     ensures ended { machine.new.ended ≡ machine.old.ended }
     ensures inner { IfErr result IsInner }
 {
@@ -248,7 +243,6 @@ pub(crate) fn first<'a>(
     requires ready { IsReady setting.now.table.now setting.now.layouts.now }
     ensures comes { (input output : List ℕ) → Comes setting.now.table.now result machine.new input output
         (steps.begin_new setting.now.table.now (class_named setting.now.table.now main.now) (Receiver nowhere None method.now [] ∷ frames_of setting.now.table.now machine.old) (state_of machine.old input output) machine.old.left) }
-    ensures left { machine.new.left ≤ machine.old.left }
     ensures ended { machine.new.ended ≡ machine.old.ended }
     ensures inner { IfErr result IsInner }
 {
@@ -267,7 +261,7 @@ pub(crate) fn first<'a>(
 }
 
 /// One step. `Ok(None)` comes where the value of the whole was returned.
-#[tactic(auto, using(crate::proofs::QuietSteps::quiet_counts, crate::proofs::QuietSteps::untouched))]
+#[tactic(auto, using(crate::proofs::QuietSteps::quiet_counts, crate::proofs::QuietSteps::quiet_faults, crate::proofs::QuietSteps::untouched))]
 pub(crate) fn step<'a, S: Source, K: Sink>(
     setting: &Setting<'a>,
     machine: &mut Machine<'a>,
@@ -276,10 +270,10 @@ pub(crate) fn step<'a, S: Source, K: Sink>(
     sink: &mut K,
 ) -> Result<Option<Focus<'a>>, Ending>
     requires ready { IsReady setting.now.table.now setting.now.layouts.now }
-    ensures reaches { OnDevices machine.old.ended (S.past source.old) (S.past source.new) (K.held sink.old) (λ first output input rest. Steps setting.now.table.now result machine.new first output rest (K.held sink.new)
+    ensures reaches { OnDevices machine.old.ended (S.past source.old) (S.past source.new) (K.held sink.old) (λ first output input rest. Steps setting.now.table.now result machine.new first output input rest (K.held sink.new)
         (steps.step setting.now.table.now (focus_of setting.now.table.now focus.entry) (frames_of setting.now.table.now machine.old) (state_of machine.old input output) machine.old.left)) }
     ensures took { Took machine.old.ended machine.new.ended (S.past source.old) (S.past source.new) (S.left source.old) (S.left source.new) }
-    ensures left { machine.new.left ≤ machine.old.left }
+    ensures spent { FaultsInCalls result machine.old.left machine.new.left }
     ensures counts { Counted result (S.faults source.old) (S.faults source.new) (K.faults sink.old) (K.faults sink.new) }
 {
     match focus {

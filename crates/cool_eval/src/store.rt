@@ -99,7 +99,7 @@ impl Store {
         let mut location = first;
         for _ in 0..count {
             add(&mut values, self.load(location)?)?;
-            location = next_location(location)?;
+            location = location_after(location, 1)?;
         }
         Ok(values)
     }
@@ -132,13 +132,13 @@ impl Store {
     }
 }
 
-/// The location after one. `Memory` comes where locations run out.
-pub(crate) fn next_location(location: usize) -> Result<usize, Ending>
-    ensures next { IfOk result (λ next. next ≡ location + 1) }
+/// The location so many after one. `Memory` comes where locations run out.
+pub(crate) fn location_after(location: usize, count: usize) -> Result<usize, Ending>
+    ensures after { IfOk result (λ after. after ≡ location + count) }
     ensures memory { IfErr result (λ e. e ≡ Ending.Memory) }
 {
-    match location.checked_add(1) {
-        Some(next) => Ok(next),
+    match location.checked_add(count) {
+        Some(after) => Ok(after),
         None => Err(Ending::Memory),
     }
 }

@@ -1,7 +1,7 @@
 use Rattle.std.proofs.Common.{◌≡◌, false, refl, ◌∙◌, arith}
 use Rattle.std.specs.Prelude.{◌==◌}
 use Rattle.cool_ports.proofs.InputsInParts.{took_nothing, took_both, in_two, leaves_none, leaves_same}
-use Rattle.cool_eval.proofs.TakingLines.{line_begun, line_more, line_newline, line_end, line_failed, still_ended}
+use Rattle.cool_eval.proofs.TakingLines.{line_begun, line_more, line_newline, line_end, line_failed, line_short, still_ended}
 use Rattle.cool_eval.proofs.console.take_line.Goals as goal
 
 pub loop-line-init : goal.loop-line-init
@@ -58,3 +58,12 @@ loop-line-preserved g c =
           rw c.in-Ok.ensures.items (line_more _ _ _ _ _ _ _ (i.line input two.middle two.before ended) (gave two.middle rest two.later) other);
       no_fault = c.in-Ok-Some.ensures.no_fault ∙ i.no_fault;
     }
+
+pub returns-in-Err-push-clause-line : goal.returns-in-Err-push-clause-line
+returns-in-Err-push-clause-line g c =
+    let i = c.loop-line.invariant in
+    let gave = rw (i.ended, c.in-Ok-Some.field-0-is) at c.in-Ok-Some.ensures.gave in
+    let other : (c.in-Ok-Some.byte == 10) ≡ false = grind (arith, c.if-byte-eq10.false) in
+    λ input rest leaves ended.
+    let two = in_two _ _ _ _ _ _ _ _ _ input rest i.took c.in-Ok-Some.ensures.took leaves in
+    line_short _ _ _ _ _ _ _ (i.line input two.middle two.before ended) (gave two.middle rest two.later) other

@@ -1,4 +1,4 @@
-use Rattle.std.proofs.Common.{◌≡◌, ◌≤◌, ℕ, List, false}
+use Rattle.std.proofs.Common.{◌≡◌, ℕ, List, false}
 use Rattle.cool_ports.specs.Answers.{Leaves}
 use Rattle.cool_ports.specs.Taking.{Took}
 use Rattle.cool_eval.proofs.RunSoFar.{SoFar}
@@ -11,7 +11,6 @@ invariant-loop g l =
     let k = g.K.Sink in
     record {
       took : Took false l.machine.ended (s.past l.fn.source) (s.past l.source) (s.left l.fn.source) (s.left l.source);
-      left : l.machine.left ≤ l.fn.steps;
       so_far : (input middle : List ℕ) → Leaves (s.past l.fn.source) (s.past l.source) input middle → SoFar l.fn.setting.table.now l.fn.steps (k.held l.fn.sink) input l.focus l.machine middle (k.held l.sink);
       source : s.faults l.source ≡ s.faults l.fn.source;
       sink : k.faults l.sink ≡ k.faults l.fn.sink;

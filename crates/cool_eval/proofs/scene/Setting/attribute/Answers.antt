@@ -37,7 +37,7 @@ loop-index-preserved c =
     let there : slice_get rs k ≡ Some a = slice_get_read rs (length rs) k a refl within c.in-Some.ensures.lookup.1 in
     let other : bytes_eq (attribute_name p a) name ≡ false = search rules in
     c.loop-index.invariant ∙ attribute_further p rs k c.loop-index.location o.count a name low there other
-    ∙ ap (λ (l : ℕ). location_of (located_from p (drop (k + 1) rs) l (o.count - (k + 1))) name) (sym c.in_ok-location.ensures.next)
+    ∙ ap (λ (l : ℕ). location_of (located_from p (drop (k + 1) rs) l (o.count - (k + 1))) name) (sym c.in_ok-location.ensures.after)
 
 pub returns-clause-location : goal.returns-clause-location
 returns-clause-location c =
