@@ -1,6 +1,7 @@
 pub mod AllItems
 pub mod DefinitionsOfTrees
 pub mod EarlyRefusals
+pub mod EarlyVerdicts
 pub mod FindingsInARow
 pub mod LexicalFaults
 pub mod OneOrder

@@ -63,22 +63,35 @@ no_syntactic file files (t ∷ ts) faults trees (verdict.bad f bytes rest fs tok
     let same : trees.0.tokens ≡ tokens = one_cutting file bytes trees.0.tokens tokens trees.0.lexes lexes in
     absurd (file_or_fault tokens (end_of file bytes) fault.at t.classes (subst (λ (us : List Token). Parses us t.classes) same trees.0.parses) stops)
 
+-- the faults of typing of trees are these, in some order
+abbrev pub AreOfTyping : List FileTree → List Fault → Type 0
+AreOfTyping ts faults = IsPermutation (map Typing (typing_faults (classes_meant (definitions ts)))) faults
+
+-- where no phase before typing finds a fault, none has any, if typing has none
+pub nothing_but_typing : (files : List (List ℕ)) (faults : List Fault) (ts : List FileTree) → AreTrees 0 files ts → HasClassPhase (definitions ts) []
+    → feature_phase (definitions ts) ≡ [] → ((us : List FileTree) → AreTrees 0 files us → AreOfTyping us faults → faults ≡ [])
+    → IsPhase files faults → faults ≡ []
+nothing_but_typing files faults ts are classes features typing (of_lexer h) = no_lexical 0 files ts faults are h
+nothing_but_typing files faults ts are classes features typing (of_parser h) = no_syntactic 0 files ts faults are h
+nothing_but_typing files faults ts are classes features typing (of_classes us fs trees phase moved) =
+    let same = one_trees 0 files ts us are trees in
+    let none : fs ≡ [] = no_phase (definitions us) fs (subst (λ (vs : List FileTree). HasClassPhase (definitions vs) []) same classes) phase in
+    none_moved faults (subst (λ (xs : List ClassFault). IsPermutation (map OfClasses xs) faults) none moved)
+nothing_but_typing files faults ts are classes features typing (of_features us trees phase moved) =
+    let same = one_trees 0 files ts us are trees in
+    let none : feature_phase (definitions us) ≡ [] = subst (λ (vs : List FileTree). feature_phase (definitions vs) ≡ []) same features in
+    none_moved faults (subst (λ (xs : List ClassFault). IsPermutation (map OfClasses xs) faults) none moved)
+nothing_but_typing files faults ts are classes features typing (of_typing us trees phase other moved) = typing us trees moved
+
 -- where no phase finds a fault, no phase has any
 nothing_found : (files : List (List ℕ)) (faults : List Fault) → AreFaultless files → IsPhase files faults → faults ≡ []
-nothing_found files faults a (of_lexer h) = no_lexical 0 files a.trees faults a.are_trees h
-nothing_found files faults a (of_parser h) = no_syntactic 0 files a.trees faults a.are_trees h
-nothing_found files faults a (of_classes ts fs trees phase moved) =
-    let same = one_trees 0 files a.trees ts a.are_trees trees in
-    let none : fs ≡ [] = no_phase (definitions ts) fs (subst (λ (us : List FileTree). HasClassPhase (definitions us) []) same a.classes) phase in
-    none_moved faults (subst (λ (xs : List ClassFault). IsPermutation (map OfClasses xs) faults) none moved)
-nothing_found files faults a (of_features ts trees phase moved) =
-    let same = one_trees 0 files a.trees ts a.are_trees trees in
-    let none : feature_phase (definitions ts) ≡ [] = subst (λ (us : List FileTree). feature_phase (definitions us) ≡ []) same a.features in
-    none_moved faults (subst (λ (xs : List ClassFault). IsPermutation (map OfClasses xs) faults) none moved)
-nothing_found files faults a (of_typing ts trees phase features moved) =
-    let same = one_trees 0 files a.trees ts a.are_trees trees in
-    let none : typing_faults (classes_meant (definitions ts)) ≡ [] = subst (λ (us : List FileTree). typing_faults (classes_meant (definitions us)) ≡ []) same a.typing in
-    none_moved faults (subst (λ (xs : List TypeFault). IsPermutation (map Typing xs) faults) none moved)
+nothing_found files faults a = nothing_but_typing files faults a.trees a.are_trees a.classes a.features none
+  where
+    none : (us : List FileTree) → AreTrees 0 files us → AreOfTyping us faults → faults ≡ []
+    none us trees moved =
+        let same = one_trees 0 files a.trees us a.are_trees trees in
+        let clear : typing_faults (classes_meant (definitions us)) ≡ [] = subst (λ (vs : List FileTree). typing_faults (classes_meant (definitions vs)) ≡ []) same a.typing in
+        none_moved faults (subst (λ (xs : List TypeFault). IsPermutation (map Typing xs) faults) clear moved)
 
 -- files are one program at most
 pub one_program : (files : List (List ℕ)) (p q : List Class) → IsAccepted files p → IsAccepted files q → p ≡ q

@@ -22,17 +22,17 @@ use Rattle.cool_faults.specs.Verdicts.{AreTrees, IsPhase, of_lexer, of_parser, o
 use Rattle.cool_faults.proofs.OneVerdict.{one_trees, no_lexical, no_syntactic}
 
 -- a list has its first item, and what its rest has
-has_first : {X : Type 0} (x : X) (xs : List X) → Contains (x ∷ xs) x
+pub has_first : {X : Type 0} (x : X) (xs : List X) → Contains (x ∷ xs) x
 has_first x xs = (zero, omega arith, refl)
 
 has_rest : {X : Type 0} (x y : X) (xs : List X) → Contains xs y → Contains (x ∷ xs) y
 has_rest x y xs (i, less, e) = (suc i, omega arith, e)
 
-first_or_rest : {X : Type 0} (x y : X) (xs : List X) → Contains (x ∷ xs) y → (x ≡ y) ⊎ Contains xs y
+pub first_or_rest : {X : Type 0} (x y : X) (xs : List X) → Contains (x ∷ xs) y → (x ≡ y) ⊎ Contains xs y
 first_or_rest x y xs (zero, less, e) = inl e
 first_or_rest x y xs (suc i, less, e) = inr (i, omega arith, e)
 
-has_nothing : {X : Type 0} (x : X) → Contains [] x → ⊥
+pub has_nothing : {X : Type 0} (x : X) → Contains [] x → ⊥
 has_nothing x (i, less, e) = omega arith
 
 -- the fault of classes or features that a fault of files is, where it is one

@@ -10,6 +10,8 @@ use Rattle.cool_classes.specs.ClassRows.{IsClassFault, IsTableFault}
 use Rattle.cool_classes.specs.Definitions.{definitions}
 use Rattle.cool_faults.specs.declared.fault.Fault.{Fault}
 use Rattle.cool_faults.specs.declared.fault.Fault.TheVariants.{Class as OfClasses}
+use Rattle.cool_faults.specs.declared.fault.Untyped.{Untyped}
+use Rattle.cool_faults.specs.Untyped.{IsRefusedEarly, IsUntyped}
 use Rattle.cool_faults.specs.Verdicts.{AreTrees, IsAccepted, IsFaultList, IsRefused}
 
 -- files have one fault list
@@ -23,6 +25,10 @@ AreOneProgram = (files : List (List ℕ)) (p q : List Class) → IsAccepted file
 -- no files are both a program and refused
 abbrev pub AreNeverBoth : Type 0
 AreNeverBoth = (files : List (List ℕ)) (p : List Class) (faults : List Fault) → IsAccepted files p → IsRefused files faults → ⊥
+
+-- no files are both faultless before typing and refused by a phase before it
+abbrev pub AreNeverBothUntyped : Type 0
+AreNeverBothUntyped = (files : List (List ℕ)) (u : Untyped) (faults : List Fault) → IsUntyped files u → IsRefusedEarly files faults → ⊥
 
 -- The faults of classes and features among these are those of the rows: each is one of a row, each row of classes that holds is among
 -- them, and so is each row of features where no row of classes holds.

@@ -1,10 +1,9 @@
 -- What files are before typing: their tokens, their trees and the table of their classes, or the faults of the first phase before typing
 -- that finds any.
-use Rattle.std.specs.Prelude.{◌≡◌, ℕ, List, [], ◌∷◌}
+use Rattle.std.specs.Prelude.{◌≡◌, ℕ, List, []}
 use Rattle.std.specs.List.{AllByRecursion}
 use Rattle.cool_syntax.specs.declared.TheConstants.{MOST_FILES}
 use Rattle.cool_syntax.specs.declared.file_tree.FileTree.{FileTree}
-use Rattle.cool_lexer.specs.declared.lexer.Lexed.{Lexed}
 use Rattle.cool_classes.specs.ClassFaults.{classes_meant, feature_phase, HasClassPhase}
 use Rattle.cool_classes.specs.Definitions.{definitions, IsTableOf}
 use Rattle.cool_classes.specs.Tables.{IsTable}

@@ -1,6 +1,6 @@
 -- What is known merely of a base, that files came to be typed so, is known: files have one cutting and one tree at most, and the rest are
 -- facts with one proof at most.
-use Rattle.std.proofs.Common.{◌≡◌, refl, sym, ap, ◌∙◌, subst, arith, inl, inr, ℕ, ◌+◌, ◌≤◌, List, [], ◌∷◌, ◌++◌, length, Contains, Option}
+use Rattle.std.proofs.Common.{◌≡◌, refl, ap, subst, arith, inl, inr, ℕ, ◌+◌, ◌≤◌, List, [], ◌∷◌, ◌++◌, length, Contains, Option}
 use Rattle.std.specs.List.{AllByRecursion}
 use Rattle.std.proofs.Math.Logic.{∥∥₁_elim, ∥∥₁_map}
 use Rattle.std.proofs.Props.{props}
@@ -21,7 +21,7 @@ use Rattle.cool_lexer.specs.Laws.{HasReading}
 use Rattle.cool_lexer.proofs.AlwaysOneReading.{always_one}
 use Rattle.cool_lexer.proofs.OneReading.{never_both, one_cutting}
 use Rattle.cool_parser.specs.Laws.{HasTree}
-use Rattle.cool_parser.proofs.ParsingIsTheGrammar.{file_or_fault, file_or_first, one_tree}
+use Rattle.cool_parser.proofs.ParsingIsTheGrammar.{file_or_fault, file_or_first}
 use Rattle.cool_classes.specs.Chains.{Class}
 use Rattle.cool_classes.specs.ClassFaults.{AreOnCycles, classes_meant, class_phase, feature_phase, HasClassPhase, names_faults, parents_faults}
 use Rattle.cool_classes.specs.Declarations.{AllDeclareSame, AreAlike, AreAllAlike, DeclareSame}
@@ -30,14 +30,17 @@ use Rattle.cool_classes.specs.Settled.{basic_names, names_with_basic}
 use Rattle.cool_check.specs.FirstFaults.{Checked}
 use Rattle.cool_faults.specs.declared.fault.Untyped.{Untyped}
 use Rattle.cool_faults.specs.Phases.{AreFound, none, good, IsLexed, IsLexical}
+use Rattle.cool_faults.specs.Verdicts.{AreTrees}
 use Rattle.cool_faults.proofs.FindingsInARow.{AllFound, all_found}
+use Rattle.cool_faults.proofs.OneVerdict.{one_trees}
 use Rattle.cool_session.specs.declared.base.KeptFault.{KeptFault}
 use Rattle.cool_session.specs.Bases.{table_signatures, tokens_of}
 use Rattle.cool_session.specs.FeatureTokens.{runs_of}
-use Rattle.cool_session.specs.KeptChecks.{AreTreesOf, IsBaseOf, IsRead, IsTreeOf, results_of}
+use Rattle.cool_session.specs.KeptChecks.{IsBaseOf, IsRead, results_of}
 use Rattle.cool_session.specs.KeptFaults.{AreKeptOf}
 use Rattle.cool_session.specs.Signatures.{signatures}
 use Rattle.cool_session.proofs.KeptOnce.{kept_prop}
+use Rattle.cool_session.proofs.TreesOfTokens.{AreTreesOf, trees_found, trees_lexed}
 
 -- what is known merely leads to nothing where it leads to a contradiction
 never : {A : Type 0} → ∥ A ∥₁ → (A → ⊥) → ⊥
@@ -163,23 +166,6 @@ trees_again file (l ∷ ls) h = by (file_or_first l.tokens.items l.end) (trees_a
     by (inl (classes, parses)) (ts, more) = (record { file = file; classes = classes } ∷ ts, (record { number = refl; whole = parses }, more))
     by (inr (at, fault)) rest = absurd (never h (refused at fault))
 
--- tokens are one tree at most
-one_tree_of : (file : ℕ) (l : Lexed) (t u : FileTree) → IsTreeOf file l t → IsTreeOf file l u → t ≡ u
-one_tree_of file l t u a b =
-    let number = a.number ∙ sym b.number in
-    let classes = one_tree l.tokens.items t.classes u.classes a.whole b.whole in
-    λ i. record { file = number i; classes = classes i }
-
-pub one_trees_of : (file : ℕ) (ls : List Lexed) (ts us : List FileTree) → AreTreesOf file ls ts → AreTreesOf file ls us → ts ≡ us
-one_trees_of file [] [] [] a b = refl
-one_trees_of file [] [] (u ∷ us) a b = absurd b
-one_trees_of file [] (t ∷ ts) us a b = absurd a
-one_trees_of file (l ∷ ls) [] us a b = absurd a
-one_trees_of file (l ∷ ls) (t ∷ ts) [] a b = absurd b
-one_trees_of file (l ∷ ls) (t ∷ ts) (u ∷ us) a b =
-    let first = one_tree_of file l t u a.0 b.0 in
-    let rest = one_trees_of (file + 1) ls ts us a.1 b.1 in λ i. first i ∷ rest i
-
 -- Definitions with no fault
 
 right_nil : {X : Type 0} (xs ys : List X) → [] ≡ xs ++ ys → [] ≡ ys
@@ -209,17 +195,26 @@ phase_again ds h = (
 -- Bases
 
 module _ (files : List (List ℕ)) (ls : List Lexed) (p : List Class) (h : ∥ IsRead files ls p ∥₁) where
+  lexed : AreFound IsLexed IsLexical 0 files ls []
+  lexed = files_again 0 files ls (∥∥₁_map h (λ (b : IsRead files ls p). all_found IsLexed IsLexical b.lexed refl))
+
+  cut : AllFound IsLexed 0 files ls
+  cut = all_found IsLexed IsLexical lexed refl
+
   found : HaveTrees 0 ls
-  found = trees_again 0 ls (∥∥₁_map h (λ (b : IsRead files ls p). (b.trees, b.parsed)))
+  found = trees_again 0 ls (∥∥₁_map h (λ (b : IsRead files ls p). (b.trees, trees_lexed 0 files ls b.trees cut b.are_trees)))
+
+  are : AreTrees 0 files found.0
+  are = trees_found 0 files ls found.0 cut found.1
 
   same : (b : IsRead files ls p) → b.trees ≡ found.0
-  same b = one_trees_of 0 ls b.trees found.0 b.parsed found.1
+  same b = one_trees 0 files b.trees found.0 b.are_trees are
 
   pub read_again : IsRead files ls p
   read_again = record {
-    lexed = files_again 0 files ls (∥∥₁_map h (λ (b : IsRead files ls p). all_found IsLexed IsLexical b.lexed refl));
+    lexed = lexed;
     trees = found.0;
-    parsed = found.1;
+    are_trees = are;
     classes =
         phase_again (definitions found.0)
         (∥∥₁_map h (λ (b : IsRead files ls p). subst (λ (ts : List FileTree). HasClassPhase (definitions ts) []) (same b) b.classes));
@@ -244,5 +239,5 @@ base_again files u kept h =
           ∥∥₁_elim h (all_kept_prop (runs_of (tokens_of ls)) (results_of read.trees) kept)
           (λ (b : IsBaseOf files u kept).
           subst (λ (ts : List FileTree). AreKeptOf (runs_of (tokens_of ls)) (results_of ts) kept)
-          (one_trees_of 0 ls b.read.trees read.trees b.read.parsed read.parsed) b.kept);
+          (one_trees 0 files b.read.trees read.trees b.read.are_trees read.are_trees) b.kept);
     }

@@ -25,7 +25,7 @@ use Rattle.cool_faults.specs.declared.fault.Fault.TheVariants.{Typing}
 use Rattle.cool_faults.specs.declared.fault.Untyped.{Untyped}
 use Rattle.cool_faults.specs.Files.{total}
 use Rattle.cool_faults.specs.Phases.{AreFound, IsLexed, IsLexical}
-use Rattle.cool_faults.specs.Verdicts.{AreTrees, IsFaultList, faultless, faulty, of_typing}
+use Rattle.cool_faults.specs.Verdicts.{IsFaultList, faultless, faulty, of_typing}
 use Rattle.cool_faults.proofs.FindingsInARow.{all_found}
 use Rattle.cool_faults.proofs.OneVerdict.{one_trees}
 use Rattle.cool_faults.proofs.OrderOfFaults.{typing_in_order}
@@ -44,7 +44,7 @@ use Rattle.cool_session.proofs.FeaturesKept.{base_as_many}
 use Rattle.cool_session.proofs.NewFeaturesCounted.{differ, differ_by}
 use Rattle.cool_session.proofs.ReadFiles.{views_read}
 use Rattle.cool_session.proofs.TablesOfSignatures.{class_same, views_same}
-use Rattle.cool_session.proofs.TypedFiles.{are_typed, trees_are}
+use Rattle.cool_session.proofs.TypedFiles.{are_typed}
 
 -- Files are few, and so are their tokens
 
@@ -222,21 +222,18 @@ listed files ls p h kept faults are f = subst (IsFaultList files) (sym f.is) (by
     meant : typing_faults (classes_meant (definitions h.trees)) ≡ faults_kept (runs_of (tokens_of ls)) kept
     meant = typing_faults_kept (classes_meant (definitions h.trees)) (runs_of (tokens_of ls)) kept are
 
-    trees : AreTrees 0 files h.trees
-    trees = trees_are files ls p h
-
     by : (types : List TypeFault) → IsPermutation (faults_kept (runs_of (tokens_of ls)) kept) types → AreInOrder standing_of types
         → IsFaultList files (map Typing types)
     by [] moved order = faultless (record {
       trees = h.trees;
-      are_trees = trees;
+      are_trees = h.are_trees;
       classes = h.classes;
       features = h.features;
       typing = meant ∙ none_left (faults_kept (runs_of (tokens_of ls)) kept) moved;
     })
     by (t ∷ types) moved order =
         faulty (map Typing (t ∷ types)) (λ e. absurd (omega (arith, ap length e)))
-        (of_typing h.trees trees h.classes h.features
+        (of_typing h.trees h.are_trees h.classes h.features
         (subst (λ (fs : List TypeFault). IsPermutation (map Typing fs) (map Typing (t ∷ types))) (sym meant)
         (IsPermutation-map Typing (faults_kept (runs_of (tokens_of ls)) kept) (t ∷ types) moved)))
         (typing_in_order (t ∷ types) order)

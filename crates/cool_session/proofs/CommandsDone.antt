@@ -1,21 +1,17 @@
 -- What comes of one command: it is done, or ends the session, or is cut short.
-use Rattle.std.proofs.Common.{◌≡◌, ◌⊎◌, inl, inr, ℕ, ◌<◌, Bool, true, false, List, [], ◌∷◌, ◌++◌, length, map, refl, sym, ◌∙◌, ap, subst, arith}
+use Rattle.std.proofs.Common.{◌≡◌, ◌⊎◌, inl, inr, ℕ, zero, suc, ◌<◌, ◌≤◌, true, false, List, [], ◌∷◌, ◌++◌, length, map, refl, sym, ◌∙◌, ap, subst, arith}
 use Rattle.std.specs.Prelude.{◌≢◌, ◌==◌, Option, Some, None, option_map, Result, Ok, Err, OnOk}
 use Rattle.std.specs.Result.{is_err}
-use Rattle.std.specs.List.{concat}
-use Rattle.std.specs.Global.{Vec}
 use Rattle.cool_faults.specs.declared.fault.Fault.{Fault}
 use Rattle.cool_faults.specs.Verdicts.{IsFaultList}
-use Rattle.cool_ports.specs.SinkBytes.{appended, GotPrefix}
-use Rattle.cool_ports.proofs.GettingBytes.{appended-nil}
+use Rattle.cool_ports.proofs.GettingBytes.{appended-nil, got_none}
 use Rattle.cool_session.specs.declared.command.Command as declared
-use Rattle.cool_session.specs.declared.ending.Ending.{Ending}
 use Rattle.cool_session.specs.declared.ending.Ending.TheVariants.{Over, BadCommand, EndsInFile, TooLarge}
 use Rattle.cool_session.specs.declared.ending.Interruption.{Interruption}
 use Rattle.cool_session.specs.declared.ending.Interruption.TheVariants.{ReadFault, WriteFault, Memory}
 use Rattle.cool_session.specs.declared.error.SetError.{SetError}
 use Rattle.cool_session.specs.Commands.{Command, command, File, Drop, Check, Quit}
-use Rattle.cool_session.specs.Exchanges.{Line, head, Asks, Does, sets, drops, checks, EndsAt, quits, no_command, no_file, cut, large, Begins, a_file}
+use Rattle.cool_session.specs.Exchanges.{Line, head, Asks, Does, sets, drops, checks, quits, no_command, no_file, cut, large, Begins, a_file}
 use Rattle.cool_session.specs.Fresh.{Base, Types}
 use Rattle.cool_session.specs.Held.{Held, with_file, without_file, with_base, HasRoom}
 use Rattle.cool_session.specs.Obeying.{TookFile, PutLines, Obeyed, command_of}
@@ -35,6 +31,17 @@ pub some_room : (answer room : Result (Unit {0}) SetError) → answer ≡ room �
 some_room (Ok u) room e h = sym e
 some_room (Err x) room e h = absurd cc
 
+-- at most so many are fewer, or so many
+less_or_equal : (n m : ℕ) → n ≤ m → (n < m) ⊎ (n ≡ m)
+less_or_equal zero zero most = inr refl
+less_or_equal zero (suc m) most = inl (omega arith)
+less_or_equal (suc n) zero most = absurd (omega (arith, most))
+less_or_equal (suc n) (suc m) most = later (less_or_equal n m (omega (arith, most)))
+  where
+    later : (n < m) ⊎ (n ≡ m) → (suc n < suc m) ⊎ (suc n ≡ suc m)
+    later (inl less) = inl (omega (arith, less))
+    later (inr same) = inr (ap suc same)
+
 module _ (number : ℕ) (h : Held) (input : List ℕ) where
   -- no lines leave a sink as it is
   quiet : (h' : Held) (left : List ℕ) (held : Option (List ℕ)) → Does h input [] h' left → Obeyed number h input (Ok None) h' left held held
@@ -53,17 +60,42 @@ module _ (number : ℕ) (h : Held) (input : List ℕ) where
       → Obeyed number h input (Ok None) h' left held held
   drop_command name h' left held ask is = rw is (quiet (without_file h name) left held (drops name left ask))
 
+  -- memory ran out after the line was taken
+  pub line_cut : (line : List ℕ) (h' : Held) (left : List ℕ) (held : Option (List ℕ)) → head input ≡ Line line left
+      → Obeyed number h input (Err Memory) h' left held held
+  line_cut line h' left held taken = inr (inr (line, taken, refl))
+
   module _ (name : List ℕ) (n : ℕ) (rest : List ℕ) (ask : Asks input (Some (File name n)) rest) (h' : Held) (left : List ℕ)
       (held : Option (List ℕ)) where
     pub file_too_large : (HasRoom h name n → ⊥) → left ≡ rest → Obeyed number h input (Ok (Some (TooLarge number))) h' left held held
     file_too_large full same = rw same (large name n rest ask full, refl)
 
+    part_begins : HasRoom h name n → (part : List ℕ) → rest ≡ part ++ left → length part < n → Begins h input left
+    part_begins room part is short =
+        a_file name n part (subst (λ (xs : List ℕ). Asks input (Some (File name n)) xs) is ask) room short
+
+    file_does : HasRoom h name n → (bytes : List ℕ) → length bytes ≡ n → rest ≡ bytes ++ left → Does h input [] (with_file h name bytes) left
+    file_does room bytes long is =
+        sets name bytes left
+        (subst (λ (xs : List ℕ). Asks input (Some (File name (length bytes))) xs) is
+        (subst (λ (m : ℕ). Asks input (Some (File name m)) rest) (sym long) ask))
+        (subst (λ (m : ℕ). HasRoom h name m) (sym long) room)
+
+    -- all bytes of the file were taken, and memory ran out
+    pub file_unset : HasRoom h name n → (bytes : List ℕ) → (length bytes ≡ n) × (rest ≡ bytes ++ left)
+        → Obeyed number h input (Err Memory) h' left held held
+    file_unset room bytes (long, is) =
+        inr (inl ([], with_file h name bytes, file_does room bytes long is, ([], got_none held [])))
+
+    part_unset : HasRoom h name n → (part : List ℕ) → rest ≡ part ++ left → (length part < n) ⊎ (length part ≡ n)
+        → Obeyed number h input (Err Memory) h' left held held
+    part_unset room part is (inl short) = inl (part_begins room part is short, refl)
+    part_unset room part is (inr long) = file_unset room part (long, is)
+
     pub file_cut : HasRoom h name n → (e : Interruption) → TookFile n (Err e) rest left → Obeyed number h input (Err e) h' left held held
-    file_cut room ReadFault (part, is, short) =
-        let part_asked = subst (λ (xs : List ℕ). Asks input (Some (File name n)) xs) is ask in
-        (a_file name n part part_asked room short, refl)
+    file_cut room ReadFault (part, is, short) = (part_begins room part is short, refl)
     file_cut room WriteFault k = absurd k
-    file_cut room Memory k = inl refl
+    file_cut room Memory (part, is, most) = part_unset room part is (less_or_equal (length part) n most)
 
     pub file_unended : HasRoom h name n → (length rest < n) × (left ≡ []) → Obeyed number h input (Ok (Some (EndsInFile number))) h' left held held
     file_unended room (short, none) = rw none (cut name n rest ask room short, refl)
@@ -71,12 +103,7 @@ module _ (number : ℕ) (h : Held) (input : List ℕ) where
     pub file_set : HasRoom h name n → (bytes : List ℕ) → (length bytes ≡ n) × (rest ≡ bytes ++ left) → h' ≡ with_file h name bytes
         → Obeyed number h input (Ok None) h' left held held
     file_set room bytes (long, is) set =
-        rw set
-        (quiet (with_file h name bytes) left held
-        (sets name bytes left
-        (subst (λ (xs : List ℕ). Asks input (Some (File name (length bytes))) xs) is
-        (subst (λ (m : ℕ). Asks input (Some (File name m)) rest) (sym long) ask))
-        (subst (λ (m : ℕ). HasRoom h name m) (sym long) room)))
+        rw set (quiet (with_file h name bytes) left held (file_does room bytes long is))
 
   module _ (left : List ℕ) (ask : Asks input (Some Check) left) (h' : Held) (before : Option (List ℕ)) where
     pub nothing_to_check : h.files ≡ [] → Obeyed number h input (Ok (Some (BadCommand number))) h' left before before
@@ -92,7 +119,7 @@ module _ (number : ℕ) (h : Held) (input : List ℕ) where
           → Obeyed number h input (Err e) h' left before after
       check_cut ReadFault k = absurd k
       check_cut WriteFault got = (reply_lines h.names faults typed, with_base h base, checks faults typed base left ask some list types, got)
-      check_cut Memory got = inr (reply_lines h.names faults typed, with_base h base, checks faults typed base left ask some list types, got)
+      check_cut Memory got = inr (inl (reply_lines h.names faults typed, with_base h base, checks faults typed base left ask some list types, got))
 
 -- a list of no items
 pub none_of : {X : Type 0} (xs : List X) → length xs ≡ 0 → xs ≡ []

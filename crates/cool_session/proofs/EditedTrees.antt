@@ -21,7 +21,6 @@ use Rattle.cool_faults.proofs.FindingsInARow.{AllFound}
 use Rattle.cool_session.specs.declared.runs.Run.{Run}
 use Rattle.cool_session.specs.Bases.{tokens_of}
 use Rattle.cool_session.specs.FeatureTokens.{kinds, ParsesFeature, runs_in, runs_of, features_of_all}
-use Rattle.cool_session.specs.KeptChecks.{AreTreesOf}
 use Rattle.cool_session.specs.Runs.{bounds_in, bounds_of, file_tokens}
 use Rattle.cool_session.specs.Signatures.{features_from}
 use Rattle.cool_session.proofs.AlikeInTurn.{declare_back, declare_on, declared_at, all_features, define_on}
@@ -33,6 +32,7 @@ use Rattle.cool_session.proofs.MovedFiles.{define_both, file_moved}
 use Rattle.cool_session.proofs.ReplacedFeatures.{feature_replaced, runs_replaced, bounds_of_kinds}
 use Rattle.cool_session.proofs.ReplacedTrees.{file_count, file_runs_count, file_bounds_count, file_plain_count}
 use Rattle.cool_session.proofs.RunsOfFeatures.{file_has_runs, all_joined}
+use Rattle.cool_session.proofs.TreesOfTokens.{AreTreesOf}
 use Rattle.cool_session.proofs.TypedFiles.{runs_kinds}
 
 -- Lists

@@ -20,9 +20,9 @@ use Rattle.cool_session.specs.FeatureTokens.{kinds, IsFeature, runs_of}
 use Rattle.cool_session.specs.Fresh.{Base, Differ, none, same, other, IsFresh, first, signed_anew, edited, Types, typed, untyped}
 use Rattle.cool_session.specs.Ids.{ids_in, ids_from, ids}
 use Rattle.cool_session.specs.KeptChecks.{IsRead, results_of}
-use Rattle.cool_session.specs.KeptFaults.{IsKeptOf, AreKeptOf, Member, members, member_checked, results}
+use Rattle.cool_session.specs.KeptFaults.{IsKeptOf, AreKeptOf, Member, members, member_checked}
 use Rattle.cool_session.specs.NewFeatures.{DifferBy}
-use Rattle.cool_session.specs.Signatures.{feature_signature, signatures}
+use Rattle.cool_session.specs.Signatures.{feature_signature}
 use Rattle.cool_session.proofs.ChecksAfterEdits.{member_classes_same, kept_at}
 use Rattle.cool_session.proofs.ChecksOfFiles.{one_base}
 use Rattle.cool_session.proofs.FaultsAfterEdits.{still_kept}
@@ -46,15 +46,6 @@ all_kept_at (run ∷ runs) (r ∷ rs) (k ∷ more) many as_many h = (
   h 0 (omega arith),
   all_kept_at runs rs more (omega (arith, many)) (omega (arith, as_many)) (λ i less. h (suc i) (omega (arith, less))),
 )
-
-results_many : (runs : List (List Token)) (rs : List (Checked (Unit {0}))) (more : List (Option KeptFault)) → AreKeptOf runs rs more
-    → length rs ≡ length runs
-results_many [] [] [] h = refl
-results_many (run ∷ runs) (r ∷ rs) (kept ∷ more) (h, hs) = ap suc (results_many runs rs more hs)
-results_many [] [] (kept ∷ more) h = absurd h
-results_many [] (r ∷ rs) more h = absurd h
-results_many (run ∷ runs) [] more h = absurd h
-results_many (run ∷ runs) (r ∷ rs) [] h = absurd h
 
 -- one position or another
 here_or_not : (i j : ℕ) → (i ≡ j) ⊎ (i ≢ j)
@@ -80,6 +71,13 @@ module _ (files files' : List (List ℕ)) (ls ls' : List Lexed) (p p' : List Cla
       ∙ (ap length (member_classes_same q q' meant)
       ∙ (length-map (members q) classes_of ∙ sym (length-map (members q) (member_checked q)))))
 
+  -- as many results as runs, and as many things kept
+  results_many : length (results_of h.trees) ≡ length (runs_of (tokens_of ls))
+  results_many = (many_kept (runs_of (tokens_of ls)) (results_of h.trees) kept are).0
+
+  faults_many : length kept ≡ length (runs_of (tokens_of ls))
+  faults_many = (many_kept (runs_of (tokens_of ls)) (results_of h.trees) kept are).1
+
   -- what is kept at a position whose tokens are the same
   still_at : (i : ℕ) → i < length (runs_of (tokens_of ls'))
       → kinds (get_or (runs_of (tokens_of ls')) i []) ≡ kinds (get_or (runs_of (tokens_of ls)) i [])
@@ -96,8 +94,7 @@ module _ (files files' : List (List ℕ)) (ls ls' : List Lexed) (p p' : List Cla
       let runs = runs_of (tokens_of ls) in
       let runs' = runs_of (tokens_of ls') in
       let many : length runs' ≡ length runs = sym (length-map runs' kinds) ∙ (ap length alike ∙ length-map runs kinds) in
-      all_kept_at runs' (results_of h'.trees) kept (as_many_results ∙ (results_many runs (results_of h.trees) kept are ∙ sym many))
-      (many_kept runs (results_of h.trees) kept are ∙ sym many)
+      all_kept_at runs' (results_of h'.trees) kept (as_many_results ∙ (results_many ∙ sym many)) (faults_many ∙ sym many)
       (λ i less. still_at i less (sym (seen_at runs' i) ∙ (ap (λ (ks : List (List TokenKind)). get_or ks i []) alike ∙ seen_at runs i)))
 
   abbrev runs : List (List Token)
@@ -113,8 +110,8 @@ module _ (files files' : List (List ℕ)) (ls ls' : List Lexed) (p p' : List Cla
       → AreKeptOf (runs_of (tokens_of ls')) (results_of h'.trees) (slice_set kept number fault)
   kept_edited number new fault alike here =
       all_kept_at runs' (results_of h'.trees) (slice_set kept number fault)
-      (as_many_results ∙ (results_many runs (results_of h.trees) kept are ∙ sym many))
-      (length-set kept number fault ∙ (many_kept runs (results_of h.trees) kept are ∙ sym many))
+      (as_many_results ∙ (results_many ∙ sym many))
+      (length-set kept number fault ∙ (faults_many ∙ sym many))
       (λ i less. at i less (here_or_not i number))
     where
       many : length runs' ≡ length runs
@@ -125,7 +122,7 @@ module _ (files files' : List (List ℕ)) (ls ls' : List Lexed) (p p' : List Cla
           → IsKeptOf (get_or runs' i []) (get_or (results_of h'.trees) i (Ok tt)) (get_or (slice_set kept number fault) i None)
       at i less (inl is) =
           let within : number < length kept =
-          omega (arith, less, is, many, many_kept runs (results_of h.trees) kept are) in
+          omega (arith, less, is, many, faults_many) in
           let found : get_or (slice_set kept number fault) i None ≡ fault =
           ap (λ (n : ℕ). get_or (slice_set kept number fault) n None) is ∙ get_or-set_same kept number fault None within in
           subst (λ (k : Option KeptFault). IsKeptOf (get_or runs' i []) (get_or (results_of h'.trees) i (Ok tt)) k) (sym found)

@@ -159,10 +159,13 @@ many_runs [] (x ∷ xs) h = absurd h
 many_runs (run ∷ runs) [] h = absurd h
 many_runs (run ∷ runs) (x ∷ xs) (h, hs) = ap suc (many_runs runs xs hs)
 
+-- as many results as runs, and as many things kept
 pub many_kept : (runs : List (List Token)) (rs : List (Checked (Unit {0}))) (more : List (Option KeptFault)) → AreKeptOf runs rs more
-    → length more ≡ length runs
-many_kept [] [] [] h = refl
-many_kept (run ∷ runs) (r ∷ rs) (kept ∷ more) (h, hs) = ap suc (many_kept runs rs more hs)
+    → (length rs ≡ length runs) × (length more ≡ length runs)
+many_kept [] [] [] h = (refl, refl)
+many_kept (run ∷ runs) (r ∷ rs) (kept ∷ more) (h, hs) =
+    let (results, faults) = many_kept runs rs more hs in
+    (ap suc results, ap suc faults)
 many_kept [] [] (kept ∷ more) h = absurd h
 many_kept [] (r ∷ rs) more h = absurd h
 many_kept (run ∷ runs) [] more h = absurd h
@@ -204,7 +207,7 @@ many_bounds files runs is =
 
 pub base_many : (u : Untyped) (faults : List (Option KeptFault)) → ∥ IsBase u faults ∥₁ → length faults ≡ length (runs_seen u)
 base_many u faults base =
-    ∥∥₁_elim base (hlevel props) (λ (b : IsBase u faults). many_kept (runs_seen u) (results_of b.base.read.trees) faults b.base.kept)
+    ∥∥₁_elim base (hlevel props) (λ (b : IsBase u faults). (many_kept (runs_seen u) (results_of b.base.read.trees) faults b.base.kept).1)
 
 pub base_kept : (u : Untyped) (faults : List (Option KeptFault)) (files : List (List ℕ)) (now : Untyped) → ∥ IsBase u faults ∥₁ → IsUntyped files now
     → map view now.classes ≡ map view u.classes → (i : ℕ) → i < length (runs_seen now)

@@ -17,11 +17,12 @@ use Rattle.cool_session.specs.Bases.{table_signatures, tokens_of}
 use Rattle.cool_session.specs.declared.runs.Run.{Run}
 use Rattle.cool_session.specs.Edits.{SameTokens, DifferInFeature}
 use Rattle.cool_session.specs.FeatureTokens.{kinds, ParsesFeature, runs_of, features_of_all}
-use Rattle.cool_session.specs.KeptChecks.{AreTreesOf, IsRead}
+use Rattle.cool_session.specs.KeptChecks.{IsRead}
 use Rattle.cool_session.specs.Runs.{file_tokens, run_tokens}
 use Rattle.cool_session.proofs.AlikeInTurn.{alike_back, alike_on, same_signatures}
 use Rattle.cool_session.proofs.DefinitionsKept.{AllDefineSame, alike_kept, classes_kept, features_kept, signatures_kept}
 use Rattle.cool_session.proofs.EditedTrees.{DiffersAt, EditedTrees, trees_edited, trees_moved}
+use Rattle.cool_session.proofs.TreesOfTokens.{AreTreesOf, trees_found, trees_lexed}
 
 -- an item that is there is what is got
 get_there : {X : Type 0} (xs : List X) (n : ℕ) (x d : X) → slice_get xs n ≡ Some x → get_or xs n d ≡ x
@@ -31,6 +32,10 @@ get_there (y ∷ xs) (suc n) x d is = get_there xs n x d is
 
 module _ (files files' : List (List ℕ)) (ls ls' : List Lexed) (p : List Class) (h : IsRead files ls p)
     (lexed : AreFound IsLexed IsLexical 0 files' ls' []) where
+  -- the trees before, by their tokens
+  parsed_before : AreTreesOf 0 ls h.trees
+  parsed_before = trees_lexed 0 files ls h.trees (all_found IsLexed IsLexical h.lexed refl) h.are_trees
+
   -- trees that define the same are read over each table alike the one before
   read_by : (trees : List FileTree) → AreTreesOf 0 ls' trees → AllDefineSame (definitions h.trees) (definitions trees) → (p' : List Class)
       → AreAllAlike (classes_meant (definitions h.trees)) p' → table_signatures p' ≡ table_signatures p → IsRead files' ls' p'
@@ -40,7 +45,7 @@ module _ (files files' : List (List ℕ)) (ls ls' : List Lexed) (p : List Class)
       record {
         lexed = lexed;
         trees = trees;
-        parsed = parsed;
+        are_trees = trees_found 0 files' ls' trees (all_found IsLexed IsLexical lexed refl) parsed;
         classes = classes_kept ds es same h.classes;
         features = features_kept ds es same h.features;
         alike = alike_on (classes_meant es) (classes_meant ds) p'
@@ -51,7 +56,7 @@ module _ (files files' : List (List ℕ)) (ls ls' : List Lexed) (p : List Class)
   -- files that differ in places alone
   pub read_moved : SameTokens ls ls' → IsRead files' ls' p
   read_moved same =
-      let moved = trees_moved 0 files ls ls' h.trees (all_found IsLexed IsLexical h.lexed refl) h.parsed same in
+      let moved = trees_moved 0 files ls ls' h.trees (all_found IsLexed IsLexical h.lexed refl) parsed_before same in
       read_by moved.now moved.parsed moved.same p h.alike refl
 
   -- files that differ in one feature
@@ -80,7 +85,7 @@ module _ (files files' : List (List ℕ)) (ls ls' : List Lexed) (p : List Class)
 
     edited : EditedTrees 0 ls ls' h.trees number (run_tokens ls' run) x
     edited =
-        trees_edited 0 files ls ls' h.trees (all_found IsLexed IsLexical h.lexed refl) h.parsed differ.many number differ.old run
+        trees_edited 0 files ls ls' h.trees (all_found IsLexed IsLexical h.lexed refl) parsed_before differ.many number differ.old run
         differ.there (run_tokens ls' run) differs x feature
 
     -- the feature that was there

@@ -17,7 +17,7 @@ abbrev Among : List Lexed → List (Option KeptFault) → Type 0
 Among ls kept = (rs : List (Checked (Unit {0}))) × AreKeptOf (runs_of (tokens_of ls)) rs kept
 
 pub many_among : (ls : List Lexed) (kept : List (Option KeptFault)) → AreKeptAmong ls kept → length kept ≡ length (runs_of (tokens_of ls))
-many_among ls kept h = ∥∥₁_elim h (hlevel props) (λ (a : Among ls kept). many_kept (runs_of (tokens_of ls)) a.0 kept a.1)
+many_among ls kept h = ∥∥₁_elim h (hlevel props) (λ (a : Among ls kept). (many_kept (runs_of (tokens_of ls)) a.0 kept a.1).1)
 
 pub within_among : (ls : List Lexed) (kept : List (Option KeptFault)) → AreKeptAmong ls kept → (i : ℕ) (d : Option KeptFault) (fault : KeptFault)
     → i < length kept → get_or kept i d ≡ Some fault → fault.token < length (get_or (runs_of (tokens_of ls)) i [])

@@ -1,5 +1,5 @@
 -- An input has one session: its replies, its end, and what it leaves.
-use Rattle.std.proofs.Common.{◌≡◌, ◌≢◌, ◌⊎◌, inl, inr, ℕ, zero, suc, ◌+◌, ◌<◌, ◌≤◌, Bool, true, false, List, [], ◌∷◌, ◌++◌, length, map, take, drop, replicate, length-append, append-nil, append_assoc, refl, sym, ◌∙◌, ap, subst, arith}
+use Rattle.std.proofs.Common.{◌≡◌, ◌≢◌, ◌⊎◌, inl, inr, ℕ, suc, ◌+◌, ◌<◌, ◌≤◌, Bool, true, false, List, [], ◌∷◌, ◌++◌, length, map, take, drop, replicate, length-append, append-nil, append_assoc, refl, sym, ◌∙◌, ap, subst, arith}
 use Rattle.std.specs.Prelude.{nat_lt, if◌then◌else◌, Option, Some, None, Result, Ok, Err}
 use Rattle.std.proofs.Math.Seq.{drop-append_seam}
 use Rattle.std.proofs.Math.Seq.{take-append_seam}
@@ -19,7 +19,7 @@ use Rattle.cool_session.specs.Exchanges.{Head, Line, NoLine, head, Asks, Does, s
 use Rattle.cool_session.specs.Files.{set_room}
 use Rattle.cool_session.specs.Fresh.{Base, HaveFeatures, AreTyped, Differ, IsFresh, Types}
 use Rattle.cool_session.specs.Fresh as fresh
-use Rattle.cool_session.specs.Held.{Held, with_file, without_file, with_base, HasRoom}
+use Rattle.cool_session.specs.Held.{Held, with_file, without_file, with_base}
 use Rattle.cool_session.specs.Replies.{reply_lines}
 use Rattle.cool_session.specs.Signatures.{ClassSignature, features_in, signatures}
 

@@ -14,6 +14,9 @@ use Rattle.cool_syntax.specs.Grammar.{Parses}
 use Rattle.cool_syntax.specs.PlainTrees.{plain_class, plain_feature, plain_features, plain_file}
 use Rattle.cool_syntax.specs.Readings.{features_reading, file_reading, heading_reading, parent_reading, symbol, type, word}
 use Rattle.cool_syntax.specs.Shapes.{AreShapedFeatures, IsShapedFile}
+use Rattle.cool_parser.specs.declared.fault.ParseError.{ParseError}
+use Rattle.cool_parser.specs.declared.fault.ParseError.TheVariants.{Fault, Memory}
+use Rattle.cool_parser.specs.declared.fault.ParseFault.{ParseFault}
 use Rattle.cool_session.specs.FeatureTokens.{ParsesFeature}
 use Rattle.cool_session.specs.OneFeature.{class_of_one, HaveOnly, nowhere}
 
@@ -92,3 +95,32 @@ pub only_found : (tokens : List Token) (classes : List ClassDef) (o : Option Fea
     → IfSome o (ParsesFeature tokens)
 only_found tokens classes None parses only = tt
 only_found tokens classes (Some x) parses only = only_feature tokens x classes parses only
+
+-- the tokens of a feature, between the head of a class and its end, are a class of this feature
+class_read : (tokens : List Token) (x : Feature) → ParsesFeature tokens x
+    → (d : ClassDef) × Parses (class_of_one tokens) (d ∷ []) × (d.features ≡ x ∷ [])
+class_read tokens x p =
+    let heading : Heading = record { mark = nowhere; name = []; at = nowhere; parent = NoParent; lbrace = nowhere } in
+    let fs : Features = Another NoFeature p.feature in (
+      plain_class heading fs,
+      (Class NoClass heading fs nowhere nowhere, (tt, (tt, p.shaped)), ap class_of_one p.reads, refl),
+      ap (λ (y : Feature). y ∷ []) p.plain,
+    )
+
+-- so it is found among the classes that are the one reading of such tokens
+pub feature_found : (tokens : List Token) (x : Feature) (classes : List ClassDef) (o : Option Feature) → ParsesFeature tokens x
+    → ((ds : List ClassDef) → Parses (class_of_one tokens) ds → classes ≡ ds)
+    → ((d : ClassDef) (y : Feature) → classes ≡ d ∷ [] → d.features ≡ y ∷ [] → o ≡ Some y) → o ≡ Some x
+feature_found tokens x classes o p one finds =
+    let (d, parses, features) = class_read tokens x p in
+    finds d x (one (d ∷ []) parses) features
+
+-- and tokens of no class are no feature
+pub no_feature : (tokens : List Token) (x : Feature) → ParsesFeature tokens x → ((ds : List ClassDef) → Parses (class_of_one tokens) ds → ⊥) → ⊥
+no_feature tokens x p never =
+    let (d, parses, features) = class_read tokens x p in
+    never (d ∷ []) parses
+
+-- a fault is no want of memory
+pub fault_or_memory : (e : ParseError) (f : ParseFault) → e ≡ Fault f → e ≡ Memory → ⊥
+fault_or_memory e f is memory = let both : Fault f ≡ Memory = sym is ∙ memory in absurd cc

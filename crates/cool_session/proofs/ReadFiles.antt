@@ -1,11 +1,10 @@
 -- Files that come to be typed are read: their tokens and trees, and a table that is theirs but for places, bodies and initial values. And
 -- what is kept of the features of their table is kept of those of the exact one.
-use Rattle.std.proofs.Common.{◌≡◌, ℕ, ◌+◌, List, [], ◌∷◌, map, drop, Option, Some, None, refl, sym, ap, ◌∙◌, subst, codes}
+use Rattle.std.proofs.Common.{◌≡◌, ℕ, List, [], ◌∷◌, map, drop, Option, Some, None, refl, sym, ap, ◌∙◌, subst, codes}
 use Rattle.cool_syntax.specs.declared.type_ref.TypeRef.{TypeRef}
 use Rattle.cool_syntax.specs.declared.file_tree.ClassDef.{ClassDef}
 use Rattle.cool_syntax.specs.declared.file_tree.Feature.{Feature}
 use Rattle.cool_syntax.specs.declared.file_tree.Feature.TheVariants.{Method, Attribute}
-use Rattle.cool_syntax.specs.declared.file_tree.FileTree.{FileTree}
 use Rattle.cool_lexer.specs.declared.lexer.Lexed.{Lexed}
 use Rattle.cool_classes.specs.declared.class_id.ClassId.{ClassId}
 use Rattle.cool_classes.specs.Chains.{Class, name_of}
@@ -13,13 +12,13 @@ use Rattle.cool_classes.specs.ClassFaults.{classes_meant}
 use Rattle.cool_classes.specs.Declarations.{DeclareSame, AllDeclareSame, AreAllAlike}
 use Rattle.cool_classes.specs.Definitions.{definitions, InheritsAs, AreDefinedBy}
 use Rattle.cool_faults.specs.declared.fault.Untyped.{Untyped}
-use Rattle.cool_faults.specs.Phases.{IsParsed, IsSyntactic}
 use Rattle.cool_faults.specs.Untyped.{IsUntyped}
-use Rattle.cool_faults.proofs.FindingsInARow.{AllFound, all_found}
+use Rattle.cool_faults.proofs.SyntaxFaults.{are_trees}
+use Rattle.cool_faults.proofs.VerdictsOfPhases.{files_whole}
 use Rattle.cool_session.specs.declared.base.KeptFault.{KeptFault}
 use Rattle.cool_session.specs.Bases.{views, parent_in, table_signature, table_signatures}
 use Rattle.cool_session.specs.FeatureTokens.{AreFeatures}
-use Rattle.cool_session.specs.KeptChecks.{AreTreesOf, IsRead, results_of, AreKept, IsBaseOf}
+use Rattle.cool_session.specs.KeptChecks.{IsRead, results_of, AreKept, IsBaseOf}
 use Rattle.cool_session.specs.KeptFaults.{members, results, AreKeptOf}
 use Rattle.cool_session.specs.NewFeatures.{runs_seen}
 use Rattle.cool_session.specs.Signatures.{OfMethod, OfAttribute, feature_signature, parent_name, signatures}
@@ -84,12 +83,6 @@ views_read files ls p h = views_alike (classes_meant (definitions h.trees)) p h.
 
 -- Files before typing are read
 
-trees_of : (file : ℕ) (ls : List Lexed) (ts : List FileTree) → AllFound IsParsed file ls ts → AreTreesOf file ls ts
-trees_of file [] [] h = tt
-trees_of file [] (t ∷ ts) h = absurd h
-trees_of file (l ∷ ls) [] h = absurd h
-trees_of file (l ∷ ls) (t ∷ ts) (h, hs) = (record { number = h.number; whole = h.whole }, trees_of (file + 1) ls ts hs)
-
 module _ (files : List (List ℕ)) (u : Untyped) (h : IsUntyped files u) where
   signed : table_signatures u.classes ≡ signatures (definitions h.trees)
   signed =
@@ -99,7 +92,7 @@ module _ (files : List (List ℕ)) (u : Untyped) (h : IsUntyped files u) where
   read_of = record {
     lexed = h.lexed;
     trees = h.trees;
-    parsed = trees_of 0 u.lexed.items h.trees (all_found IsParsed IsSyntactic h.parsed refl);
+    are_trees = are_trees 0 files h.trees (files_whole files u.lexed.items h.trees h.lexed h.parsed);
     classes = h.classes;
     features = h.features;
     alike = subst (AreAllAlike (classes_meant (definitions h.trees))) (sym h.meant) (all_alike (classes_meant (definitions h.trees)));

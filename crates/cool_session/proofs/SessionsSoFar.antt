@@ -1,10 +1,9 @@
 -- How a session goes on over an input and a sink: by its first commands, and by what comes next.
-use Rattle.std.proofs.Common.{◌≡◌, ℕ, zero, suc, ◌+◌, ◌<◌, ◌≤◌, ◌^◌, List, [], ◌∷◌, ◌++◌, length, refl, sym, ◌∙◌, ap, append_assoc, append-nil, arith, subst, ◌⊎◌, inl, inr}
-use Rattle.std.specs.Prelude.{◌≢◌, Option, Some, None, Result, Ok, Err}
+use Rattle.std.proofs.Common.{◌≡◌, ℕ, zero, suc, ◌+◌, ◌<◌, ◌≤◌, ◌^◌, List, [], ◌++◌, refl, sym, ◌∙◌, ap, arith, subst, ◌⊎◌, inl, inr}
+use Rattle.std.specs.Prelude.{◌≢◌, Option, Some, None, Ok, Err}
 use Rattle.std.specs.List.{concat}
 use Rattle.std.proofs.lemmas.List.Folds.{concat-append}
-use Rattle.cool_ports.specs.SinkBytes.{appended, GotUpTo, GotPrefix}
-use Rattle.cool_ports.proofs.GivingBytes.{front-nil}
+use Rattle.cool_ports.specs.SinkBytes.{appended, GotPrefix}
 use Rattle.cool_ports.proofs.GettingBytes.{appended-nil, appended-appended}
 use Rattle.cool_session.specs.declared.ending.Ending.{Ending}
 use Rattle.cool_session.specs.declared.ending.Ending.TheVariants.{Over, BadCommand}
@@ -12,10 +11,10 @@ use Rattle.cool_session.specs.declared.ending.Interruption.{Interruption}
 use Rattle.cool_session.specs.declared.ending.Interruption.TheVariants.{ReadFault, WriteFault, Memory}
 use Rattle.cool_session.specs.declared.input.TakenLine.{TakenLine}
 use Rattle.cool_session.specs.declared.input.TakenLine.TheVariants.{TooLong, Unended}
-use Rattle.cool_session.specs.Conversations.{Conversed}
-use Rattle.cool_session.specs.Exchanges.{NoLine, head, Does, EndsAt, over, no_line, Begins, a_line, Did, none, more, Exchange, Unread, Part}
+use Rattle.cool_session.specs.Conversations.{Conversed, CutInInput, CutInWork, CutAfterLine}
+use Rattle.cool_session.specs.Exchanges.{Line, NoLine, head, Does, EndsAt, over, no_line, Begins, a_line, Did, none, more}
 use Rattle.cool_session.specs.Held.{Held, nothing_held}
-use Rattle.cool_session.specs.Obeying.{IsPartOfLine, TookLine, Obeyed}
+use Rattle.cool_session.specs.Obeying.{TookLine, Obeyed}
 
 -- So many commands were done, and their replies put to a sink that held `first`.
 pub record SoFar (input : List ℕ) (n : ℕ) (h : Held) (left : List ℕ) (first now : Option (List ℕ)) : Type 0 where
@@ -30,23 +29,6 @@ begun input first = record { replies = []; did = none; put = sym (appended-nil f
 lines_after : (first : Option (List ℕ)) (replies lines : List (List ℕ))
     → appended (appended first (concat replies)) (concat lines) ≡ appended first (concat (replies ++ lines))
 lines_after first replies lines = appended-appended first (concat replies) (concat lines) ∙ ap (appended first) (sym (concat-append replies lines))
-
-prefix_after : (first now after : Option (List ℕ)) (replies lines : List (List ℕ)) → now ≡ appended first (concat replies)
-    → GotPrefix now (concat lines) after
-    → GotPrefix first (concat (replies ++ lines)) after
-prefix_after first now after replies lines put (rest, got) = (
-  rest,
-  record {
-    front = concat replies ++ got.front;
-    cut = concat-append replies lines ∙ ap (λ bytes. concat replies ++ bytes) got.cut ∙ sym (append_assoc (concat replies) got.front rest);
-    got = got.got ∙ ap (λ held. appended held got.front) put ∙ appended-appended first (concat replies) got.front;
-  },
-)
-
--- all lines are a prefix of themselves
-whole_prefix : (first now : Option (List ℕ)) (replies : List (List ℕ)) → now ≡ appended first (concat replies)
-    → GotPrefix first (concat replies) now
-whole_prefix first now replies put = ([], record { front = concat replies; cut = sym (append-nil (concat replies)); got = put })
 
 module _ (input : List ℕ) (n : ℕ) (h : Held) (middle : List ℕ) (first now : Option (List ℕ)) (s : SoFar input n h middle first now) where
   -- the session goes on after a command
@@ -76,30 +58,36 @@ module _ (input : List ℕ) (n : ℕ) (h : Held) (middle : List ℕ) (first now 
   ends_at_no_line left (some, long) = ends_so (BadCommand (n + 1)) left now (no_line left some long) refl
 
   -- it is cut short
-  unread : (left : List ℕ) (after : Option (List ℕ)) → Begins h middle left → after ≡ now → Conversed input (Err ReadFault) left first after
-  unread left after begins same =
+  in_input : (left : List ℕ) (after : Option (List ℕ)) → Begins h middle left → after ≡ now → CutInInput input left first after
+  in_input left after begins same =
       (s.replies, record { count = n; held = h; rest = middle; did = s.did; begins = begins }, same ∙ s.put)
 
-  no_memory : (left : List ℕ) (after : Option (List ℕ)) → after ≡ now → Conversed input (Err Memory) left first after
-  no_memory left after same =
-      (s.replies, middle, record { count = n; held = h; did = s.did }, whole_prefix first after s.replies (same ∙ s.put))
+  in_work : (lines : List (List ℕ)) (h' : Held) (left : List ℕ) (after : Option (List ℕ)) → Does h middle lines h' left
+      → GotPrefix now (concat lines) after → CutInWork input left first after
+  in_work lines h' left after does got = (
+    s.replies,
+    lines,
+    record { count = n; held = h; rest = middle; later = h'; did = s.did; does = does },
+    subst (λ (held : Option (List ℕ)). GotPrefix held (concat lines) after) s.put got,
+  )
 
-  with_lines : (lines : List (List ℕ)) (h' : Held) (left : List ℕ) → Does h middle lines h' left → Part input (s.replies ++ lines) left
-  with_lines lines h' left does = record { count = n + 1; held = h'; did = more n s.replies h middle lines h' left s.did does }
+  after_line : (line left : List ℕ) (after : Option (List ℕ)) → head middle ≡ Line line left → after ≡ now
+      → CutAfterLine input left first after
+  after_line line left after taken same =
+      (s.replies, record { count = n; held = h; rest = middle; line = line; did = s.did; taken = taken }, same ∙ s.put)
 
   pub cut_at_command : (e : Interruption) (h' : Held) (left : List ℕ) (after : Option (List ℕ)) → Obeyed (n + 1) h middle (Err e) h' left now after
       → Conversed input (Err e) left first after
-  cut_at_command ReadFault h' left after (begins, same) = unread left after begins same
-  cut_at_command WriteFault h' left after (lines, held, does, got) =
-      (s.replies ++ lines, with_lines lines held left does, prefix_after first now after s.replies lines s.put got)
-  cut_at_command Memory h' left after (inl same) = no_memory left after same
-  cut_at_command Memory h' left after (inr (lines, held, does, got)) =
-      (s.replies ++ lines, left, with_lines lines held left does, prefix_after first now after s.replies lines s.put got)
+  cut_at_command ReadFault h' left after (begins, same) = in_input left after begins same
+  cut_at_command WriteFault h' left after (lines, held, does, got) = in_work lines held left after does got
+  cut_at_command Memory h' left after (inl (begins, same)) = inl (in_input left after begins same)
+  cut_at_command Memory h' left after (inr (inl (lines, held, does, got))) = inr (inl (in_work lines held left after does got))
+  cut_at_command Memory h' left after (inr (inr (line, taken, same))) = inr (inr (after_line line left after taken same))
 
   pub cut_in_line : (e : Interruption) (left : List ℕ) → TookLine (Err e) middle left → Conversed input (Err e) left first now
-  cut_in_line ReadFault left (part, p) = unread left now (a_line part p.is p.short p.no_newline) refl
+  cut_in_line ReadFault left (part, p) = in_input left now (a_line part p.is p.short p.no_newline) refl
   cut_in_line WriteFault left h = absurd h
-  cut_in_line Memory left h = no_memory left now refl
+  cut_in_line Memory left (part, p) = inl (in_input left now (a_line part p.is p.short p.no_newline) refl)
 
 -- a line that is too long, or that the end of the input ended
 pub no_line_taken : (taken : TakenLine) (middle left : List ℕ) → (taken ≡ TooLong) ⊎ (taken ≡ Unended) → TookLine (Ok taken) middle left

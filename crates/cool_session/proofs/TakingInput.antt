@@ -4,7 +4,12 @@ use Rattle.std.specs.Prelude.{◌==◌, ◌≢◌, ◌&&◌}
 use Rattle.std.specs.List.{list_all}
 use Rattle.std.proofs.lemmas.Bool.{and_parts}
 use Rattle.std.proofs.lemmas.List.Folds.{list_all-append}
-use Rattle.cool_session.specs.Exchanges.{Head, Line, NoLine, with_first, head_within, head}
+use Rattle.cool_session.specs.Exchanges.{Line, NoLine, with_first, head_within, head}
+use Rattle.cool_session.specs.Obeying.{IsPartOfLine}
+
+pub end_length : (xs : List ℕ) (x : ℕ) → length (xs ++ x ∷ []) ≡ length xs + 1
+end_length [] x = refl
+end_length (y ∷ xs) x = omega (arith, end_length xs x)
 
 -- a byte was taken after a part
 pub part_and_byte : (input part left : List ℕ) (byte : ℕ) → input ≡ part ++ byte ∷ left → input ≡ (part ++ byte ∷ []) ++ left
@@ -77,15 +82,23 @@ unended_taken input part left is none some short whole =
     let same : input ≡ part = is ∙ ap (λ xs. part ++ xs) none ∙ append-nil part in
     (λ e. some (sym same ∙ e), ap (head_within 300) same ∙ alone_within 300 part short whole ∙ ap NoLine (sym none))
 
+-- a part that is not too long and another byte are a part of a line
+pub longer_part : (input part left : List ℕ) (byte : ℕ) → input ≡ part ++ byte ∷ left → length part < 300 → list_all (λ b. not (b == 10)) part ≡ true
+    → (byte == 10) ≡ false → (longer : List ℕ) × IsPartOfLine longer input left
+longer_part input part left byte is short whole other = (
+  part ++ byte ∷ [],
+  record {
+    is = part_and_byte input part left byte is;
+    short = omega (arith, end_length part byte, short);
+    no_newline = still_no_newline part byte whole other;
+  },
+)
+
 -- where the input ended, so much of a file was there
 pub short_input : (input part left : List ℕ) (n : ℕ) → input ≡ part ++ left → left ≡ [] → length part < n → length input < n
 short_input input part left n is none short =
     let same : input ≡ part = is ∙ ap (λ xs. part ++ xs) none ∙ append-nil part in
     omega (arith, ap length same, short)
-
-pub end_length : (xs : List ℕ) (x : ℕ) → length (xs ++ x ∷ []) ≡ length xs + 1
-end_length [] x = refl
-end_length (y ∷ xs) x = omega (arith, end_length xs x)
 
 -- what is known of the room at first
 pub bound_first : (now first : ℕ) → (now ≡ first) ⊎ (first < 2 ^ 64) → now < 2 ^ 64 → first < 2 ^ 64

@@ -24,17 +24,18 @@ use Rattle.cool_faults.specs.declared.fault.Fault.TheVariants.{Class as OfClasse
 use Rattle.cool_faults.specs.declared.fault.Untyped.{Untyped}
 use Rattle.cool_faults.specs.Phases.{IsLexed, IsLexical}
 use Rattle.cool_faults.specs.Untyped.{IsEarly, IsRefusedEarly}
-use Rattle.cool_faults.specs.Verdicts.{AreTrees, IsPhase, of_lexer, of_parser, of_classes, of_features, of_typing, IsFaultList, faultless, faulty}
+use Rattle.cool_faults.specs.Verdicts.{IsPhase, of_lexer, of_parser, of_classes, of_features, of_typing, IsFaultList, faultless, faulty}
 use Rattle.cool_faults.proofs.FindingsInARow.{AllFound, all_found}
 use Rattle.cool_faults.proofs.OneVerdict.{one_trees, no_lexical, no_syntactic}
 use Rattle.cool_session.specs.Bases.{tokens_of, seen}
 use Rattle.cool_session.specs.FeatureTokens.{AreFeatures, kinds, run_ended, runs_from, runs_in, runs_of, features_of_all}
 use Rattle.cool_session.specs.Fresh.{Base, HaveFeatures, AreTyped}
-use Rattle.cool_session.specs.KeptChecks.{AreTreesOf, IsRead}
+use Rattle.cool_session.specs.KeptChecks.{IsRead}
 use Rattle.cool_session.specs.KeptFaults.{members}
 use Rattle.cool_session.specs.Signatures.{feature_ended, features_from}
 use Rattle.cool_session.proofs.ChecksAfterEdits.{member_features, features_of_table}
 use Rattle.cool_session.proofs.RunsOfFeatures.{features_joined, all_joined, runs_are_features}
+use Rattle.cool_session.proofs.TreesOfTokens.{AreTreesOf, trees_lexed}
 
 -- Runs without their places
 
@@ -76,18 +77,6 @@ features_found file (bytes ∷ files) (l ∷ ls) (t ∷ ts) (h, hs) (g, gs) =
     (features_joined (runs_in l.tokens.items) (runs_of (tokens_of ls)) (features_of_all t.classes) (features_of_all (definitions ts))
     (runs_are_features file l.tokens.items t.classes h.rising g.whole) (features_found (file + 1) files ls ts hs gs))
 
-trees_found : (file : ℕ) (files : List (List ℕ)) (ls : List Lexed) (ts : List FileTree) → AllFound IsLexed file files ls
-    → AreTreesOf file ls ts → AreTrees file files ts
-trees_found file [] [] [] h g = tt
-trees_found file [] [] (t ∷ ts) h g = absurd g
-trees_found file [] (l ∷ ls) ts h g = absurd h
-trees_found file (bytes ∷ files) [] ts h g = absurd h
-trees_found file (bytes ∷ files) (l ∷ ls) [] h g = absurd g
-trees_found file (bytes ∷ files) (l ∷ ls) (t ∷ ts) (h, hs) (g, gs) = (
-  record { number = g.number; tokens = l.tokens.items; lexes = h.lexes; parses = g.whole },
-  trees_found (file + 1) files ls ts hs gs,
-)
-
 tokens_found : (file : ℕ) (files : List (List ℕ)) (ls : List Lexed) → AllFound IsLexed file files ls
     → HaveFeatures file files (map kinds (runs_of (tokens_of ls)))
 tokens_found file [] [] h = refl
@@ -109,16 +98,14 @@ module _ (files : List (List ℕ)) (ls : List Lexed) (p : List Class) (h : IsRea
   -- the runs of their tokens are the features of their exact table
   pub are_features : AreFeatures (runs_of (tokens_of ls)) (member_features (members (classes_meant (definitions h.trees))))
   are_features =
-      subst (AreFeatures (runs_of (tokens_of ls))) (sym (features_of_table (definitions h.trees))) (features_found 0 files ls h.trees lexed h.parsed)
-
-  pub trees_are : AreTrees 0 files h.trees
-  trees_are = trees_found 0 files ls h.trees lexed h.parsed
+      subst (AreFeatures (runs_of (tokens_of ls))) (sym (features_of_table (definitions h.trees))) (features_found 0 files ls h.trees lexed
+      (trees_lexed 0 files ls h.trees lexed h.are_trees))
 
 -- they come to be typed
 pub are_typed : (files : List (List ℕ)) (u : Untyped) → IsRead files u.lexed.items u.classes → AreTyped files (seen u)
 are_typed files u h = record {
   trees = h.trees;
-  are_trees = trees_are files u.lexed.items u.classes h;
+  are_trees = h.are_trees;
   classes = h.classes;
   features = h.features;
   signed = h.signed;

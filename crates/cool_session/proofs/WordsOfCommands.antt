@@ -1,6 +1,6 @@
 -- What the words of a line ask: names are texts, and lengths are numbers of few digits.
-use Rattle.std.proofs.Common.{◌≡◌, refl, sym, ◌∙◌, ap, subst, ℕ, zero, suc, ◌+◌, ◌-◌, ◌*◌, ◌<◌, ◌≤◌, Bool, true, false, true≢false, List, [], ◌∷◌, length, map, get_or, drop, drop-cons, add-one, arith}
-use Rattle.std.specs.Prelude.{Option, None, nat_le, ◌&&◌}
+use Rattle.std.proofs.Common.{◌≡◌, refl, sym, ◌∙◌, subst, ℕ, zero, suc, ◌+◌, ◌-◌, ◌*◌, ◌<◌, ◌≤◌, Bool, true, false, true≢false, List, [], ◌∷◌, length, map, get_or, drop, drop-cons, add-one, arith}
+use Rattle.std.specs.Prelude.{None, nat_le, ◌&&◌}
 use Rattle.std.specs.List.{list_all, fold}
 use Rattle.std.specs.Str.{IsUtf8, IsAscii}
 use Rattle.std.proofs.lemmas.Bool.{and_parts}
@@ -9,7 +9,7 @@ use Rattle.std.proofs.lemmas.Str.Ascii.{IsAscii-nil, IsAscii-cons}
 use Rattle.std.proofs.lemmas.List.Folds.{list_all_at}
 use denote.Ref.{Bor}
 use Rattle.cool_syntax.specs.Lexemes.{is_digit}
-use Rattle.cool_session.specs.Commands.{Command, asked, is_name, is_length}
+use Rattle.cool_session.specs.Commands.{asked, is_name, is_length}
 
 -- four words and more ask nothing
 pub more_words : (words : List (Bor (List ℕ))) → 4 ≤ length words → None ≡ asked (map (λ word. word.now) words)

@@ -76,13 +76,32 @@ pub record Exchange (input : List ℕ) (replies : List (List ℕ)) (end : Ending
   pub did : Did input count replies held rest
   pub ends : EndsAt (count + 1) held rest end left
 
--- A session that a read cut short: the replies of the commands that were done, and what is left of the input.
+-- A session that was cut short while a line or a file was taken: the replies of the commands that were done, and what is left of the input.
 pub record Unread (input : List ℕ) (replies : List (List ℕ)) (left : List ℕ) : Type 0 where
   pub count : ℕ
   pub held : Held
   pub rest : List ℕ
   pub did : Did input count replies held rest
   pub begins : Begins held rest left
+
+-- A session that was cut short in the work of a command of which all input was taken: the replies of the commands before it, the lines of
+-- its own reply, and what is left of the input.
+pub record Unwritten (input : List ℕ) (replies lines : List (List ℕ)) (left : List ℕ) : Type 0 where
+  pub count : ℕ
+  pub held : Held
+  pub rest : List ℕ
+  pub later : Held
+  pub did : Did input count replies held rest
+  pub does : Does held rest lines later left
+
+-- A session that was cut short after a line was taken: the replies of the commands before, and what is left of the input.
+pub record Undone (input : List ℕ) (replies : List (List ℕ)) (left : List ℕ) : Type 0 where
+  pub count : ℕ
+  pub held : Held
+  pub rest : List ℕ
+  pub line : List ℕ
+  pub did : Did input count replies held rest
+  pub taken : head rest ≡ Line line left
 
 -- A part of a session: the replies of the commands that were done, and what they leave of the input.
 pub record Part (input : List ℕ) (replies : List (List ℕ)) (left : List ℕ) : Type 0 where

@@ -1,5 +1,5 @@
 -- What a session holds: its files, and what is kept of the last check that came to typing.
-use Rattle.std.specs.Prelude.{◌≡◌, ℕ, List, [], Option, None, Ok, replicate, codes, refl}
+use Rattle.std.specs.Prelude.{◌≡◌, ℕ, List, [], Option, None, Ok, replicate}
 use Rattle.cool_faults.specs.Files.{bytes_of}
 use Rattle.cool_session.specs.declared.session.Session.{Session}
 use Rattle.cool_session.specs.Files.{files_set, names_of, names_set, position, set_room, without}

@@ -1,8 +1,7 @@
 -- What is kept of a check of files, and what is seen of it.
-use Rattle.std.specs.Prelude.{◌≡◌, ℕ, ◌+◌, ◌<◌, ◌^◌, List, [], ◌∷◌, length, Option}
+use Rattle.std.specs.Prelude.{◌≡◌, ℕ, ◌<◌, ◌^◌, List, [], length, Option}
 use Rattle.std.specs.List.{AllByRecursion}
 use Rattle.cool_syntax.specs.declared.file_tree.FileTree.{FileTree}
-use Rattle.cool_syntax.specs.Grammar.{Parses}
 use Rattle.cool_lexer.specs.declared.lexer.Lexed.{Lexed}
 use Rattle.cool_classes.specs.Chains.{Class}
 use Rattle.cool_classes.specs.ClassFaults.{classes_meant, feature_phase, HasClassPhase}
@@ -11,6 +10,7 @@ use Rattle.cool_classes.specs.Definitions.{definitions}
 use Rattle.cool_faults.specs.declared.fault.Untyped.{Untyped}
 use Rattle.cool_faults.specs.Phases.{AreFound, IsLexed, IsLexical}
 use Rattle.cool_faults.specs.Untyped.{IsUntyped}
+use Rattle.cool_faults.specs.Verdicts.{AreTrees}
 use Rattle.cool_check.specs.FirstFaults.{Checked}
 use Rattle.cool_session.specs.declared.base.KeptFault.{KeptFault}
 use Rattle.cool_session.specs.Bases.{tokens_of, table_signatures}
@@ -22,24 +22,12 @@ use Rattle.cool_session.specs.Signatures.{signatures}
 abbrev pub HasFewTokens : Lexed → Type 0
 HasFewTokens lexed = length lexed.tokens.items < 2 ^ 32
 
--- the tokens of the file of this number are this tree
-pub record IsTreeOf (file : ℕ) (lexed : Lexed) (tree : FileTree) : Type 0 where
-  pub number : tree.file ≡ file
-  pub whole : Parses lexed.tokens.items tree.classes
-
--- the tokens of files, of which the first has this number, are these trees
-abbrev pub AreTreesOf : ℕ → List Lexed → List FileTree → Type 0
-AreTreesOf file [] [] = Unit {0}
-AreTreesOf file [] (tree ∷ trees) = ⊥
-AreTreesOf file (lexed ∷ ls) [] = ⊥
-AreTreesOf file (lexed ∷ ls) (tree ∷ trees) = IsTreeOf file lexed tree × AreTreesOf (file + 1) ls trees
-
 -- Files come to be typed: they have these tokens, no phase before typing finds a fault, and these are the classes of their table, but for
 -- places, bodies and initial values.
 pub record IsRead (files : List (List ℕ)) (ls : List Lexed) (p : List Class) : Type 0 where
   pub lexed : AreFound IsLexed IsLexical 0 files ls []
   pub trees : List FileTree
-  pub parsed : AreTreesOf 0 ls trees
+  pub are_trees : AreTrees 0 files trees
   pub classes : HasClassPhase (definitions trees) []
   pub features : feature_phase (definitions trees) ≡ []
   pub alike : AreAllAlike (classes_meant (definitions trees)) p

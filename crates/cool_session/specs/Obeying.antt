@@ -1,12 +1,12 @@
 -- What the parts of a conversation answer: lines and files that are taken, commands that are read and done, and replies that are put.
-use Rattle.std.specs.Prelude.{◌≡◌, ◌≢◌, ℕ, ◌<◌, ◌≤◌, ◌^◌, ◌⊎◌, ◌==◌, not, Bool, true, false, List, [], ◌++◌, length, Option, Some, None, Result, Ok, Err, option_map}
+use Rattle.std.specs.Prelude.{◌≡◌, ◌≢◌, ℕ, ◌<◌, ◌≤◌, ◌^◌, ◌⊎◌, ◌==◌, not, Bool, true, false, List, [], ◌++◌, length, Option, Some, None, Result, Ok, Err}
 use Rattle.std.specs.Global.{Vec}
 use Rattle.std.specs.List.{concat, list_all}
 use Rattle.cool_ports.specs.SinkBytes.{appended, GotPrefix}
 use Rattle.cool_session.specs.declared.command.Command.{Command}
 use Rattle.cool_session.specs.declared.command.Command.TheVariants as read
 use Rattle.cool_session.specs.declared.ending.Ending.{Ending}
-use Rattle.cool_session.specs.declared.ending.Ending.TheVariants.{Over, BadCommand, EndsInFile, TooLarge}
+use Rattle.cool_session.specs.declared.ending.Ending.TheVariants.{EndsInFile}
 use Rattle.cool_session.specs.declared.ending.Interruption.{Interruption}
 use Rattle.cool_session.specs.declared.ending.Interruption.TheVariants.{ReadFault, WriteFault, Memory}
 use Rattle.cool_session.specs.declared.input.TakenLine.{TakenLine}
@@ -43,7 +43,7 @@ TookLine (Ok Unended) input left = (input ≢ []) × (head input ≡ NoLine left
 TookLine (Ok Nothing) input left = (input ≡ []) × (left ≡ [])
 TookLine (Err ReadFault) input left = (part : List ℕ) × IsPartOfLine part input left
 TookLine (Err WriteFault) input left = ⊥
-TookLine (Err Memory) input left = Unit {0}
+TookLine (Err Memory) input left = (part : List ℕ) × IsPartOfLine part input left
 
 -- a byte was spent for a line, but where nothing was left
 abbrev pub SpentLine : Result TakenLine Interruption → ℕ → ℕ → Type 0
@@ -57,7 +57,7 @@ TookFile n (Ok (Some bytes)) input left = (length bytes.items ≡ n) × (input �
 TookFile n (Ok None) input left = (length input < n) × (left ≡ [])
 TookFile n (Err ReadFault) input left = (part : List ℕ) × (input ≡ part ++ left) × (length part < n)
 TookFile n (Err WriteFault) input left = ⊥
-TookFile n (Err Memory) input left = Unit {0}
+TookFile n (Err Memory) input left = (part : List ℕ) × (input ≡ part ++ left) × (length part ≤ n)
 
 -- the command that was read
 abbrev pub command_of : Command → commands.Command
@@ -83,4 +83,6 @@ Obeyed number h input (Err ReadFault) h' left before after = Begins h input left
 Obeyed number h input (Err WriteFault) h' left before after =
     (lines : List (List ℕ)) × (now : Held) × Does h input lines now left × GotPrefix before (concat lines) after
 Obeyed number h input (Err Memory) h' left before after =
-    (after ≡ before) ⊎ ((lines : List (List ℕ)) × (now : Held) × Does h input lines now left × GotPrefix before (concat lines) after)
+    (Begins h input left × (after ≡ before))
+    ⊎ ((lines : List (List ℕ)) × (now : Held) × Does h input lines now left × GotPrefix before (concat lines) after)
+    ⊎ ((line : List ℕ) × (head input ≡ Line line left) × (after ≡ before))

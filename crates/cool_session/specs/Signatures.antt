@@ -8,8 +8,8 @@ use Rattle.cool_syntax.specs.declared.type_ref.TypeRef.{TypeRef}
 use Rattle.cool_syntax.specs.declared.file_tree.ClassDef.{ClassDef}
 use Rattle.cool_syntax.specs.declared.file_tree.Feature.{Feature}
 use Rattle.cool_syntax.specs.declared.file_tree.Feature.TheVariants.{Method, Attribute}
-use Rattle.cool_syntax.specs.declared.file_tree.Formal.{Formal}
 use Rattle.cool_syntax.specs.LexicalStructure.{depth_after, ends_run}
+use Rattle.cool_classes.specs.Declarations.{formal_types}
 
 -- The signature of a feature: of a method its name, the types of its formals and its result, of an attribute its name and its type.
 pub data FeatureSignature : Type 0 where
@@ -21,10 +21,6 @@ pub record ClassSignature : Type 0 where
   pub name : List ℕ
   pub parent : List ℕ
   pub features : List FeatureSignature
-
--- the types of formals
-abbrev pub formal_types : List Formal → List (List ℕ)
-formal_types = map (λ (f : Formal). f.declared.name)
 
 abbrev pub feature_signature : Feature → FeatureSignature
 feature_signature (Method m) = OfMethod m.name (formal_types m.formals) m.result.name

@@ -38,7 +38,7 @@ use std::alloc::{AllocError, Global};
 
 /// Checks files over a base, where their tokens, places aside, are those of its files but for those of one feature, which declares what it
 /// declared. `None` comes elsewhere. Then, and where `Err` comes, the base is as it was. `Err` comes only for want of memory.
-pub(crate) fn recheck<K: Typer>(
+pub(crate) fn check_edited<K: Typer>(
     alloc: Global,
     typer: &mut K,
     base: &mut Base,
@@ -61,15 +61,17 @@ pub(crate) fn recheck<K: Typer>(
         Err(Refusal::Memory) => return Err(AllocError),
     };
     match find_difference(alloc, base.untyped.lexed.as_slice(), lexed.as_slice())? {
-        Difference::Nothing => Ok(Some(moved(alloc, base, lexed)?)),
-        Difference::Feature(number, run) => edited(alloc, typer, base, lexed, number, run),
+        Difference::Nothing => Ok(Some(check_moved(alloc, base, lexed)?)),
+        Difference::Feature(number, run) => check_one_feature(
+            alloc, typer, base, lexed, number, run,
+        ),
         Difference::More => Ok(None),
     }
 }
 
 /// Checks files with these tokens, which are those of the files of a base, places aside. `Err` comes only for want of memory, and leaves the
 /// base as it was.
-fn moved(alloc: Global, base: &mut Base, lexed: Vec<Lexed>) -> Result<Reply, AllocError>
+fn check_moved(alloc: Global, base: &mut Base, lexed: Vec<Lexed>) -> Result<Reply, AllocError>
     requires lexed { IsLexing lexed.items }
     requires same { SameTokens base.old.untyped.lexed.items lexed.items }
     ensures failed { OnErr result (base.new ≡ base.old) }
@@ -104,7 +106,7 @@ struct Retyped {
 /// Checks files with these tokens, which differ from those of a base in the feature of this number, whose tokens are this run. `None` comes
 /// where the run is no feature or declares something else. Then, and where `Err` comes, the base is as it was. `Err` comes only for want of
 /// memory.
-fn edited<K: Typer>(
+fn check_one_feature<K: Typer>(
     alloc: Global,
     typer: &mut K,
     base: &mut Base,

@@ -1,6 +1,7 @@
-//! Laws on what a session does with its input: there is one such thing.
+//! Laws on what a session does with its input: there is one such thing, and where it is cut short, a prefix of its replies was put.
 
 ghost use Rattle.std.specs.Prelude.{ℕ, List};
+ghost use Rattle.cool_session.specs.Conversations.{HasPartWhereCut};
 ghost use Rattle.cool_session.specs.Exchanges.{HasFronts, HasOneExchange};
 
 /// An input has one session: its replies, its end, and what it leaves.
@@ -11,4 +12,9 @@ pub fn law_one_exchange()
 /// The replies of a part of a session are a front of those of the whole.
 pub fn law_part()
     ensures { (input : List ℕ) → HasFronts input }
+{}
+
+/// Where a session is cut short, a prefix of the replies of a part of it was put.
+pub fn law_cut_short()
+    ensures { (input : List ℕ) → HasPartWhereCut input }
 {}

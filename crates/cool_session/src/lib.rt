@@ -4,7 +4,7 @@
 //! bytes they have, and their fault list, for which only those features are typed that are not kept; or the replies to the commands.
 //! `specs/Files.antt` defines which files are held after an edit, and `Fresh.antt` which features are typed. `specs/Commands.antt` defines
 //! what lines ask, `Replies.antt` what is replied to a check, `Exchanges.antt` what a session does with its input, and `Conversations.antt`
-//! what comes of it where a device fails.
+//! what comes of it where a device fails or memory is wanting.
 #![tactic(auto)]
 
 mod base;
@@ -21,7 +21,7 @@ mod input;
 mod known;
 mod laws;
 mod one_feature;
-mod recheck;
+mod renewal;
 mod reply;
 mod runs;
 mod same_classes;
@@ -33,6 +33,6 @@ mod typed;
 pub use conversation::converse;
 pub use ending::{Ending, Interruption};
 pub use error::SetError;
-pub use laws::{law_one_exchange, law_part};
+pub use laws::{law_cut_short, law_one_exchange, law_part};
 pub use reply::Reply;
 pub use session::Session;

@@ -1,7 +1,9 @@
 //! Parsing one feature.
 
-ghost use Rattle.std.specs.Prelude.{◌≡◌, ◌≤◌, length, IfOk, IfSome};
+ghost use Rattle.std.specs.Prelude.{◌≡◌, ◌≤◌, ◌+◌, [], ◌∷◌, length, Some, IfOk, IfSome};
 ghost use Rattle.cool_syntax.specs.declared.TheConstants.{MOST_SOURCE_BYTES};
+ghost use Rattle.cool_syntax.specs.declared.file_tree.ClassDef as syntax_class;
+ghost use Rattle.cool_syntax.specs.declared.file_tree.Feature as syntax;
 ghost use Rattle.cool_session.specs.FeatureTokens.{ParsesFeature};
 ghost use Rattle.cool_session.specs.OneFeature.{HaveOnly, class_of_one, nowhere};
 
@@ -9,10 +11,11 @@ use cool_parser::{ParseError, parse};
 use cool_syntax::{ClassDef, Feature, Key, MOST_SOURCE_BYTES, Name, Place, Sign, Token, TokenKind};
 use std::alloc::{AllocError, Global};
 
-/// The feature of these tokens. `None` comes where they are none, or with those of a class around them are more than a file may have. `Err`
-/// comes only for want of memory.
+/// The feature of these tokens. `None` comes exactly where they are none, or with the five of a class around them are more than a file may
+/// have. `Err` comes only for want of memory.
 pub(crate) fn one_feature(alloc: Global, tokens: &[Token]) -> Result<Option<Feature>, AllocError>
-    ensures { IfOk result (λ found. IfSome found (ParsesFeature tokens.now)) }
+    ensures found { IfOk result (λ found. IfSome found (ParsesFeature tokens.now)) }
+    ensures only { (x : syntax.Feature) → ParsesFeature tokens.now x → length tokens.now + 5 ≤ MOST_SOURCE_BYTES → IfOk result (λ found. found ≡ Some x) }
 {
     if tokens.len() as u64 > MOST_SOURCE_BYTES - 5 {
         return Ok(None);
@@ -90,7 +93,8 @@ fn copied_kind(alloc: Global, kind: &TokenKind) -> Result<TokenKind, AllocError>
 
 /// The one feature of the one class, where there is one class and it has one feature.
 fn only_feature(classes: Vec<ClassDef>) -> Option<Feature>
-    ensures { IfSome result (HaveOnly classes.items) }
+    ensures found { IfSome result (HaveOnly classes.items) }
+    ensures only { (d : syntax_class.ClassDef) (x : syntax.Feature) → classes.items ≡ d ∷ [] → d.features ≡ x ∷ [] → result ≡ Some x }
 {
     let mut classes = classes;
     let class = classes.pop()?;

@@ -3,7 +3,8 @@
 ghost use Rattle.std.specs.Prelude.{◌≡◌, ◌↔◌, ◌<◌, IsTrue, map, length};
 ghost use Rattle.cool_classes.specs.Chains.{class_at};
 ghost use Rattle.cool_session.specs.Bases.{view, views};
-ghost use Rattle.cool_session.specs.Signatures.{feature_signature, formal_types};
+ghost use Rattle.cool_classes.specs.Declarations.{formal_types};
+ghost use Rattle.cool_session.specs.Signatures.{feature_signature};
 
 use cool_classes::{ClassId, ClassTable};
 use cool_syntax::{Feature, Formal, same_name};

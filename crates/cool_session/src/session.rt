@@ -12,12 +12,12 @@ ghost use Rattle.cool_session.specs.PresentFiles.{IsOfPresent};
 ghost use Rattle.cool_session.specs.NewFeatures.{base_seen, calls_after, IsAskedWithin};
 
 use crate::base::Base;
-use crate::edited::recheck;
+use crate::edited::check_edited;
 use crate::error::SetError;
 use crate::fault_list::fault_list;
 use crate::files::{place_for, position, position_to_set};
 use crate::known::known;
-use crate::recheck::{renew, used};
+use crate::renewal::{renew, used};
 use crate::reply::Reply;
 use cool_check::Typer;
 use cool_faults::{ClassVerdict, class_phase};
@@ -166,7 +166,7 @@ impl Session {
         if self.is_current {
             return Ok(Some(known(self.alloc, base)?));
         }
-        let reply = recheck(self.alloc, typer, base, self.files.as_slice())?;
+        let reply = check_edited(self.alloc, typer, base, self.files.as_slice())?;
         self.is_current = reply.is_some();
         Ok(reply)
     }

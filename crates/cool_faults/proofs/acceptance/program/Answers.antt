@@ -1,5 +1,5 @@
 -- The phases before typing refuse the files, or typing decides.
-use Rattle.std.proofs.Common.{◌≤◌, List, length, ap, sym, subst, arith}
+use Rattle.std.proofs.Common.{◌≤◌, length, arith}
 use Rattle.std.proofs.lemmas.Result.{err_from_is_err_and}
 use Rattle.cool_syntax.specs.declared.TheConstants.{MOST_FILES}
 use Rattle.cool_faults.specs.Files.{bytes_of}

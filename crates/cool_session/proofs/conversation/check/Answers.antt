@@ -1,17 +1,18 @@
 use Rattle.std.proofs.Common.{◌≡◌, rules, refl, sym, ap, subst, ◌∙◌, ℕ, List, length}
 use Rattle.std.specs.Prelude.{Ok, Err, String, ◌≢◌, []}
-use Rattle.std.specs.Global.{Global, Vec}
+use Rattle.std.specs.Global.{Global}
 use Rattle.std.specs.List.{AllByRecursion}
 use Rattle.cool_syntax.specs.TokenFacts.{IsPlaced}
 use Rattle.cool_faults.specs.declared.fault.Fault.{Fault}
 use Rattle.cool_faults.specs.Files.{bytes_of}
 use Rattle.cool_faults.specs.Verdicts.{place_of}
+use Rattle.cool_session.specs.declared.ending.Interruption.TheVariants.{Memory}
 use Rattle.cool_session.specs.Files.{names_of}
 use Rattle.cool_session.specs.Held.{held_by}
 use Rattle.cool_session.specs.NewFeatures.{base_seen}
 use Rattle.cool_session.specs.Obeying.{PutLines}
 use Rattle.cool_session.specs.Replies.{reply_lines}
-use Rattle.cool_session.proofs.CommandsDone.{nothing_to_check, checked, check_cut, no_items, some_items, none_of, held_is}
+use Rattle.cool_session.proofs.CommandsDone.{nothing_to_check, checked, check_cut, line_cut, no_items, some_items, none_of, held_is}
 use Rattle.cool_session.proofs.conversation.check.Goals as goal
 
 pub returns-then-is_empty-clause-obeyed : goal.returns-then-is_empty-clause-obeyed
@@ -21,6 +22,12 @@ returns-then-is_empty-clause-obeyed g c =
     let files : session.files.items ≡ [] = none_of session.files.items (sym session.paired ∙ ap length names) in
     λ input left ask. nothing_to_check c.args.number (held_by session) input left ask (held_by session) (g.K.Sink.held c.args.sink.now)
     (ap bytes_of files)
+
+pub returns-in_err-reply-clause-obeyed : goal.returns-in_err-reply-clause-obeyed
+returns-in_err-reply-clause-obeyed g c =
+    let same : c.from_residual.result ≡ Err Memory = search rules in
+    λ input left ask.
+    rw same (line_cut c.args.number (held_by c.args.session.now) input ask.0 (held_by c.check.new.self) left (g.K.Sink.held c.args.sink.now) ask.1)
 
 pub put_reply-requires : goal.put_reply-requires
 put_reply-requires g c =

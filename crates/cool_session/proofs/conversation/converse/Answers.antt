@@ -1,5 +1,5 @@
 use Rattle.std.proofs.Common.{◌≡◌, ◌+◌, ◌<◌, ◌≤◌, ◌^◌, rules, refl, sym, ap, subst, ◌∙◌, ℕ, List, arith}
-use Rattle.std.specs.Prelude.{Option, Err}
+use Rattle.std.specs.Prelude.{Err}
 use Rattle.cool_faults.specs.Files.{bytes_of}
 use Rattle.cool_ports.proofs.InputsInParts.{took_nothing, took_both, in_two, leaves_same}
 use Rattle.cool_session.specs.Exchanges.{Line, head}

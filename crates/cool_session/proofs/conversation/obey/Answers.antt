@@ -1,11 +1,21 @@
-use Rattle.std.proofs.Common.{refl, ap, ◌∙◌}
-use Rattle.std.specs.Prelude.{Some, None}
+use Rattle.std.proofs.Common.{◌≡◌, rules, refl, sym, ap, ◌∙◌}
+use Rattle.std.specs.Prelude.{Some, None, Err}
 use Rattle.cool_ports.proofs.InputsInParts.{leaves_same}
+use Rattle.cool_session.specs.declared.ending.Interruption.TheVariants.{Memory}
 use Rattle.cool_session.specs.Commands.{File, Drop, Check, Quit}
+use Rattle.cool_session.specs.Exchanges.{Line}
 use Rattle.cool_session.specs.Held.{held_by}
 use Rattle.cool_session.specs.NewFeatures.{base_seen}
-use Rattle.cool_session.proofs.CommandsDone.{asks_of, read_as, bad_command, quit_command, drop_command, held_is}
+use Rattle.cool_session.proofs.CommandsDone.{asks_of, read_as, bad_command, quit_command, drop_command, line_cut, held_is}
 use Rattle.cool_session.proofs.conversation.obey.Goals as goal
+
+pub returns-in_err-read_command-clause-obeyed : goal.returns-in_err-read_command-clause-obeyed
+returns-in_err-read_command-clause-obeyed g c =
+    let same : c.from_residual.result ≡ Err Memory = search rules in
+    λ input rest left at leaves.
+    rw same
+    (line_cut c.args.number (held_by c.args.session.now) input c.args.line.now (held_by c.args.session.now) left (g.K.Sink.held c.args.sink.now)
+    (at ∙ ap (Line c.args.line.now) (sym (leaves_same _ rest left leaves))))
 
 pub returns-in-None-clause-obeyed : goal.returns-in-None-clause-obeyed
 returns-in-None-clause-obeyed g c =

@@ -5,7 +5,7 @@ use Rattle.cool_ports.proofs.InputsInParts.{leaves_same}
 use Rattle.cool_session.specs.Files.{files_set, names_of}
 use Rattle.cool_session.specs.Held.{held_by}
 use Rattle.cool_session.specs.NewFeatures.{base_seen}
-use Rattle.cool_session.proofs.CommandsDone.{no_room, some_room, file_too_large, file_cut, file_unended, file_set, held_is, on_ok}
+use Rattle.cool_session.proofs.CommandsDone.{no_room, some_room, file_too_large, file_cut, file_unended, file_set, file_unset, held_is, on_ok}
 use Rattle.cool_session.proofs.conversation.set_file.Goals as goal
 
 pub returns-then-is_err-clause-obeyed : goal.returns-then-is_err-clause-obeyed
@@ -28,6 +28,13 @@ returns-in_default-clause-obeyed g c = λ input rest left held ask leaves.
     let file = rw c.in_default.is at (c.in_ok-bytes.ensures.file rest left leaves) in
     file_unended c.args.number (held_by c.args.session.now) input c.args.name.now c.args.size rest ask (held_by c.args.session.now) left held room
     file
+
+pub returns-then-is_err-2-clause-obeyed : goal.returns-then-is_err-2-clause-obeyed
+returns-then-is_err-2-clause-obeyed g c = λ input rest left held ask leaves.
+    let room = some_room c.has_room.result _ c.has_room.ensures (sym c.is_err.ensures.value ∙ c.if-is_err.false) in
+    let file = rw c.in-Some.is at (c.in_ok-bytes.ensures.file rest left leaves) in
+    file_unset c.args.number (held_by c.args.session.now) input c.args.name.now c.args.size rest ask (held_by c.set_file.new.self) left held room
+    c.in-Some.bytes.items file
 
 pub returns-clause-obeyed : goal.returns-clause-obeyed
 returns-clause-obeyed g c =

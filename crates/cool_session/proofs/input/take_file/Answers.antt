@@ -1,4 +1,4 @@
-use Rattle.std.proofs.Common.{◌≡◌, ◌+◌, ◌<◌, ◌∷◌, length, refl, sym, ap, ◌∙◌, arith, rules}
+use Rattle.std.proofs.Common.{◌≡◌, ◌+◌, ◌<◌, ◌≤◌, ◌++◌, ◌∷◌, [], length, refl, sym, ap, ◌∙◌, arith, rules}
 use Rattle.std.specs.Prelude.{Err}
 use Rattle.cool_ports.proofs.InputsInParts.{took_nothing, took_byte, leaves_byte, leaves_end, leaves_same}
 use Rattle.cool_session.specs.declared.ending.Interruption.TheVariants.{Memory}
@@ -49,3 +49,15 @@ returns-in_err-push-in-Ok-Some-clause-took g c =
     let taken = rw c.in-Ok-Some.field-0-is at c.in-Ok-Some.ensures.taken in
     let same : c.from_residual.result ≡ Err Memory = search rules in
     rw same (took_byte _ _ _ _ _ _ _ c.loop-source.invariant.took answered taken)
+
+pub returns-in_err-push-in-Ok-Some-clause-file : goal.returns-in_err-push-in-Ok-Some-clause-file
+returns-in_err-push-in-Ok-Some-clause-file g c =
+    let i = c.loop-source.invariant in
+    let bytes = c.loop-source.bytes.items in
+    let byte = c.in-Ok-Some.byte in
+    let answered = rw c.in-Ok-Some.field-0-is at c.in-Ok-Some.ensures.answered in
+    let most : length (bytes ++ byte ∷ []) ≤ c.args.size = omega (arith, end_length bytes byte, c.loop-source-test.true, c.len.ensures) in
+    let same : c.from_residual.result ≡ Err Memory = search rules in
+    λ input left leaves.
+    let is = i.file input (byte ∷ left) (leaves_byte _ _ _ _ _ _ input left i.took answered leaves) in
+    rw same (bytes ++ byte ∷ [], part_and_byte input bytes left byte is, most)

@@ -1,8 +1,8 @@
-use Rattle.std.proofs.Common.{◌≡◌, ◌+◌, ◌++◌, ◌∷◌, ℕ, length, false, refl, sym, ap, subst, ◌∙◌, arith, rules, inl, inr}
+use Rattle.std.proofs.Common.{◌≡◌, ◌+◌, ◌<◌, ◌++◌, ◌∷◌, ℕ, length, false, refl, sym, ap, subst, ◌∙◌, arith, rules, inl, inr}
 use Rattle.std.specs.Prelude.{◌==◌, Err}
 use Rattle.cool_session.specs.declared.ending.Interruption.TheVariants.{Memory}
 use Rattle.cool_ports.proofs.InputsInParts.{took_nothing, took_byte, leaves_byte, leaves_end, leaves_same}
-use Rattle.cool_session.proofs.TakingInput.{part_and_byte, still_no_newline, line_taken, long_taken, unended_taken, end_length, bound_first, is_empty_part, is_some_part}
+use Rattle.cool_session.proofs.TakingInput.{part_and_byte, still_no_newline, line_taken, long_taken, unended_taken, longer_part, end_length, bound_first, is_empty_part, is_some_part}
 use Rattle.cool_session.proofs.input.take_line.Goals.{then-is_empty, else-is_empty}
 use Rattle.cool_session.proofs.input.take_line.Goals as goal
 
@@ -98,3 +98,14 @@ returns-in_err-push-in-Ok-Some-clause-took g c =
     let taken = rw c.in-Ok-Some.field-0-is at c.in-Ok-Some.ensures.taken in
     let same : c.from_residual.result ≡ Err Memory = search rules in
     rw same (took_byte _ _ _ _ _ _ _ c.loop-line.invariant.took answered taken)
+
+pub returns-in_err-push-in-Ok-Some-clause-line : goal.returns-in_err-push-in-Ok-Some-clause-line
+returns-in_err-push-in-Ok-Some-clause-line g c =
+    let i = c.loop-line.invariant in
+    let answered = rw c.in-Ok-Some.field-0-is at c.in-Ok-Some.ensures.answered in
+    let other : (c.in-Ok-Some.byte == 10) ≡ false = grind (arith, c.if-byte-eq10.false) in
+    let short : length c.loop-line.line.items < 300 = omega (arith, i.short, c.if-len-eq-MOST_LINE.false, c.len.ensures) in
+    let same : c.from_residual.result ≡ Err Memory = search rules in
+    λ input left leaves.
+    let is = i.line input (c.in-Ok-Some.byte ∷ left) (leaves_byte _ _ _ _ _ _ input left i.took answered leaves) in
+    rw same (longer_part input c.loop-line.line.items left c.in-Ok-Some.byte is short i.no_newline other)

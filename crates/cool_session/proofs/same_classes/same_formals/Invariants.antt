@@ -1,6 +1,6 @@
 -- The formals so far have the same types.
 use Rattle.std.proofs.Common.{◌≡◌, take}
-use Rattle.cool_session.specs.Signatures.{formal_types}
+use Rattle.cool_classes.specs.Declarations.{formal_types}
 use Rattle.cool_session.proofs.same_classes.same_formals.Given as goal
 
 abbrev pub invariant-loop-i : goal.invariant-loop-i

@@ -26,15 +26,15 @@ returns-then-self-clause-typed g c =
 
 pub returns-clause-faults : goal.returns-clause-faults
 returns-clause-faults g c =
-    faults_replied c.as_slice.result.now c.args.self.now.files.items c.as_slice.ensures.value c.recheck.new.base c.in_ok-reply.reply
+    faults_replied c.as_slice.result.now c.args.self.now.files.items c.as_slice.ensures.value c.check_edited.new.base c.in_ok-reply.reply
     c.in_ok-reply.ensures.base c.in_ok-reply.ensures.faults
 
 pub returns-clause-placed : goal.returns-clause-placed
 returns-clause-placed g c =
-    placed_replied c.as_slice.result.now c.args.self.now.files.items c.as_slice.ensures.value c.recheck.new.base c.requires c.in_ok-reply.reply
+    placed_replied c.as_slice.result.now c.args.self.now.files.items c.as_slice.ensures.value c.check_edited.new.base c.requires c.in_ok-reply.reply
     c.in_ok-reply.ensures.base c.in_ok-reply.ensures.faults
 
 pub returns-clause-typed : goal.returns-clause-typed
 returns-clause-typed g c =
-    typed_replied c.as_slice.result.now c.args.self.now.files.items c.as_slice.ensures.value c.recheck.new.base c.args.self.now.base c.in-Some.base
+    typed_replied c.as_slice.result.now c.args.self.now.files.items c.as_slice.ensures.value c.check_edited.new.base c.args.self.now.base c.in-Some.base
     c.in-Some.is c.in_ok-reply.reply c.in_ok-reply.ensures.base c.in_ok-reply.ensures.fresh

@@ -24,7 +24,7 @@ use Rattle.cool_session.specs.Runs.{run_tokens}
 use Rattle.cool_session.proofs.FeaturesKept.{of_some}
 use Rattle.cool_session.proofs.FeatureTypedAnew.{IsTypedAnew, in_ids, in_kept, in_classes, in_features, typed_anew, some_base}
 use Rattle.cool_session.proofs.TyperAsked.{on_error}
-use Rattle.cool_session.proofs.edited.edited.Goals as goal
+use Rattle.cool_session.proofs.edited.check_one_feature.Goals as goal
 
 -- a base with the same files and faults is the same
 same_base : (b : Base) (few : length b.untyped.lexed.items < 2 ^ 32) (short : AllByRecursion HasFewTokens b.untyped.lexed.items)
@@ -103,7 +103,7 @@ retype-requires-clause-same g c =
     anew base c.args.lexed.items c.args.number c.args.run c.requires.lexed c.requires.differ c.in_ok-ids.ids.items c.in_ok-ids.ensures id
     c.index-id.ensures c.features.result.now x c.index-features-id.result c.features.ensures.features c.index-features-id.is
     (c.if-not-declare_same.ensures.same.0 refl) c.tokens_in.result.now c.as_slice.result.now
-    (of_some (ParsesFeature c.tokens_in.result.now) c.in_ok-feature.field-0 x c.in-Some.is c.in_ok-feature.ensures) c.tokens_in.ensures
+    (of_some (ParsesFeature c.tokens_in.result.now) c.in_ok-feature.field-0 x c.in-Some.is c.in_ok-feature.ensures.found) c.tokens_in.ensures
     c.as_slice.ensures.value in
     subst (IsDeclaredBy x) (sym there) (c.if-not-declare_same.ensures.same.0 refl)
 
@@ -124,7 +124,7 @@ retype-requires-clause-kept g c =
     anew base c.args.lexed.items c.args.number c.args.run c.requires.lexed c.requires.differ c.in_ok-ids.ids.items c.in_ok-ids.ensures id
     c.index-id.ensures c.features.result.now x c.index-features-id.result c.features.ensures.features c.index-features-id.is
     (c.if-not-declare_same.ensures.same.0 refl) c.tokens_in.result.now c.as_slice.result.now
-    (of_some (ParsesFeature c.tokens_in.result.now) c.in_ok-feature.field-0 x c.in-Some.is c.in_ok-feature.ensures) c.tokens_in.ensures
+    (of_some (ParsesFeature c.tokens_in.result.now) c.in_ok-feature.field-0 x c.in-Some.is c.in_ok-feature.ensures.found) c.tokens_in.ensures
     c.as_slice.ensures.value in
     subst
     (λ (ls : List Lexed). (found : Option KeptFault)
@@ -145,7 +145,7 @@ retype-requires-clause-feature g c =
     anew base c.args.lexed.items c.args.number c.args.run c.requires.lexed c.requires.differ c.in_ok-ids.ids.items c.in_ok-ids.ensures id
     c.index-id.ensures c.features.result.now x c.index-features-id.result c.features.ensures.features c.index-features-id.is
     (c.if-not-declare_same.ensures.same.0 refl) c.tokens_in.result.now c.as_slice.result.now
-    (of_some (ParsesFeature c.tokens_in.result.now) c.in_ok-feature.field-0 x c.in-Some.is c.in_ok-feature.ensures) c.tokens_in.ensures
+    (of_some (ParsesFeature c.tokens_in.result.now) c.in_ok-feature.field-0 x c.in-Some.is c.in_ok-feature.ensures.found) c.tokens_in.ensures
     c.as_slice.ensures.value in
     subst (λ (ls : List Lexed). ∥ IsFeature (run_tokens ls c.args.run) x ∥₁) (sym c.as_slice-3.ensures.value) edit.own
 
@@ -168,7 +168,7 @@ returns-in_err-retyped-clause-most g c =
     anew base c.args.lexed.items c.args.number c.args.run c.requires.lexed c.requires.differ c.in_ok-ids.ids.items c.in_ok-ids.ensures id
     c.index-id.ensures c.features.result.now x c.index-features-id.result c.features.ensures.features c.index-features-id.is
     (c.if-not-declare_same.ensures.same.0 refl) c.tokens_in.result.now c.as_slice.result.now
-    (of_some (ParsesFeature c.tokens_in.result.now) c.in_ok-feature.field-0 x c.in-Some.is c.in_ok-feature.ensures) c.tokens_in.ensures
+    (of_some (ParsesFeature c.tokens_in.result.now) c.in_ok-feature.field-0 x c.in-Some.is c.in_ok-feature.ensures.found) c.tokens_in.ensures
     c.as_slice.ensures.value in
     let now : Untyped = record { lexed = c.args.lexed; classes = with_feature_at base.untyped.classes id.class id.index x } in
     on_error c.from_residual-in_err-retyped.result
@@ -185,7 +185,7 @@ invariant_of-base-2 g c =
     anew base c.args.lexed.items c.args.number c.args.run c.requires.lexed c.requires.differ c.in_ok-ids.ids.items c.in_ok-ids.ensures id
     c.index-id.ensures c.features.result.now x c.index-features-id.result c.features.ensures.features c.index-features-id.is
     (c.if-not-declare_same.ensures.same.0 refl) c.tokens_in.result.now c.as_slice.result.now
-    (of_some (ParsesFeature c.tokens_in.result.now) c.in_ok-feature.field-0 x c.in-Some.is c.in_ok-feature.ensures) c.tokens_in.ensures
+    (of_some (ParsesFeature c.tokens_in.result.now) c.in_ok-feature.field-0 x c.in-Some.is c.in_ok-feature.ensures.found) c.tokens_in.ensures
     c.as_slice.ensures.value in
     let now : Untyped = record { lexed = c.args.lexed; classes = c.retype.new.classes } in
     let (fault, answer, kept) = c.in_ok-retyped.ensures.kept in
@@ -213,7 +213,7 @@ returns-clause-base g c = λ files lexed.
     anew base c.args.lexed.items c.args.number c.args.run c.requires.lexed c.requires.differ c.in_ok-ids.ids.items c.in_ok-ids.ensures id
     c.index-id.ensures c.features.result.now x c.index-features-id.result c.features.ensures.features c.index-features-id.is
     (c.if-not-declare_same.ensures.same.0 refl) c.tokens_in.result.now c.as_slice.result.now
-    (of_some (ParsesFeature c.tokens_in.result.now) c.in_ok-feature.field-0 x c.in-Some.is c.in_ok-feature.ensures) c.tokens_in.ensures
+    (of_some (ParsesFeature c.tokens_in.result.now) c.in_ok-feature.field-0 x c.in-Some.is c.in_ok-feature.ensures.found) c.tokens_in.ensures
     c.as_slice.ensures.value in
     let now : Untyped = record { lexed = c.args.lexed; classes = c.retype.new.classes } in
     let (fault, answer, kept) = c.in_ok-retyped.ensures.kept in
@@ -235,7 +235,7 @@ returns-clause-fresh g c =
     anew base c.args.lexed.items c.args.number c.args.run c.requires.lexed c.requires.differ c.in_ok-ids.ids.items c.in_ok-ids.ensures id
     c.index-id.ensures c.features.result.now x c.index-features-id.result c.features.ensures.features c.index-features-id.is
     (c.if-not-declare_same.ensures.same.0 refl) c.tokens_in.result.now c.as_slice.result.now
-    (of_some (ParsesFeature c.tokens_in.result.now) c.in_ok-feature.field-0 x c.in-Some.is c.in_ok-feature.ensures) c.tokens_in.ensures
+    (of_some (ParsesFeature c.tokens_in.result.now) c.in_ok-feature.field-0 x c.in-Some.is c.in_ok-feature.ensures.found) c.tokens_in.ensures
     c.as_slice.ensures.value in
     let now : Untyped = record { lexed = c.args.lexed; classes = c.retype.new.classes } in
     edit.fresh now refl c.in_ok-retyped.ensures.now

@@ -13,8 +13,8 @@ use Rattle.cool_session.proofs.FeaturesKept.{as_many_runs, many_kinds, all_kept}
 use Rattle.cool_session.proofs.NewFeaturesCounted.{new_start}
 use Rattle.cool_session.proofs.OneFeatureMore.{run_stands, tokens_here, tokens_few, before_there, member_here, new_where_kept, kept_where_kept, new_where_asked, kept_where_asked, asked_here}
 use Rattle.cool_session.proofs.TyperAsked.{on_error, next_call, asked_at_most}
-use Rattle.cool_session.proofs.recheck.renew.Goals.{in-Some, in-None+in_ok-kept-in-None}
-use Rattle.cool_session.proofs.recheck.renew.Goals as goal
+use Rattle.cool_session.proofs.renewal.renew.Goals.{in-Some, in-None+in_ok-kept-in-None}
+use Rattle.cool_session.proofs.renewal.renew.Goals as goal
 
 pub returns-in_err-before-clause-most : goal.returns-in_err-before-clause-most
 returns-in_err-before-clause-most g c =

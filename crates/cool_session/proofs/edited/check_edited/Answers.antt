@@ -9,7 +9,7 @@ use Rattle.cool_faults.specs.Phases.{AreFound, IsLexed, IsLexical}
 use Rattle.cool_session.specs.KeptChecks.{HasFewTokens, IsLexing}
 use Rattle.cool_faults.proofs.VerdictsOfPhases.{as_many_files}
 use Rattle.cool_session.proofs.ChecksOfFiles.{few_lexed, short_lexed}
-use Rattle.cool_session.proofs.edited.recheck.Goals as goal
+use Rattle.cool_session.proofs.edited.check_edited.Goals as goal
 
 lexing : (items : List (Vec ℕ)) (ls : List Lexed) → AreFound IsLexed IsLexical 0 (bytes_of items) ls [] → length items ≤ MOST_FILES
     → total (bytes_of items) ≤ MOST_SOURCE_BYTES → IsLexing ls
@@ -32,8 +32,8 @@ find_difference-requires-clause-short g c =
     let l = lexing c.args.files.now c.in-Ok.lexed.items c.in-Ok.ensures c.requires.few c.requires.small in
     subst (AllByRecursion HasFewTokens) (sym c.as_slice-2.ensures.value) l.short
 
-pub moved-requires-clause-lexed : goal.moved-requires-clause-lexed
-moved-requires-clause-lexed g c = lexing c.args.files.now c.in-Ok.lexed.items c.in-Ok.ensures c.requires.few c.requires.small
+pub check_moved-requires-clause-lexed : goal.check_moved-requires-clause-lexed
+check_moved-requires-clause-lexed g c = lexing c.args.files.now c.in-Ok.lexed.items c.in-Ok.ensures c.requires.few c.requires.small
 
-pub edited-requires-clause-lexed : goal.edited-requires-clause-lexed
-edited-requires-clause-lexed g c = lexing c.args.files.now c.in-Ok.lexed.items c.in-Ok.ensures c.requires.few c.requires.small
+pub check_one_feature-requires-clause-lexed : goal.check_one_feature-requires-clause-lexed
+check_one_feature-requires-clause-lexed g c = lexing c.args.files.now c.in-Ok.lexed.items c.in-Ok.ensures c.requires.few c.requires.small

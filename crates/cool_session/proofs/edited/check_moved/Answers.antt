@@ -5,7 +5,7 @@ use Rattle.cool_faults.specs.declared.fault.Untyped.{Untyped}
 use Rattle.cool_session.specs.KeptChecks.{AreKeptAmong}
 use Rattle.cool_session.proofs.EditedBases.{none_fresh}
 use Rattle.cool_session.proofs.FeatureTypedAnew.{among_moved, now_moved, some_base}
-use Rattle.cool_session.proofs.edited.moved.Goals as goal
+use Rattle.cool_session.proofs.edited.check_moved.Goals as goal
 
 pub fault_list-requires-clause-kept : goal.fault_list-requires-clause-kept
 fault_list-requires-clause-kept c =

@@ -2,7 +2,7 @@
 use Rattle.std.proofs.Common.{◌≡◌, ◌≤◌, take}
 use Rattle.cool_session.specs.KeptFaults.{results, AreKeptOf}
 use Rattle.cool_session.specs.NewFeatures.{AreNew, calls_after, kinds_seen, runs_seen}
-use Rattle.cool_session.proofs.recheck.renew.Given as goal
+use Rattle.cool_session.proofs.renewal.renew.Given as goal
 
 abbrev pub invariant-loop-i : goal.invariant-loop-i
 invariant-loop-i g l = record {

@@ -8,7 +8,7 @@ use Rattle.cool_session.specs.FeatureTokens.{kinds, runs_of}
 use Rattle.cool_session.specs.NewFeatures.{IsKeptAt, IsNewAt}
 use Rattle.cool_session.specs.Runs.{bounds_of}
 use Rattle.cool_session.proofs.FeaturesKept.{run_within, run_seen, many_bounds, base_many, default_same, of_some}
-use Rattle.cool_session.proofs.recheck.kept_at.Goals as goal
+use Rattle.cool_session.proofs.renewal.kept_at.Goals as goal
 
 pub tokens_in-requires : goal.tokens_in-requires
 tokens_in-requires c =
