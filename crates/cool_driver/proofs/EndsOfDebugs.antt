@@ -92,7 +92,7 @@ module _ (c : Call) (mid : Option (List ℕ)) (faults : ℕ) (answered : Status)
   -- a write of the output failed, with the notes of a front of the script
   unwritten : (h : IsDebugRun c (end.Halt halts.WriteFault) mid faults) → Told halts.WriteFault → Ends c (code_of answered)
   unwritten h (inl (status, got)) =
-      let (at, comes, fails) = h.comes.0.ran in
+      let (at, comes, (fails, machine)) = h.comes.0.ran in
       let off = h.comes.2 in
       let still : c.notes.held_after ≡ mid = got.0 ∙ appended-nil mid in
       let part : DebuggedPart c = record {

@@ -11,14 +11,14 @@ use Rattle.cool_driver.specs.Compiled.{compiled_program}
 use Rattle.cool_driver.specs.Calls.{Request, Call, NoLess, DidNothing, Got, Told, IsRead, MayRefuse}
 use Rattle.cool_driver.specs.Ends.{Due, Writing, Ends, FailedOutput, FailedNote, FailedDebugged, RanShort, DebuggedShort}
 use Rattle.cool_driver.specs.Sessions.{SessionShort}
-use Rattle.cool_driver.specs.Ends.Writing.{by_build, by_big, by_image, by_eval, by_session}
+use Rattle.cool_driver.specs.Ends.Writing.{by_build, by_big, by_image, by_eval, by_last_line, by_session}
 use Rattle.cool_driver.proofs.HeadlineOfCalls.{headline_written, headline_failed, not_run}
 use Rattle.cool_driver.proofs.HeadlineOfDebugs.{misscripted_ends, debugged_ends, debug_written, debug_failed, debug_short}
 use Rattle.cool_driver.proofs.NotesOfTexts.{misread_note}
 use Rattle.cool_driver.proofs.AnsweredFaults.{answered}
 use Rattle.cool_driver.proofs.StatusesOfFindings as findings
 use Rattle.cool_driver.proofs.Findings.{Finding, finding_of_due, finding_below}
-use Rattle.cool_driver.proofs.EvaluationsOfCalls.{evaluated_ends, prefix_of_due, prefix_of_failed, prefix_of_short}
+use Rattle.cool_driver.proofs.EvaluationsOfCalls.{evaluated_ends, evaluated_unwritten, evaluated_short, prefix_of_due, prefix_of_failed, prefix_of_short}
 use Rattle.cool_driver.proofs.ImagesOfCalls.{read_for_run}
 use Rattle.cool_driver.proofs.SessionsOfCalls.{session_written, written_exactly, session_failed, session_short}
 
@@ -104,6 +104,8 @@ ends_found c status found calm written =
       evaluated_exactly = λ files steps names contents p told read is _ _.
           evaluated_ends c status written.0 written.1 files steps names contents p written.2 written.3 written.4 told read is;
       evaluated_prefix = λ files steps names contents p told read is. prefix_of_due c status written.0 written.1 files steps names contents p written.2 written.3 told read is;
+      evaluated_unwritten = λ files steps names contents p told read is e. absurd (bounds.1 e);
+      evaluated_short = λ files steps names contents p told read is e. absurd (bounds.2 e);
       unfit_exactly = λ files limits name bytes told read none _ _. findings.unfit_exactly r status files limits name bytes found told read none;
       misread_exactly = λ files limits name bytes fault told read text wrong _ _. (
         findings.misread_exactly r status files limits name bytes fault found told read text wrong,
@@ -139,9 +141,10 @@ ends_written c status output note due out notes calm rose =
 read_of : (r : Request) (bytes more left : List ℕ) → Writing r bytes more left → r.faults_after ≡ r.faults_before
 read_of r _ _ _ (by_build form names contents p read is) = read.calm
 read_of r _ _ _ (by_big n line asked calm is) = calm
-read_of r _ _ _ (by_session replies left is part) = is.calm
+read_of r _ _ _ (by_session replies lines left is part) = is.calm
 read_of r _ _ _ (by_image limits image at printed is comes prints) = (read_for_run r limits image is).3.calm
-read_of r _ _ _ (by_eval steps names p kept is) = is.read.calm
+read_of r _ _ _ (by_eval steps names p spent printed is next) = is.read.calm
+read_of r _ _ _ (by_last_line steps names p before is last) = is.read.calm
 
 -- no count fell where a write failed
 no_less_of : (c : Call) → FailedOutput c ⊎ FailedNote c ⊎ FailedDebugged c → c.input_before ≤ c.input_after → NoLess c
@@ -204,6 +207,8 @@ ends_write_fault c rose part input = record {
       debug_failed c files limits names contents p script bytes told read is script_read commands says are part;
   evaluated_exactly = λ files steps names contents p told read is other _. absurd (other refl);
   evaluated_prefix = λ files steps names contents p told read is. prefix_of_failed c files steps names contents p part told read is;
+  evaluated_unwritten = λ files steps names contents p told read is _. evaluated_unwritten c files steps names contents p part told read is;
+  evaluated_short = λ files steps names contents p told read is e. absurd (omega arith);
   unfit_exactly = λ files limits name bytes told read none other _. absurd (other refl);
   misread_exactly = λ files limits name bytes fault told read text wrong other _. absurd (other refl);
   executed_exactly = λ files limits name bytes image told read is other _. absurd (other refl);
@@ -248,6 +253,8 @@ ends_short c files out notes calm short = record {
       debug_short c files limits names contents p script bytes told read is script_read commands says are short;
   evaluated_exactly = λ files steps names contents p told read is _ other. absurd (other refl);
   evaluated_prefix = λ files steps names contents p told read is. prefix_of_short c files steps names contents p short told read is;
+  evaluated_unwritten = λ files steps names contents p told read is e. absurd (omega arith);
+  evaluated_short = λ files steps names contents p told read is _. evaluated_short c files steps names contents p short told read is;
   unfit_exactly = λ files limits name bytes told read none _ other. absurd (other refl);
   misread_exactly = λ files limits name bytes fault told read text wrong _ other. absurd (other refl);
   executed_exactly = λ files limits name bytes image told read is _ other. absurd (other refl);

@@ -3,20 +3,19 @@ use Rattle.std.proofs.Common.{◌≡◌, ◌∙◌, ℕ, List, [], inl, inr, sym
 use Rattle.std.specs.Prelude.{Option, Some}
 use Rattle.cool_classes.specs.Chains.{Class}
 use Rattle.cool_ports.specs.SinkBytes.{appended, GotPrefix}
-use Rattle.cool_ports.proofs.GettingBytes.{appended-nil}
 use Rattle.cool_meaning.specs.SourceRun as source
 use Rattle.cool_eval.specs.Counts.{CountedEnd}
-use Rattle.cool_eval.specs.Ends.{Evaluates}
+use Rattle.cool_eval.specs.Ends.{Evaluates, StoppedReading, last_line}
 use Rattle.cool_eval.specs.declared.evaluation.EvalEnd.{EvalEnd}
 use Rattle.cool_eval.specs.declared.evaluation.EvalEnd.TheVariants as ends
 use Rattle.cool_driver.specs.Notes.{read_fault_note, step_limit_note}
-use Rattle.cool_driver.specs.Evaluation.{status_of_end, note_of_end}
+use Rattle.cool_driver.specs.Evaluation.{status_of_end, note_of_end, WritesNext, EndsAfter}
 use Rattle.cool_driver.specs.Calls.{Got, Call}
 use Rattle.cool_driver.specs.Ends.{Due, IsEvaluationOf, Writing, Ends}
 use Rattle.cool_driver.specs.Ends.Due.{evaluated, unread_source}
-use Rattle.cool_driver.specs.Ends.Writing.{by_eval}
+use Rattle.cool_driver.specs.Ends.Writing.{by_eval, by_last_line}
 use Rattle.cool_driver.proofs.EndsOfDue.{ends_write_fault, ends_short}
-use Rattle.cool_driver.proofs.EndsOfRuns.{IsFinished}
+use Rattle.cool_driver.proofs.EndsOfRuns.{IsFinished, got_alone}
 
 -- The evaluation of a program in a call: how it ended, and the counts of faults.
 pub record IsEvaluated (c : Call) (end : EvalEnd) : Type 0 where
@@ -24,12 +23,12 @@ pub record IsEvaluated (c : Call) (end : EvalEnd) : Type 0 where
   pub names : List (List ℕ)
   pub program : List Class
   pub is : IsEvaluationOf c.request steps names program
-  pub comes : Evaluates (source.run program names c.request.input steps) c.out.held_before end c.left c.out.held_after
+  pub comes : Evaluates program names c.request.input steps c.out.held_before end c.left c.out.held_after
   pub counted : CountedEnd end c.input_before c.input_after c.out.faults_before c.out.faults_after
 
 -- of what the interpreter answered
 pub is_evaluated : (c : Call) (steps : ℕ) (names : List (List ℕ)) (p : List Class) (end end' : EvalEnd) → IsEvaluationOf c.request steps names p
-    → Evaluates (source.run p names c.request.input steps) c.out.held_before end c.left c.out.held_after
+    → Evaluates p names c.request.input steps c.out.held_before end c.left c.out.held_after
     → CountedEnd end c.input_before c.input_after c.out.faults_before c.out.faults_after → end ≡ end' → IsEvaluated c end'
 is_evaluated c steps names p end end' is comes counted same =
     subst (λ (x : EvalEnd). IsEvaluated c x) same (record { steps = steps; names = names; program = p; is = is; comes = comes; counted = counted })
@@ -65,28 +64,52 @@ ended_with_error c e =
 pub ended_at_step_limit : (c : Call) → IsEvaluated c ends.StepLimit → IsFinished c 6 step_limit_note
 ended_at_step_limit c e = finished c ends.StepLimit e source.GoesOn 6 e.comes.0 refl e.comes.1.0 e.comes.1.1 e.counted.0 e.counted.1 (λ q. omega (arith, q))
 
+-- with another sink the same read fails
+stopped_alone : (run : ℕ → source.Run) (steps : ℕ) (held : Option (List ℕ)) (left : List ℕ) (held' : Option (List ℕ))
+    → (h : StoppedReading run steps held left held') → StoppedReading run steps (Some []) left (Some (run h.spent).output)
+stopped_alone run steps held left held' h = record {
+  spent = h.spent;
+  fewer = h.fewer;
+  goes_on = h.goes_on;
+  put = got_alone (run h.spent).output;
+  input = h.input;
+}
+
 -- a read failed
 pub read_failed : (c : Call) → IsEvaluated c ends.ReadFault → IsFinished c 7 read_fault_note
 read_failed c e =
-    let (more, upto) = e.comes.0 in
-    let (kept, left) = e.comes.1 in
+    let run = source.run e.program e.names c.request.input in
+    let h = e.comes in
+    let alone = stopped_alone run e.steps c.out.held_before c.left c.out.held_after h in
     record {
-      output = upto.front;
-      due = unread_source e.steps e.names e.program upto.front c.left e.is (record { more = more; output_is = upto.cut; kept = kept; left_is = left });
-      out = (upto.got, e.counted.1);
+      output = (run h.spent).output;
+      due = unread_source e.steps e.names e.program (run h.spent).output c.left e.is alone;
+      out = (h.put, e.counted.1);
       calm = λ other. absurd (other refl);
       rose = λ _. e.counted.0;
     }
 
--- a write failed
+-- a write failed, that of a call or of the last line
+writing_ends : (c : Call) → Got c.notes [] → IsEvaluated c ends.WriteFault → (bytes more left : List ℕ) → Writing c.request bytes more left
+    → c.left ≡ left → GotPrefix (appended c.out.held_before bytes) more c.out.held_after → Ends c 8
+writing_ends c notes e bytes more left writing is got =
+    let here = subst (λ (x : List ℕ). Writing c.request bytes more x) (sym is) writing in
+    ends_write_fault c (inl e.counted.1) (inl (bytes, more, here, (got, e.counted.1), notes)) (omega (arith, e.counted.0))
+
 pub write_failed : (c : Call) → Got c.notes [] → IsEvaluated c ends.WriteFault → Ends c 8
-write_failed c notes e =
-    let run = run_in c ends.WriteFault e in
-    let (kept, left) = e.comes.1 in
-    let writing : Writing c.request [] run.output c.left = subst (λ (x : List ℕ). Writing c.request [] run.output x) (sym left) (by_eval e.steps e.names e.program kept e.is) in
-    let part : GotPrefix (appended c.out.held_before []) run.output c.out.held_after =
-    subst (λ (x : Option (List ℕ)). GotPrefix x run.output c.out.held_after) (sym (appended-nil c.out.held_before)) e.comes.0 in
-    ends_write_fault c (inl e.counted.1) (inl ([], run.output, writing, (part, e.counted.1), notes)) (omega (arith, e.counted.0))
+write_failed c notes e = by e.comes
+  where
+    by : Evaluates e.program e.names c.request.input e.steps c.out.held_before ends.WriteFault c.left c.out.held_after → Ends c 8
+    by (inl h) =
+        let run = source.run e.program e.names c.request.input in
+        let next : WritesNext run e.steps h.spent h.printed = record { fewer = h.fewer; goes_on = h.goes_on; later = h.later } in
+        writing_ends c notes e (run h.spent).output h.printed (run h.spent).left
+        (by_eval e.steps e.names e.program h.spent h.printed e.is next) h.left h.got
+    by (inr h) =
+        let run = source.run e.program e.names c.request.input in
+        let last : EndsAfter e.program e.names (run e.steps) h.before = record { over = h.over; output_is = h.output } in
+        writing_ends c notes e h.before (last_line e.program e.names (run e.steps).end) (run e.steps).left
+        (by_last_line e.steps e.names e.program h.before e.is last) h.left h.got
 
 -- memory ran out
 pub ran_short : (c : Call) → Got c.notes [] → IsEvaluated c ends.Memory → Ends c 9

@@ -115,7 +115,7 @@ no_seven false false true e = omega (arith, e)
 no_seven false false false e = omega (arith, e)
 
 -- a sink that held nothing holds just what it got
-got_alone : (bytes : List ℕ) → Some bytes ≡ appended (Some []) bytes
+pub got_alone : (bytes : List ℕ) → Some bytes ≡ appended (Some []) bytes
 unfolding appended
 got_alone bytes = refl
 
@@ -148,7 +148,7 @@ finished c halts.StepLimit front h other =
     finished_at c h.limits h.image front (Running end) h.last h.due (run_of-is h.limits h.image c.request.input ∙ ran) stands h.counted.0 h.counted.1
     (λ e. omega (arith, e))
 finished c halts.ReadFault front h other =
-    let (at, comes, fails) = h.ran in
+    let (at, comes, (fails, machine)) = h.ran in
     record {
       output = at.output;
       due = h.due at at.output c.left comes (fails_alone _ at _ _ _ fails);
@@ -229,7 +229,7 @@ run_ends c halts.StepLimit answered limits image last is ran counted noted =
     ran_ends c halts.StepLimit answered limits image last (λ e. cc) is ran counted noted
 run_ends c halts.ReadFault answered limits image last is ran counted noted =
     ran_ends c halts.ReadFault answered limits image last (λ e. cc) is ran counted noted
-run_ends c halts.WriteFault answered limits image last is (at, comes, fails) counted (inl (status, got)) =
+run_ends c halts.WriteFault answered limits image last is (at, comes, (fails, machine)) counted (inl (status, got)) =
     subst (λ (n : ℕ). Ends c n) (sym status) (write_failed c limits image got is at comes fails counted)
 run_ends c halts.WriteFault answered limits image last is ran counted (inr (status, some, part)) = absurd (some refl)
 

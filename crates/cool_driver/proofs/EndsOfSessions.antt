@@ -1,9 +1,7 @@
 -- How a call ends that held a session.
-use Rattle.std.proofs.Common.{◌≡◌, ◌∙◌, ℕ, List, [], inl, inr, sym, refl, subst, append-nil, arith}
-use Rattle.std.specs.Prelude.{Option, Result, Ok, Err}
+use Rattle.std.proofs.Common.{◌≡◌, ◌∙◌, ℕ, List, [], inl, inr, sym, refl, subst, arith}
+use Rattle.std.specs.Prelude.{Result, Ok, Err}
 use Rattle.std.specs.List.{concat}
-use Rattle.cool_ports.specs.SinkBytes.{appended, GotPrefix}
-use Rattle.cool_ports.proofs.GettingBytes.{appended-nil}
 use Rattle.cool_session.specs.declared.ending.Ending.{Ending}
 use Rattle.cool_session.specs.declared.ending.Ending.TheVariants.{Over, BadCommand, EndsInFile, TooLarge}
 use Rattle.cool_session.specs.declared.ending.Interruption.{Interruption}
@@ -69,11 +67,9 @@ cut_by_read c h =
 -- a write failed
 pub cut_by_write : (c : Call) → Got c.notes [] → IsHeld c (Err WriteFault) → Ends c 8
 cut_by_write c notes h =
-    let (replies, part, got) = h.comes in
-    let from : GotPrefix (appended c.out.held_before []) (concat replies) c.out.held_after =
-    subst (λ (x : Option (List ℕ)). GotPrefix x (concat replies) c.out.held_after) (sym (appended-nil c.out.held_before)) got in
+    let (replies, lines, work, got) = h.comes in
     ends_write_fault c (inl h.counted.1)
-    (inl ([], concat replies, by_session replies c.left h.is part, (from, h.counted.1), notes)) (omega (arith, h.counted.0))
+    (inl (concat replies, concat lines, by_session replies lines c.left h.is work, (got, h.counted.1), notes)) (omega (arith, h.counted.0))
 
 -- memory ran out
 short_ends : (c : Call) → IsSession c.request → SessionShort c → Ends c 9
@@ -82,28 +78,20 @@ short_ends c is short =
 
 pub cut_by_memory : (c : Call) → Got c.notes [] → IsHeld c (Err Memory) → Ends c 9
 cut_by_memory c notes h =
-    let (replies, rest, part, got) = h.comes in
     short_ends c h.is (record {
       asked = h.is.asked;
-      replies = replies;
-      rest = rest;
-      part = part;
-      got = got;
+      went = inl h.comes;
       notes = notes;
       out_calm = h.counted.1;
       input_calm = h.counted.0;
     })
 
 -- it came to its end, and memory ran out for the note
-unnoted_end : (c : Call) (end : Ending) → Got c.notes [] → IsHeld c (Ok end) → Ends c 9
-unnoted_end c end notes h =
-    let (replies, whole, put) = h.comes in
+unnoted_end : (c : Call) (end : Ending) → status_of_ending end ≡ 12 → Got c.notes [] → IsHeld c (Ok end) → Ends c 9
+unnoted_end c end twelve notes h =
     short_ends c h.is (record {
       asked = h.is.asked;
-      replies = replies;
-      rest = whole.rest;
-      part = record { count = whole.count; held = whole.held; did = whole.did };
-      got = ([], record { front = concat replies; cut = sym (append-nil (concat replies)); got = put });
+      went = inr (end, twelve, h.comes);
       notes = notes;
       out_calm = h.counted.1;
       input_calm = h.counted.0;
@@ -114,7 +102,8 @@ pub noted_end : (c : Call) (end : Ending) (answered : Status) → status_of_endi
     → NotedIfMade c.notes (ending_note end) statuses.Unfit answered → Ends c (code_of answered)
 noted_end c end answered twelve h (inl noted) =
     noted_ends c statuses.Unfit answered (ending_note end) (subst (λ (n : ℕ). IsFinished c n (ending_note end)) twelve (came_to_end c end h)) noted
-noted_end c end answered twelve h (inr (short, notes)) = subst (λ (s : Status). Ends c (code_of s)) (sym short) (unnoted_end c end notes h)
+noted_end c end answered twelve h (inr (short, notes)) =
+    subst (λ (s : Status). Ends c (code_of s)) (sym short) (unnoted_end c end twelve notes h)
 
 -- of the statuses one is that of a read that failed
 pub read_fault_of_seven : (status : Status) → code_of status ≡ 7 → status ≡ statuses.ReadFault

@@ -1,12 +1,11 @@
 -- The image of a folded program means it, and means the program itself, of which no run has a smaller meter.
-use Rattle.std.proofs.Common.{◌+◌, ℕ, List, [], ◌∷◌, length, sym, ◌∙◌, subst, arith}
+use Rattle.std.proofs.Common.{◌+◌, ℕ, List, length, sym, ◌∙◌, subst, arith}
 use Rattle.std.specs.List.{AllByRecursion}
-use Rattle.cool_syntax.specs.declared.file_tree.FileTree.{FileTree}
 use Rattle.cool_classes.specs.Chains.{Class}
 use Rattle.cool_classes.specs.Definitions.{definitions}
 use Rattle.cool_rules.specs.Fits.{Fits}
 use Rattle.cool_rules.specs.TypedTables.{IsTypedTable}
-use Rattle.cool_faults.specs.Verdicts.{AreTrees, IsAccepted}
+use Rattle.cool_faults.specs.Verdicts.{IsAccepted}
 use Rattle.cool_meaning.specs.Laws.{IsOver}
 use Rattle.cool_meaning.specs.SourceRun.{Run, run}
 use Rattle.cool_opt.specs.Folding.{fold_table}
@@ -17,7 +16,6 @@ use Rattle.cool_runtime.specs.Contents.{AreBytes}
 use Rattle.cool_runtime.specs.Reaches.{IsPrefix, IsSuffix}
 use Rattle.cool_emit.specs.Programs.{IsBuildable, program_lines}
 use Rattle.cool_simulation.specs.Accord.{Limits, Inside, IsFailed, Accord, Accords, Means}
-use Rattle.cool_simulation.specs.ByteStrings.{ClassesHaveBytes}
 use Rattle.cool_simulation.specs.Theorem.{AreFileNames}
 use Rattle.cool_simulation.proofs.theorem.AcceptedTexts.{trees_bytes}
 use Rattle.cool_simulation.proofs.theorem.AcceptedWritable.{accepted_writable}

@@ -18,7 +18,7 @@ use Rattle.cool_driver.specs.Headline.{Headline}
 use Rattle.cool_driver.specs.Ends.{Due, Writing, FailedOutput, FailedNote, FailedDebugged, RanShort, DebuggedShort}
 use Rattle.cool_driver.specs.Sessions.{SessionShort}
 use Rattle.cool_driver.specs.Ends.Due.{checked, built, refused, executed, unread_input, debugged, unread_debugged, misscripted, unscripted, evaluated, unread_source, unfit, misread, summed, conversed, usage, too_many, missing, unread, too_large}
-use Rattle.cool_driver.specs.Ends.Writing.{by_build, by_big, by_image, by_eval, by_session}
+use Rattle.cool_driver.specs.Ends.Writing.{by_build, by_big, by_image, by_eval, by_last_line, by_session}
 use Rattle.cool_driver.specs.declared.command_line.Command.TheVariants.{Check, Build, Run, Eval}
 use Rattle.cool_driver.proofs.EvaluationsOfCalls.{no_eval}
 use Rattle.cool_driver.proofs.Findings.{no_file_fault, missing_fault, large_fault}
@@ -111,7 +111,7 @@ writing_comes r _ _ _ files limits fold names contents p q meant (by_build shape
     absurd (runs_nothing _ (Build shape) (Run limits fold) _ _ tt read'.plan read.plan)
 writing_comes r _ _ _ files limits fold names contents p q meant (by_big n line asked calm is) told read form =
     absurd (no_plan_and_plan _ _ _ (no_files_for_big r.words n asked) read.plan)
-writing_comes r _ _ _ files limits fold names contents p q meant (by_session replies left is part) told read form =
+writing_comes r _ _ _ files limits fold names contents p q meant (by_session replies lines left is part) told read form =
     absurd (no_plan_and_plan _ _ _ (no_files_for_session r.words is.asked) read.plan)
 writing_comes r _ _ _ files limits fold names contents p q meant (by_image asked found at printed is comes prints) told read form =
     let (same, made, bounded) = run_of_program r files asked limits fold found names contents p is told read form in
@@ -125,7 +125,9 @@ writing_comes r _ _ _ files limits fold names contents p q meant (by_image asked
       before = refl;
       leaves = refl;
     }
-writing_comes r _ _ _ files limits fold names contents p q meant (by_eval steps names' p' kept is) told read form =
+writing_comes r _ _ _ files limits fold names contents p q meant (by_eval steps names' p' spent printed is next) told read form =
+    absurd (runs_nothing _ (Eval steps) (Run limits fold) _ _ tt is.read.plan read.plan)
+writing_comes r _ _ _ files limits fold names contents p q meant (by_last_line steps names' p' before is last) told read form =
     absurd (runs_nothing _ (Eval steps) (Run limits fold) _ _ tt is.read.plan read.plan)
 
 -- a write failed

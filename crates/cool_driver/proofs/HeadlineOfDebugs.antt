@@ -26,7 +26,7 @@ use Rattle.cool_driver.specs.Calls.{IsRead, IsScriptRead, Got, Call, DidNothing,
 use Rattle.cool_driver.specs.Headline.{StopsWriting, StopsBetween, Headline, StopsShort}
 use Rattle.cool_driver.specs.Ends.{Due, FailedOutput, FailedNote, FailedDebugged, RanShort, DebuggedShort, EndsDebugged}
 use Rattle.cool_driver.specs.Sessions.{SessionShort}
-use Rattle.cool_driver.specs.Ends.Writing.{by_build, by_big, by_image, by_eval, by_session}
+use Rattle.cool_driver.specs.Ends.Writing.{by_build, by_big, by_image, by_eval, by_last_line, by_session}
 use Rattle.cool_driver.specs.Ends.{Writing, DebuggedPart}
 use Rattle.cool_driver.specs.declared.command_line.Command.TheVariants.{Build, Eval, Debug}
 use Rattle.cool_driver.proofs.DebugsOfCalls.{DueToDebug, no_run, image_same, debug_due}
@@ -182,9 +182,10 @@ module _ (c : Call) (files : FileMap) (limits : RunLimits) (names contents : Lis
       no_writing : (bytes more left : List ℕ) → Writing c.request bytes more left → ⊥
       no_writing _ _ _ (by_build form names' contents' p' read' is) = no_debug _ (Build form) limits _ _ tt read'.plan read.plan
       no_writing _ _ _ (by_big n line asked calm is) = no_plan_and_plan _ _ _ (no_files_for_big c.request.words n asked) read.plan
-      no_writing _ _ _ (by_session replies left is part) = no_plan_and_plan _ _ _ (no_files_for_session c.request.words is.asked) read.plan
+      no_writing _ _ _ (by_session replies lines left is part) = no_plan_and_plan _ _ _ (no_files_for_session c.request.words is.asked) read.plan
       no_writing _ _ _ (by_image asked found at printed is at_call prints) = no_run c.request asked limits found names is read.plan
-      no_writing _ _ _ (by_eval steps names' p' kept is) = no_debug _ (Eval steps) limits _ _ tt is.read.plan read.plan
+      no_writing _ _ _ (by_eval steps names' p' spent printed is next) = no_debug _ (Eval steps) limits _ _ tt is.read.plan read.plan
+      no_writing _ _ _ (by_last_line steps names' p' before is last) = no_debug _ (Eval steps) limits _ _ tt is.read.plan read.plan
 
       -- a write failed
       pub debug_failed : FailedOutput c ⊎ FailedNote c ⊎ FailedDebugged c → DebugHeadline c 8 limits names p

@@ -22,7 +22,6 @@ pub mod EndsOfRuns
 pub mod EndsOfDebugs
 pub mod EndsOfEvaluations
 pub mod EndsOfSessions
-pub mod HexDigits
 pub mod LoadingImages
 pub mod Accords
 pub mod NamesAreTexts

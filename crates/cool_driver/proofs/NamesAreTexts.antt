@@ -8,6 +8,7 @@ use Rattle.std.specs.Global.{Global}
 use Rattle.std.proofs.lemmas.Bool.{and_parts, ltb-true}
 use Rattle.std.proofs.lemmas.Str.{IsUtf8-string_bytes}
 use Rattle.cool_runtime.specs.Contents.{AreBytes, IsText}
+use Rattle.cool_words.specs.declared.names.TheConstants.{MOST_NAME_BYTES}
 use Rattle.cool_words.specs.Plans.{is_file_name, words_of}
 
 both_bytes : (xs ys : List ℕ) → AreBytes xs → AreBytes ys → AreBytes (xs ++ ys)
@@ -54,5 +55,6 @@ pub named_texts : (names : List (String Global)) → list_all is_file_name (word
 named_texts [] good = tt
 named_texts (name ∷ names) good =
     let each = and_parts (is_file_name (string_bytes name)) (list_all is_file_name (words_of names)) good in
-    let parts = and_parts (nat_le (length (string_bytes name)) 4096) (not (list_any (λ b. b == 0) (string_bytes name))) each.0 in
-    (not_zero (string_bytes name) (text_bytes name) parts.1, named_texts names each.1)
+    let bytes = string_bytes name in
+    let parts = and_parts (nat_le (length bytes) MOST_NAME_BYTES) (not (list_any (λ b. b == 0) bytes)) each.0 in
+    (not_zero bytes (text_bytes name) parts.1, named_texts names each.1)

@@ -1,8 +1,11 @@
 -- What words ask to do with files, and what holds of its names.
 use Rattle.std.proofs.Common.{◌≡◌, refl, ℕ, ◌≤◌, true, List, [], ◌∷◌, length, ap}
 use Rattle.std.specs.Prelude.{Option, Some, None, option_and_then, not, ◌==◌, nat_le}
-use Rattle.std.specs.List.{list_any, list_all, AllByRecursion}
+use Rattle.std.specs.List.{list_any, list_all}
 use Rattle.std.proofs.lemmas.Bool.{and_parts, leb-true}
+use Rattle.cool_emit.specs.declared.TheConstants.{MOST_FILE_NAME}
+use Rattle.cool_emit.specs.FileNames.{AreShortNames}
+use Rattle.cool_words.specs.declared.names.TheConstants.{MOST_NAME_BYTES}
 use Rattle.cool_words.specs.Plans as words
 use Rattle.cool_words.specs.Plans.{Asked, is_file_name}
 use Rattle.cool_words.specs.Plans.Asked.{big, session}
@@ -34,12 +37,13 @@ no_files_for_session given is = ap (option_and_then files_asked) is
 pub same_number : (asked : Option Asked) (a b : ℕ) → asked ≡ Some (big a) → asked ≡ Some (big b) → a ≡ b
 same_number asked a b p q = cc
 
--- a good name has at most 4,096 bytes
-short_name : (name : List ℕ) → is_file_name name ≡ true → length name ≤ 4096
-short_name name good = leb-true (length name) 4096 (and_parts (nat_le (length name) 4096) (not (list_any (λ b. b == 0) name)) good).0
+-- a good name has no more bytes than a program may be built with
+short_name : (name : List ℕ) → is_file_name name ≡ true → length name ≤ MOST_FILE_NAME
+short_name name good =
+    leb-true (length name) MOST_NAME_BYTES (and_parts (nat_le (length name) MOST_NAME_BYTES) (not (list_any (λ b. b == 0) name)) good).0
 
 -- so has each of good names
-pub short_names : (names : List (List ℕ)) → list_all is_file_name names ≡ true → AllByRecursion (λ name. length name ≤ 4096) names
+pub short_names : (names : List (List ℕ)) → list_all is_file_name names ≡ true → AreShortNames names
 short_names [] good = tt
 short_names (name ∷ names) good =
     let both = and_parts (is_file_name name) (list_all is_file_name names) good in

@@ -1,10 +1,11 @@
 -- The session that a call holds: what is due and what is written come of it, and its input is one session alone.
-use Rattle.std.proofs.Common.{◌≡◌, ℕ, ◌⊎◌, inl, inr, false, List, [], Some, refl, sym, ◌∙◌, ap, subst}
+use Rattle.std.proofs.Common.{◌≡◌, ℕ, ◌⊎◌, inl, inr, false, List, [], Some, refl, sym, ◌∙◌, ap, subst, arith}
 use Rattle.std.specs.List.{concat}
 use Rattle.cool_session.specs.declared.ending.Ending.{Ending}
 use Rattle.cool_session.proofs.OneExchange.{one_exchange}
 use Rattle.cool_session.specs.Exchanges as exchange
-use Rattle.cool_session.specs.Exchanges.{Exchange, Unread, Part}
+use Rattle.cool_session.specs.Exchanges.{Exchange, Unread, Unwritten}
+use Rattle.cool_session.specs.Exchanges.Begins.{a_line}
 use Rattle.cool_session.specs.Held.{nothing_held}
 use Rattle.cool_words.specs.Plans.Asked.{session}
 use Rattle.cool_words.specs.declared.plan.RunLimits.{RunLimits}
@@ -16,7 +17,7 @@ use Rattle.cool_driver.specs.Notes.{ending_note}
 use Rattle.cool_driver.specs.Calls.{Request, Got, GotPart, Call, DidNothing}
 use Rattle.cool_driver.specs.Ends.{Due, Writing, IsRunOf, IsDebugOf, IsEvaluationOf, FailedOutput, FailedNote, FailedDebugged, RanShort, DebuggedShort}
 use Rattle.cool_driver.specs.Ends.Due.{checked, built, refused, executed, unread_input, debugged, unread_debugged, misscripted, unscripted, evaluated, unread_source, unfit, misread, summed, conversed, usage, too_many, missing, unread, too_large}
-use Rattle.cool_driver.specs.Ends.Writing.{by_build, by_big, by_image, by_eval, by_session}
+use Rattle.cool_driver.specs.Ends.Writing.{by_build, by_big, by_image, by_eval, by_last_line, by_session}
 use Rattle.cool_driver.specs.Sessions.{IsSession, DueToSession, SessionShort, SessionEnds, EndsAsSession, status_of_ending}
 use Rattle.cool_driver.specs.Sessions.DueToSession.{to_end, to_read}
 use Rattle.cool_driver.specs.Sessions.SessionEnds.{ended, unread as cut_short, unwritten, unnoted, short as ran_short}
@@ -117,9 +118,12 @@ failed_reply c _ _ _ (by_build form names contents p read is) same asked part no
 failed_reply c _ _ _ (by_big n line asks calm is) same asked part notes = absurd (big_or_session _ n asked asks)
 failed_reply c _ _ _ (by_image limits image at printed is comes prints) same asked part notes =
     absurd (no_files c.request.words asked (read_for_run c.request limits image is).3.plan)
-failed_reply c _ _ _ (by_session replies left is begun) same asked part notes =
-    unwritten replies (subst (Part c.request.input replies) same begun) part notes
-failed_reply c _ _ _ (by_eval steps names p kept is) same asked part notes = absurd (no_files c.request.words asked is.read.plan)
+failed_reply c _ _ _ (by_session replies lines left is work) same asked part notes =
+    unwritten replies lines (subst (Unwritten c.request.input replies lines) same work) part notes
+failed_reply c _ _ _ (by_eval steps names p spent printed is next) same asked part notes =
+    absurd (no_files c.request.words asked is.read.plan)
+failed_reply c _ _ _ (by_last_line steps names p before is last) same asked part notes =
+    absurd (no_files c.request.words asked is.read.plan)
 
 -- a write failed
 pub session_failed : (c : Call) → FailedOutput c ⊎ FailedNote c ⊎ FailedDebugged c → asked_for c.request.words ≡ Some session → SessionEnds c 8
@@ -128,15 +132,17 @@ session_failed c (inr (inl (due, output, note, is, out, part))) asked =
     unnoted due output note (session_due c.request due output note c.left is asked) out part
 session_failed c (inr (inr (part, how))) asked = absurd (no_files c.request.words asked part.is.debugged.read.plan)
 
+-- a session of which nothing was taken
+unbegun : (input left : List ℕ) → input ≡ left → Unread input [] left
+unbegun input left same =
+    record { count = 0; held = nothing_held; rest = input; did = exchange.none; begins = a_line [] same (omega arith) refl }
+
 -- memory ran out
 pub session_short : (c : Call) → asked_for c.request.words ≡ Some session → DidNothing c ⊎ RanShort c ⊎ DebuggedShort c ⊎ SessionShort c
     → SessionEnds c 9
 session_short c asked (inl (out, notes, left, input)) = ran_short (record {
   asked = asked;
-  replies = [];
-  rest = c.request.input;
-  part = record { count = 0; held = nothing_held; did = exchange.none };
-  got = ([], record { front = []; cut = refl; got = out.0 });
+  went = inl (inl ([], unbegun c.request.input c.left (sym left), out.0));
   notes = notes;
   out_calm = out.1;
   input_calm = input;

@@ -23,12 +23,13 @@ use Rattle.spim_debug.specs.declared.script.DebugCommand.{DebugCommand}
 use Rattle.spim_debug.specs.declared.script.ScriptFault.{ScriptFault}
 use Rattle.spim_machine.specs.Ends.{FailsReading, call_with}
 use Rattle.cool_emit.specs.Programs.{program_lines}
+use Rattle.cool_eval.specs.Ends.{StoppedReading, StoppedWriting, StoppedAtLastLine, StoppedShort, last_line}
 use Rattle.cool_meaning.specs.SourceRun as source
 use Rattle.cool_runtime.specs.Contents.{AreBytes}
 use Rattle.cool_simulation.specs.Accord.{Means}
 use Rattle.cool_words.specs.declared.plan.RunLimits.{RunLimits}
 use Rattle.cool_session.specs.declared.ending.Ending.{Ending}
-use Rattle.cool_session.specs.Exchanges.{Exchange, Part}
+use Rattle.cool_session.specs.Exchanges.{Exchange, Unwritten}
 use Rattle.cool_words.specs.Plans.Asked.{debug, big, session}
 use Rattle.cool_words.specs.Plans.{IsBounded}
 use Rattle.cool_driver.specs.Big.{IsBigLine}
@@ -37,7 +38,7 @@ use Rattle.cool_driver.specs.CommandLine.{asked_for, plan_of, script_of, most_by
 use Rattle.cool_driver.specs.Notes.{refused_note, usage_note, missing_note, unread_note, too_many_note, too_large_note, read_fault_note, image_note, asm_note, script_note}
 use Rattle.cool_driver.specs.Execution.{IsAssembled, IsRunnable, IsTextFault, is_text_file, segments_within, run_of, ComesTo, left_by, status_of, note_of}
 use Rattle.cool_driver.specs.Debugging.{commands_for, debug_notes}
-use Rattle.cool_driver.specs.Evaluation.{status_of_end, note_of_end, IsPartOf}
+use Rattle.cool_driver.specs.Evaluation.{status_of_end, note_of_end, WritesNext, EndsAfter}
 use Rattle.cool_driver.specs.Calls.{Request, AreHeld, IsRead, IsReadUpTo, IsScriptRead, MayRefuse, Got, GotPart, Call, NoLess, DidNothing, Told, Unless}
 use Rattle.cool_driver.specs.Headline.{EndsAsImage, StopsWriting, StopsBetween, Headline, StopsShort}
 use Rattle.cool_driver.specs.Sessions.{IsSession, DueToSession, SessionShort, SessionEnds, EndsAsSession}
@@ -134,9 +135,9 @@ pub data Due (r : Request) : ℕ → List ℕ → List ℕ → List ℕ → Type
   evaluated : (steps : ℕ) (names : List (List ℕ)) (p : List Class) (status : ℕ) → IsEvaluationOf r steps names p
       → status_of_end (source.run p names r.input steps).end ≡ Some status
       → Due r status (source.run p names r.input steps).output (note_of_end (source.run p names r.input steps).end) (source.run p names r.input steps).left
-  -- `eval`: a read failed on the way
+  -- `eval`: the run of the source comes to a call that fails to read
   unread_source : (steps : ℕ) (names : List (List ℕ)) (p : List Class) (output left : List ℕ) → IsEvaluationOf r steps names p
-      → IsPartOf (source.run p names r.input steps) output left → Due r 7 output read_fault_note left
+      → StoppedReading (source.run p names r.input) steps (Some []) left (Some output) → Due r 7 output read_fault_note left
   -- `exec`: the file has a fault
   unfit : (limits : RunLimits) (name bytes : List ℕ) (fault : ImageError) → IsRead r (Exec limits) (name ∷ []) (bytes ∷ [])
       → is_text_file bytes ≡ false → first_fault bytes ≡ Some fault → Due r 12 [] (image_note name fault) r.input
@@ -170,11 +171,17 @@ pub data Writing (r : Request) : List ℕ → List ℕ → List ℕ → Type 0 w
   -- the run of the image comes to a call that prints these bytes
   by_image : (limits : RunLimits) (image : ImageParts) (at : State) (printed : List ℕ) → IsRunOf r limits image
       → ComesTo limits image r.input at → call (segments_within limits image) at ≡ print at printed → Writing r at.output printed at.input
-  -- the replies of a session to the commands that were read
-  by_session : (replies : List (List ℕ)) (left : List ℕ) → IsSession r → Part r.input replies left → Writing r [] (concat replies) left
-  -- what the run of the source writes; at least what it leaves of the input is left
-  by_eval : (steps : ℕ) (names : List (List ℕ)) (p : List Class) (kept : List ℕ) → IsEvaluationOf r steps names p
-      → Writing r [] (source.run p names r.input steps).output (kept ++ (source.run p names r.input steps).left)
+  -- the reply of a session to a command, after those to the commands before it
+  by_session : (replies lines : List (List ℕ)) (left : List ℕ) → IsSession r → Unwritten r.input replies lines left
+      → Writing r (concat replies) (concat lines) left
+  -- the run of the source comes to a call that writes these bytes
+  by_eval : (steps : ℕ) (names : List (List ℕ)) (p : List Class) (spent : ℕ) (printed : List ℕ) → IsEvaluationOf r steps names p
+      → WritesNext (source.run p names r.input) steps spent printed
+      → Writing r (source.run p names r.input spent).output printed (source.run p names r.input spent).left
+  -- the run of the source comes to its end, and writes its last line
+  by_last_line : (steps : ℕ) (names : List (List ℕ)) (p : List Class) (before : List ℕ) → IsEvaluationOf r steps names p
+      → EndsAfter p names (source.run p names r.input steps) before
+      → Writing r before (last_line p names (source.run p names r.input steps).end) (source.run p names r.input steps).left
 
 -- a write of the output failed: the bytes before it came, and of its own a prefix
 abbrev pub FailedOutput : Call → Type 0
@@ -207,11 +214,17 @@ FailedDebugged c = (part : DebuggedPart c)
 abbrev pub DebuggedShort : Call → Type 0
 DebuggedShort c = (part : DebuggedPart c) × StopsBetween c part.limits part.image × (c.notes.faults_after ≡ c.notes.faults_before)
 
--- memory ran out while a program was evaluated: a prefix of what its run writes came, and no fault
+-- memory ran out while a program was evaluated, and no device failed: what its run writes up to there came
 abbrev pub RanShort : Call → Type 0
 RanShort c = (steps : ℕ) × (names : List (List ℕ)) × (p : List Class) × IsEvaluationOf c.request steps names p
-    × GotPrefix c.out.held_before (source.run p names c.request.input steps).output c.out.held_after
+    × StoppedShort p names (source.run p names c.request.input) steps c.out.held_before c.left c.out.held_after
     × (c.out.faults_after ≡ c.out.faults_before) × Got c.notes [] × (c.input_after ≡ c.input_before)
+
+-- a write of a call of the run of a program failed, or that of its last line: what the run writes before that came, and of that a prefix
+abbrev pub FailsToWrite : Call → List Class → List (List ℕ) → ℕ → Type 0
+FailsToWrite c p names steps =
+    StoppedWriting (source.run p names c.request.input) steps c.out.held_before c.left c.out.held_after
+    ⊎ StoppedAtLastLine p names (source.run p names c.request.input steps) c.out.held_before c.left c.out.held_after
 
 -- a call ended as this run did, with this status
 abbrev pub EndsAs : Call → ℕ → source.Run → Type 0
@@ -300,13 +313,21 @@ pub record Ends (c : Call) (status : ℕ) : Type 0 where
       → IsScriptRead c.request script bytes → commands_for p names bytes ≡ Ok commands → AreBytes c.request.input
       → Headline c status limits names p ⊎ StopsShort c status limits names p ⊎ ((status ≡ 9) × DidNothing c)
   -- `eval`: the status, the output and the note of the run's end come where the files were read and are accepted, and what it leaves of the
-  -- input is left, unless a read failed; whatever the status, a prefix of the run's output came
+  -- input is left, unless the run comes to a call that fails to read; whatever the status, a prefix of the run's output came
   pub evaluated_exactly : (files : FileMap) (steps : ℕ) (names contents : List (List ℕ)) (p : List Class) → Told c.request files
       → IsRead c.request (Eval steps) names contents → IsAccepted contents p
-      → Unless status ((status ≡ 7) ⊎ EndsAs c status (source.run p names c.request.input steps))
+      → Unless status (((status ≡ 7)
+      × StoppedReading (source.run p names c.request.input) steps c.out.held_before c.left c.out.held_after)
+      ⊎ EndsAs c status (source.run p names c.request.input steps))
   pub evaluated_prefix : (files : FileMap) (steps : ℕ) (names contents : List (List ℕ)) (p : List Class) → Told c.request files
       → IsRead c.request (Eval steps) names contents → IsAccepted contents p
       → GotPrefix c.out.held_before (source.run p names c.request.input steps).output c.out.held_after
+  -- status 8 comes where a write of the run's output or of the note failed, and status 9 where memory ran out before the run or within it
+  pub evaluated_unwritten : (files : FileMap) (steps : ℕ) (names contents : List (List ℕ)) (p : List Class) → Told c.request files
+      → IsRead c.request (Eval steps) names contents → IsAccepted contents p → status ≡ 8 → FailsToWrite c p names steps ⊎ FailedNote c
+  pub evaluated_short : (files : FileMap) (steps : ℕ) (names contents : List (List ℕ)) (p : List Class) → Told c.request files
+      → IsRead c.request (Eval steps) names contents → IsAccepted contents p → status ≡ 9
+      → DidNothing c ⊎ StoppedShort p names (source.run p names c.request.input) steps c.out.held_before c.left c.out.held_after
   -- `exec`: status 12 comes where the file was read and stands for no image, as a text with a fault does, which the note then tells; and the
   -- status of the run's end where it stands for one
   pub unfit_exactly : (files : FileMap) (limits : RunLimits) (name bytes : List ℕ) → Told c.request files

@@ -1,9 +1,7 @@
 -- The texts that are written: the end of a run, and the notes.
 use Rattle.std.specs.Prelude.{◌≡◌, refl, ℕ, List, [], ◌++◌, map, codes, decimal}
 use Rattle.std.specs.List.{concat}
-use Rattle.std.specs.Int.{w32, to_be_bytes}
 use Rattle.std.specs.Fmt as decimals
-use Rattle.hex.specs.Hex.{encode_lower}
 use Rattle.cool_faults.specs.declared.fault.Fault.{Fault}
 use Rattle.cool_faults.specs.Texts.{fault_line}
 use Rattle.mips_isa.specs.declared.trap.Trap.{Trap}
@@ -15,6 +13,7 @@ use Rattle.mips_isa.specs.declared.asm_fault.AsmFault.{AsmFault}
 use Rattle.spim_debug.specs.declared.script.ScriptKind.{ScriptKind}
 use Rattle.spim_debug.specs.declared.script.ScriptKind.TheVariants.{B1, B2}
 use Rattle.spim_debug.specs.declared.script.ScriptFault.{ScriptFault}
+use Rattle.spim_debug.specs.Notes.{digits}
 use Rattle.cool_session.specs.declared.ending.Ending.{Ending}
 use Rattle.cool_session.specs.declared.ending.Ending.TheVariants.{Over, BadCommand, EndsInFile, TooLarge}
 use Rattle.mips_image.specs.declared.image_error.ImageError.{ImageError}
@@ -117,10 +116,6 @@ trap_words Unaligned = codes "unaligned address"
 trap_words Overflow = codes "overflow"
 trap_words NoInstruction = codes "no instruction"
 trap_words BadCall = codes "bad call"
-
--- an address as eight digits
-abbrev pub digits : ℕ → List ℕ
-digits a = encode_lower (to_be_bytes w32 a)
 
 abbrev pub trap_note : Trap → List ℕ
 trap_note t = codes "trap: " ++ (trap_words t.kind ++ (codes " at 0x" ++ (digits t.address ++ (codes ", pc 0x" ++ (digits t.pc ++ codes "\n")))))

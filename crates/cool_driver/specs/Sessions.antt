@@ -1,11 +1,13 @@
 -- What `session` promises: it reads commands from the input and puts their replies to the output, as a session over the input does, and ends
 -- with the status and the note of its end.
-use Rattle.std.specs.Prelude.{◌≡◌, ℕ, List, [], Some}
+use Rattle.std.specs.Prelude.{◌≡◌, ◌⊎◌, ℕ, List, [], Some, Result, Ok, Err}
 use Rattle.std.specs.List.{concat}
-use Rattle.cool_ports.specs.SinkBytes.{GotPrefix}
 use Rattle.cool_session.specs.declared.ending.Ending.{Ending}
 use Rattle.cool_session.specs.declared.ending.Ending.TheVariants.{Over, BadCommand, EndsInFile, TooLarge}
-use Rattle.cool_session.specs.Exchanges.{Exchange, Unread, Part}
+use Rattle.cool_session.specs.declared.ending.Interruption.{Interruption}
+use Rattle.cool_session.specs.declared.ending.Interruption.TheVariants.{Memory}
+use Rattle.cool_session.specs.Conversations.{Conversed}
+use Rattle.cool_session.specs.Exchanges.{Exchange, Unread, Unwritten}
 use Rattle.cool_words.specs.Plans.Asked.{session}
 use Rattle.cool_driver.specs.CommandLine.{asked_for}
 use Rattle.cool_driver.specs.Notes.{ending_note, read_fault_note}
@@ -32,13 +34,14 @@ pub data DueToSession (input : List ℕ) : ℕ → List ℕ → List ℕ → Lis
   -- ended the session
   to_read : (replies : List (List ℕ)) (left : List ℕ) → Unread input replies left → DueToSession input 7 (concat replies) read_fault_note left
 
--- Memory ran out in a session, and no device failed: a prefix of the replies of commands that were read was put.
+-- how the session of a call went, or whether a device that failed or want of memory cut it short
+abbrev pub SessionWent : Call → Result Ending Interruption → Type 0
+SessionWent c how = Conversed c.request.input how c.left c.out.held_before c.out.held_after
+
+-- Memory ran out in a session, and no device failed: that cut the session short, or it came to an end with a note, which was not made.
 pub record SessionShort (c : Call) : Type 0 where
   pub asked : asked_for c.request.words ≡ Some session
-  pub replies : List (List ℕ)
-  pub rest : List ℕ
-  pub part : Part c.request.input replies rest
-  pub got : GotPrefix c.out.held_before (concat replies) c.out.held_after
+  pub went : SessionWent c (Err Memory) ⊎ ((end : Ending) × (status_of_ending end ≡ 12) × SessionWent c (Ok end))
   pub notes : Got c.notes []
   pub out_calm : c.out.faults_after ≡ c.out.faults_before
   pub input_calm : c.input_after ≡ c.input_before
@@ -58,11 +61,12 @@ pub data SessionEnds (c : Call) : ℕ → Type 0 where
   -- that was taken had ended the session.
   unread : (replies : List (List ℕ)) → Unread c.request.input replies c.left → Got c.out (concat replies) → Got c.notes read_fault_note
       → SessionEnds c 7
-  -- status 8: a write of the output failed. A prefix of the replies of commands that were read was put.
-  unwritten : (replies : List (List ℕ)) → Part c.request.input replies c.left → GotPart c.out [] (concat replies) → Got c.notes []
-      → SessionEnds c 8
+  -- status 8: a write of the output failed. The replies of the commands before the last one of which all input was taken were put, and a prefix
+  -- of its own.
+  unwritten : (replies lines : List (List ℕ)) → Unwritten c.request.input replies lines c.left → GotPart c.out (concat replies) (concat lines)
+      → Got c.notes [] → SessionEnds c 8
   -- status 8: the write of the note failed, and all else is as what is due
   unnoted : (due : ℕ) (output note : List ℕ) → DueToSession c.request.input due output note c.left → Got c.out output → GotPart c.notes [] note
       → SessionEnds c 8
-  -- status 9: memory ran out. A prefix of the replies of commands that were read was put.
+  -- status 9: memory ran out. The replies of the commands that were done were put, and perhaps a prefix of that of one more.
   short : SessionShort c → SessionEnds c 9

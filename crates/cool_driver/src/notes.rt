@@ -1,8 +1,7 @@
 //! The notes: what they say, and how they are written.
 
 ghost use Rattle.std.specs.Prelude.{◌≡◌, ◌≢◌, ◌+◌, ◌<◌, ◌≤◌, ◌++◌, length, IfOk, Some, string_bytes};
-ghost use Rattle.arrayvec.specs.ArrayString.{array_string_len};
-ghost use Rattle.cool_driver.specs.Notes.{asm_note, asm_words, digits, image_note, script_note, script_words, command_note, trap_words, trap_note};
+ghost use Rattle.cool_driver.specs.Notes.{asm_note, asm_words, image_note, script_note, script_words, command_note, trap_words, trap_note};
 ghost use Rattle.cool_driver.specs.Tasks.{AreLines, Noted, fault_note, note_of};
 
 use crate::status::Status;
@@ -10,7 +9,7 @@ use arrayvec::ArrayString;
 use cool_ports::{Failed, ShelfFault, Sink};
 use mips_image::ImageError;
 use mips_isa::{AsmFault, AsmKind, Trap, TrapKind};
-use spim_debug::{ScriptFault, ScriptKind};
+use spim_debug::{ScriptFault, ScriptKind, hexadecimal_digits};
 use std::alloc::{AllocError, Global};
 
 /// Of words that are no command line.
@@ -73,9 +72,9 @@ pub fn trap_note(trap: Trap) -> ArrayString<64>
     note.push_str("trap: ");
     note.push_str(trap_words(trap.kind));
     note.push_str(" at 0x");
-    push_digits(&mut note, trap.address);
+    note.push_str(hexadecimal_digits(trap.address).as_str());
     note.push_str(", pc 0x");
-    push_digits(&mut note, trap.pc);
+    note.push_str(hexadecimal_digits(trap.pc).as_str());
     note.push_str("\n");
     note
 }
@@ -90,22 +89,6 @@ fn trap_words(kind: TrapKind) -> &'static str
         TrapKind::Overflow => "overflow",
         TrapKind::NoInstruction => "no instruction",
         TrapKind::BadCall => "bad call",
-    }
-}
-
-/// Adds the eight hexadecimal digits of an address.
-fn push_digits(note: &mut ArrayString<64>, a: u32)
-    requires { array_string_len note.old + 8 ≤ 64 }
-    ensures bytes { note.new.bytes ≡ note.old.bytes ++ digits a }
-    ensures len { array_string_len note.new ≡ array_string_len note.old + 8 }
-{
-    let mut digits = [0; 8];
-    if hex::encode_to_slice(a.to_be_bytes(), &mut digits).is_err() {
-        unreachable!();
-    }
-    match str::from_utf8(&digits) {
-        Ok(text) => note.push_str(text),
-        Err(_) => unreachable!(),
     }
 }
 

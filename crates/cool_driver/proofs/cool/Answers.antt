@@ -118,4 +118,4 @@ returns-clause-unended g c asked seven =
     ]
 
 pub returns-clause-limits : goal.returns-clause-limits
-returns-clause-limits g c = record { image_bytes = refl; script_bytes = refl; big_output = refl }
+returns-clause-limits g c = record { image_bytes = refl; script_bytes = refl; big_output = refl; name_bytes = refl; built_names = refl }
