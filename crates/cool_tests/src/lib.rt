@@ -9,6 +9,8 @@ mod constants;
 #[cfg(test)]
 mod debugged_runs;
 #[cfg(test)]
+mod devices;
+#[cfg(test)]
 mod folded_programs;
 #[cfg(test)]
 mod images;
