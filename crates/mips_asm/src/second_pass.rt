@@ -73,7 +73,8 @@ impl SecondPass {
         }
     }
 
-    /// Takes the next lines. A fault of theirs is kept for `finish`. `Err` comes only for want of memory.
+    /// Takes the next lines. A fault of theirs is kept for `finish`. `Err` comes only for want of memory, and where more lines are taken
+    /// than a `usize` counts. After it the pass is of no use, and is dropped.
     pub fn take(&mut self, lines: &[Line]) -> Result<(), AllocError>
         requires due { IsDue self.old (lines_of lines.now) }
         requires ranges { AreInRange (lines_of lines.now) }
@@ -83,7 +84,7 @@ impl SecondPass {
     }
 
     /// The image, once all lines were taken, or their first fault: a name without a place (A6), or a target that is too far or not in
-    /// text (A7); after the last line, that `__start` is no label of a word (A6). `Memory` comes only for want of memory.
+    /// text (A7); after the last line, that `__start` is no label of a word (A6). `Memory` comes only as `Err` of `take` does.
     pub fn finish(mut self) -> Result<Image, AsmError>
         requires done { (all : List statements.Line) × HasLeft self all [] }
         ensures { (all : List statements.Line) → HasLeft self all [] → Assembles all result }
