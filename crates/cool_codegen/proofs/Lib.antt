@@ -10,4 +10,5 @@ pub mod ArmsInOrder
 pub mod FeaturesThere
 pub mod NatsAreEqual
 pub mod NumbersStay
+pub mod SameSettings
 pub mod VariablesInOrder

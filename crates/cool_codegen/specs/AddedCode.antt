@@ -13,9 +13,10 @@ use Rattle.cool_classes.specs.declared.class_id.Ty.{Ty}
 use Rattle.cool_classes.specs.Chains.{Class}
 use Rattle.cool_rules.specs.Conformance.{IsType}
 use Rattle.cool_consts.specs.Constants.{Constants}
+use Rattle.cool_codegen.specs.declared.code.Code.{Code}
 use Rattle.cool_codegen.specs.declared.setting.Setting.{Setting}
-use Rattle.cool_codegen.specs.Asked.{integers_in, strings_in, with_integers, with_strings, Extends}
-use Rattle.cool_codegen.specs.Numbered.{AreRoots, HasRoots, IsRoot}
+use Rattle.cool_codegen.specs.Asked.{integers_in, strings_in, with_integers, with_strings, Extends, Keeps}
+use Rattle.cool_codegen.specs.Numbered.{node_asked, node_lines, node_size, node_type, AreRoots, HasRoots, IsRoot}
 use Rattle.cool_codegen.specs.Settings.{context, HaveTypes, IsSound}
 use Rattle.cool_codegen.specs.Variables.{Named}
 
@@ -52,12 +53,27 @@ pub record IsNodeOf (s : Setting) (id : NodeId) (node : Node) : Type 0 where
   pub parts : HasPartsBelow id.0 node
   pub places : IsTreeWithin (length s.names.now) (made (all_trees s.body.now) node)
 
--- Code was added for so many nodes, and the constants are those after it.
-pub record Adds {X E : Type 0} (code : List Line) (named : Constants) (size : ℕ) (t u : Constants) (before after : List declared_line.Line) (result : Result X E) : Type 0 where
-  pub lines : OnOk result (lines_of after ≡ lines_of before ++ code)
-  pub asked : OnOk result (u ≡ named)
-  pub more_integers : OnOk result (length u.integers ≤ length t.integers + size)
-  pub more_strings : OnOk result (length u.strings ≤ length t.strings + 2 * size)
+-- Code was added for so many nodes, and the constants are those after it, of which those before it have kept their numbers. The setting
+-- and the names in scope are as before.
+pub record Adds {X E : Type 0} (code : List Line) (named : Constants) (size : ℕ) (before after : Code) (result : Result X E) : Type 0 where
+  pub setting : after.setting ≡ before.setting
+  pub scope : OnOk result (after.variables ≡ before.variables)
+  pub lines : OnOk result (lines_of after.lines.items ≡ lines_of before.lines.items ++ code)
+  pub asked : OnOk result (after.consts ≡ named)
+  pub more_integers : OnOk result (length after.consts.integers ≤ length before.consts.integers + size)
+  pub more_strings : OnOk result (length after.consts.strings ≤ length before.consts.strings + 2 * size)
+  pub kept : Keeps before.consts after.consts
+
+-- The code of the node of this number was added at this depth.
+abbrev pub AddsNode : {X E : Type 0} → ℕ → NodeId → Node → Code → Code → Result X E → Type 0
+AddsNode depth id node before after result =
+    Adds (node_lines (context before.setting) before.setting.body.now before.consts before.variables depth id node)
+    (node_asked (context before.setting).files before.setting.body.now before.consts node)
+    (node_size before.setting.body.now node) before after result
+
+-- What is answered is the type of the expression of a node at this depth.
+abbrev pub HasNodeType : {E : Type 0} → ℕ → Node → Code → Result Ty E → Type 0
+HasNodeType depth node before result = HasType before.setting.table.now (node_type (context before.setting) before.setting.body.now before.variables depth node) result
 
 -- The file of a place has a name, for which there is room among the strings, and for one more.
 pub record CanName (s : Setting) (t : Constants) (at : Place) : Type 0 where

@@ -3,18 +3,17 @@
 ghost use Rattle.std.specs.Prelude.{◌≡◌, ◌++◌, ◌+◌, ◌<◌, ◌≤◌, length, IfOk, OnOk};
 ghost use Rattle.mips_isa.specs.Lines.{lines_of};
 ghost use Rattle.cool_syntax.specs.NodeGroups.{IsCall};
-ghost use Rattle.cool_codegen.specs.AddedCode.{Adds, AreExpressionsOf, CanName, HasRoom, HasType, IsNodeOf, IsReady};
+ghost use Rattle.cool_codegen.specs.AddedCode.{Adds, AddsNode, AreExpressionsOf, CanName, HasNodeType, HasRoom, IsNodeOf, IsReady};
 ghost use Rattle.cool_codegen.specs.Asked.{Keeps};
 ghost use Rattle.cool_codegen.specs.Code.{slot_code, static_code};
-ghost use Rattle.cool_codegen.specs.Numbered.{all_asked, arguments_lines, node_asked, node_lines, node_size, node_type, sizes_at, with_file};
+ghost use Rattle.cool_codegen.specs.Numbered.{all_asked, arguments_lines, node_size, sizes_at, with_file};
 ghost use Rattle.cool_codegen.specs.Settings.{context, IsSound};
 ghost use Rattle.cool_codegen.specs.Types.{resulting};
 
+use crate::code::Code;
 use crate::constant_labels::file_label;
-use crate::expression::expression;
 use crate::piece::{call, call_static};
 use crate::setting::Setting;
-use crate::variables::Variables;
 use cool_classes::{ClassId, Ty};
 use cool_consts::Consts;
 use cool_layout::method_label;
@@ -25,58 +24,114 @@ use cool_syntax::{Name, Node, NodeId, Place};
 use mips_isa::Line;
 use std::alloc::AllocError;
 
-/// Adds the code of a dispatch, whose parts have numbers below this one.
-#[cycle(coding)]
-#[inline(never)]
-pub(crate) fn dispatch<'a>(
-    setting: &Setting<'a>,
-    variables: &mut Variables<'a>,
-    depth: u32,
-    id: NodeId,
-    node: &'a Node,
-    consts: &mut Consts,
-    lines: &mut Vec<Line>,
-) -> Result<Ty, AllocError>
-    requires group { IsCall node.now }
-    requires node { IsNodeOf setting.now id node.now }
-    requires ready { IsReady setting.now variables.old }
-    requires room { HasRoom consts.old depth (node_size setting.now.body.now node.now) }
-    ensures typed { HasType setting.now.table.now (node_type (context setting.now) setting.now.body.now variables.old depth node.now) result }
-    ensures scope { OnOk result (variables.new ≡ variables.old) }
-    ensures made { Adds (node_lines (context setting.now) setting.now.body.now consts.old variables.old depth id node.now) (node_asked (context setting.now).files setting.now.body.now consts.old node.now) (node_size setting.now.body.now node.now) consts.old consts.new lines.old.items lines.new.items result }
-    ensures kept { Keeps consts.old consts.new }
-{
-    match node {
-        Node::Dispatch {
-            at,
-            receiver,
-            name,
-            args,
-        } => {
-            let args = args.as_slice();
-            let after = arguments(setting, variables, depth, id, args, consts, lines)?;
-            let object = expression(setting, variables, after, *receiver, consts, lines)?;
-            let class = class_of(setting.class, object);
-            call_by_slot(setting, *at, class, name, consts, lines)?;
-            let method = setting.method(class, name);
-            Ok(resulting(object, setting.result(method)))
+impl<'a> Code<'a> {
+    /// Adds the code of a dispatch, whose parts have numbers below this one.
+    #[cycle(coding)]
+    #[inline(never)]
+    pub(crate) fn dispatch(
+        &mut self,
+        depth: u32,
+        id: NodeId,
+        node: &'a Node,
+    ) -> Result<Ty, AllocError>
+        requires group { IsCall node.now }
+        requires node { IsNodeOf self.old.setting id node.now }
+        requires ready { IsReady self.old.setting self.old.variables }
+        requires room { HasRoom self.old.consts depth (node_size self.old.setting.body.now node.now) }
+        ensures typed { HasNodeType depth node.now self.old result }
+        ensures made { AddsNode depth id node.now self.old self.new result }
+    {
+        match node {
+            Node::Dispatch {
+                at,
+                receiver,
+                name,
+                args,
+            } => {
+                let args = args.as_slice();
+                let after = self.arguments(depth, id, args)?;
+                let object = self.expression(after, *receiver)?;
+                let class = class_of(self.setting.class, object);
+                self.call_by_slot(*at, class, name)?;
+                let method = self.setting.method(class, name);
+                Ok(resulting(object, self.setting.result(method)))
+            }
+            Node::StaticDispatch {
+                at,
+                receiver,
+                class,
+                name,
+                args,
+            } => {
+                let args = args.as_slice();
+                let inner = self.arguments(depth, id, args)?;
+                let object = self.expression(inner, *receiver)?;
+                let class = class_of(self.setting.class, self.setting.meant(&class.name));
+                self.call_by_label(*at, class, name)?;
+                let method = self.setting.method(class, name);
+                Ok(resulting(object, self.setting.result(method)))
+            }
+            _ => unreachable!(),
         }
-        Node::StaticDispatch {
-            at,
-            receiver,
-            class,
-            name,
-            args,
-        } => {
-            let args = args.as_slice();
-            let inner = arguments(setting, variables, depth, id, args, consts, lines)?;
-            let object = expression(setting, variables, inner, *receiver, consts, lines)?;
-            let class = class_of(setting.class, setting.meant(&class.name));
-            call_by_label(setting, *at, class, name, consts, lines)?;
-            let method = setting.method(class, name);
-            Ok(resulting(object, setting.result(method)))
+    }
+
+    /// Adds the code of arguments, each of which goes to the stack, and answers how many words are then there.
+    #[cycle(coding)]
+    fn arguments(&mut self, depth: u32, end: NodeId, args: &[NodeId]) -> Result<u32, AllocError>
+        requires args { AreExpressionsOf self.old.setting end args.now }
+        requires ready { IsReady self.old.setting self.old.variables }
+        requires room { HasRoom self.old.consts depth (sizes_at self.old.setting.body.now args.now) }
+        ensures pushed { IfOk result (λ inner. inner ≡ depth + length args.now) }
+        ensures within { IfOk result (λ inner. inner ≤ depth + sizes_at self.old.setting.body.now args.now) }
+        ensures made { Adds (arguments_lines (context self.old.setting) self.old.setting.body.now self.old.consts self.old.variables depth args.now) (all_asked (context self.old.setting).files self.old.setting.body.now self.old.consts args.now) (sizes_at self.old.setting.body.now args.now) self.old self.new result }
+    {
+        let mut inner = depth;
+        for arg in args {
+            self.expression(inner, *arg)?;
+            write(self.setting.alloc, &mut self.lines, &push())?;
+            inner += 1;
         }
-        _ => unreachable!(),
+        Ok(inner)
+    }
+
+    /// Adds the call of the method that the receiver has at the slot of this name.
+    fn call_by_slot(&mut self, at: Place, class: ClassId, name: &Name) -> Result<(), AllocError>
+        requires sound { IsSound self.old.setting }
+        requires class { class.0 < length self.old.setting.table.now }
+        requires names { CanName self.old.setting self.old.consts at }
+        ensures setting { self.new.setting ≡ self.old.setting }
+        ensures scope { self.new.variables ≡ self.old.variables }
+        ensures lines { OnOk result (lines_of self.new.lines.items ≡ lines_of self.old.lines.items ++ slot_code (context self.old.setting) (with_file (context self.old.setting).files self.old.consts at) at class name.now) }
+        ensures asked { OnOk result (self.new.consts ≡ with_file (context self.old.setting).files self.old.consts at) }
+        ensures more_integers { OnOk result (length self.new.consts.integers ≡ length self.old.consts.integers) }
+        ensures more_strings { OnOk result (length self.new.consts.strings ≤ length self.old.consts.strings + 1) }
+        ensures kept { Keeps self.old.consts self.new.consts }
+    {
+        let alloc = self.setting.alloc;
+        let file = file_label(&self.setting, &mut self.consts, at)?;
+        let offset = self.setting.slot_offset(class, name);
+        write(alloc, &mut self.lines, &call(&file, at.line, offset))?;
+        Ok(())
+    }
+
+    /// Adds the call of the method of this name that a class has, by its label.
+    fn call_by_label(&mut self, at: Place, class: ClassId, name: &Name) -> Result<(), AllocError>
+        requires sound { IsSound self.old.setting }
+        requires class { class.0 < length self.old.setting.table.now }
+        requires names { CanName self.old.setting self.old.consts at }
+        ensures setting { self.new.setting ≡ self.old.setting }
+        ensures scope { self.new.variables ≡ self.old.variables }
+        ensures lines { OnOk result (lines_of self.new.lines.items ≡ lines_of self.old.lines.items ++ static_code (context self.old.setting) (with_file (context self.old.setting).files self.old.consts at) at class name.now) }
+        ensures asked { OnOk result (self.new.consts ≡ with_file (context self.old.setting).files self.old.consts at) }
+        ensures more_integers { OnOk result (length self.new.consts.integers ≡ length self.old.consts.integers) }
+        ensures more_strings { OnOk result (length self.new.consts.strings ≤ length self.old.consts.strings + 1) }
+        ensures kept { Keeps self.old.consts self.new.consts }
+    {
+        let alloc = self.setting.alloc;
+        let file = file_label(&self.setting, &mut self.consts, at)?;
+        let label = method_label(alloc, self.setting.table, self.setting.method(class, name))?;
+        write(alloc, &mut self.lines, &call_static(&file, at.line, &label))?;
+        Ok(())
     }
 }
 
@@ -88,81 +143,4 @@ fn resulting(receiver: Ty, declared: Ty) -> Ty
         Ty::SelfType => receiver,
         Ty::Class(class) => Ty::Class(class),
     }
-}
-
-/// Adds the code of arguments, each of which goes to the stack, and answers how many words are then there.
-#[cycle(coding)]
-fn arguments<'a>(
-    setting: &Setting<'a>,
-    variables: &mut Variables<'a>,
-    depth: u32,
-    end: NodeId,
-    args: &[NodeId],
-    consts: &mut Consts,
-    lines: &mut Vec<Line>,
-) -> Result<u32, AllocError>
-    requires args { AreExpressionsOf setting.now end args.now }
-    requires ready { IsReady setting.now variables.old }
-    requires room { HasRoom consts.old depth (sizes_at setting.now.body.now args.now) }
-    ensures pushed { IfOk result (λ inner. inner ≡ depth + length args.now) }
-    ensures within { IfOk result (λ inner. inner ≤ depth + sizes_at setting.now.body.now args.now) }
-    ensures scope { OnOk result (variables.new ≡ variables.old) }
-    ensures made { Adds (arguments_lines (context setting.now) setting.now.body.now consts.old variables.old depth args.now) (all_asked (context setting.now).files setting.now.body.now consts.old args.now) (sizes_at setting.now.body.now args.now) consts.old consts.new lines.old.items lines.new.items result }
-    ensures kept { Keeps consts.old consts.new }
-{
-    let mut inner = depth;
-    for arg in args {
-        expression(setting, variables, inner, *arg, consts, lines)?;
-        write(setting.alloc, lines, &push())?;
-        inner += 1;
-    }
-    Ok(inner)
-}
-
-/// Adds the call of the method that the receiver has at the slot of this name.
-fn call_by_slot(
-    setting: &Setting<'_>,
-    at: Place,
-    class: ClassId,
-    name: &Name,
-    consts: &mut Consts,
-    lines: &mut Vec<Line>,
-) -> Result<(), AllocError>
-    requires sound { IsSound setting.now }
-    requires class { class.0 < length setting.now.table.now }
-    requires names { CanName setting.now consts.old at }
-    ensures lines { OnOk result (lines_of lines.new.items ≡ lines_of lines.old.items ++ slot_code (context setting.now) (with_file (context setting.now).files consts.old at) at class name.now) }
-    ensures asked { OnOk result (consts.new ≡ with_file (context setting.now).files consts.old at) }
-    ensures more_integers { OnOk result (length consts.new.integers ≡ length consts.old.integers) }
-    ensures more_strings { OnOk result (length consts.new.strings ≤ length consts.old.strings + 1) }
-    ensures kept { Keeps consts.old consts.new }
-{
-    let file = file_label(setting, consts, at)?;
-    let offset = setting.slot_offset(class, name);
-    write(setting.alloc, lines, &call(&file, at.line, offset))?;
-    Ok(())
-}
-
-/// Adds the call of the method of this name that a class has, by its label.
-fn call_by_label(
-    setting: &Setting<'_>,
-    at: Place,
-    class: ClassId,
-    name: &Name,
-    consts: &mut Consts,
-    lines: &mut Vec<Line>,
-) -> Result<(), AllocError>
-    requires sound { IsSound setting.now }
-    requires class { class.0 < length setting.now.table.now }
-    requires names { CanName setting.now consts.old at }
-    ensures lines { OnOk result (lines_of lines.new.items ≡ lines_of lines.old.items ++ static_code (context setting.now) (with_file (context setting.now).files consts.old at) at class name.now) }
-    ensures asked { OnOk result (consts.new ≡ with_file (context setting.now).files consts.old at) }
-    ensures more_integers { OnOk result (length consts.new.integers ≡ length consts.old.integers) }
-    ensures more_strings { OnOk result (length consts.new.strings ≤ length consts.old.strings + 1) }
-    ensures kept { Keeps consts.old consts.new }
-{
-    let file = file_label(setting, consts, at)?;
-    let label = method_label(setting.alloc, setting.table, setting.method(class, name))?;
-    write(setting.alloc, lines, &call_static(&file, at.line, &label))?;
-    Ok(())
 }

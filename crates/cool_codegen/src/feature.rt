@@ -18,7 +18,7 @@ ghost use Rattle.cool_codegen.specs.Code.{code};
 ghost use Rattle.cool_codegen.specs.Features.{attributes_in, feature_code, feature_integers, feature_strings, initial_value_code, method_code, with_formals};
 ghost use Rattle.cool_codegen.specs.Settings.{attribute_of, context, IsSound};
 
-use crate::expression::expression;
+use crate::code::Code;
 use crate::number::signed;
 use crate::piece::{leave, mark, store};
 use crate::setting::Setting;
@@ -33,6 +33,7 @@ use cool_syntax::{Feature, Formal};
 use mips_isa::Line;
 use mips_isa::register::{FP, S0};
 use std::alloc::{AllocError, Global};
+use std::mem::replace;
 
 /// The code of a feature of a class, by its number among the features of the class: a method under its label, or the part of an initializer
 /// that computes and stores an initial value; nothing for an attribute without one. The constants that the code names are numbered after
@@ -93,20 +94,36 @@ pub fn feature_lines(
 }
 
 /// Adds the code of the whole expression of a feature. `Err` comes only for want of memory.
+///
+/// The constants and the lines stand in the code while it is made, and are put back whether that fails or not.
 fn body_lines<'a>(
     setting: &Setting<'a>,
-    variables: &mut Variables<'a>,
+    variables: Variables<'a>,
     consts: &mut Consts,
     lines: &mut Vec<Line>,
 ) -> Result<(), AllocError>
     requires places { IsTreeWithin (length setting.now.names.now) setting.now.body.now }
-    requires ready { IsReady setting.now variables.old }
+    requires ready { IsReady setting.now variables }
     requires room { HasRoom consts.old 0 (tree_size setting.now.body.now) }
-    ensures made { AddsBody setting.now (λ g. code (context setting.now) g variables.old 0 0 setting.now.body.now) consts.old consts.new lines.old.items lines.new.items result }
+    ensures made { AddsBody setting.now (λ g. code (context setting.now) g variables.entry 0 0 setting.now.body.now) consts.old consts.new lines.old.items lines.new.items result }
     ensures kept { Keeps consts.old consts.new }
 {
     let root = setting.body.root();
-    expression(setting, variables, 0, root, consts, lines)?;
+    let mut code = Code {
+        setting: *setting,
+        variables,
+        consts: replace(consts, Consts::new(setting.alloc)),
+        lines: replace(lines, Vec::new(setting.alloc)),
+    };
+    let made = code.expression(0, root);
+    let Code {
+        consts: more,
+        lines: longer,
+        ..
+    } = code;
+    *consts = more;
+    *lines = longer;
+    made?;
     Ok(())
 }
 
@@ -177,7 +194,7 @@ fn method_lines<'a>(
     formal_variables(setting, &mut variables, formals)?;
     write(alloc, lines, &mark(&label))?;
     write(alloc, lines, &enter())?;
-    body_lines(setting, &mut variables, consts, lines)?;
+    body_lines(setting, variables, consts, lines)?;
     let taken = signed(12 + 4 * formals.len() as u32);
     write(alloc, lines, &leave(taken))?;
     Ok(())
@@ -200,8 +217,8 @@ fn attribute_lines<'a>(
         owner: setting.class,
         index: setting.feature,
     };
-    let mut variables = attribute_variables(setting)?;
-    body_lines(setting, &mut variables, consts, lines)?;
+    let variables = attribute_variables(setting)?;
+    body_lines(setting, variables, consts, lines)?;
     let offset = setting.offset(attribute);
     write(setting.alloc, lines, &store(offset, S0))?;
     Ok(())

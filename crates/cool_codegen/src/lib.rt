@@ -8,6 +8,7 @@
 mod arm;
 mod binding;
 mod call;
+mod code;
 mod constant_labels;
 mod expression;
 mod feature;

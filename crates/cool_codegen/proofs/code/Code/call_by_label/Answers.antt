@@ -8,14 +8,14 @@ use Rattle.cool_codegen.specs.Numbered.{with_bytes}
 use Rattle.cool_codegen.specs.Pieces.{call_static_lines}
 use Rattle.cool_codegen.specs.Settings.{context}
 use Rattle.cool_codegen.proofs.NumbersAgree.{extends_same}
-use Rattle.cool_codegen.proofs.call.call_by_label.Goals as goal
+use Rattle.cool_codegen.proofs.code.Code.call_by_label.Goals as goal
 
 pub returns-clause-lines : goal.returns-clause-lines
 returns-clause-lines c =
-    let s = context c.args.setting.now in
+    let s = context c.args.self.now.setting in
     let now = c.file_label.new.consts in
-    let asked : now ≡ with_bytes c.args.consts.now (file_name s c.args.at) = λ i. record { integers = c.file_label.ensures.integers i; strings = c.in_ok-file.ensures.strings i } in
+    let asked : now ≡ with_bytes c.args.self.now.consts (file_name s c.args.at) = λ i. record { integers = c.file_label.ensures.integers i; strings = c.in_ok-file.ensures.strings i } in
     let file = c.deref.ensures.value ∙ c.in_ok-file.ensures.label now (extends_same now) ∙ ap (λ (t : Constants). file_label s t c.args.at) asked in
     let method = c.deref-2.ensures.value ∙ c.in_ok-label.ensures ∙ ap (method_label s.table) c.method.ensures.method in
     c.in_ok-write.ensures.written
-    ∙ ap (λ xs. lines_of c.args.lines.now.items ++ xs) (c.call_static.ensures ∙ (λ i. call_static_lines (file i) c.args.at.line (method i)))
+    ∙ ap (λ xs. lines_of c.args.self.now.lines.items ++ xs) (c.call_static.ensures ∙ (λ i. call_static_lines (file i) c.args.at.line (method i)))

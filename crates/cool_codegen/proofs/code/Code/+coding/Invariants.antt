@@ -1,0 +1,110 @@
+-- Parts have smaller numbers. After the parts whose code was made the setting and the scope are as before, and what is left to make completes the whole.
+use Rattle.std.proofs.Common.{◌≡◌, ◌+◌, ◌*◌, ◌<◌, ◌≤◌, ◌++◌, [], None, length, map, drop}
+use Rattle.std.specs.Prelude.{IfSome}
+use Rattle.std.specs.List.{AllByRecursion}
+use Rattle.mips_isa.specs.Lines.{lines_of}
+use Rattle.cool_syntax.specs.Tree.{of_list, of_twigs}
+use Rattle.cool_syntax.specs.NodeLists.{all_trees, at_id, twig_at}
+use Rattle.cool_syntax.specs.TreesWithinLimits.{AreTreesWithin, AreCasesWithin}
+use Rattle.cool_rules.specs.Conformance.{IsType}
+use Rattle.cool_codegen.specs.Arms.{arm_of}
+use Rattle.cool_codegen.specs.Asked.{Keeps}
+use Rattle.cool_codegen.specs.Numbered.{all_asked, arguments_lines, branch_sizes_at, branches_arms, branches_asked, branches_type_at, items_lines, last_type_at, sizes_at, AreBodies, AreRoots}
+use Rattle.cool_codegen.specs.Settings.{context}
+use Rattle.cool_codegen.specs.Types.{object}
+use Rattle.cool_codegen.proofs.code.Code.+coding.Given as goal
+
+abbrev pub decreases-expression : goal.decreases-expression
+decreases-expression l = 8 * l.id.0 + 4
+
+abbrev pub decreases-control : goal.decreases-control
+decreases-control l = 8 * l.id.0 + 3
+
+abbrev pub decreases-dispatch : goal.decreases-dispatch
+decreases-dispatch l = 8 * l.id.0 + 3
+
+abbrev pub decreases-binding : goal.decreases-binding
+decreases-binding l = 8 * l.id.0 + 3
+
+abbrev pub decreases-unary : goal.decreases-unary
+decreases-unary l = 8 * l.id.0 + 3
+
+abbrev pub decreases-binary : goal.decreases-binary
+decreases-binary l = 8 * l.id.0 + 3
+
+abbrev pub decreases-operands : goal.decreases-operands
+decreases-operands l = 8 * l.end.0 + 2
+
+abbrev pub decreases-within : goal.decreases-within
+decreases-within l = 8 * l.body.0 + 5
+
+abbrev pub decreases-arm : goal.decreases-arm
+decreases-arm l = 8 * l.branch.now.body.0 + 6
+
+abbrev pub decreases-initial : goal.decreases-initial
+decreases-initial l = 8 * l.end.0
+
+abbrev pub decreases-arms : goal.decreases-arms
+decreases-arms l = 8 * l.id.0
+
+abbrev pub decreases-items : goal.decreases-items
+decreases-items l = 8 * l.end.0
+
+abbrev pub decreases-arguments : goal.decreases-arguments
+decreases-arguments l = 8 * l.end.0
+
+abbrev pub invariant-items-loop-item : goal.invariant-items-loop-item
+invariant-items-loop-item l = record {
+  setting : l.self.setting ≡ l.fn.self.setting;
+  scope : l.self.variables ≡ l.fn.self.variables;
+  kept : Keeps l.fn.self.consts l.self.consts;
+  last : IsType l.fn.self.setting.table.now l.last;
+  typed : last_type_at (context l.fn.self.setting) l.fn.self.setting.body.now l.fn.self.variables l.depth l.last (drop l.item-index l.items)
+      ≡ last_type_at (context l.fn.self.setting) l.fn.self.setting.body.now l.fn.self.variables l.depth object l.items;
+  lines : lines_of l.self.lines.items ++ items_lines (context l.fn.self.setting) l.fn.self.setting.body.now l.self.consts l.fn.self.variables l.depth (drop l.item-index l.items)
+      ≡ lines_of l.fn.self.lines.items ++ items_lines (context l.fn.self.setting) l.fn.self.setting.body.now l.fn.self.consts l.fn.self.variables l.depth l.items;
+  asked : all_asked (context l.fn.self.setting).files l.fn.self.setting.body.now l.self.consts (drop l.item-index l.items) ≡ all_asked (context l.fn.self.setting).files l.fn.self.setting.body.now l.fn.self.consts l.items;
+  deep : sizes_at l.fn.self.setting.body.now (drop l.item-index l.items) ≤ sizes_at l.fn.self.setting.body.now l.items;
+  more_integers : length l.self.consts.integers + sizes_at l.fn.self.setting.body.now (drop l.item-index l.items) ≤ length l.fn.self.consts.integers + sizes_at l.fn.self.setting.body.now l.items;
+  more_strings : length l.self.consts.strings + 2 * sizes_at l.fn.self.setting.body.now (drop l.item-index l.items) ≤ length l.fn.self.consts.strings + 2 * sizes_at l.fn.self.setting.body.now l.items;
+  roots : AreRoots l.fn.self.setting.body.now (drop l.item-index l.items);
+  places : AreTreesWithin (length l.fn.self.setting.names.now) (of_list (map (at_id (all_trees l.fn.self.setting.body.now)) (drop l.item-index l.items)));
+  below : AllByRecursion (λ item. item.0 < l.fn.end.0) (drop l.item-index l.items);
+}
+
+abbrev pub invariant-arguments-loop-arg : goal.invariant-arguments-loop-arg
+invariant-arguments-loop-arg l = record {
+  setting : l.self.setting ≡ l.fn.self.setting;
+  scope : l.self.variables ≡ l.fn.self.variables;
+  kept : Keeps l.fn.self.consts l.self.consts;
+  lines : lines_of l.self.lines.items ++ arguments_lines (context l.fn.self.setting) l.fn.self.setting.body.now l.self.consts l.fn.self.variables l.inner (drop l.arg-index l.args)
+      ≡ lines_of l.fn.self.lines.items ++ arguments_lines (context l.fn.self.setting) l.fn.self.setting.body.now l.fn.self.consts l.fn.self.variables l.depth l.args;
+  asked : all_asked (context l.fn.self.setting).files l.fn.self.setting.body.now l.self.consts (drop l.arg-index l.args) ≡ all_asked (context l.fn.self.setting).files l.fn.self.setting.body.now l.fn.self.consts l.args;
+  inner : l.inner ≡ l.depth + l.arg-index;
+  deep : l.inner + sizes_at l.fn.self.setting.body.now (drop l.arg-index l.args) ≤ l.depth + sizes_at l.fn.self.setting.body.now l.args;
+  more_integers : length l.self.consts.integers + sizes_at l.fn.self.setting.body.now (drop l.arg-index l.args) ≤ length l.fn.self.consts.integers + sizes_at l.fn.self.setting.body.now l.args;
+  more_strings : length l.self.consts.strings + 2 * sizes_at l.fn.self.setting.body.now (drop l.arg-index l.args) ≤ length l.fn.self.consts.strings + 2 * sizes_at l.fn.self.setting.body.now l.args;
+  roots : AreRoots l.fn.self.setting.body.now (drop l.arg-index l.args);
+  places : AreTreesWithin (length l.fn.self.setting.names.now) (of_list (map (at_id (all_trees l.fn.self.setting.body.now)) (drop l.arg-index l.args)));
+  below : AllByRecursion (λ arg. arg.0 < l.fn.end.0) (drop l.arg-index l.args);
+}
+
+abbrev pub invariant-arms-loop-branch : goal.invariant-arms-loop-branch
+invariant-arms-loop-branch l = record {
+  setting : l.self.setting ≡ l.fn.self.setting;
+  scope : l.self.variables ≡ l.fn.self.variables;
+  kept : Keeps l.fn.self.consts l.self.consts;
+  same : l.self.lines ≡ l.fn.self.lines;
+  joined : IfSome l.joined (IsType l.fn.self.setting.table.now);
+  typed : branches_type_at (context l.fn.self.setting) l.fn.self.setting.body.now l.fn.self.variables l.depth l.joined (drop l.branch-index l.branches)
+      ≡ branches_type_at (context l.fn.self.setting) l.fn.self.setting.body.now l.fn.self.variables l.depth None l.branches;
+  lines : branches_arms (context l.fn.self.setting) l.fn.self.setting.body.now l.self.consts l.fn.self.variables l.depth l.end (map arm_of l.sorted.items) (drop l.branch-index l.branches)
+      ≡ branches_arms (context l.fn.self.setting) l.fn.self.setting.body.now l.fn.self.consts l.fn.self.variables l.depth l.end [] l.branches;
+  asked : branches_asked (context l.fn.self.setting).files l.fn.self.setting.body.now l.self.consts (drop l.branch-index l.branches) ≡ branches_asked (context l.fn.self.setting).files l.fn.self.setting.body.now l.fn.self.consts l.branches;
+  deep : branch_sizes_at l.fn.self.setting.body.now (drop l.branch-index l.branches) ≤ branch_sizes_at l.fn.self.setting.body.now l.branches;
+  more_integers : length l.self.consts.integers + branch_sizes_at l.fn.self.setting.body.now (drop l.branch-index l.branches) ≤ length l.fn.self.consts.integers + branch_sizes_at l.fn.self.setting.body.now l.branches;
+  more_strings : length l.self.consts.strings + 2 * branch_sizes_at l.fn.self.setting.body.now (drop l.branch-index l.branches) ≤ length l.fn.self.consts.strings + 2 * branch_sizes_at l.fn.self.setting.body.now l.branches;
+  roots : AreBodies l.fn.self.setting.body.now (drop l.branch-index l.branches);
+  places : AreCasesWithin (length l.fn.self.setting.names.now) (of_twigs (map (twig_at (all_trees l.fn.self.setting.body.now)) (drop l.branch-index l.branches)));
+  below : AllByRecursion (λ branch. branch.body.0 < l.fn.id.0) (drop l.branch-index l.branches);
+}
