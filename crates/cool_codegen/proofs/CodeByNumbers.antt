@@ -19,7 +19,8 @@ use Rattle.cool_rules.specs.Rules.{type_meant}
 use Rattle.cool_consts.specs.Constants.{Constants}
 use Rattle.cool_consts.specs.Labels.{int_constant, string_constant}
 use Rattle.cool_codegen.specs.Variables.{Named, bind}
-use Rattle.cool_codegen.specs.Types.{class_meant, trees_count, type_in, last_type_in, cases_type_in, object, joined}
+use Rattle.cool_rules.specs.Meant.{joined}
+use Rattle.cool_codegen.specs.Types.{class_meant, trees_count, type_in, last_type_in, cases_type_in, object}
 use Rattle.cool_codegen.specs.Arms.{Arm, with_arm}
 use Rattle.cool_codegen.specs.Asked.{Extends, integers_in, integers_in_all, integers_in_maybe, integers_in_cases, strings_in, strings_in_all, strings_in_maybe, strings_in_cases, files_of, file_of}
 use Rattle.cool_codegen.specs.Code.{Context, code, arguments_code, items_code, initial_code, arms_code, string_label, label_at}

@@ -31,7 +31,8 @@ use Rattle.cool_codegen.specs.declared.variables.Variable.{Variable}
 use Rattle.cool_codegen.specs.Pieces.{pop_lines, load_lines, store_lines, take_self_lines, take_void_lines, take_lines, test_lines, mark_lines, turn_lines, repeat_lines, values_lines, compare_equal_lines, less_lines, less_equal_lines, is_void_lines, complement_lines, flag_lines, add_lines, subtract_lines, multiply_lines, divide_lines, negate_lines, is_zero_lines, ends_where_lines, create_lines, create_self_lines, call_lines, call_static_lines, case_begin_lines, try_tags_lines, case_end_lines}
 use Rattle.cool_codegen.specs.Labels.{inner}
 use Rattle.cool_codegen.specs.Variables.{Named, found, bind}
-use Rattle.cool_codegen.specs.Types.{is_self, method_in, class_meant, type_in, trees_count}
+use Rattle.cool_rules.specs.Meant.{method_in}
+use Rattle.cool_codegen.specs.Types.{is_self, class_meant, type_in, trees_count}
 use Rattle.cool_codegen.specs.Arms.{Arm, with_arm, arms_lines}
 
 -- where an expression stands: in which feature of which class, and the names of the files

@@ -21,7 +21,8 @@ use Rattle.cool_runtime.specs.Routines.{push_lines}
 use Rattle.cool_consts.specs.Constants.{Constants, with_integer, with_string}
 use Rattle.cool_codegen.specs.Pieces.{pop_lines, take_lines, test_lines, mark_lines, turn_lines, repeat_lines, values_lines, is_void_lines, complement_lines, negate_lines, case_begin_lines, case_end_lines}
 use Rattle.cool_codegen.specs.Variables.{Named, bind}
-use Rattle.cool_codegen.specs.Types.{class_meant, type_in, type_of_call, type_of_named, joined, object, int, bool, string}
+use Rattle.cool_rules.specs.Meant.{joined, type_of_call}
+use Rattle.cool_codegen.specs.Types.{class_meant, type_in, type_of_named, object, int, bool, string}
 use Rattle.cool_codegen.specs.Arms.{Arm, with_arm, arms_lines}
 use Rattle.cool_codegen.specs.Asked.{integers_in, strings_in, with_integers, with_strings}
 use Rattle.cool_codegen.specs.Code.{Context, code, name_code, assign_code, new_code, default_code, truth_label, integer_label, string_label, file_label, label_at, bool_code, int_code, operation_code, compare_code, slot_code, static_code, range_code}

@@ -6,13 +6,10 @@ use Rattle.cool_syntax.specs.Tree as trees
 use Rattle.cool_classes.specs.declared.class_id.ClassId.{ClassId}
 use Rattle.cool_classes.specs.declared.class_id.Ty.{Ty}
 use Rattle.cool_classes.specs.declared.class_id.Ty.TheVariants.{Class as IsClass, SelfType}
-use Rattle.cool_classes.specs.declared.method.BasicMethod.TheVariants.{Abort}
-use Rattle.cool_classes.specs.declared.method.MethodRef.{MethodRef}
-use Rattle.cool_classes.specs.declared.method.MethodRef.TheVariants.{Basic}
 use Rattle.cool_classes.specs.Chains.{Class, class_number}
-use Rattle.cool_classes.specs.Features.{result_of}
 use Rattle.cool_rules.specs.Conformance.{class_of}
-use Rattle.cool_rules.specs.Rules.{join_in, type_meant, method_of}
+use Rattle.cool_rules.specs.Meant.{joined, type_of_call}
+use Rattle.cool_rules.specs.Rules.{join_in, type_meant}
 use Rattle.cool_codegen.specs.declared.variables.Variable.{Variable}
 use Rattle.cool_codegen.specs.Variables.{Named, found, bind}
 
@@ -31,18 +28,6 @@ string = IsClass (class_number 4)
 abbrev pub is_self : List ℕ → Truth
 is_self name = bytes_eq name (codes "self")
 
--- the method of a name that a class has; one of Object's where it has none
-abbrev pub method_in : List Class → ClassId → List ℕ → MethodRef
-method_in p c name = unwrap_or (method_of p c name) (Basic Abort)
-
--- the type of the result of a method for a receiver
-abbrev pub resulting : Ty → Ty → Ty
-resulting receiver SelfType = receiver
-resulting receiver (IsClass c) = IsClass c
-
-abbrev pub type_of_call : List Class → ClassId → Ty → List ℕ → Ty
-type_of_call p c receiver name = resulting receiver (type_meant p (result_of p (method_in p c name)))
-
 -- the class that a name means in a class
 abbrev pub class_meant : List Class → ClassId → List ℕ → ClassId
 class_meant p c name = class_of c (type_meant p name)
@@ -53,11 +38,6 @@ type_of_variable (Some v) = v.ty
 
 abbrev pub type_of_named : List Named → List ℕ → Ty
 type_of_named vs name = if is_self name then SelfType else type_of_variable (found vs name)
-
--- the join with the types of the branches before
-abbrev pub joined : List Class → ClassId → Option Ty → Ty → Ty
-joined p c None a = a
-joined p c (Some b) a = join_in p c b a
 
 -- how many trees there are
 abbrev pub trees_count : Trees → ℕ

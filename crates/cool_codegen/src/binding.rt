@@ -16,7 +16,7 @@ ghost use Rattle.cool_codegen.specs.Code.{file_label, range_code};
 ghost use Rattle.cool_codegen.specs.Pieces.{case_begin_lines};
 ghost use Rattle.cool_codegen.specs.Numbered.{asked_at, branch_lines, branch_sizes_at, branches_arms, branches_asked, branches_type_at, class_of_branch, initial_lines, lines_at, maybe_asked, maybe_size_at, node_size, size_at, type_at, with_file, within_branch, AreBodies, MayBeRoot};
 ghost use Rattle.cool_codegen.specs.Settings.{context, IsSound};
-ghost use Rattle.cool_codegen.specs.Types.{joined, object};
+ghost use Rattle.cool_codegen.specs.Types.{object};
 ghost use Rattle.cool_codegen.specs.Variables.{bind, pushed};
 
 use crate::arm::{Arm, insert_arm};
@@ -30,7 +30,7 @@ use crate::setting::Setting;
 use crate::variables::Variable;
 use cool_classes::{ClassId, OBJECT, Ty};
 use cool_consts::Consts;
-use cool_rules::class_of;
+use cool_rules::{class_of, joined_with, type_meant};
 use cool_runtime::draft::write;
 use cool_runtime::piece::push;
 use cool_syntax::{Name, Node, NodeBranch, NodeId, Place};
@@ -65,7 +65,7 @@ impl<'a> Code<'a> {
                 body,
                 ..
             } => {
-                let bound = self.setting.meant(&declared.name);
+                let bound = type_meant(self.setting.table, &declared.name);
                 self.initial(depth, id, bound, *init)?;
                 write(alloc, &mut self.lines, &push())?;
                 let found = self.within(depth, name, bound, *body)?;
@@ -162,7 +162,10 @@ impl<'a> Code<'a> {
         let mut sorted = Vec::new(setting.alloc);
         let mut joined = None;
         for branch in branches {
-            let class = class_of(setting.class, setting.meant(&branch.declared.name));
+            let class = class_of(
+                setting.class,
+                type_meant(setting.table, &branch.declared.name),
+            );
             let earlier = replace(&mut self.lines, Vec::new(setting.alloc));
             let found = self.arm(depth, branch, class, end)?;
             let own = replace(&mut self.lines, earlier);
@@ -173,7 +176,7 @@ impl<'a> Code<'a> {
                     lines: own,
                 },
             )?;
-            joined = Some(joined_with(&setting, joined, found));
+            joined = Some(joined_with(setting.table, setting.class, joined, found));
         }
         add_arms(sorted, &mut self.lines)?;
         Ok(joined.unwrap_or(Ty::Class(OBJECT)))
@@ -232,20 +235,6 @@ fn pushed(depth: u32, ty: Ty) -> Variable
         base: FP,
         offset: negative(4 * depth + 4),
         ty,
-    }
-}
-
-/// The join of a type with that of the branches before, where there are any.
-fn joined_with(setting: &Setting<'_>, earlier: Option<Ty>, found: Ty) -> Ty
-    requires sound { IsSound setting.now }
-    requires earlier { IfSome earlier (IsType setting.now.table.now) }
-    requires found { IsType setting.now.table.now found }
-    ensures is_type { IsType setting.now.table.now result }
-    ensures joined { result ≡ joined setting.now.table.now setting.now.class earlier found }
-{
-    match earlier {
-        Some(so_far) => setting.join(so_far, found),
-        None => found,
     }
 }
 

@@ -8,7 +8,6 @@ ghost use Rattle.cool_codegen.specs.Asked.{Keeps};
 ghost use Rattle.cool_codegen.specs.Code.{slot_code, static_code};
 ghost use Rattle.cool_codegen.specs.Numbered.{all_asked, arguments_lines, node_size, sizes_at, with_file};
 ghost use Rattle.cool_codegen.specs.Settings.{context, IsSound};
-ghost use Rattle.cool_codegen.specs.Types.{resulting};
 
 use crate::code::Code;
 use crate::constant_labels::file_label;
@@ -17,7 +16,7 @@ use crate::setting::Setting;
 use cool_classes::{ClassId, Ty};
 use cool_consts::Consts;
 use cool_layout::method_label;
-use cool_rules::class_of;
+use cool_rules::{call_meant, class_of, method_meant, type_meant};
 use cool_runtime::draft::write;
 use cool_runtime::piece::push;
 use cool_syntax::{Name, Node, NodeId, Place};
@@ -53,8 +52,7 @@ impl<'a> Code<'a> {
                 let object = self.expression(after, *receiver)?;
                 let class = class_of(self.setting.class, object);
                 self.call_by_slot(*at, class, name)?;
-                let method = self.setting.method(class, name);
-                Ok(resulting(object, self.setting.result(method)))
+                Ok(call_meant(self.setting.table, class, object, name))
             }
             Node::StaticDispatch {
                 at,
@@ -66,10 +64,12 @@ impl<'a> Code<'a> {
                 let args = args.as_slice();
                 let inner = self.arguments(depth, id, args)?;
                 let object = self.expression(inner, *receiver)?;
-                let class = class_of(self.setting.class, self.setting.meant(&class.name));
+                let class = class_of(
+                    self.setting.class,
+                    type_meant(self.setting.table, &class.name),
+                );
                 self.call_by_label(*at, class, name)?;
-                let method = self.setting.method(class, name);
-                Ok(resulting(object, self.setting.result(method)))
+                Ok(call_meant(self.setting.table, class, object, name))
             }
             _ => unreachable!(),
         }
@@ -129,18 +129,12 @@ impl<'a> Code<'a> {
     {
         let alloc = self.setting.alloc;
         let file = file_label(&self.setting, &mut self.consts, at)?;
-        let label = method_label(alloc, self.setting.table, self.setting.method(class, name))?;
+        let label = method_label(
+            alloc,
+            self.setting.table,
+            method_meant(self.setting.table, class, name),
+        )?;
         write(alloc, &mut self.lines, &call_static(&file, at.line, &label))?;
         Ok(())
-    }
-}
-
-/// The type of a result for a receiver.
-fn resulting(receiver: Ty, declared: Ty) -> Ty
-    ensures { result ≡ resulting receiver declared }
-{
-    match declared {
-        Ty::SelfType => receiver,
-        Ty::Class(class) => Ty::Class(class),
     }
 }

@@ -17,6 +17,7 @@ use crate::piece::{mark, repeat, take, test, turn};
 use crate::setting::Setting;
 use crate::variables::Variables;
 use cool_classes::{BOOL, INT, OBJECT, STRING, Ty};
+use cool_rules::{join_meant, type_meant};
 use cool_runtime::draft::write;
 use cool_syntax::{Name, Node, NodeId};
 use std::alloc::AllocError;
@@ -84,7 +85,7 @@ impl<'a> Code<'a> {
                 Ok(type_of_name(&self.setting, &self.variables, name))
             }
             Node::New { class, .. } => {
-                let made = self.setting.meant(&class.name);
+                let made = type_meant(self.setting.table, &class.name);
                 take_new(&self.setting, made, &mut self.lines)?;
                 Ok(made)
             }
@@ -133,7 +134,7 @@ impl<'a> Code<'a> {
                 write(alloc, &mut self.lines, &turn(&end, &other))?;
                 let second = self.expression(depth, *no)?;
                 write(alloc, &mut self.lines, &mark(&end))?;
-                Ok(self.setting.join(first, second))
+                Ok(join_meant(self.setting.table, self.setting.class, first, second))
             }
             Node::While {
                 test: predicate,

@@ -26,7 +26,7 @@ use crate::variables::{Variable, Variables};
 use cool_classes::{AttributeRef, ClassId, MethodRef};
 use cool_consts::Consts;
 use cool_layout::{Layout, method_label};
-use cool_rules::TypedProgram;
+use cool_rules::{TypedProgram, type_meant};
 use cool_runtime::draft::write;
 use cool_runtime::piece::enter;
 use cool_syntax::{Feature, Formal};
@@ -162,7 +162,7 @@ fn formal_variables<'a>(
         let variable = Variable {
             base: FP,
             offset: signed(12 + 4 * after),
-            ty: setting.meant(&formal.declared.name),
+            ty: type_meant(setting.table, &formal.declared.name),
         };
         variables.enter(&formal.name, variable)?;
     }

@@ -44,7 +44,8 @@ use Rattle.cool_codegen.specs.Pieces.{is_void_lines, complement_lines, flag_line
 use Rattle.cool_codegen.specs.Pieces.{multiply_lines, divide_lines, negate_lines, is_zero_lines}
 use Rattle.cool_codegen.specs.Pieces.{ends_where_lines, create_lines, create_self_lines, call_lines}
 use Rattle.cool_codegen.specs.Pieces.{call_static_lines, case_begin_lines, try_tags_lines, case_end_lines}
-use Rattle.cool_codegen.specs.Types.{is_self, class_meant, method_in, trees_count, type_in}
+use Rattle.cool_rules.specs.Meant.{method_in}
+use Rattle.cool_codegen.specs.Types.{is_self, class_meant, trees_count, type_in}
 use Rattle.cool_codegen.specs.Variables.{Named, bind, found}
 use Rattle.cool_emit.specs.SoundLines.{labels_of}
 use Rattle.cool_emit.proofs.CountedNames.{times, times-append, total_from, total_from-append, total_from_more}

@@ -17,7 +17,7 @@ use Rattle.cool_rules.specs.Conformance.{IsType}
 use Rattle.cool_rules.specs.Rules.{class_named, type_of_name, type_meant, method_of}
 use Rattle.cool_layout.specs.Roots.{IsRooted}
 use Rattle.cool_layout.proofs.ShortChains.{chain_in, chain_is}
-use Rattle.cool_codegen.specs.Types.{method_in}
+use Rattle.cool_rules.specs.Meant.{method_in}
 
 -- the first class of a name is one of those named
 named_low : (k : ℕ) (names : List (List ℕ)) (f : List ℕ) (n : ℕ) → k + length names ≤ n → IfSome (first_named k names f) (λ c. c.0 < n)

@@ -29,7 +29,8 @@ use Rattle.cool_layout.specs.Labels.{prototype, initializer, method_label}
 use Rattle.cool_consts.specs.Constants.{Constants}
 use Rattle.cool_codegen.specs.declared.variables.Variable.{Variable}
 use Rattle.cool_codegen.specs.Variables.{Named, found, bind}
-use Rattle.cool_codegen.specs.Types.{is_self, method_in, class_meant}
+use Rattle.cool_rules.specs.Meant.{method_in}
+use Rattle.cool_codegen.specs.Types.{is_self, class_meant}
 use Rattle.cool_codegen.specs.Asked.{files_of}
 use Rattle.cool_codegen.specs.Pieces.{mark_lines, turn_lines, repeat_lines, flag_lines, ends_where_lines}
 use Rattle.cool_codegen.specs.Pieces.{case_end_lines, values_lines, less_lines, less_equal_lines, is_zero_lines}

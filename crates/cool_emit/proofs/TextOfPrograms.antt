@@ -20,7 +20,7 @@ use Rattle.cool_consts.specs.Constants.{with_integer, with_string}
 use Rattle.cool_codegen.specs.Asked.{with_integers, with_strings}
 use Rattle.cool_codegen.specs.Code.{integer_label, string_label}
 use Rattle.cool_codegen.specs.Features.{feature_integers, feature_strings}
-use Rattle.cool_codegen.specs.Types.{method_in}
+use Rattle.cool_rules.specs.Meant.{method_in}
 use Rattle.cool_codegen.proofs.AttributesOfClasses.{all_there}
 use Rattle.cool_emit.specs.SoundLines.{AreText, labels_of}
 use Rattle.cool_emit.specs.Programs.{Placed, all_features, classes_code, program_constants, program_text, program_lines, IsBuildable}

@@ -1,5 +1,5 @@
 -- Tables are of one shape where look-ups find the same in both (`FindSame`): there chains, scopes, meant types, joins and methods are the same.
-use Rattle.std.proofs.Common.{◌≡◌, ℕ, zero, suc, ◌<◌, List, [], ◌∷◌, ◌++◌, map, length, Option, Some, None, Bool as Truth, refl, sym, ap, ◌∙◌, subst, arith}
+use Rattle.std.proofs.Common.{◌≡◌, ℕ, zero, suc, List, [], ◌∷◌, map, length, Option, Some, None, Bool as Truth, refl, ap, ◌∙◌, arith}
 use Rattle.std.specs.Prelude.{bytes_eq, unwrap_or, option_map, is_some, if◌then◌else◌, ◌&&◌, ◌||◌}
 use Rattle.std.specs.List.{list_any}
 use Rattle.cool_syntax.specs.declared.file_tree.Formal.{Formal}
@@ -10,16 +10,16 @@ use Rattle.cool_classes.specs.declared.method.BasicMethod.TheVariants.{Abort}
 use Rattle.cool_classes.specs.declared.method.MethodRef.{MethodRef}
 use Rattle.cool_classes.specs.declared.method.MethodRef.TheVariants.{Basic, User}
 use Rattle.cool_classes.specs.declared.method.AttributeRef.{AttributeRef}
-use Rattle.cool_classes.specs.Chains.{Class, class_number, name_of, parent_of, features_of}
+use Rattle.cool_classes.specs.Chains.{Class, class_number, name_of, parent_of}
 use Rattle.cool_classes.specs.ClimbedChains.{climbed, above, chain}
-use Rattle.cool_classes.specs.Features.{own_method, first_of, implementation, own_attributes, attributes_of, attribute_name, result_of}
+use Rattle.cool_classes.specs.Features.{own_method, implementation, attributes_of, attribute_name, result_of}
 use Rattle.cool_classes.specs.Names.{self_type, first_named}
 use Rattle.cool_classes.proofs.AlikeTables.{FindSame}
 use Rattle.cool_classes.proofs.AlikeTablesKept.{implementation_same, attributes_same}
 use Rattle.cool_rules.specs.Rules.{is_among, first_among, join_in, class_named, type_of_name, type_meant, method_of, attribute_binding, formal_binding}
 use Rattle.cool_rules.specs.Scopes.{Binding}
 use Rattle.cool_rules.specs.Typing.{formals_in_scope, attributes_in_scope, result_on}
-use Rattle.cool_opt.specs.Types.{method_in, type_of_call}
+use Rattle.cool_rules.specs.Meant.{method_in, type_of_call}
 use Rattle.cool_opt.specs.Folding.{classes_from, defines_below, is_redefined, own_scope}
 
 -- tables of as many classes, each with the name that it has in the other, have the same names

@@ -19,7 +19,8 @@ use Rattle.cool_classes.proofs.Climbs.{chain_unique}
 use Rattle.cool_rules.specs.Conformance.{IsType, Conforms, class_of}
 use Rattle.cool_rules.specs.Rules.{join_in, type_meant, method_of}
 use Rattle.cool_rules.specs.Scopes.{Binding, found}
-use Rattle.cool_opt.specs.Types.{method_in, joined, type_of, last_type_of, cases_type_of}
+use Rattle.cool_rules.specs.Meant.{joined, method_in}
+use Rattle.cool_opt.specs.Types.{type_of, last_type_of, cases_type_of}
 use Rattle.cool_rules.specs.Typing.{object_type, type_in_scope, with_name, IsImplementation, IsCall, IsJoinOfAll, IsJoinOfBranches, result_on, HasType, HaveItems, HaveBranches}
 use Rattle.cool_rules.proofs.ChainsOfTables.{below_trans, below_itself}
 use Rattle.cool_rules.proofs.RulesOfTables.{meant_is, join_in_is}

@@ -1,5 +1,5 @@
 -- In tables of one shape the same expressions are typed, with the same types.
-use Rattle.std.proofs.Common.{◌≡◌, ℕ, List, [], ◌∷◌, ◌++◌, Option, Some, None, sym, ◌∙◌, subst}
+use Rattle.std.proofs.Common.{◌≡◌, ℕ, List, [], ◌∷◌, ◌++◌, Some, sym, ◌∙◌, subst}
 use Rattle.std.specs.List.{AllByRecursion}
 use Rattle.cool_syntax.specs.Tree.{Tree, Trees, MaybeTree, Cases, Last, More, Without, With, NoCase, CaseOf}
 use Rattle.cool_syntax.specs.Tree as trees
@@ -7,13 +7,13 @@ use Rattle.cool_classes.specs.declared.class_id.ClassId.{ClassId}
 use Rattle.cool_classes.specs.declared.class_id.Ty.{Ty}
 use Rattle.cool_classes.specs.declared.class_id.Ty.TheVariants.{Class as IsClass, SelfType}
 use Rattle.cool_classes.specs.declared.method.MethodRef.{MethodRef}
-use Rattle.cool_classes.specs.Chains.{Class, parent_of, IsChain, Below}
+use Rattle.cool_classes.specs.Chains.{Class, Below}
 use Rattle.cool_classes.specs.Features.{Denotes, attributes_of, formals_of, result_of}
 use Rattle.cool_classes.proofs.AlikeTables.{FindSame, flipped}
 use Rattle.cool_rules.specs.Conformance.{Conforms, IsJoinOfTypes, class_of}
 use Rattle.cool_rules.specs.Scopes.{Binding}
 use Rattle.cool_rules.specs.Typing.{AreArguments, IsImplementation, IsCall, IsJoinOfBranches, bool_type, int_type, object_type, with_name, attributes_in_scope, HasType, HaveTypes, HaveItems, HasInit, HaveBranches, FitsDeclared}
-use Rattle.cool_classes.proofs.AlikeTablesKept.{within_same, implementation_same, chain_kept, denotes_kept}
+use Rattle.cool_classes.proofs.AlikeTablesKept.{implementation_same, chain_kept, denotes_kept}
 use Rattle.cool_opt.proofs.SameShapes.{chain_scope_same}
 
 module _ (p p' : List Class) (s : FindSame p p') where

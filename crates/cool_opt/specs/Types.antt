@@ -1,31 +1,16 @@
 -- The static types of expressions, of which it is known that they have one (the Cool manual, sections 4, 7 and 12). Where an expression
 -- has none, some type is given.
-use Rattle.std.specs.Prelude.{ℕ, List, Option, Some, None, unwrap_or}
+use Rattle.std.specs.Prelude.{List, Option, Some, None, unwrap_or}
 use Rattle.cool_syntax.specs.Tree.{Tree, Trees, MaybeTree, Cases, Last, More, Without, With, NoCase, CaseOf}
 use Rattle.cool_syntax.specs.Tree as trees
 use Rattle.cool_classes.specs.declared.class_id.ClassId.{ClassId}
 use Rattle.cool_classes.specs.declared.class_id.Ty.{Ty}
-use Rattle.cool_classes.specs.declared.method.BasicMethod.TheVariants.{Abort}
-use Rattle.cool_classes.specs.declared.method.MethodRef.{MethodRef}
-use Rattle.cool_classes.specs.declared.method.MethodRef.TheVariants.{Basic}
 use Rattle.cool_classes.specs.Chains.{Class}
-use Rattle.cool_classes.specs.Features.{result_of}
 use Rattle.cool_rules.specs.Conformance.{class_of}
-use Rattle.cool_rules.specs.Rules.{join_in, type_meant, method_of}
+use Rattle.cool_rules.specs.Meant.{joined, type_of_call}
+use Rattle.cool_rules.specs.Rules.{join_in, type_meant}
 use Rattle.cool_rules.specs.Scopes.{Binding}
-use Rattle.cool_rules.specs.Typing.{type_in_scope, with_name, object_type, int_type, bool_type, string_type, result_on}
-
--- the method of a name that a class has; one of Object's where it has none
-abbrev pub method_in : List Class → ClassId → List ℕ → MethodRef
-method_in p c name = unwrap_or (method_of p c name) (Basic Abort)
-
-abbrev pub type_of_call : List Class → ClassId → Ty → List ℕ → Ty
-type_of_call p c receiver name = result_on receiver (type_meant p (result_of p (method_in p c name)))
-
--- the join with the types of the branches before
-abbrev pub joined : List Class → ClassId → Option Ty → Ty → Ty
-joined p c None a = a
-joined p c (Some b) a = join_in p c b a
+use Rattle.cool_rules.specs.Typing.{type_in_scope, with_name, object_type, int_type, bool_type, string_type}
 
 -- the type of an expression of a class, with these names in scope
 abbrev mutual

@@ -19,7 +19,7 @@ use crate::place::{Found, Parts, place, place_constant};
 use crate::setting::Setting;
 use crate::typing::type_of_name;
 use cool_classes::{BOOL, INT, OBJECT, STRING, Ty};
-use cool_rules::Scope;
+use cool_rules::{Scope, type_meant};
 use cool_syntax::{Name, Node, NodeId};
 use std::alloc::AllocError;
 
@@ -78,7 +78,7 @@ fn fold_leaf<'a>(
     let alloc = setting.alloc;
     match node {
         Node::New { at, class } => {
-            let ty = setting.meant(&class.name);
+            let ty = type_meant(setting.table, &class.name);
             let class = class.copy(alloc)?;
             place(nodes, Node::New { at: *at, class }, ty)
         }

@@ -20,7 +20,7 @@ use crate::definers::Definers;
 use crate::expression::fold;
 use crate::setting::Setting;
 use cool_classes::{ClassId, ClassTable, Ty};
-use cool_rules::{Scope, TypedProgram, type_named};
+use cool_rules::{Scope, TypedProgram, type_meant, type_named};
 use cool_syntax::{Body, Feature, Formal};
 use std::alloc::{AllocError, Global};
 
@@ -111,7 +111,10 @@ fn enter_formals<'a>(
 {
     for index in (0..formals.len()).rev() {
         let formal = &formals[index];
-        scope.enter(&formal.name, setting.meant(&formal.declared.name))?;
+        scope.enter(
+            &formal.name,
+            type_meant(setting.table, &formal.declared.name),
+        )?;
     }
     Ok(())
 }

@@ -12,9 +12,8 @@ use crate::expression::{fold, fold_within};
 use crate::place::{Branches, Found};
 use crate::place_form::{add_branch, place_case, place_let};
 use crate::setting::Setting;
-use crate::typing::joined_with;
 use cool_classes::{OBJECT, Ty};
-use cool_rules::Scope;
+use cool_rules::{Scope, joined_with, type_meant};
 use cool_syntax::{Node, NodeBranch, NodeId};
 use std::alloc::AllocError;
 
@@ -44,7 +43,7 @@ pub(crate) fn fold_let<'a>(
             ..
         } => {
             let init = fold_option(setting, scope, nodes, id, *init)?;
-            let bound = setting.meant(&declared.name);
+            let bound = type_meant(setting.table, &declared.name);
             let found = fold_within(setting, scope, nodes, name, bound, *body)?;
             place_let(setting, nodes, node, init, &found)
         }
@@ -123,10 +122,10 @@ fn fold_branches<'a>(
     let mut folded = Vec::new(setting.alloc);
     let mut joined = None;
     for branch in branches {
-        let bound = setting.meant(&branch.declared.name);
+        let bound = type_meant(setting.table, &branch.declared.name);
         let found = fold_within(setting, scope, nodes, &branch.name, bound, branch.body)?;
         add_branch(setting.alloc, &mut folded, branch, found.id)?;
-        joined = Some(joined_with(setting, joined, found.ty));
+        joined = Some(joined_with(setting.table, setting.class, joined, found.ty));
     }
     Ok(Branches {
         branches: folded,

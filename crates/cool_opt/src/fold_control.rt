@@ -17,7 +17,7 @@ use crate::place_form::{place_block, place_if, place_while};
 use crate::setting::Setting;
 use crate::typing::type_of;
 use cool_classes::Ty;
-use cool_rules::Scope;
+use cool_rules::{Scope, join_meant};
 use cool_syntax::{Node, NodeId};
 use std::alloc::AllocError;
 
@@ -129,7 +129,7 @@ fn taken_part<'a>(
     };
     let first = type_of(setting, scope, yes)?;
     let second = type_of(setting, scope, no)?;
-    let whole = setting.join(first, second);
+    let whole = join_meant(setting.table, setting.class, first, second);
     if truth {
         Ok(part_of_type(first, whole, yes))
     } else {

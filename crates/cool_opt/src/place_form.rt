@@ -9,7 +9,7 @@ ghost use Rattle.cool_opt.specs.Settings.{IsSound};
 use crate::place::{Branches, Found, Parts, place};
 use crate::setting::Setting;
 use cool_classes::{OBJECT, Ty};
-use cool_rules::class_of;
+use cool_rules::{call_meant, class_of, join_meant, type_meant};
 use cool_syntax::{Listed, Node, NodeBranch, NodeId, TypeRef};
 use std::alloc::{AllocError, Global};
 
@@ -77,7 +77,7 @@ pub(crate) fn place_if<'a>(
 {
     match node {
         Node::If { at, .. } => {
-            let whole = setting.join(yes.ty, no.ty);
+            let whole = join_meant(setting.table, setting.class, yes.ty, no.ty);
             let made = Node::If {
                 at: *at,
                 test,
@@ -194,7 +194,7 @@ pub(crate) fn place_dispatch<'a>(
         Node::Dispatch { at, name, .. } => {
             let args = Listed::new(parts.ids);
             let class = class_of(setting.class, object.ty);
-            let ty = setting.called(class, object.ty, name);
+            let ty = call_meant(setting.table, class, object.ty, name);
             let copy = name.copy(setting.alloc)?;
             if setting.is_redefined(class, name) {
                 let made = Node::Dispatch {
@@ -244,8 +244,8 @@ pub(crate) fn place_static<'a>(
             name,
             ..
         } => {
-            let meant = class_of(setting.class, setting.meant(&class.name));
-            let ty = setting.called(meant, object.ty, name);
+            let meant = class_of(setting.class, type_meant(setting.table, &class.name));
+            let ty = call_meant(setting.table, meant, object.ty, name);
             let class = class.copy(setting.alloc)?;
             let name = name.copy(setting.alloc)?;
             let made = Node::StaticDispatch {

@@ -1,17 +1,17 @@
 //! The types of expressions.
 
-ghost use Rattle.std.specs.Prelude.{◌≡◌, ◌<◌, None, IfSome, IfOk, OnOk, length, unwrap_or};
+ghost use Rattle.std.specs.Prelude.{◌≡◌, ◌<◌, None, IfOk, OnOk, length, unwrap_or};
 ghost use Rattle.std.specs.List.{AllByRecursion};
 ghost use Rattle.cool_syntax.specs.NodeGroups.{IsBinding, IsCall, IsControl};
 ghost use Rattle.cool_syntax.specs.NodeLists.{tree_at, HasPartsBelow};
 ghost use Rattle.cool_rules.specs.Conformance.{IsType};
 ghost use Rattle.cool_rules.specs.Typing.{object_type, type_in_scope, with_name};
 ghost use Rattle.cool_opt.specs.Settings.{tree_of_node, trees_of, cases_of, HaveTypes, IsReady, IsSound, IsTyped};
-ghost use Rattle.cool_opt.specs.Types.{cases_type_of, joined, last_type_of, type_of};
+ghost use Rattle.cool_opt.specs.Types.{cases_type_of, last_type_of, type_of};
 
 use crate::setting::Setting;
 use cool_classes::{BOOL, INT, OBJECT, STRING, Ty};
-use cool_rules::{Scope, class_of};
+use cool_rules::{Scope, call_meant, class_of, join_meant, joined_with, type_meant};
 use cool_syntax::{Name, Node, NodeBranch, NodeId};
 use std::alloc::AllocError;
 
@@ -40,7 +40,7 @@ pub(crate) fn type_of<'a>(
             Ty::Class(BOOL),
         ),
         Node::Str { .. } => Ok(Ty::Class(STRING)),
-        Node::New { class, .. } => Ok(setting.meant(&class.name)),
+        Node::New { class, .. } => Ok(type_meant(setting.table, &class.name)),
         Node::Id { name, .. } => Ok(type_of_name(setting, scope, name)),
     }
 }
@@ -78,7 +78,7 @@ fn type_of_call<'a>(
     match node {
         Node::Dispatch { receiver, name, .. } => {
             let object = type_of(setting, scope, *receiver)?;
-            Ok(setting.called(class_of(setting.class, object), object, name))
+            Ok(call_meant(setting.table, class_of(setting.class, object), object, name))
         }
         Node::StaticDispatch {
             receiver,
@@ -87,8 +87,8 @@ fn type_of_call<'a>(
             ..
         } => {
             let object = type_of(setting, scope, *receiver)?;
-            let named = class_of(setting.class, setting.meant(&class.name));
-            Ok(setting.called(named, object, name))
+            let named = class_of(setting.class, type_meant(setting.table, &class.name));
+            Ok(call_meant(setting.table, named, object, name))
         }
         _ => unreachable!(),
     }
@@ -112,7 +112,7 @@ fn type_of_control<'a>(
         Node::If { yes, no, .. } => {
             let first = type_of(setting, scope, *yes)?;
             let second = type_of(setting, scope, *no)?;
-            Ok(setting.join(first, second))
+            Ok(join_meant(setting.table, setting.class, first, second))
         }
         Node::While { .. } => Ok(Ty::Class(OBJECT)),
         Node::Block { items, .. } => type_of_last(setting, scope, id, items.as_slice()),
@@ -161,7 +161,7 @@ fn type_of_binding<'a>(
             body,
             ..
         } => {
-            let bound = setting.meant(&declared.name);
+            let bound = type_meant(setting.table, &declared.name);
             type_within(setting, scope, name, bound, *body)
         }
         Node::Case { branches, .. } => type_of_branches(setting, scope, id, branches.as_slice()),
@@ -204,23 +204,9 @@ fn type_of_branches<'a>(
 {
     let mut joined = None;
     for branch in branches {
-        let bound = setting.meant(&branch.declared.name);
+        let bound = type_meant(setting.table, &branch.declared.name);
         let found = type_within(setting, scope, &branch.name, bound, branch.body)?;
-        joined = Some(joined_with(setting, joined, found));
+        joined = Some(joined_with(setting.table, setting.class, joined, found));
     }
     Ok(joined.unwrap_or(Ty::Class(OBJECT)))
-}
-
-/// The join of a type with that of the branches before, where there are any.
-pub(crate) fn joined_with(setting: &Setting<'_, '_>, earlier: Option<Ty>, found: Ty) -> Ty
-    requires sound { IsSound setting.now }
-    requires earlier { IfSome earlier (IsType setting.now.table.now) }
-    requires found { IsType setting.now.table.now found }
-    ensures is_type { IsType setting.now.table.now result }
-    ensures joined { result ≡ joined setting.now.table.now setting.now.class earlier found }
-{
-    match earlier {
-        Some(so_far) => setting.join(so_far, found),
-        None => found,
-    }
 }

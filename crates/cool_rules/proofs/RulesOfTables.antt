@@ -1,11 +1,10 @@
 -- The rules of types as functions: of a whole table, what fits the definitions of conformance, joins and names is what the functions give.
-use Rattle.std.proofs.Common.{◌≡◌, ◌≢◌, ℕ, zero, suc, ◌+◌, ◌<◌, ◌≤◌, ◌⊎◌, inl, inr, List, [], ◌∷◌, length, Option, Some, None, Bool, true, false, ap, sym, ◌∙◌, refl, subst, arith}
-use Rattle.std.specs.Prelude.{Contains, IsTrue, ◌↔◌, bytes_eq, if◌then◌else◌, option_map, unwrap_or}
-use Rattle.std.proofs.lemmas.Slice.Eq.{bytes_eq-Decides}
+use Rattle.std.proofs.Common.{◌≡◌, ℕ, zero, suc, ◌<◌, ◌≤◌, ◌⊎◌, inl, inr, List, [], ◌∷◌, length, Option, Some, None, Bool, true, false, ap, sym, ◌∙◌, refl, subst, arith}
+use Rattle.std.specs.Prelude.{Contains, IsTrue, ◌↔◌, if◌then◌else◌, option_map, unwrap_or}
 use Rattle.cool_classes.specs.declared.class_id.ClassId.{ClassId}
 use Rattle.cool_classes.specs.declared.class_id.Ty.{Ty}
 use Rattle.cool_classes.specs.declared.class_id.Ty.TheVariants.{Class as IsClass, SelfType}
-use Rattle.cool_classes.specs.Chains.{Class, class_number, name_of, parent_of, IsChain, Below, IsJoin}
+use Rattle.cool_classes.specs.Chains.{Class, class_number, parent_of, IsChain, Below, IsJoin}
 use Rattle.cool_classes.specs.Features.{Denotes, implementation}
 use Rattle.cool_classes.specs.declared.method.MethodRef.{MethodRef}
 use Rattle.cool_classes.specs.Names.{self_type}

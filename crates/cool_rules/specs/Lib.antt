@@ -1,5 +1,6 @@
 pub mod Conformance
 pub mod Fits
+pub mod Meant
 pub mod Rules
 pub mod Scopes
 pub mod TypedTables

@@ -6,11 +6,13 @@
 #![tactic(auto)]
 
 mod conformance;
+mod meant;
 mod scope;
 mod typed_program;
 mod types;
 
 pub use conformance::{conforms, join_types};
+pub use meant::{call_meant, join_meant, joined_with, method_meant, type_meant};
 pub use scope::Scope;
 pub use typed_program::TypedProgram;
 pub use types::{class_of, type_named};

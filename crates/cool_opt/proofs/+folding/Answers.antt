@@ -16,7 +16,8 @@ use Rattle.cool_opt.specs.FoldedNodes.{Folds}
 use Rattle.cool_opt.specs.PlacedForms.{AreCasesFolded, AreFolded, IsFolded, PlacesBlock, PlacesCase, PlacesConditional, PlacesDispatch, PlacesLet, PlacesLoop, PlacesStaticDispatch}
 use Rattle.cool_opt.specs.Settings.{cases_of, HaveTypes, IsReady, trees_of}
 use Rattle.cool_opt.specs.Shrinking.{shrunk, shrunk_all, shrunk_cases, taken}
-use Rattle.cool_opt.specs.Types.{cases_type_of, joined, last_type_of, type_of}
+use Rattle.cool_rules.specs.Meant.{joined}
+use Rattle.cool_opt.specs.Types.{cases_type_of, last_type_of, type_of}
 use Rattle.cool_opt.proofs.FoldedConditionals.{cut_back, part_within, taken_folds, taken_is}
 use Rattle.cool_opt.proofs.NodesPlaced.{more_nodes}
 use Rattle.cool_opt.proofs.PartsOfForms.{no_fewer, operand_within, operands_within}
@@ -165,8 +166,8 @@ fold_binding::fold_let-returns-clause-folded t c =
     let name = c.in-Let.name in
     let bound = type_meant s.table.now c.in-Let.declared.name in
     let places = subst (λ m. PlacesLet s m init found nodes after c.place_let.result) c.in-Let.is c.place_let.ensures in
-    let scopes : with_name name c.meant-bound.result c.fold_option.new.scope ≡ with_name name bound sc =
-    (λ i. with_name name (c.meant-bound.ensures.meant i) (c.in_ok-init-in-Let.ensures.scope i)) in
+    let scopes : with_name name c.type_meant-bound.result c.fold_option.new.scope ≡ with_name name bound sc =
+    (λ i. with_name name (c.type_meant-bound.ensures.meant i) (c.in_ok-init-in-Let.ensures.scope i)) in
     subst (λ m. Folds s sc (made (all_trees b) m) before after c.place_let.result) (sym c.in-Let.is)
     (places sc before between c.in_ok-init-in-Let.ensures.folded
     (subst (λ x. IsFolded s x (tree_at b c.in-Let.body) between nodes found) scopes c.in_ok-found-in-Let.ensures.folded))
@@ -361,8 +362,8 @@ fold_binding::fold_branches-loop-branch-preserved t c =
     let step = drop_more branches k branch within ∙ ap (λ (x : NodeBranch). x ∷ drop (k + 1) branches) (sym c.branch-item.is) in
     let all : of_twigs (map (twig_at ts) (drop k branches)) ≡ CaseOf branch.at branch.name branch.declared tree rest = ap
     (λ xs. of_twigs (map (twig_at ts) xs)) step in
-    let scopes : with_name branch.name c.meant-bound.result
-    l.scope ≡ inner = (λ i. with_name branch.name (c.meant-bound.ensures.meant i) (l.invariant.scope i)) in
+    let scopes : with_name branch.name c.type_meant-bound.result
+    l.scope ≡ inner = (λ i. with_name branch.name (c.type_meant-bound.ensures.meant i) (l.invariant.scope i)) in
     let folds = subst (λ sc. Folds {E = AllocError} s sc tree before after (Ok found)) scopes c.in_ok-found.ensures.folded in
     record {
       scope = c.in_ok-found.ensures.scope ∙ l.invariant.scope;

@@ -33,7 +33,8 @@ use Rattle.cool_runtime.proofs.Pieces.{has_front, has_back, sizes_append}
 use Rattle.cool_layout.specs.Labels.{method_label}
 use Rattle.cool_codegen.specs.Variables.{Named}
 use Rattle.cool_codegen.specs.Pieces.{call_static_lines}
-use Rattle.cool_codegen.specs.Types.{trees_count, method_in}
+use Rattle.cool_rules.specs.Meant.{method_in}
+use Rattle.cool_codegen.specs.Types.{trees_count}
 use Rattle.cool_codegen.specs.Types as types
 use Rattle.cool_codegen.specs.Code.{code, arguments_code}
 use Rattle.cool_codegen.specs.Asked.{integers_in, integers_in_all, strings_in, strings_in_all}

@@ -27,7 +27,8 @@ use Rattle.cool_rules.proofs.TypesOfMethods.{expression_type}
 use Rattle.cool_codegen.specs.declared.variables.Variable.{Variable}
 use Rattle.cool_codegen.specs.Variables.{Named, bind}
 use Rattle.cool_codegen.specs.Variables as variables
-use Rattle.cool_codegen.specs.Types.{object, method_in, resulting, class_meant, type_of_variable, type_of_named, joined, trees_count, type_in, last_type_in, cases_type_in}
+use Rattle.cool_rules.specs.Meant.{joined, method_in}
+use Rattle.cool_codegen.specs.Types.{object, class_meant, type_of_variable, type_of_named, trees_count, type_in, last_type_in, cases_type_in}
 
 -- names in scope have the types that the rules give them
 abbrev pub AreNamed : List Binding → List Named → Type 0
@@ -109,16 +110,12 @@ module _ (p : List Class) (whole : IsWholeTable p) (c : ClassId) (within : c.0 <
   unfolding method_of
   method_is k k_within name m found = ap (λ (o : Option MethodRef). unwrap_or o (Basic Abort)) (method_found k k_within name m found)
 
-  on_receiver : (receiver result : Ty) → resulting receiver result ≡ result_on receiver result
-  on_receiver receiver SelfType = refl
-  on_receiver receiver (IsClass a) = refl
-
   call_is : (k : ClassId) → k.0 < length p → (name : List ℕ) (receiver : Ty) (given : List Ty) (type : Ty) → IsCall p c k name receiver given type
-      → resulting receiver (type_meant p (result_of p (method_in p k name))) ≡ type
+      → result_on receiver (type_meant p (result_of p (method_in p k name))) ≡ type
   call_is k k_within name receiver given type call =
-      ap (λ (m : MethodRef). resulting receiver (type_meant p (result_of p m))) (method_is k k_within name call.method call.found)
-      ∙ ap (resulting receiver) (meant_is p whole.table (result_of p call.method) call.result call.declared)
-      ∙ on_receiver receiver call.result ∙ sym call.is
+      ap (λ (m : MethodRef). result_on receiver (type_meant p (result_of p m))) (method_is k k_within name call.method call.found)
+      ∙ ap (result_on receiver) (meant_is p whole.table (result_of p call.method) call.result call.declared)
+      ∙ sym call.is
 
   pub class_is : (name : List ℕ) (k : ClassId) → Denotes p name (IsClass k) → class_meant p c name ≡ k
   class_is name k denotes = ap (class_of c) (meant_is p whole.table name (IsClass k) denotes)
@@ -142,12 +139,12 @@ module _ (p : List Class) (whole : IsWholeTable p) (c : ClassId) (within : c.0 <
     type_is (trees.Assign at name e) scope vs d type types named (declared, other, has, there, conforms) = type_is e scope vs d type types named has
     type_is (trees.Dispatch at e name es) scope vs d type types named (receiver, given, has, have, call) =
         let same = type_is e scope vs (d + trees_count es) receiver types named has in
-        ap (λ (t : Ty). resulting t (type_meant p (result_of p (method_in p (class_of c t) name)))) same
+        ap (λ (t : Ty). result_on t (type_meant p (result_of p (method_in p (class_of c t) name)))) same
         ∙ call_is (class_of c receiver) (class_there receiver (expression_type p whole c within e scope receiver types has)) name receiver given type call
     type_is (trees.StaticDispatch at e class name es) scope vs d type types named (receiver, given, k, has, have, denotes, conforms, call) =
         let same = type_is e scope vs (d + trees_count es) receiver types named has in
-        ap (λ (t : Ty). resulting t (type_meant p (result_of p (method_in p (class_meant p c class.name) name)))) same
-        ∙ ap (λ (x : ClassId). resulting receiver (type_meant p (result_of p (method_in p x name)))) (class_is class.name k denotes)
+        ap (λ (t : Ty). result_on t (type_meant p (result_of p (method_in p (class_meant p c class.name) name)))) same
+        ∙ ap (λ (x : ClassId). result_on receiver (type_meant p (result_of p (method_in p x name)))) (class_is class.name k denotes)
         ∙ call_is k denotes.0 name receiver given type call
     type_is (trees.If at test first second) scope vs d type types named (t, u, has, has1, has2, join) =
         ap (λ (x : Ty). join_in p c x (type_in p c vs d second)) (type_is first scope vs d t types named has1)

@@ -15,8 +15,8 @@ returns-then-is_redefined c =
     subst (λ m. PlacesDispatch s m object c.args.parts nodes after c.place.result) (sym c.in-Dispatch.is)
     (λ scope before between first rest.
     dispatch_folds s scope c.requires.sound before after c.in-Dispatch.at (tree_at s.body.now c.in-Dispatch.receiver) c.in-Dispatch.name _
-    (trees_of s c.in-Dispatch.args) _ between nodes scope object c.args.parts c.class_of-class.result c.called-ty.result c.place.result refl
-    c.in_ok-copy-in-Dispatch.ensures.copied c.new-args.ensures first rest c.class_of-class.ensures c.called-ty.ensures.is_type c.called-ty.ensures.called
+    (trees_of s c.in-Dispatch.args) _ between nodes scope object c.args.parts c.class_of-class.result c.call_meant-ty.result c.place.result refl
+    c.in_ok-copy-in-Dispatch.ensures.copied c.new-args.ensures first rest c.class_of-class.ensures c.call_meant-ty.ensures.is_type c.call_meant-ty.ensures.called
     (sym c.is_redefined.ensures ∙ c.if-is_redefined.true) c.place.ensures.placed c.place.ensures.typed c.place.ensures.constant
     c.place.ensures.last)
 
@@ -29,7 +29,7 @@ returns c =
     subst (λ m. PlacesDispatch s m object c.args.parts nodes after c.place-in-Dispatch.result) (sym c.in-Dispatch.is)
     (λ scope before between first rest.
     direct_folds s scope c.requires.sound before after c.in-Dispatch.at (tree_at s.body.now c.in-Dispatch.receiver) c.in-Dispatch.name _ _
-    (trees_of s c.in-Dispatch.args) _ between nodes scope object c.args.parts c.class_of-class.result c.called-ty.result c.place-in-Dispatch.result refl
-    c.in_ok-copy-in-Dispatch.ensures.copied c.new-args.ensures first rest c.class_of-class.ensures c.called-ty.ensures.is_type c.called-ty.ensures.called
+    (trees_of s c.in-Dispatch.args) _ between nodes scope object c.args.parts c.class_of-class.result c.call_meant-ty.result c.place-in-Dispatch.result refl
+    c.in_ok-copy-in-Dispatch.ensures.copied c.new-args.ensures first rest c.class_of-class.ensures c.call_meant-ty.ensures.is_type c.call_meant-ty.ensures.called
     (sym c.is_redefined.ensures ∙ c.if-is_redefined.false) (c.in_ok-named-in-Dispatch.ensures.copied ∙ c.name.ensures) c.place-in-Dispatch.ensures.placed
     c.place-in-Dispatch.ensures.typed c.place-in-Dispatch.ensures.constant c.place-in-Dispatch.ensures.last)

@@ -18,7 +18,7 @@ returns c =
     subst (λ m. PlacesConditional s m c.args.test first second nodes after c.place.result) (sym c.in-If.is)
     (λ scope before mid mid2 f tested test one other undecided.
     if_folds s scope c.requires.sound before after c.in-If.at (tree_at b c.in-If.test) (tree_at b c.in-If.yes) (tree_at b c.in-If.no) c.in-If.yes
-    c.in-If.no _ mid mid2 nodes scope scope f first second c.join-whole.result c.place.result refl refl test one other refl undecided
-    c.join-whole.ensures.is_type c.join-whole.ensures.join
+    c.in-If.no _ mid mid2 nodes scope scope f first second c.join_meant-whole.result c.place.result refl refl test one other refl undecided
+    c.join_meant-whole.ensures.is_type c.join_meant-whole.ensures.join
     (subst (λ x. OnOk c.place.result (after ≡ nodes ++ node.If c.in-If.at x first.id second.id ∷ [])) (sym tested) c.place.ensures.placed)
     c.place.ensures.typed c.place.ensures.constant c.place.ensures.last)

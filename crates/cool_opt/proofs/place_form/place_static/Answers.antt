@@ -17,7 +17,7 @@ returns c =
     subst (λ m. PlacesStaticDispatch s m object c.args.parts nodes after c.place.result) (sym call.is)
     (λ scope before between first rest.
     static_folds s scope c.requires.sound before after call.at (tree_at s.body.now call.receiver) call.class _ call.name _
-    (trees_of s call.args) _ between nodes scope object c.args.parts c.class_of-meant.result c.called-ty.result c.place.result refl
+    (trees_of s call.args) _ between nodes scope object c.args.parts c.class_of-meant.result c.call_meant-ty.result c.place.result refl
     c.in_ok-class-in-StaticDispatch.ensures.copied c.in_ok-name-in-StaticDispatch.ensures.copied c.new.ensures first rest
-    (c.class_of-meant.ensures ∙ ap (class_of s.class) c.meant.ensures.meant) c.called-ty.ensures.is_type c.called-ty.ensures.called
+    (c.class_of-meant.ensures ∙ ap (class_of s.class) c.type_meant.ensures.meant) c.call_meant-ty.ensures.is_type c.call_meant-ty.ensures.called
     c.place.ensures.placed c.place.ensures.typed c.place.ensures.constant c.place.ensures.last)

@@ -16,7 +16,7 @@ use Rattle.cool_runtime.specs.Routines.{push_lines}
 use Rattle.cool_codegen.specs.Numbered.{asked_at, branch_lines, branch_sizes_at, branches_arms, branches_asked, branches_type_at, class_of_branch, lines_at, node_asked, node_lines, node_size, size_at, type_at, with_bytes, with_file, within_branch, AreBodies}
 use Rattle.cool_codegen.specs.Pieces.{mark_lines, negate_lines, repeat_lines, test_lines, turn_lines}
 use Rattle.cool_codegen.specs.Settings.{context}
-use Rattle.cool_codegen.specs.Types.{joined}
+use Rattle.cool_rules.specs.Meant.{joined}
 use Rattle.cool_codegen.specs.Variables.{bind}
 use Rattle.cool_codegen.proofs.NumbersAgree.{extends_same}
 use Rattle.cool_codegen.proofs.SameSettings.{added_in, branch_added_in}

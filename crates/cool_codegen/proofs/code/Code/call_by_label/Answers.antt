@@ -16,6 +16,6 @@ returns-clause-lines c =
     let now = c.file_label.new.consts in
     let asked : now ≡ with_bytes c.args.self.now.consts (file_name s c.args.at) = λ i. record { integers = c.file_label.ensures.integers i; strings = c.in_ok-file.ensures.strings i } in
     let file = c.deref.ensures.value ∙ c.in_ok-file.ensures.label now (extends_same now) ∙ ap (λ (t : Constants). file_label s t c.args.at) asked in
-    let method = c.deref-2.ensures.value ∙ c.in_ok-label.ensures ∙ ap (method_label s.table) c.method.ensures.method in
+    let method = c.deref-2.ensures.value ∙ c.in_ok-label.ensures ∙ ap (method_label s.table) c.method_meant.ensures.method in
     c.in_ok-write.ensures.written
     ∙ ap (λ xs. lines_of c.args.self.now.lines.items ++ xs) (c.call_static.ensures ∙ (λ i. call_static_lines (file i) c.args.at.line (method i)))

@@ -5,14 +5,14 @@ use Rattle.cool_classes.specs.declared.class_id.Ty.TheVariants.{Class as IsClass
 use Rattle.cool_classes.specs.Chains.{class_number}
 use Rattle.cool_rules.specs.Rules.{type_meant}
 use Rattle.cool_rules.proofs.RulesOfTables.{type_of_name_is}
-use Rattle.cool_opt.proofs.setting.Setting.meant.Goals as goal
+use Rattle.cool_rules.proofs.meant.type_meant.Goals as goal
 
 pub returns-in-Some-clause-meant : goal.returns-in-Some-clause-meant
 unfolding type_meant
 returns-in-Some-clause-meant c =
-    ap (λ o. unwrap_or o (IsClass (class_number 0))) (type_of_name_is c.args.self.now.table.now c.args.name.now (Some c.in-Some.ty) c.requires.sound.table c.in-Some.ensures.named)
+    ap (λ o. unwrap_or o (IsClass (class_number 0))) (type_of_name_is c.args.t.now c.args.name.now (Some c.in-Some.ty) c.requires c.in-Some.ensures.named)
 
 pub returns-in-None-clause-meant : goal.returns-in-None-clause-meant
 unfolding type_meant
 returns-in-None-clause-meant c =
-    ap (λ o. unwrap_or o (IsClass (class_number 0))) (type_of_name_is c.args.self.now.table.now c.args.name.now None c.requires.sound.table c.in-None.ensures.named)
+    ap (λ o. unwrap_or o (IsClass (class_number 0))) (type_of_name_is c.args.t.now c.args.name.now None c.requires c.in-None.ensures.named)

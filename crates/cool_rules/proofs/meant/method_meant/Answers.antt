@@ -4,12 +4,12 @@ use Rattle.std.specs.Prelude.{unwrap_or}
 use Rattle.cool_classes.specs.declared.method.BasicMethod.TheVariants.{Abort}
 use Rattle.cool_classes.specs.declared.method.MethodRef.TheVariants.{Basic}
 use Rattle.cool_rules.proofs.RulesOfTables.{method_of_is}
-use Rattle.cool_codegen.proofs.setting.Setting.method.Goals as goal
+use Rattle.cool_rules.proofs.meant.method_meant.Goals as goal
 
 pub returns-in-Some-clause-method : goal.returns-in-Some-clause-method
 returns-in-Some-clause-method c =
-    ap (λ o. unwrap_or o (Basic Abort)) (method_of_is c.args.self.now.table.now c.args.class c.args.name.now _ c.requires.sound.table c.requires.class c.in-Some.ensures.nearest)
+    ap (λ o. unwrap_or o (Basic Abort)) (method_of_is c.args.t.now c.args.class c.args.name.now _ c.requires.table c.requires.class c.in-Some.ensures.nearest)
 
 pub returns-in-None-clause-method : goal.returns-in-None-clause-method
 returns-in-None-clause-method c =
-    ap (λ o. unwrap_or o (Basic Abort)) (method_of_is c.args.self.now.table.now c.args.class c.args.name.now _ c.requires.sound.table c.requires.class c.in-None.ensures.nearest)
+    ap (λ o. unwrap_or o (Basic Abort)) (method_of_is c.args.t.now c.args.class c.args.name.now _ c.requires.table c.requires.class c.in-None.ensures.nearest)
