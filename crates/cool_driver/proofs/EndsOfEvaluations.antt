@@ -9,7 +9,7 @@ use Rattle.cool_eval.specs.Ends.{Evaluates, StoppedReading, last_line}
 use Rattle.cool_eval.specs.declared.evaluation.EvalEnd.{EvalEnd}
 use Rattle.cool_eval.specs.declared.evaluation.EvalEnd.TheVariants as ends
 use Rattle.cool_driver.specs.Notes.{read_fault_note, step_limit_note}
-use Rattle.cool_driver.specs.Evaluation.{status_of_end, note_of_end, WritesNext, EndsAfter}
+use Rattle.cool_driver.specs.Evaluation.{status_of_end, note_of_end}
 use Rattle.cool_driver.specs.Calls.{Got, Call}
 use Rattle.cool_driver.specs.Ends.{Due, IsEvaluationOf, Writing, Ends}
 use Rattle.cool_driver.specs.Ends.Due.{evaluated, unread_source}
@@ -102,14 +102,12 @@ write_failed c notes e = by e.comes
     by : Evaluates e.program e.names c.request.input e.steps c.out.held_before ends.WriteFault c.left c.out.held_after → Ends c 8
     by (inl h) =
         let run = source.run e.program e.names c.request.input in
-        let next : WritesNext run e.steps h.spent h.printed = record { fewer = h.fewer; goes_on = h.goes_on; later = h.later } in
         writing_ends c notes e (run h.spent).output h.printed (run h.spent).left
-        (by_eval e.steps e.names e.program h.spent h.printed e.is next) h.left h.got
+        (by_eval e.steps e.names e.program h.spent h.printed e.is h.writes) h.left h.got
     by (inr h) =
         let run = source.run e.program e.names c.request.input in
-        let last : EndsAfter e.program e.names (run e.steps) h.before = record { over = h.over; output_is = h.output } in
         writing_ends c notes e h.before (last_line e.program e.names (run e.steps).end) (run e.steps).left
-        (by_last_line e.steps e.names e.program h.before e.is last) h.left h.got
+        (by_last_line e.steps e.names e.program h.before e.is h.ends) h.left h.got
 
 -- memory ran out
 pub ran_short : (c : Call) → Got c.notes [] → IsEvaluated c ends.Memory → Ends c 9

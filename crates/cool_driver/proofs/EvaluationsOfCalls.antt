@@ -9,7 +9,7 @@ use Rattle.cool_ports.specs.SinkBytes.{appended, GotPrefix}
 use Rattle.mips_isa.specs.ImageBounds.{ImageParts}
 use Rattle.cool_rules.specs.TypedTables.{IsTypedTable}
 use Rattle.cool_meaning.specs.SourceRun as source
-use Rattle.cool_eval.specs.Ends.{StoppedReading, StoppedShort}
+use Rattle.cool_eval.specs.Ends.{IsPart, StoppedReading, StoppedShort}
 use Rattle.cool_eval.proofs.PartsOfRuns.{part_of_reading, part_of_writing, part_of_last_line, part_of_short}
 use Rattle.cool_words.specs.declared.plan.RunLimits.{RunLimits}
 use Rattle.cool_driver.specs.CommandLine.{plan_of, TakesNoInput}
@@ -138,13 +138,17 @@ pub evaluated_ends : (c : Call) (status : ℕ) (output note : List ℕ) (files :
 evaluated_ends c status output note files steps names contents p due out notes told read form =
     ends_as c _ steps status output note (due_by c.request status output note c.left files steps names contents p due told read form) out notes
 
+-- of what a run writes a prefix was put, where a part of it was done
+prefix_of_part : (r : source.Run) (held : Option (List ℕ)) (rest : List ℕ) (held' : Option (List ℕ)) → IsPart r held rest held' → GotPrefix held r.output held'
+prefix_of_part r held rest held' (output, put, part) = (part.more, record { front = output; cut = part.output_is; got = put })
+
 -- what was due is a prefix of what the run writes
 due_prefix : (s : SinkUse) (p : List Class) (names : List (List ℕ)) (input : List ℕ) (steps status : ℕ) (output note left : List ℕ) → IsTypedTable p
     → IsDueBy (source.run p names input) steps status output note left → Got s output
     → GotPrefix s.held_before (source.run p names input steps).output s.held_after
 due_prefix s p names input steps status output note left typed (inl (seven, stops)) got =
     let here = stopped_here (source.run p names input) steps s output left stops got in
-    (part_of_reading p typed names input steps s.held_before left s.held_after here).0
+    prefix_of_part _ _ _ _ (part_of_reading p typed names input steps s.held_before left s.held_after here)
 due_prefix s p names input steps status output note left typed (inr h) got =
     ([], record { front = output; cut = sym (append-nil output ∙ h.1); got = got.0 })
 
@@ -170,19 +174,16 @@ writing_by c _ _ _ files steps names contents p (by_image limits found at printe
 writing_by c _ _ _ files steps names contents p (by_eval most names' p' spent printed is next) same got told read form =
     same_evaluated c.request files (FailsToWrite c) most steps names' names contents p' p is told read form (inl (record {
       spent = spent;
-      fewer = next.fewer;
-      goes_on = next.goes_on;
-      left = sym same;
       printed = printed;
-      later = next.later;
+      writes = next;
+      left = sym same;
       got = got;
     }))
 writing_by c _ _ _ files steps names contents p (by_last_line most names' p' before is last) same got told read form =
     same_evaluated c.request files (FailsToWrite c) most steps names' names contents p' p is told read form (inr (record {
-      over = last.over;
-      left = sym same;
       before = before;
-      output = last.output_is;
+      ends = last;
+      left = sym same;
       got = got;
     }))
 
@@ -216,9 +217,9 @@ prefix_by : (c : Call) (files : FileMap) (steps : ℕ) (names contents : List (L
     → Told c.request files → IsRead c.request (Eval steps) names contents → IsAccepted contents p
     → GotPrefix c.out.held_before (source.run p names c.request.input steps).output c.out.held_after
 prefix_by c files steps names contents p (inl (inl h)) told read form =
-    (part_of_writing p form.typed names c.request.input steps c.out.held_before c.left c.out.held_after h).0
+    prefix_of_part _ _ _ _ (part_of_writing p form.typed names c.request.input steps c.out.held_before c.left c.out.held_after h)
 prefix_by c files steps names contents p (inl (inr h)) told read form =
-    (part_of_last_line p form.typed names c.request.input steps c.out.held_before c.left c.out.held_after h).0
+    prefix_of_part _ _ _ _ (part_of_last_line p form.typed names c.request.input steps c.out.held_before c.left c.out.held_after h)
 prefix_by c files steps names contents p (inr (due, output, note, is, out, part)) told read form =
     prefix_of_due c due output note files steps names contents p is out told read form
 
@@ -233,7 +234,8 @@ prefix_within : (c : Call) (steps : ℕ) (names : List (List ℕ)) (p : List Cla
     → DidNothing c ⊎ StoppedShort p names (source.run p names c.request.input) steps c.out.held_before c.left c.out.held_after
     → GotPrefix c.out.held_before (source.run p names c.request.input steps).output c.out.held_after
 prefix_within c steps names p typed (inl nothing) = (_, record { front = []; cut = refl; got = nothing.0.0 })
-prefix_within c steps names p typed (inr h) = (part_of_short p typed names c.request.input steps c.out.held_before c.left c.out.held_after h).0
+prefix_within c steps names p typed (inr h) =
+    prefix_of_part _ _ _ _ (part_of_short p typed names c.request.input steps c.out.held_before c.left c.out.held_after h)
 
 pub prefix_of_short : (c : Call) (files : FileMap) (steps : ℕ) (names contents : List (List ℕ)) (p : List Class)
     → DidNothing c ⊎ RanShort c ⊎ DebuggedShort c ⊎ SessionShort c → Told c.request files → IsRead c.request (Eval steps) names contents

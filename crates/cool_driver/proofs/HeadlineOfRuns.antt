@@ -1,6 +1,7 @@
 -- How a call ends that ran an image which means a program, as the headline says: by how the run comes out, or by the call that fails to write.
 use Rattle.std.proofs.Common.{arith, ◌≡◌, ◌≢◌, ℕ, ◌+◌, ◌⊎◌, inl, inr, List, [], ◌∷◌, ◌++◌, Some, refl, sym, ◌∙◌, ap, subst, append_assoc}
 use Rattle.cool_classes.specs.Chains.{Class}
+use Rattle.cool_eval.specs.Ends.{IsPartOf}
 use Rattle.cool_meaning.specs.SourceRun as source
 use Rattle.cool_ports.specs.SinkBytes.{appended}
 use Rattle.cool_ports.proofs.GettingBytes.{appended-appended}
@@ -15,7 +16,6 @@ use Rattle.mips_isa.specs.Calls.{State, Outcome, Running, Exited, Trapped, call,
 use Rattle.mips_isa.specs.Run.{start}
 use Rattle.mips_isa.proofs.OutputGrows.{output_of}
 use Rattle.spim_machine.specs.Ends.{FailsReading, call_with}
-use Rattle.cool_driver.specs.Evaluation.{IsPartOf}
 use Rattle.cool_driver.specs.Execution.{segments_within, run_of, ComesTo, left_by, status_of}
 use Rattle.cool_driver.specs.Calls.{Got, GotPart, Call}
 use Rattle.cool_driver.specs.Headline.{limits_of, EndsAsImage, StopsReading, AccordsWith, Headline}

@@ -23,7 +23,7 @@ use Rattle.spim_debug.specs.declared.script.DebugCommand.{DebugCommand}
 use Rattle.spim_debug.specs.declared.script.ScriptFault.{ScriptFault}
 use Rattle.spim_machine.specs.Ends.{FailsReading, call_with}
 use Rattle.cool_emit.specs.Programs.{program_lines}
-use Rattle.cool_eval.specs.Ends.{StoppedReading, StoppedWriting, StoppedAtLastLine, StoppedShort, last_line}
+use Rattle.cool_eval.specs.Ends.{EndsAfter, StoppedReading, StoppedWriting, StoppedAtLastLine, StoppedShort, WritesNext, last_line}
 use Rattle.cool_meaning.specs.SourceRun as source
 use Rattle.cool_runtime.specs.Contents.{AreBytes}
 use Rattle.cool_simulation.specs.Accord.{Means}
@@ -38,7 +38,7 @@ use Rattle.cool_driver.specs.CommandLine.{asked_for, plan_of, script_of, most_by
 use Rattle.cool_driver.specs.Notes.{refused_note, usage_note, missing_note, unread_note, too_many_note, too_large_note, read_fault_note, image_note, asm_note, script_note}
 use Rattle.cool_driver.specs.Execution.{IsAssembled, IsRunnable, IsTextFault, is_text_file, segments_within, run_of, ComesTo, left_by, status_of, note_of}
 use Rattle.cool_driver.specs.Debugging.{commands_for, debug_notes}
-use Rattle.cool_driver.specs.Evaluation.{status_of_end, note_of_end, WritesNext, EndsAfter}
+use Rattle.cool_driver.specs.Evaluation.{status_of_end, note_of_end}
 use Rattle.cool_driver.specs.Calls.{Request, AreHeld, IsRead, IsReadUpTo, IsScriptRead, MayRefuse, Got, GotPart, Call, NoLess, DidNothing, Told, Unless}
 use Rattle.cool_driver.specs.Headline.{EndsAsImage, StopsWriting, StopsBetween, Headline, StopsShort}
 use Rattle.cool_driver.specs.Sessions.{IsSession, DueToSession, SessionShort, SessionEnds, EndsAsSession}

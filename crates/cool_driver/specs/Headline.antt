@@ -2,8 +2,8 @@
 -- what it writes and leaves and how it ends are those of the runs of the source.
 use Rattle.std.specs.Prelude.{◌≡◌, ◌≢◌, ℕ, ◌+◌, ◌⊎◌, List, [], Some}
 use Rattle.cool_classes.specs.Chains.{Class}
+use Rattle.cool_eval.specs.Ends.{IsPart}
 use Rattle.cool_meaning.specs.SourceRun as source
-use Rattle.cool_ports.specs.SinkBytes.{appended}
 use Rattle.cool_simulation.specs.Accord.{Limits, Accord, Means}
 use Rattle.cool_words.specs.declared.plan.RunLimits.{RunLimits}
 use Rattle.mips_isa.specs.ImageBounds.{ImageParts}
@@ -12,7 +12,6 @@ use Rattle.spim_debug.specs.Debugging.{StandsEarlier}
 use Rattle.spim_machine.specs.Ends.{FailsReading, call_with}
 use Rattle.cool_driver.specs.Calls.{Call, Got, GotPart}
 use Rattle.cool_driver.specs.Debugging.{debuggee_within}
-use Rattle.cool_driver.specs.Evaluation.{IsPartOf}
 use Rattle.cool_driver.specs.Execution.{heap_of, stack_of, segments_within, run_of, ComesTo, left_by, status_of}
 
 -- the limits of a run, in bytes and instructions
@@ -55,8 +54,7 @@ AccordsWith runs c status limits = (output : List ℕ) × Got c.out output × Ac
 -- what came and was taken is a part of what the run of the source with a step more than instructions writes and takes
 abbrev pub IsPartOfSource : Call → RunLimits → List (List ℕ) → List Class → Type 0
 IsPartOfSource c limits names p =
-    (output : List ℕ) × (c.out.held_after ≡ appended c.out.held_before output)
-    × IsPartOf (source.run p names c.request.input (limits.steps + 1)) output c.left
+    IsPart (source.run p names c.request.input (limits.steps + 1)) c.out.held_before c.left c.out.held_after
 
 -- How a call of `run` for a program ends with a status other than 9, and one of `debug`, unless it stops short.
 pub record Headline (c : Call) (status : ℕ) (limits : RunLimits) (names : List (List ℕ)) (p : List Class) : Type 0 where

@@ -4,7 +4,7 @@ use Rattle.cool_ports.specs.SinkBytes.{appended, GotPrefix}
 use Rattle.cool_classes.specs.Chains.{Class}
 use Rattle.cool_rules.specs.TypedTables.{IsTypedTable}
 use Rattle.cool_meaning.specs.Laws.{Extends}
-use Rattle.cool_meaning.specs.SourceRun.{run}
+use Rattle.cool_meaning.specs.SourceRun.{Run, run}
 use Rattle.cool_meaning.proofs.LongerRuns.{longer_extends}
 use Rattle.cool_meaning.proofs.SoundRuns.{never_stuck}
 use Rattle.cool_eval.specs.Ends.{IsPart, StoppedReading, StoppedWriting, StoppedAtLastLine, StoppedShort, last_line}
@@ -21,6 +21,12 @@ prefix_after first output front more held is (rest, h) = (
     got = h.got ∙ appended_twice first front h.front;
   },
 )
+
+-- a prefix of what a run writes was put, and at least what it leaves is left
+part_with : (r : Run) (held : Option (List ℕ)) (rest : List ℕ) (held' : Option (List ℕ)) → GotPrefix held r.output held'
+    → (kept : List ℕ) × (rest ≡ kept ++ r.left) → IsPart r held rest held'
+part_with r held rest held' (more, h) (kept, is) =
+    (h.front, h.got, record { more = more; output_is = h.cut; kept = kept; left_is = is })
 
 module _ (p : List Class) (typed : IsTypedTable p) (names : List (List ℕ)) (input : List ℕ) (steps : ℕ) (held : Option (List ℕ)) (rest : List ℕ) (held' : Option (List ℕ)) where
   -- the whole run extends one with fewer steps
@@ -56,22 +62,30 @@ module _ (p : List Class) (typed : IsTypedTable p) (names : List (List ℕ)) (in
       → IsPart (run p names input steps) held rest held'
   part_of_reading h =
       let x = whole_extends h.spent (omega (arith, h.fewer)) in
-      ((x.printed, record { front = (run p names input h.spent).output; cut = x.output; got = h.put }), left_longer (h.spent + 1) h.input.kept (omega (arith, h.fewer)) h.input.later)
+      part_with (run p names input steps) held rest held'
+      (x.printed, record { front = (run p names input h.spent).output; cut = x.output; got = h.put })
+      (left_longer (h.spent + 1) h.input.kept (omega (arith, h.fewer)) h.input.later)
 
   -- a write of a call failed
   pub part_of_writing : StoppedWriting (run p names input) steps held rest held'
       → IsPart (run p names input steps) held rest held'
   part_of_writing h =
-      (prefix_whole (h.spent + 1) (run p names input h.spent).output h.printed (omega (arith, h.fewer)) h.later h.got, left_longer h.spent [] (omega (arith, h.fewer)) h.left)
+      part_with (run p names input steps) held rest held'
+      (prefix_whole (h.spent + 1) (run p names input h.spent).output h.printed (omega (arith, h.writes.fewer)) h.writes.later h.got)
+      (left_longer h.spent [] (omega (arith, h.writes.fewer)) h.left)
 
   -- a write of the last line failed
   pub part_of_last_line : StoppedAtLastLine p names (run p names input steps) held rest held'
       → IsPart (run p names input steps) held rest held'
   part_of_last_line h =
-      (prefix_after held (run p names input steps).output h.before (last_line p names (run p names input steps).end) held' h.output h.got, ([], h.left))
+      part_with (run p names input steps) held rest held'
+      (prefix_after held (run p names input steps).output h.before (last_line p names (run p names input steps).end) held' h.ends.output_is h.got)
+      ([], h.left)
 
   -- memory ran out
   pub part_of_short : StoppedShort p names (run p names input) steps held rest held'
       → IsPart (run p names input steps) held rest held'
   part_of_short h =
-      (all_put h.spent h.before (last_line p names (run p names input h.spent).end) h.within h.output h.put, (h.input.kept, h.input.later))
+      part_with (run p names input steps) held rest held'
+      (all_put h.spent h.before (last_line p names (run p names input h.spent).end) h.within h.output h.put)
+      (h.input.kept, h.input.later)

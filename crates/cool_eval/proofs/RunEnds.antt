@@ -116,7 +116,13 @@ module _ (p : List Class) (names : List (List ℕ)) (input : List ℕ) where
       write_ended h =
           let r = run_at h.spent (On h.state) h.stops in
           let (printed, later, got) = subst (λ (output : List ℕ). WritesAfter output (h.spent + 1)) (sym (output_on h.spent h.state h.stops)) (writes_of_run h.state.output (h.spent + 1) h.later) in
-          inl (record { spent = h.spent; fewer = h.fewer; goes_on = r.end; left = h.left ∙ sym r.left; printed = printed; later = later; got = got })
+          inl (record {
+            spent = h.spent;
+            printed = printed;
+            writes = record { fewer = h.fewer; goes_on = r.end; later = later };
+            left = h.left ∙ sym r.left;
+            got = got;
+          })
 
       short_by : (h : RunsShort (outcome_of p input) steps first rest held) (s : State) (end : End)
           → (run p names input h.spent).end ≡ end → (run p names input h.spent).output ≡ s.output ++ last_line p names end
@@ -158,10 +164,9 @@ module _ (p : List Class) (names : List (List ℕ)) (input : List ℕ) where
         → Evaluates p names input steps first WriteFault rest held'
     line_cut s end over ends writes leaves put left got =
         inr (record {
-          over = subst IsOver (sym ends) over;
-          left = left ∙ sym leaves;
           before = s.output;
-          output = writes ∙ ap (λ (e : End). s.output ++ last_line p names e) (sym ends);
+          ends = record { over = subst IsOver (sym ends) over; output_is = writes ∙ ap (λ (e : End). s.output ++ last_line p names e) (sym ends) };
+          left = left ∙ sym leaves;
           got =
               subst (λ (e : End). GotPrefix (appended first s.output) (last_line p names e) held') (sym ends) (subst (λ (h : Option (List ℕ)). GotPrefix h (last_line p names end) held') put got);
         })

@@ -14,9 +14,16 @@ use Rattle.cool_eval.specs.declared.evaluation.EvalEnd.TheVariants.{Done, Error,
 abbrev pub IsWhole : Run → Option (List ℕ) → List ℕ → Option (List ℕ) → Type 0
 IsWhole r held rest held' = (held' ≡ appended held r.output) × (rest ≡ r.left)
 
--- a part of a run: the sink got a prefix of its output, and at least the input that it leaves is left
+-- A part of a run wrote these bytes, a prefix of its output, and left this of the input, at least what the run leaves.
+pub record IsPartOf (r : Run) (output rest : List ℕ) : Type 0 where
+  pub more : List ℕ
+  pub output_is : r.output ≡ output ++ more
+  pub kept : List ℕ
+  pub left_is : rest ≡ kept ++ r.left
+
+-- a part of a run: a sink that held `held` got what the part wrote, and the input that it left is left
 abbrev pub IsPart : Run → Option (List ℕ) → List ℕ → Option (List ℕ) → Type 0
-IsPart r held rest held' = GotPrefix held r.output held' × ((kept : List ℕ) × (rest ≡ kept ++ r.left))
+IsPart r held rest held' = (output : List ℕ) × (held' ≡ appended held output) × IsPartOf r output rest
 
 -- Of the input that a run leaves a part was taken, and no more than a further run takes.
 pub record TookPart (shorter longer : Run) (rest : List ℕ) : Type 0 where
@@ -35,16 +42,20 @@ pub record StoppedReading (run : ℕ → Run) (steps : ℕ) (held : Option (List
   pub put : held' ≡ appended held (run spent).output
   pub input : TookPart (run spent) (run (spent + 1)) rest
 
+-- A run with `spent` steps, fewer than there are, stops before its next step, and with one step more it writes these bytes after that.
+pub record WritesNext (run : ℕ → Run) (steps spent : ℕ) (printed : List ℕ) : Type 0 where
+  pub fewer : spent < steps
+  pub goes_on : (run spent).end ≡ runs.GoesOn
+  pub later : (run (spent + 1)).output ≡ (run spent).output ++ printed
+
 -- A write of a call failed. The run with `spent` steps stops before the call that writes: all that it writes was put, and the input that it
 -- leaves is left. Of what the run with one step more writes after that, a prefix was put.
 pub record StoppedWriting (run : ℕ → Run) (steps : ℕ) (held : Option (List ℕ)) (rest : List ℕ)
     (held' : Option (List ℕ)) : Type 0 where
   pub spent : ℕ
-  pub fewer : spent < steps
-  pub goes_on : (run spent).end ≡ runs.GoesOn
-  pub left : rest ≡ (run spent).left
   pub printed : List ℕ
-  pub later : (run (spent + 1)).output ≡ (run spent).output ++ printed
+  pub writes : WritesNext run steps spent printed
+  pub left : rest ≡ (run spent).left
   pub got : GotPrefix (appended held (run spent).output) printed held'
 
 -- the line that a run writes last, for its end
@@ -54,14 +65,18 @@ last_line p names (runs.Failed e) = error_text p names e
 last_line p names runs.GoesOn = []
 last_line p names runs.IsStuck = []
 
+-- A run ends, and before the line that it writes last it writes these bytes.
+pub record EndsAfter (p : List Class) (names : List (List ℕ)) (r : Run) (before : List ℕ) : Type 0 where
+  pub over : IsOver r.end
+  pub output_is : r.output ≡ before ++ last_line p names r.end
+
 -- A write of the last line failed. The run ends, and the input that it leaves is left; all that it writes before the last line was put, and
 -- a prefix of that line.
 pub record StoppedAtLastLine (p : List Class) (names : List (List ℕ)) (r : Run) (held : Option (List ℕ)) (rest : List ℕ)
     (held' : Option (List ℕ)) : Type 0 where
-  pub over : IsOver r.end
-  pub left : rest ≡ r.left
   pub before : List ℕ
-  pub output : r.output ≡ before ++ last_line p names r.end
+  pub ends : EndsAfter p names r before
+  pub left : rest ≡ r.left
   pub got : GotPrefix (appended held before) (last_line p names r.end) held'
 
 -- Memory ran out after `spent` steps, or in the next one. All that the run with so many steps writes was put, but for the line that it writes
