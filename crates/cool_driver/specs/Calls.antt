@@ -73,6 +73,15 @@ pub record SinkUse : Type 0 where
   pub faults_before : ℕ
   pub faults_after : ℕ
 
+-- how a sink fared from one state to another, by what it holds and its count of faults
+abbrev pub sink_use : {S : Type 0} → (S → Option (List ℕ)) → (S → ℕ) → S → S → SinkUse
+sink_use held faults before after = record {
+  held_before = held before;
+  held_after = held after;
+  faults_before = faults before;
+  faults_after = faults after;
+}
+
 -- these bytes and no others came, without a fault
 abbrev pub Got : SinkUse → List ℕ → Type 0
 Got s bytes = (s.held_after ≡ appended s.held_before bytes) × (s.faults_after ≡ s.faults_before)

@@ -3,7 +3,7 @@
 ghost use Rattle.std.specs.Prelude.{◌≡◌, List, ℕ, Bool, false};
 ghost use Rattle.cool_ports.specs.Answers.{Leaves};
 ghost use Rattle.cool_ports.specs.Taking.{Took};
-ghost use Rattle.cool_driver.specs.Calls.{Request};
+ghost use Rattle.cool_driver.specs.Calls.{Request, sink_use};
 ghost use Rattle.cool_driver.specs.Ends.{IsDebugOf, Ends};
 ghost use Rattle.cool_words.specs.Plans.{IsBounded};
 ghost use Rattle.spim_debug.specs.Debugging.{IsScriptFor};
@@ -32,18 +32,8 @@ pub fn debug_image<I: Source, O: Sink, E: Sink>(
     ensures taken { (ended : Bool) × Took false ended (I.past input.old) (I.past input.new) (I.left input.old) (I.left input.new) }
     ensures ends { (r : Request) (rest : List ℕ) → IsDebugOf r limits image.now script.now → Leaves (I.past input.old) (I.past input.new) r.input rest → Ends (record {
       request = r;
-      out = record {
-        held_before = O.held out.old;
-        held_after = O.held out.new;
-        faults_before = O.faults out.old;
-        faults_after = O.faults out.new;
-      };
-      notes = record {
-        held_before = E.held notes.old;
-        held_after = E.held notes.new;
-        faults_before = E.faults notes.old;
-        faults_after = E.faults notes.new;
-      };
+      out = sink_use O.held O.faults out.old out.new;
+      notes = sink_use E.held E.faults notes.old notes.new;
       left = rest;
       input_before = I.faults input.old;
       input_after = I.faults input.new;

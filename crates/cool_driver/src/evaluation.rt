@@ -4,7 +4,7 @@ ghost use Rattle.std.specs.Prelude.{◌≡◌, List, ℕ, Bool, false};
 ghost use Rattle.cool_ports.specs.Answers.{Leaves};
 ghost use Rattle.cool_ports.specs.Taking.{Took};
 ghost use Rattle.cool_driver.specs.CommandLine.{words_of};
-ghost use Rattle.cool_driver.specs.Calls.{Request};
+ghost use Rattle.cool_driver.specs.Calls.{Request, sink_use};
 ghost use Rattle.cool_driver.specs.Ends.{IsEvaluationOf, Ends};
 ghost use Rattle.cool_driver.specs.Tasks.{code_of};
 
@@ -29,18 +29,8 @@ pub fn evaluate_program<I: Source, O: Sink, E: Sink>(
     ensures ends { (r : Request) (rest : List ℕ) → IsEvaluationOf r steps (words_of names.now) program.now
         → Leaves (I.past input.old) (I.past input.new) r.input rest → Ends (record {
           request = r;
-          out = record {
-            held_before = O.held out.old;
-            held_after = O.held out.new;
-            faults_before = O.faults out.old;
-            faults_after = O.faults out.new;
-          };
-          notes = record {
-            held_before = E.held notes.old;
-            held_after = E.held notes.new;
-            faults_before = E.faults notes.old;
-            faults_after = E.faults notes.new;
-          };
+          out = sink_use O.held O.faults out.old out.new;
+          notes = sink_use E.held E.faults notes.old notes.new;
           left = rest;
           input_before = I.faults input.old;
           input_after = I.faults input.new;

@@ -3,7 +3,7 @@
 ghost use Rattle.std.specs.Prelude.{◌≡◌, List, ℕ, Bool, false};
 ghost use Rattle.cool_ports.specs.Answers.{Leaves};
 ghost use Rattle.cool_ports.specs.Taking.{Took};
-ghost use Rattle.cool_driver.specs.Calls.{Request};
+ghost use Rattle.cool_driver.specs.Calls.{Request, sink_use};
 ghost use Rattle.cool_driver.specs.Ends.{IsRunOf, Ends};
 ghost use Rattle.cool_driver.specs.Execution.{heap_of, stack_of};
 ghost use Rattle.cool_words.specs.Plans.{IsBounded};
@@ -45,18 +45,8 @@ pub fn execute<I: Source, O: Sink, E: Sink>(
     ensures taken { (ended : Bool) × Took false ended (I.past input.old) (I.past input.new) (I.left input.old) (I.left input.new) }
     ensures ends { (r : Request) (rest : List ℕ) → IsRunOf r limits image.now → Leaves (I.past input.old) (I.past input.new) r.input rest → Ends (record {
       request = r;
-      out = record {
-        held_before = O.held out.old;
-        held_after = O.held out.new;
-        faults_before = O.faults out.old;
-        faults_after = O.faults out.new;
-      };
-      notes = record {
-        held_before = E.held notes.old;
-        held_after = E.held notes.new;
-        faults_before = E.faults notes.old;
-        faults_after = E.faults notes.new;
-      };
+      out = sink_use O.held O.faults out.old out.new;
+      notes = sink_use E.held E.faults notes.old notes.new;
       left = rest;
       input_before = I.faults input.old;
       input_after = I.faults input.new;
@@ -71,12 +61,7 @@ pub fn execute<I: Source, O: Sink, E: Sink>(
 
 /// Writes how a machine halted, and answers its status, or that the write failed.
 pub fn tell_halt<E: Sink>(notes: &mut E, halt: Halt) -> Status
-    ensures { HaltNoted (record {
-      held_before = E.held notes.old;
-      held_after = E.held notes.new;
-      faults_before = E.faults notes.old;
-      faults_after = E.faults notes.new;
-    }) halt result }
+    ensures { HaltNoted (sink_use E.held E.faults notes.old notes.new) halt result }
 {
     match halt {
         Halt::Exit(0) => Status::Done,

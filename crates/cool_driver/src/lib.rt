@@ -8,6 +8,7 @@ ghost use Rattle.cool_ports.specs.Answers.{Leaves};
 ghost use Rattle.cool_ports.specs.Counts.{Rose};
 ghost use Rattle.cool_ports.specs.SinkBytes.{appended, GotPrefix};
 ghost use Rattle.cool_ports.specs.Taking.{Took};
+ghost use Rattle.cool_driver.specs.Calls.{sink_use};
 ghost use Rattle.cool_driver.specs.CommandLine.{words_of, asked_for, TakesNoInput};
 ghost use Rattle.cool_driver.specs.Notes.{usage_note};
 ghost use Rattle.cool_driver.specs.Ends.{Ends};
@@ -79,18 +80,8 @@ pub fn cool<F: Shelf, I: Source, O: Sink, E: Sink>(
         faults_after = F.faults files.new;
         input = given;
       };
-      out = record {
-        held_before = O.held out.old;
-        held_after = O.held out.new;
-        faults_before = O.faults out.old;
-        faults_after = O.faults out.new;
-      };
-      notes = record {
-        held_before = E.held notes.old;
-        held_after = E.held notes.new;
-        faults_before = E.faults notes.old;
-        faults_after = E.faults notes.new;
-      };
+      out = sink_use O.held O.faults out.old out.new;
+      notes = sink_use E.held E.faults notes.old notes.new;
       left = rest;
       input_before = I.faults input.old;
       input_after = I.faults input.new;

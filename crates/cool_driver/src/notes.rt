@@ -1,6 +1,7 @@
 //! The notes: what they say, and how they are written.
 
 ghost use Rattle.std.specs.Prelude.{◌≡◌, ◌≢◌, ◌+◌, ◌<◌, ◌≤◌, ◌++◌, length, IfOk, Some, string_bytes};
+ghost use Rattle.cool_driver.specs.Calls.{sink_use};
 ghost use Rattle.cool_driver.specs.Notes.{asm_note, asm_words, image_note, script_note, script_words, command_note, trap_words, trap_note};
 ghost use Rattle.cool_driver.specs.Tasks.{AreLines, Noted, fault_note, note_of};
 
@@ -33,12 +34,7 @@ pub const READ_FAULT: &[u8] = b"cool: read fault\n";
 /// Writes a note at once and answers this status, or that the write failed.
 pub fn tell<E: Sink>(notes: &mut E, status: Status, note: &[u8]) -> Status
     requires { 0 < length note.now }
-    ensures { Noted (record {
-      held_before = E.held notes.old;
-      held_after = E.held notes.new;
-      faults_before = E.faults notes.old;
-      faults_after = E.faults notes.new;
-    }) note.now status result }
+    ensures { Noted (sink_use E.held E.faults notes.old notes.new) note.now status result }
 {
     match notes.put(note) {
         Ok(()) => status,
@@ -49,12 +45,7 @@ pub fn tell<E: Sink>(notes: &mut E, status: Status, note: &[u8]) -> Status
 /// Writes lines one by one and answers this status, or that a write failed.
 pub fn tell_lines<E: Sink>(notes: &mut E, status: Status, lines: &[Vec<u8>]) -> Status
     requires { AreLines lines.now }
-    ensures { Noted (record {
-      held_before = E.held notes.old;
-      held_after = E.held notes.new;
-      faults_before = E.faults notes.old;
-      faults_after = E.faults notes.new;
-    }) (note_of lines.now) status result }
+    ensures { Noted (sink_use E.held E.faults notes.old notes.new) (note_of lines.now) status result }
 {
     for line in lines {
         if notes.put(line).is_err() {

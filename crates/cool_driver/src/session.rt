@@ -3,7 +3,7 @@
 ghost use Rattle.std.specs.Prelude.{◌≡◌, List, ℕ, Bool, false};
 ghost use Rattle.cool_ports.specs.Answers.{Leaves};
 ghost use Rattle.cool_ports.specs.Taking.{Took};
-ghost use Rattle.cool_driver.specs.Calls.{Request};
+ghost use Rattle.cool_driver.specs.Calls.{Request, sink_use};
 ghost use Rattle.cool_driver.specs.Ends.{Ends};
 ghost use Rattle.cool_driver.specs.Notes.{command_note};
 ghost use Rattle.cool_driver.specs.Sessions.{IsSession};
@@ -35,18 +35,8 @@ pub fn hold_session<I: Source, O: Sink, E: Sink>(
     ensures unended { result ≡ Status.ReadFault → (I.past input.new).ends ≡ (I.past input.old).ends }
     ensures ends { (r : Request) (rest : List ℕ) → IsSession r → Leaves (I.past input.old) (I.past input.new) r.input rest → Ends (record {
       request = r;
-      out = record {
-        held_before = O.held out.old;
-        held_after = O.held out.new;
-        faults_before = O.faults out.old;
-        faults_after = O.faults out.new;
-      };
-      notes = record {
-        held_before = E.held notes.old;
-        held_after = E.held notes.new;
-        faults_before = E.faults notes.old;
-        faults_after = E.faults notes.new;
-      };
+      out = sink_use O.held O.faults out.old out.new;
+      notes = sink_use E.held E.faults notes.old notes.new;
       left = rest;
       input_before = I.faults input.old;
       input_after = I.faults input.new;
@@ -65,12 +55,7 @@ pub fn hold_session<I: Source, O: Sink, E: Sink>(
 
 /// Writes what is wrong with the command of this number, and answers the status, or that the write failed or memory ran out.
 fn tell_command<E: Sink>(alloc: Global, notes: &mut E, number: u64, words: &str) -> Status
-    ensures { NotedIfMade (record {
-      held_before = E.held notes.old;
-      held_after = E.held notes.new;
-      faults_before = E.faults notes.old;
-      faults_after = E.faults notes.new;
-    }) (command_note number words.now) Status.Unfit result }
+    ensures { NotedIfMade (sink_use E.held E.faults notes.old notes.new) (command_note number words.now) Status.Unfit result }
 {
     match command_note(alloc, number, words) {
         Ok(note) => tell(notes, Status::Unfit, note.as_bytes()),

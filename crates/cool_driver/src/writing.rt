@@ -1,5 +1,6 @@
 //! Writes an image to the output, in pieces.
 
+ghost use Rattle.cool_driver.specs.Calls.{sink_use};
 ghost use Rattle.cool_driver.specs.Tasks.{Noted};
 
 use crate::status::Status;
@@ -10,12 +11,7 @@ const MOST_PIECE_BYTES: usize = 4_096;
 
 /// Writes the bytes in pieces of 4,096, the last one shorter, and answers `Done`, or that a write failed. No bytes are no write.
 pub fn write_pieces<O: Sink>(out: &mut O, bytes: &[u8]) -> Status
-    ensures { Noted (record {
-      held_before = O.held out.old;
-      held_after = O.held out.new;
-      faults_before = O.faults out.old;
-      faults_after = O.faults out.new;
-    }) bytes.now Status.Done result }
+    ensures { Noted (sink_use O.held O.faults out.old out.new) bytes.now Status.Done result }
 {
     match put_pieces(out, bytes, MOST_PIECE_BYTES) {
         Ok(()) => Status::Done,
