@@ -72,7 +72,7 @@ const CYCLE: &[u8] = b"class A inherits B { }; class B inherits A { };";
 const ASSEMBLY: &[u8] =
     b"__start: li $a0, 65\nli $v0, 11\nsyscall\nli $v0, 12\nsyscall\nli $a0, 4\nli $v0, 17\nsyscall\n";
 
-static ROWS: [Row; 24] = [
+static ROWS: [Row; 25] = [
     (
         "run",
         STRINGS,
@@ -186,6 +186,8 @@ static ROWS: [Row; 24] = [
     ("exec", ASSEMBLY, (0, 0, 1, 0), 7, "A", "cool: read fault\n"),
     ("exec", ASSEMBLY, (0, 0, 0, 1), 8, "A", ""),
     ("exec", ASSEMBLY, (0, 0, 1, 1), 8, "A", ""),
+    // A note of one line is one put.
+    ("exec", ASSEMBLY, (0, 0, 0, 2), 4, "A", "cool: heap limit\n"),
 ];
 
 #[test]

@@ -114,3 +114,46 @@ fn a_read_fails(rt: HostRuntime) -> Result<(), Fail> {
     assert_eq!(rt; notes.held(), b"cool: main.cl: read failed\n".as_slice());
     Ok(())
 }
+
+/// Under `debug` the first read is that of the script, and the second that of the first file.
+#[test]
+fn a_read_fails_under_the_debugger(rt: HostRuntime) -> Result<(), Fail> {
+    let alloc = rt.alloc();
+    let mut files = MemShelf::new(alloc);
+    files.put_file("script", b"run\n")?;
+    files.put_file("list.cl", LIST)?;
+    files.put_file("main.cl", MAIN)?;
+    files.fail_call(2)?;
+    let mut input = MemSource::new(alloc, Vec::from_slice(alloc, INPUT)?);
+    let mut out = MemSink::new(alloc, 1_000)?;
+    let mut notes = MemSink::new(alloc, 1_000)?;
+    let words = vec![in alloc;
+        String::from_str(alloc, "debug")?,
+        String::from_str(alloc, "script")?,
+        String::from_str(alloc, "list.cl")?,
+        String::from_str(alloc, "main.cl")?,
+    ]?;
+    let status = cool(alloc, &words, &mut files, &mut input, &mut out, &mut notes);
+    assert_eq!(rt; status, 10);
+    assert_eq!(rt; out.held().len(), 0);
+    assert_eq!(rt; notes.held(), b"cool: list.cl: read failed\n".as_slice());
+    Ok(())
+}
+
+/// Each line of a reply is one put: where the second fails, the first came.
+#[test]
+fn a_put_of_a_reply_fails(rt: HostRuntime) -> Result<(), Fail> {
+    let alloc = rt.alloc();
+    let mut files = MemShelf::new(alloc);
+    let commands = b"file a 1\nxcheck\nquit\n";
+    let mut input = MemSource::new(alloc, Vec::from_slice(alloc, commands)?);
+    let mut out = MemSink::new(alloc, 1_000)?;
+    let mut notes = MemSink::new(alloc, 1_000)?;
+    out.fail_call(2)?;
+    let words = vec![in alloc; String::from_str(alloc, "session")?]?;
+    let status = cool(alloc, &words, &mut files, &mut input, &mut out, &mut notes);
+    assert_eq!(rt; status, 8);
+    assert_eq!(rt; out.held(), b"faults 1, typed 0\n".as_slice());
+    assert_eq!(rt; notes.held().len(), 0);
+    Ok(())
+}
