@@ -1,6 +1,8 @@
 pub mod Words
 pub mod Decoding
 pub mod AddressMap
+pub mod Registers
+pub mod SystemCalls
 pub mod ImageBounds
 pub mod Bytes
 pub mod Machine
