@@ -24,14 +24,17 @@ image_bytes version i = header version i ++ (flat_map word_bytes i.text ++ i.byt
 abbrev pub HasWords : ImageParts → Type 0
 HasWords i = AllByRecursion (λ word. word < 2 ^ 32) i.text
 
--- a worked example: one word, no data, in version 2
-one_word : image_bytes 2 (record { entry = 0x00400000; text = 0xffffffff ∷ []; bytes = [] })
-    ≡ 0x7f ∷ 0x43 ∷ 0x4d ∷ 0x49 ∷ 2 ∷ 0 ∷ 0 ∷ 0 ∷ 1 ∷ 0 ∷ 0 ∷ 0 ∷ 0 ∷ 0 ∷ 0 ∷ 0 ∷ 0 ∷ 0 ∷ 0x40 ∷ 0 ∷ 255 ∷ 255 ∷ 255 ∷ 255 ∷ []
-one_word = refl
+-- the magic and the versions, by their values
+magic : MAGIC ≡ 0x7f ∷ 0x43 ∷ 0x4d ∷ 0x49 ∷ []
+magic = refl
 
--- the versions by their values
 unchecked_version : UNCHECKED_VERSION ≡ 1
 unchecked_version = refl
 
 checked_version : CHECKED_VERSION ≡ 2
 checked_version = refl
+
+-- a worked example: one word, no data, in version 2
+one_word : image_bytes 2 (record { entry = 0x00400000; text = 0xffffffff ∷ []; bytes = [] })
+    ≡ 0x7f ∷ 0x43 ∷ 0x4d ∷ 0x49 ∷ 2 ∷ 0 ∷ 0 ∷ 0 ∷ 1 ∷ 0 ∷ 0 ∷ 0 ∷ 0 ∷ 0 ∷ 0 ∷ 0 ∷ 0 ∷ 0 ∷ 0x40 ∷ 0 ∷ 255 ∷ 255 ∷ 255 ∷ 255 ∷ []
+one_word = refl

@@ -1,5 +1,5 @@
 -- How the bytes of an image are read, and which fault is the first.
-use Rattle.std.specs.Prelude.{◌≡◌, ℕ, zero, suc, ◌+◌, ◌*◌, ◌%◌, ◌&&◌, ◌||◌, ◌==◌, not, nat_lt, nat_le, bytes_eq, if◌then◌else◌, Bool, true, List, [], ◌∷◌, length, take, drop, Option, Some, None, Result, Ok, Err}
+use Rattle.std.specs.Prelude.{◌≡◌, refl, ℕ, zero, suc, ◌+◌, ◌*◌, ◌%◌, ◌&&◌, ◌||◌, ◌==◌, not, nat_lt, nat_le, bytes_eq, if◌then◌else◌, Bool, true, List, [], ◌∷◌, length, take, drop, Option, Some, None, Result, Ok, Err}
 use Rattle.byteorder.specs.Endian.{little_number}
 use Rattle.mips_isa.specs.declared.address_map.TheConstants.{TEXT_START, MOST_TEXT_WORDS, MOST_DATA_BYTES}
 use Rattle.mips_isa.specs.ImageBounds.{ImageParts}
@@ -7,6 +7,22 @@ use Rattle.mips_image.specs.declared.stored_image.TheConstants.{MAGIC, VERSION_P
 use Rattle.mips_image.specs.declared.stored_image.StoredImage.{StoredImage}
 use Rattle.mips_image.specs.declared.image_error.ImageError.{ImageError}
 use Rattle.mips_image.specs.declared.image_error.ImageError.TheVariants.{Memory, I1, I2, I3, I4, I5}
+
+-- where the numbers of the header stand, and its bytes, by their values
+version_place : VERSION_PLACE ≡ 4
+version_place = refl
+
+words_place : WORDS_PLACE ≡ 8
+words_place = refl
+
+data_bytes_place : DATA_BYTES_PLACE ≡ 12
+data_bytes_place = refl
+
+entry_place : ENTRY_PLACE ≡ 16
+entry_place = refl
+
+header_bytes : HEADER_BYTES ≡ 20
+header_bytes = refl
 
 -- the number in the four bytes from a place on
 unfoldable pub word_at : List ℕ → ℕ → ℕ
