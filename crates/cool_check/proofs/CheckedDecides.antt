@@ -75,7 +75,7 @@ one_by : {A : Type 0} (P : A → Type 0) (r : Checked A) → Decides r P → (a 
 one_by P (Ok x) h a b ha hb = h.1 a ha ∙ sym (h.1 b hb)
 one_by P (Err fault) h a b ha hb = absurd (h a ha)
 
-one_of : {A : Type 0} {r : Checked A} {P : A → Type 0} → IsDecided r P → (a b : A) → P a → P b → a ≡ b
+pub one_of : {A : Type 0} {r : Checked A} {P : A → Type 0} → IsDecided r P → (a b : A) → P a → P b → a ≡ b
 one_of {r = r} {P = P} h a b ha hb = one_by P r h.decided a b ha hb
 
 -- names in one scope, with those of another after them

@@ -16,7 +16,7 @@ use Rattle.cool_classes.specs.declared.class_id.Ty.TheVariants.{Class as IsClass
 use Rattle.cool_classes.specs.declared.method.AttributeRef.{AttributeRef}
 use Rattle.cool_classes.specs.Chains.{Class, features_of}
 use Rattle.cool_classes.specs.ClimbedChains as climbed
-use Rattle.cool_classes.specs.Features.{Denotes, attributes_of, attribute_name, attribute_type, HasAttribute, IsAttribute, result_in}
+use Rattle.cool_classes.specs.Features.{Denotes, attributes_of, attribute_type, HasAttribute, IsAttribute, result_in}
 use Rattle.cool_classes.specs.Limits.{AreDifferent}
 use Rattle.cool_classes.specs.Tables.{IsClassName, IsTypeName, IsTyped, IsWholeTable}
 use Rattle.cool_classes.proofs.AttributesOfChains.{attributes_have}

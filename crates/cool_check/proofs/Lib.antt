@@ -3,6 +3,7 @@ pub mod CheckedDecides
 pub mod FaultsInOrder
 pub mod FeaturesDecide
 pub mod Misfits
+pub mod OneType
 pub mod OrderOfKinds
 pub mod PartsLeft
 pub mod PlacedFaults

@@ -1,6 +1,6 @@
 -- The type of an expression or else its first fault: the parts and the checks of each form in their order, from left to right (the Cool
 -- manual, sections 4, 7 and 12).
-use Rattle.std.specs.Prelude.{◌≡◌, ℕ, List, [], ◌∷◌, ◌++◌, length, Bool, not, ◌&&◌, ◌||◌, true, false, nat_eq, bytes_eq, if◌then◌else◌, Option, Some, None, unwrap_or, codes, refl}
+use Rattle.std.specs.Prelude.{◌≡◌, ℕ, List, [], ◌∷◌, ◌++◌, length, Bool, not, ◌&&◌, ◌||◌, true, nat_eq, bytes_eq, if◌then◌else◌, Option, Some, None, unwrap_or, codes, refl}
 use Rattle.std.specs.Option.{option_or}
 use Rattle.std.specs.Prelude.{Result, Ok, Err}
 use Rattle.cool_syntax.specs.declared.place.Place.{Place}

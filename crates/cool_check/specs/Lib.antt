@@ -3,5 +3,6 @@ pub mod Checks
 pub mod Contexts
 pub mod Faults
 pub mod FirstFaults
+pub mod Laws
 pub mod Settings
 pub mod TypingFaults

@@ -4,7 +4,6 @@ use Rattle.std.specs.Prelude.{◌==◌}
 use Rattle.std.specs.List.{AllByRecursion}
 use Rattle.cool_syntax.specs.TokenFacts.{IsPlaced}
 use Rattle.cool_check.specs.declared.fault.TypeFault.{TypeFault}
-use Rattle.cool_check.specs.TypingFaults.{typing_faults}
 use Rattle.cool_check.proofs.AcceptedTables.{accepted_typed}
 use Rattle.cool_check.proofs.checking.check.Goals as goal
 

@@ -1,0 +1,5 @@
+use Rattle.cool_check.proofs.OneType.{one_type}
+use Rattle.cool_check.proofs.laws.law_one_type.Goals as goal
+
+pub returns : goal.returns
+returns c = one_type c.args.t.now c.count-count.ensures.whole

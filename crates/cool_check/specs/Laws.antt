@@ -1,0 +1,25 @@
+-- Laws on checking: what it finds is what the rules of types say, and these give an expression one type.
+use Rattle.std.specs.Prelude.{◌≡◌, ◌<◌, ◌↔◌, ℕ, List, [], length, slice_get, Some, Ok}
+use Rattle.std.specs.List.{AllByRecursion}
+use Rattle.cool_syntax.specs.declared.file_tree.Feature.{Feature}
+use Rattle.cool_syntax.specs.Tree.{Tree}
+use Rattle.cool_classes.specs.declared.class_id.ClassId.{ClassId}
+use Rattle.cool_classes.specs.declared.class_id.Ty.{Ty}
+use Rattle.cool_classes.specs.Chains.{Class, features_of}
+use Rattle.cool_rules.specs.Conformance.{IsType}
+use Rattle.cool_rules.specs.Scopes.{Binding}
+use Rattle.cool_rules.specs.TypedTables.{IsTypedTable}
+use Rattle.cool_rules.specs.Typing.{HasType, IsTypedFeature}
+use Rattle.cool_check.specs.TypingFaults.{feature_checked, typing_faults}
+
+-- the table is typed by the rules exactly where it has no typing fault
+abbrev pub IsFaultlessWhereTyped : List Class → Type 0
+IsFaultlessWhereTyped p = IsTypedTable p ↔ (typing_faults p ≡ [])
+
+-- a feature of a class is checked without a fault exactly where the rules type it
+abbrev pub IsCheckedWhereTyped : List Class → Type 0
+IsCheckedWhereTyped p = (c : ClassId) (k : ℕ) (x : Feature) → c.0 < length p → slice_get (features_of p c) k ≡ Some x → (feature_checked p c x ≡ Ok tt) ↔ IsTypedFeature p c x
+
+-- in a class, and a scope whose names have types of the table, an expression has one type at most
+abbrev pub HasOneType : List Class → Type 0
+HasOneType p = (c : ClassId) (scope : List Binding) (e : Tree) (t u : Ty) → c.0 < length p → AllByRecursion (λ b. IsType p b.type) scope → HasType p c scope e t → HasType p c scope e u → t ≡ u
