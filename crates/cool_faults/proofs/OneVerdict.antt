@@ -20,6 +20,7 @@ use Rattle.cool_faults.specs.declared.fault.Fault.{Fault}
 use Rattle.cool_faults.specs.declared.fault.Fault.TheVariants.{Lex, Syntax, Class as OfClasses, Typing}
 use Rattle.cool_faults.specs.Verdicts.{IsTree, AreTrees, LexFaults, SyntaxFaults, IsPhase, of_lexer, of_parser, of_classes, of_features, of_typing, AreFaultless, IsFaultList, faultless, faulty, IsRefused, IsAccepted, end_of, standing_of}
 use Rattle.cool_faults.specs.Verdicts as verdict
+use Rattle.cool_faults.proofs.AcceptedFiles.{accepted_list, accepted_meant}
 use Rattle.cool_faults.proofs.OneOrder.{one_order}
 use Rattle.cool_faults.proofs.OneStanding.{one_fault as one_of_standing}
 
@@ -97,7 +98,7 @@ nothing_found files faults a = nothing_but_typing files faults a.trees a.are_tre
 pub one_program : (files : List (List ℕ)) (p q : List Class) → IsAccepted files p → IsAccepted files q → p ≡ q
 one_program files p q a b =
     let same = one_trees 0 files a.trees b.trees a.are_trees b.are_trees in
-    a.meant ∙ ap (λ (ts : List FileTree). classes_meant (definitions ts)) same ∙ sym b.meant
+    accepted_meant files p a ∙ ap (λ (ts : List FileTree). classes_meant (definitions ts)) same ∙ sym (accepted_meant files q b)
 
 -- faults of the lexer, and of the parser, are one list
 one_lexical : (file : ℕ) (files : List (List ℕ)) (xs ys : List Fault) → LexFaults file files xs → LexFaults file files ys → xs ≡ ys
@@ -217,4 +218,4 @@ one_list files xs ys (faulty fs some phase order) (faulty gs more other also) =
 
 -- no files are both accepted and refused
 pub never_both_verdicts : (files : List (List ℕ)) (p : List Class) (faults : List Fault) → IsAccepted files p → IsRefused files faults → ⊥
-never_both_verdicts files p faults a r = r.some (one_list files faults [] r.list a.list)
+never_both_verdicts files p faults a r = r.some (one_list files faults [] r.list (accepted_list files p a))

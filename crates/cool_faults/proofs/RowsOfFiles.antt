@@ -11,7 +11,6 @@ use Rattle.cool_classes.specs.declared.fault.ClassKind.{ClassKind}
 use Rattle.cool_classes.specs.ClassFaults.{classes_meant, feature_phase, HasClassPhase}
 use Rattle.cool_classes.specs.ClassRows.{IsClassFault, IsTableFault}
 use Rattle.cool_classes.specs.Definitions.{definitions}
-use Rattle.cool_classes.specs.FeatureRows.{AreRows}
 use Rattle.cool_classes.proofs.RowsExact.{phase_rows, table_rows}
 use Rattle.cool_check.specs.declared.fault.TypeFault.{TypeFault}
 use Rattle.cool_check.specs.TypingFaults.{typing_faults}
@@ -19,6 +18,7 @@ use Rattle.cool_faults.specs.declared.fault.Fault.{Fault}
 use Rattle.cool_faults.specs.declared.fault.Fault.TheVariants.{Lex, Syntax, Class as OfClasses, Typing}
 use Rattle.cool_faults.specs.Laws.{AreOfRows}
 use Rattle.cool_faults.specs.Verdicts.{AreTrees, IsPhase, of_lexer, of_parser, of_classes, of_features, of_typing, IsFaultList, faultless, faulty}
+use Rattle.cool_faults.proofs.AcceptedFiles.{no_rows}
 use Rattle.cool_faults.proofs.OneVerdict.{one_trees, no_lexical, no_syntactic}
 
 -- a list has its first item, and what its rest has
@@ -88,11 +88,6 @@ no_class_among (f ∷ fs) g there =
 -- a fault of classes and features
 fault : ClassKind → Place → ClassFault
 fault kind at = record { kind = kind; at = at }
-
--- rows that are none leave no fault
-no_rows : (IsRow : ClassKind → Place → Type 0) (fs : List ClassFault) → AreRows IsRow fs → ((kind : ClassKind) (at : Place) → IsRow kind at → ⊥) → fs ≡ []
-no_rows IsRow [] rows none = refl
-no_rows IsRow (f ∷ fs) rows none = absurd (none f.kind f.at rows.only.0)
 
 -- where no definition and no feature has a fault, no row holds
 abbrev NoClassRow : List ClassDef → Type 0

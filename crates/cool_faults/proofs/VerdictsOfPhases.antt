@@ -13,6 +13,7 @@ use Rattle.cool_classes.specs.ClassFaults.{classes_meant, feature_phase, HasClas
 use Rattle.cool_classes.specs.Definitions.{definitions, AreFew, IsTableOf}
 use Rattle.cool_classes.specs.Limits.{KeepsLimits}
 use Rattle.cool_classes.specs.Tables.{IsTable}
+use Rattle.cool_classes.proofs.RowsExact.{accepted_rows}
 use Rattle.cool_check.specs.Faults.{AreWithin}
 use Rattle.cool_check.specs.TypingFaults.{typing_faults}
 use Rattle.cool_rules.specs.Fits.{Fits}
@@ -22,7 +23,7 @@ use Rattle.cool_faults.specs.declared.fault.Refusal.TheVariants as refusal
 use Rattle.cool_faults.specs.declared.fault.Fault.TheVariants.{Typing}
 use Rattle.cool_faults.specs.Files.{bytes_of, total}
 use Rattle.cool_faults.specs.Phases.{AreFound, AreFaultsFound, IsLexed, IsLexical, IsParsed, IsSyntactic, AreTableFaults, AreTypingFaults, IsClassRefusal, IsTypeRefusal, ArePlaced, IsRefusedWith}
-use Rattle.cool_faults.specs.Verdicts.{of_lexer, of_parser, of_classes, of_features, of_typing, faultless, faulty, IsPhase, IsAccepted}
+use Rattle.cool_faults.specs.Verdicts.{of_lexer, of_parser, of_classes, of_features, of_typing, faulty, IsPhase, IsAccepted}
 use Rattle.cool_faults.proofs.FindingsInARow.{AllFound, all_found}
 use Rattle.cool_faults.proofs.OrderOfFaults.{InRisingFiles, rising_in_order, rising_placed}
 use Rattle.cool_faults.proofs.LexicalFaults.{lexical_faults, lexical_rising}
@@ -130,14 +131,12 @@ pub table_accepted : (files : List (List ℕ)) (ts : List FileTree) (p q : List 
     → IsTableOf (definitions ts) p → p ≡ classes_meant (definitions ts) → HaveNoFault ts → IsTable p → KeepsLimits p → q ≡ p → typing_faults p ≡ [] → IsTypedTable p → IsAccepted files q
 table_accepted files ts p q small few whole of meant none t keeps e well typed =
     let all : length files ≤ length files = omega arith in
-    let clean : typing_faults (classes_meant (definitions ts)) ≡ [] = subst (λ (r : List Class). typing_faults r ≡ []) meant well in
     subst (IsAccepted files) (sym e)
     (record {
-      list = faultless (record { trees = ts; are_trees = are_trees 0 files ts whole; classes = none.0; features = none.1; typing = clean });
       trees = ts;
       are_trees = are_trees 0 files ts whole;
+      rows = accepted_rows (definitions ts) none.0 none.1;
       table = of;
-      meant = meant;
       typed = typed;
       fits = table_of_trees_fits files ts p (length files) small all few whole of t keeps;
     })

@@ -1,5 +1,6 @@
 -- Laws on the faults and the verdict of files: there is one of each, and faults of classes and features are those of the rows.
-use Rattle.std.specs.Prelude.{◌≡◌, ◌⊎◌, ℕ, List, Contains}
+use Rattle.std.specs.Prelude.{◌≡◌, ◌⊎◌, ℕ, ◌≤◌, List, [], length, Contains}
+use Rattle.cool_syntax.specs.declared.TheConstants.{MOST_FILES, MOST_SOURCE_BYTES}
 use Rattle.cool_syntax.specs.declared.file_tree.ClassDef.{ClassDef}
 use Rattle.cool_syntax.specs.declared.file_tree.FileTree.{FileTree}
 use Rattle.cool_syntax.specs.declared.place.Place.{Place}
@@ -11,6 +12,7 @@ use Rattle.cool_classes.specs.Definitions.{definitions}
 use Rattle.cool_faults.specs.declared.fault.Fault.{Fault}
 use Rattle.cool_faults.specs.declared.fault.Fault.TheVariants.{Class as OfClasses}
 use Rattle.cool_faults.specs.declared.fault.Untyped.{Untyped}
+use Rattle.cool_faults.specs.Files.{total}
 use Rattle.cool_faults.specs.Untyped.{IsRefusedEarly, IsUntyped}
 use Rattle.cool_faults.specs.Verdicts.{AreTrees, IsAccepted, IsFaultList, IsRefused}
 
@@ -25,6 +27,10 @@ AreOneProgram = (files : List (List ℕ)) (p q : List Class) → IsAccepted file
 -- no files are both a program and refused
 abbrev pub AreNeverBoth : Type 0
 AreNeverBoth = (files : List (List ℕ)) (p : List Class) (faults : List Fault) → IsAccepted files p → IsRefused files faults → ⊥
+
+-- files that are accepted have no fault
+abbrev pub AreFaultlessWhereAccepted : Type 0
+AreFaultlessWhereAccepted = (files : List (List ℕ)) (p : List Class) → IsAccepted files p → IsFaultList files []
 
 -- no files are both faultless before typing and refused by a phase before it
 abbrev pub AreNeverBothUntyped : Type 0
@@ -41,3 +47,15 @@ pub record AreOfRows (ds : List ClassDef) (faults : List Fault) : Type 0 where
 -- so are those in the fault list of files that are trees
 abbrev pub HaveFaultsOfRows : Type 0
 HaveFaultsOfRows = (files : List (List ℕ)) (trees : List FileTree) (faults : List Fault) → AreTrees 0 files trees → IsFaultList files faults → AreOfRows (definitions trees) faults
+
+-- and files without a fault, within the limits on their number and their bytes, are accepted
+abbrev pub AreAcceptedWhereFaultless : Type 0
+AreAcceptedWhereFaultless = (files : List (List ℕ)) → length files ≤ MOST_FILES → total files ≤ MOST_SOURCE_BYTES → IsFaultList files [] → (p : List Class) × IsAccepted files p
+
+-- files are a program, or are refused with their fault list
+abbrev pub HasVerdict : List (List ℕ) → Type 0
+HasVerdict files = ((p : List Class) × IsAccepted files p) ⊎ ((faults : List Fault) × IsRefused files faults)
+
+-- so is it of all files within these limits
+abbrev pub HaveVerdicts : Type 0
+HaveVerdicts = (files : List (List ℕ)) → length files ≤ MOST_FILES → total files ≤ MOST_SOURCE_BYTES → HasVerdict files

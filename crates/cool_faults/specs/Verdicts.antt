@@ -17,6 +17,7 @@ use Rattle.cool_parser.specs.declared.fault.ParseFault.{ParseFault}
 use Rattle.cool_classes.specs.declared.fault.ClassFault.{ClassFault}
 use Rattle.cool_classes.specs.Chains.{Class}
 use Rattle.cool_classes.specs.ClassFaults.{classes_meant, feature_phase, HasClassPhase}
+use Rattle.cool_classes.specs.ClassRows.{HasNoRow}
 use Rattle.cool_classes.specs.Definitions.{definitions, IsTableOf}
 use Rattle.cool_classes.specs.FaultLists.{rank as class_rank}
 use Rattle.cool_check.specs.Faults.{rank as type_rank}
@@ -129,13 +130,13 @@ pub record IsRefused (files : List (List ℕ)) (faults : List Fault) : Type 0 wh
   pub some : faults ≢ []
   pub places : 0 < length files → AllByRecursion (λ f. IsPlaced (length files) (place_of f)) faults
 
--- Files whose fault list is empty are accepted as a program: the class table of their trees, which is typed and keeps the limits.
+-- Files are accepted as a program where they are trees, none of whose classes and features breaks a rule, and it is the table of these, is
+-- typed and keeps the limits. Then, and then alone, the fault list is empty (`specs/Laws.antt`).
 pub record IsAccepted (files : List (List ℕ)) (p : List Class) : Type 0 where
-  pub list : IsFaultList files []
   pub trees : List FileTree
   pub are_trees : AreTrees 0 files trees
+  pub rows : HasNoRow (definitions trees)
   pub table : IsTableOf (definitions trees) p
-  pub meant : p ≡ classes_meant (definitions trees)
   pub typed : IsTypedTable p
   pub fits : Fits p (length files)
 

@@ -1,6 +1,6 @@
 //! Laws on the faults and the verdict of files: there is one of each, and faults of classes and features are those of the rows.
 
-ghost use Rattle.cool_faults.specs.Laws.{AreNeverBoth, AreNeverBothUntyped, AreOneProgram, HaveFaultsOfRows, HaveOneFaultList};
+ghost use Rattle.cool_faults.specs.Laws.{AreAcceptedWhereFaultless, AreFaultlessWhereAccepted, AreNeverBoth, AreNeverBothUntyped, AreOneProgram, HaveFaultsOfRows, HaveOneFaultList, HaveVerdicts};
 
 /// Files have one fault list.
 pub fn law_one_list()
@@ -15,6 +15,17 @@ pub fn law_one_program()
 /// No files are both a program and refused.
 pub fn law_never_both()
     ensures { AreNeverBoth }
+{}
+
+/// Files are a program exactly where their fault list is empty, where they are within the limits on their number and their bytes.
+pub fn law_accepted_exactly()
+    ensures faultless { AreFaultlessWhereAccepted }
+    ensures accepted { AreAcceptedWhereFaultless }
+{}
+
+/// Files within the limits on their number and their bytes are a program, or are refused with their fault list.
+pub fn law_one_verdict_at_least()
+    ensures { HaveVerdicts }
 {}
 
 /// No files are both faultless before typing and refused by a phase before it.

@@ -17,7 +17,10 @@ mod untyped_files;
 
 pub use acceptance::accept;
 pub use fault::{ClassVerdict, Fault, Refusal, Untyped, Verdict};
-pub use laws::{law_never_both, law_never_both_untyped, law_one_list, law_one_program, law_rows};
+pub use laws::{
+    law_accepted_exactly, law_never_both, law_never_both_untyped, law_one_list, law_one_program,
+    law_one_verdict_at_least, law_rows,
+};
 pub use lexing::lex_files;
 pub use text::fault_text;
 pub use typing::of_typing;
