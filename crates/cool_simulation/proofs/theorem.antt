@@ -18,6 +18,7 @@ pub mod NamesOfFeatures
 pub mod NamesOfLabels
 pub mod PrintedPrograms
 pub mod RunsAccord
+pub mod RunsMet
 pub mod Simulated
 pub mod TextsOfTrees
 pub mod WritablePrograms

@@ -1,9 +1,29 @@
-//! The law of compiled programs.
+//! The laws of compiled programs.
 
-ghost use Rattle.cool_simulation.specs.Theorem.{ImagesMean};
+ghost use Rattle.cool_simulation.specs.Theorem.{AcceptedCompile, CallsMean, ImagesMean, ProgramsRun, RunsAreMet, TypedImagesMean};
 
 /// The image of the program that files of bytes are, under names that are texts of at most 4,096 bytes, means the program: whatever the
 /// input and the limits of heap, stack and instructions, what its run wrote and left accords with the runs of the source.
 pub fn law_means()
     ensures { ImagesMean }
+{}
+
+/// The same of each program that is typed and within the limits, that has no empty block and no empty case, and whose strings are texts:
+/// accepted files are such a program.
+pub fn law_typed_means()
+    ensures accepted { AcceptedCompile }
+    ensures means { TypedImagesMean }
+{}
+
+/// A run of the source that goes on is met by the machine: after as many instructions as it has steps at least, and after 64 a unit of its
+/// work at most, the machine goes on with the same output and the same input left, where heap and stack hold the run's words and nesting.
+/// So it is wherever the program is loaded.
+pub fn law_always_runs()
+    ensures met { RunsAreMet }
+    ensures anywhere { ProgramsRun }
+{}
+
+/// The code of each method and of each initializer does what its call means, in each machine in which the program is loaded.
+pub fn law_calls_mean()
+    ensures { CallsMean }
 {}

@@ -1,10 +1,10 @@
 //! That the code of a program does what the program means.
 //!
-//! Comes in: nothing that runs. Goes out: a law over the lines of `cool_emit`, the machine of `mips_isa` and the meaning of
+//! Comes in: nothing that runs. Goes out: laws over the lines of `cool_emit`, the machine of `mips_isa` and the meaning of
 //! `cool_meaning`. `specs/Accord.antt` says how a run of the machine accords with the runs of the source, `specs/Theorem.antt` has the
 //! theorem.
 #![tactic(auto)]
 
 mod laws;
 
-pub use laws::law_means;
+pub use laws::{law_always_runs, law_calls_mean, law_means, law_typed_means};

@@ -5,6 +5,7 @@ use Rattle.cool_syntax.specs.declared.file_tree.FileTree.{FileTree}
 use Rattle.cool_classes.specs.Chains.{Class}
 use Rattle.cool_classes.specs.Definitions.{definitions}
 use Rattle.cool_faults.specs.Verdicts.{AreTrees, IsAccepted}
+use Rattle.cool_faults.proofs.AcceptedFiles.{accepted_meant}
 use Rattle.cool_runtime.specs.Contents.{AreBytes, IsText}
 use Rattle.cool_emit.specs.Programs.{program_constants, IsBuildable}
 use Rattle.cool_simulation.specs.ByteStrings.{ClassesHaveBytes}
@@ -20,4 +21,4 @@ trees_bytes file (bytes ∷ files) (t ∷ ts) h are = (classes_bytes file bytes 
 -- the premise on strings, for files that are accepted
 pub accepted_texts : (files : List (List ℕ)) (p : List Class) (names : List (List ℕ)) → AllByRecursion AreBytes files → IsAccepted files p → IsBuildable p names → AllByRecursion IsText names
     → AllByRecursion IsText (program_constants p names).strings
-accepted_texts files p names bytes h b named = texts_meant (definitions h.trees) p names h.meant (definitions_bytes h.trees (trees_bytes 0 files h.trees bytes h.are_trees)) b named
+accepted_texts files p names bytes h b named = texts_meant (definitions h.trees) p names (accepted_meant files p h) (definitions_bytes h.trees (trees_bytes 0 files h.trees bytes h.are_trees)) b named
