@@ -1,6 +1,7 @@
 //! Laws on folded programs.
 
 ghost use Rattle.std.specs.Prelude.{ℕ, List};
+ghost use Rattle.cool_classes.specs.Declarations.{AreAllAlike};
 ghost use Rattle.cool_meaning.specs.SourceRun.{run};
 ghost use Rattle.cool_opt.specs.Folding.{fold_table};
 ghost use Rattle.cool_opt.specs.Laws.{NoMoreRun};
@@ -19,9 +20,10 @@ pub fn law_folded(p: &TypedProgram)
 }
 
 /// The folded program is typed, as the program is: its classes keep the rules, and each folded body and initial value conforms to the type
-/// that its feature declares.
+/// that its feature declares. It has the same classes with the same parents, and these declare the same features with the same signatures.
 pub fn law_folded_is_typed(p: &TypedProgram)
     ensures typed { IsTypedTable (fold_table p.now) }
+    ensures declared { AreAllAlike p.now (fold_table p.now) }
 {
     let _table = p.table();
 }
