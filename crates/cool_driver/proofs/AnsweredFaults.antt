@@ -3,6 +3,7 @@ use Rattle.std.proofs.Common.{◌≡◌, ◌≢◌, ℕ, Bool, List, [], ◌∷�
 use Rattle.cool_classes.specs.Chains.{Class}
 use Rattle.cool_faults.specs.declared.fault.Fault.{Fault}
 use Rattle.cool_faults.specs.Verdicts.{IsAccepted, IsFaultList}
+use Rattle.cool_faults.proofs.AcceptedFiles.{accepted_list}
 use Rattle.cool_faults.proofs.OneVerdict.{one_list, one_program}
 use Rattle.cool_ports.specs.ShelfFiles.{FileMap}
 use Rattle.mips_isa.specs.ImageBounds.{ImageParts}
@@ -62,7 +63,7 @@ answered_by_run r files limits found command names contents faults status output
     absurd (may_refuse r files command (Exec limits) names (name ∷ []) contents (bytes ∷ []) told read read' may)
 answered_by_run r files limits found command names contents faults status output note (of_program fold names' contents' p read' is made bounded) told read may list =
     let same = same_read r files (Run limits fold) command names' names contents' contents told read' read in
-    let none : faults ≡ [] = one_list contents faults [] list (subst (λ (cs : List (List ℕ)). IsFaultList cs []) same is.list) in
+    let none : faults ≡ [] = one_list contents faults [] list (subst (λ (cs : List (List ℕ)). IsFaultList cs []) same (accepted_list contents' p is)) in
     let asked = (same_plan (plan_of r.words) (Run limits fold) command names' names read'.plan read.plan).0 in
     record {
       refused = λ some. absurd (some none);
@@ -76,7 +77,7 @@ answered_by_debugged : (r : Request) (files : FileMap) (limits : RunLimits) (p :
     → IsDebugged r limits others p script bytes → Told r files → IsRead r command names contents → IsFaultList contents faults → Answers command names contents faults status output note
 answered_by_debugged r files limits p script bytes command others names contents faults status output note is told read list =
     let same = same_read r files (Debug limits) command others names is.contents contents told is.read read in
-    let none : faults ≡ [] = one_list contents faults [] list (subst (λ (cs : List (List ℕ)). IsFaultList cs []) same is.accepted.list) in
+    let none : faults ≡ [] = one_list contents faults [] list (subst (λ (cs : List (List ℕ)). IsFaultList cs []) same (accepted_list is.contents p is.accepted)) in
     let asked = (same_plan (plan_of r.words) (Debug limits) command others names is.read.plan read.plan).0 in
     record {
       refused = λ some. absurd (some none);
@@ -90,7 +91,7 @@ answered_by_evaluation : (r : Request) (files : FileMap) (steps : ℕ) (p : List
     → IsEvaluationOf r steps others p → Told r files → IsRead r command names contents → IsFaultList contents faults → Answers command names contents faults status output note
 answered_by_evaluation r files steps p command others names contents faults status output note is told read list =
     let same = same_read r files (Eval steps) command others names is.contents contents told is.read read in
-    let none : faults ≡ [] = one_list contents faults [] list (subst (λ (cs : List (List ℕ)). IsFaultList cs []) same is.accepted.list) in
+    let none : faults ≡ [] = one_list contents faults [] list (subst (λ (cs : List (List ℕ)). IsFaultList cs []) same (accepted_list is.contents p is.accepted)) in
     let asked = (same_plan (plan_of r.words) (Eval steps) command others names is.read.plan read.plan).0 in
     record {
       refused = λ some. absurd (some none);
@@ -104,7 +105,7 @@ pub answered : (r : Request) (status : ℕ) (output note left : List ℕ) (files
     → Told r files → IsRead r command names contents → MayRefuse command → IsFaultList contents faults → Answers command names contents faults status output note
 answered r _ _ _ _ files command names contents faults (checked names' contents' p read' is) told read may list =
     let same = same_read r files Check command names' names contents' contents told read' read in
-    let none : faults ≡ [] = one_list contents faults [] list (subst (λ (cs : List (List ℕ)). IsFaultList cs []) same is.list) in
+    let none : faults ≡ [] = one_list contents faults [] list (subst (λ (cs : List (List ℕ)). IsFaultList cs []) same (accepted_list contents' p is)) in
     let asked = (same_plan (plan_of r.words) Check command names' names read'.plan read.plan).0 in
     record {
       refused = λ some. absurd (some none);
@@ -115,7 +116,7 @@ answered r _ _ _ _ files command names contents faults (checked names' contents'
 answered r _ _ _ _ files command names contents faults (built form names' contents' p read' is means) told read may list =
     let same = same_read r files (Build form) command names' names contents' contents told read' read in
     let here : IsAccepted contents p = subst (λ (cs : List (List ℕ)). IsAccepted cs p) same is in
-    let none : faults ≡ [] = one_list contents faults [] list here.list in
+    let none : faults ≡ [] = one_list contents faults [] list (accepted_list contents p here) in
     let asked = same_plan (plan_of r.words) (Build form) command names' names read'.plan read.plan in
     record {
       refused = λ some. absurd (some none);
@@ -137,8 +138,8 @@ answered r _ _ _ _ files command names contents faults (refused command' names' 
     record {
       refused = λ _. (refl, ap (λ (ns : List (List ℕ)). refused_note ns faults') named ∙ ap (λ (fs : List Fault). refused_note names fs) one);
       checked = λ _ none. absurd (is.some (one ∙ none));
-      built = λ form q _ accepted. absurd (is.some (one ∙ one_list contents faults [] list accepted.list));
-      compiled = λ form q _ accepted. absurd (is.some (one ∙ one_list contents faults [] list accepted.list));
+      built = λ form q _ accepted. absurd (is.some (one ∙ one_list contents faults [] list (accepted_list contents q accepted)));
+      compiled = λ form q _ accepted. absurd (is.some (one ∙ one_list contents faults [] list (accepted_list contents q accepted)));
     }
 answered r _ _ _ _ files command names contents faults (executed limits found run) told read may list = answered_by_run r files _ _ command names contents faults _ _ _ run told read may list
 answered r _ _ _ _ files command names contents faults (unread_input limits found at output left run comes fails) told read may list = answered_by_run r files _ _ command names contents faults _ _ _ run told read may list

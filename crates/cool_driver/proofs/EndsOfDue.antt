@@ -4,6 +4,7 @@ use Rattle.std.specs.Prelude.{◌==◌}
 use Rattle.cool_ports.specs.Counts.{Rose}
 use Rattle.cool_faults.specs.declared.fault.Fault.{Fault}
 use Rattle.cool_faults.specs.Verdicts.{IsFaultList}
+use Rattle.cool_faults.proofs.AcceptedFiles.{accepted_list}
 use Rattle.cool_ports.specs.ShelfFiles.{FileMap}
 use Rattle.cool_driver.specs.declared.command_line.Command.{Command}
 use Rattle.cool_driver.specs.declared.command_line.Command.TheVariants.{Check, Build}
@@ -81,9 +82,9 @@ ends_found c status found calm written =
           let a = answer Check names contents faults files told read tt list in
           (a.checked refl, λ some. (a.refused some).0);
       built_exactly = λ files form names contents p told read is _ _.
-          let made = (answer (Build form) names contents [] files told read tt is.list).built form p refl is in
+          let made = (answer (Build form) names contents [] files told read tt (accepted_list contents p is)).built form p refl is in
           (made.0, subst (Got c.out) made.1 written.3);
-      built_means = λ files form names contents p told read is _ _. (answer (Build form) names contents [] files told read tt is.list).compiled form p refl is;
+      built_means = λ files form names contents p told read is _ _. (answer (Build form) names contents [] files told read tt (accepted_list contents p is)).compiled form p refl is;
       refused_exactly = λ files command names contents faults told read may list some _ _.
           let a = answer command names contents faults files told read may list in
           ((a.refused some).0, subst (Got c.notes) (a.refused some).1 written.4);

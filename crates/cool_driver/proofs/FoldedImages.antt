@@ -6,6 +6,7 @@ use Rattle.cool_classes.specs.Definitions.{definitions}
 use Rattle.cool_rules.specs.Fits.{Fits}
 use Rattle.cool_rules.specs.TypedTables.{IsTypedTable}
 use Rattle.cool_faults.specs.Verdicts.{IsAccepted}
+use Rattle.cool_faults.proofs.AcceptedFiles.{accepted_meant}
 use Rattle.cool_meaning.specs.Laws.{IsOver}
 use Rattle.cool_meaning.specs.SourceRun.{Run, run}
 use Rattle.cool_opt.specs.Folding.{fold_table}
@@ -38,7 +39,7 @@ folded_means files names p bytes named is fits =
     let have = definitions_bytes is.trees (trees_bytes 0 files is.trees bytes is.are_trees) in
     typed_images_mean (fold_table p) names b (λ c k x within there. each_writable p (accepted_writable files p is) c k x there)
     (program_texts (fold_table p) names b named.0
-    (λ c k x within there. each_has_bytes p (table_bytes (definitions is.trees) p is.meant have) c k x there))
+    (λ c k x within there. each_has_bytes p (table_bytes (definitions is.trees) p (accepted_meant files p is) have) c k x there))
 
 -- What accords with runs of smaller meters
 
