@@ -1,0 +1,62 @@
+"""What the tools of this folder have in common: their words, the program of the repository, and how they end."""
+
+import os
+import re
+import signal
+import subprocess
+import sys
+
+HERE = os.path.dirname(os.path.realpath(__file__))
+CASES = os.path.join(HERE, "cases")
+
+
+class Refusal(Exception):
+    """What is wrong with what a call names."""
+
+
+class BadWords(Exception):
+    """The words of a call are of no form that it takes."""
+
+
+def take_options(words, options):
+    """Takes options off the front of words, and sets them: flags, texts, and else numbers, by what each is without its option."""
+    while words and words[0].startswith("-"):
+        name = words.pop(0)
+        if isinstance(options.get(name), bool):
+            options[name] = True
+        elif words and isinstance(options.get(name), str):
+            options[name] = words.pop(0)
+        elif name in options and words and re.fullmatch("[1-9][0-9]{0,8}", words[0]):
+            options[name] = int(words.pop(0))
+        else:
+            raise BadWords
+
+
+def own_program():
+    """The program of the repository, which is proved and built first where it must be."""
+    found = subprocess.run([os.path.join(HERE, "..", "release", "program")], stdout=subprocess.PIPE, check=False)
+    if found.returncode:
+        sys.exit(125)
+    return os.fsdecode(found.stdout.removesuffix(b"\n"))
+
+
+def end_with(name, usage, work):
+    """Ends with the status that the work gives, or, where it cannot be done, with 2 and a line that says why."""
+    os.environ["LC_ALL"] = "C"
+    for stream in (sys.stdout, sys.stderr):
+        stream.reconfigure(encoding="utf-8", errors="surrogateescape")
+    for number in (signal.SIGTERM, signal.SIGHUP):
+        signal.signal(number, signal.default_int_handler)
+    try:
+        sys.exit(work(sys.argv[1:]))
+    except KeyboardInterrupt:
+        sys.exit(130)
+    except BadWords:
+        print(f"usage: {name} {usage}", file=sys.stderr)
+    except Refusal as refusal:
+        print(name, refusal, sep=": ", file=sys.stderr)
+    except OSError as error:
+        print(name, *filter(None, [error.filename, error.strerror]), sep=": ", file=sys.stderr)
+        # What is left to be written there would fail again.
+        os.dup2(os.open(os.devnull, os.O_WRONLY), sys.stdout.fileno())
+    sys.exit(2)

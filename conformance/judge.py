@@ -1,0 +1,45 @@
+"""Runs cases by a command, and says of each why it failed."""
+
+import concurrent.futures
+
+from limited import Runner
+
+
+class Judge:
+    """A command, and within which limits it passes a case: `mode` is that of `run`, and `limits` are its options that take a number."""
+
+    def __init__(self, command, mode, limits):
+        self.mode, self.limits, self.late = mode, limits, 0
+        self.runner = Runner(command, limits["--seconds"], limits["--memory"])
+
+    def results(self, cases):
+        """Of each case, in their order: the case, why it failed in short, and the lines that tell of it; nothing where it passed.
+
+        Whoever closes this before its end stops what still runs.
+        """
+        with concurrent.futures.ThreadPoolExecutor(self.limits["--jobs"]) as pool:
+            try:
+                yield from pool.map(self._result, cases)
+            finally:
+                self.runner.stop()
+                pool.shutdown(cancel_futures=True)
+
+    def _result(self, case):
+        most_late, seconds = self.limits["--timeouts"], self.limits["--seconds"]
+        if most_late and self.late >= most_late:
+            return self._unjudged(case, f"not run: {most_late} cases did not end")
+        with self.runner.run(case) as came:
+            if came.status is None:
+                self.late += 1
+                return self._unjudged(case, f"not ended after {seconds} seconds")
+            differences = list(case.differences(came, self.mode))
+        told = [line for _, lines in differences for line in lines]
+        return case, ", ".join(why for why, _ in differences), told + [f"  {case.about}"] * bool(told)
+
+    def _unjudged(self, case, why):
+        return case, why, [f"FAIL {case.name}: status", f"  {why}", f"  {case.about}"]
+
+
+def row(case, why):
+    """The line of a table that tells of a case."""
+    return f"{case.name}\t{'failed' if why else 'passed'}\t{why}\n"

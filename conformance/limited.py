@@ -1,0 +1,105 @@
+"""Runs a command within limits, and leaves nothing of it behind."""
+
+import contextlib
+import os
+import select
+import shutil
+import signal
+import subprocess
+import tempfile
+from typing import BinaryIO, NamedTuple, Optional
+
+from case import EXPECTED
+
+# No file that a program writes, its output too, may be larger, in blocks of 512 bytes: 16 MiB, since the disk belongs to others, too.
+MOST_FILE_BLOCKS = 32768
+# The shell of a command sets what it may use, and becomes the command.
+SHELL = ("/bin/sh", "-c", 'ulimit -c 0; ulimit -f "$1"; [ -z "$2" ] || ulimit -v "$2" || exit 126; shift 2; exec "$@"', "sh")
+
+
+class Came(NamedTuple):
+    """What came of a command. The status is that of a shell where a signal ended it, and None where it did not end in time."""
+
+    status: Optional[int]
+    output: BinaryIO
+    notes: BinaryIO
+
+
+class Runner:
+    """Runs a command over cases, several at once where several threads ask for it, until it is stopped."""
+
+    def __init__(self, command, seconds, memory_kib):
+        self.command = [*SHELL, str(MOST_FILE_BLOCKS), str(memory_kib or ""), *command]
+        self.seconds = seconds
+        self.stopped, self._stopping = os.pipe()
+
+    def stop(self):
+        """Has each command that runs end at once, and each later one."""
+        os.close(self._stopping)
+
+    @contextlib.contextmanager
+    def run(self, case):
+        """What comes of the command on the words of a case, in a copy of its folder without what is expected."""
+        folder = tempfile.mkdtemp(prefix="conformance-")
+        # These have no name, so that no program takes them away or puts others in their place.
+        with tempfile.TemporaryFile() as output, tempfile.TemporaryFile() as notes:
+            try:
+                files, given = os.path.join(folder, "files"), os.path.join(folder, "input")
+                copy(case.folder, files, EXPECTED)
+                copy_input(os.path.join(case.folder, "input"), given)
+                status = self._status(self.command + case.words, files, given, output, notes)
+            finally:
+                remove(folder)
+            yield Came(status, output, notes)
+
+    def _status(self, command, folder, given, output, notes):
+        source = os.open(given, os.O_RDONLY)
+        try:
+            process = subprocess.Popen(
+                command, cwd=folder, stdin=source, stdout=output, stderr=notes, start_new_session=True)
+        finally:
+            os.close(source)
+        ended = os.pidfd_open(process.pid)
+        either = select.poll()
+        for event in (ended, self.stopped):
+            either.register(event, select.POLLIN)
+        came = [event for event, _ in either.poll(self.seconds * 1000)]
+        # Its group keeps this number until it is waited for.
+        os.killpg(process.pid, signal.SIGKILL)
+        status = process.wait()
+        os.close(ended)
+        if ended not in came:
+            return None
+        return status if status >= 0 else 128 - status
+
+
+def copy(source, target, left_out=()):
+    """Copies a folder, without the names that are left out. What is made can be changed, whether or not its model can."""
+    os.mkdir(target)
+    for entry in os.scandir(source):
+        name = os.path.join(target, entry.name)
+        if entry.name in left_out:
+            continue
+        if entry.is_dir():
+            copy(entry.path, name)
+        else:
+            shutil.copyfile(entry.path, name)
+
+
+def copy_input(source, target):
+    """Copies what a case gives as input: bytes, none where it has no such file, or a folder, which cannot be read."""
+    if os.path.isdir(source):
+        os.mkdir(target)
+    elif os.path.exists(source):
+        shutil.copyfile(source, target)
+    else:
+        open(target, "xb").close()
+
+
+def remove(folder):
+    """Removes a folder, also where a program took away the right to, or put more folders into one another than Python walks."""
+    try:
+        shutil.rmtree(folder)
+    except (OSError, RecursionError):
+        subprocess.run(["chmod", "-R", "u+rwx", "--", folder], stderr=subprocess.DEVNULL, check=False)
+        subprocess.run(["rm", "-rf", "--", folder], stderr=subprocess.DEVNULL, check=False)
