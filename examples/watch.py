@@ -6,7 +6,7 @@ cool = os.path.join(os.path.dirname(os.path.abspath(__file__)), "..", "cool")
 session = subprocess.Popen([cool, "session"], stdin=subprocess.PIPE, stdout=subprocess.PIPE)
 seen = {}
 while session.poll() is None:
-    saved = {name: os.stat(name).st_mtime_ns for name in sys.argv[1:]}
+    saved = {name: os.stat(name).st_mtime_ns for name in sys.argv[1:] if os.path.exists(name)}
     if saved != seen:
         for name in saved:
             if saved[name] != seen.get(name):

@@ -1,0 +1,63 @@
+"""Which program is asked."""
+import os
+import shutil
+import signal
+import subprocess
+
+from .protocol import log
+
+HERE = os.path.dirname(os.path.dirname(os.path.dirname(os.path.realpath(__file__))))
+# Nothing is to be built for an editor: a proof takes an hour.
+ENVIRONMENT = {"COOL_BUILD": "no"}
+
+
+class Missing(Exception):
+    """There is no program; the words say why."""
+
+
+def find(named, seconds):
+    """The path of the program: the one that is named, else the one installed beside the server, else that of the repository in which the server
+    stands, else the one on PATH."""
+    named = named or os.environ.get("COOL")
+    if named:
+        return named
+    if os.access(os.path.join(HERE, "release", "program"), os.X_OK):
+        return of_repository(os.path.join(HERE, "release", "program"), seconds)
+    beside = os.path.join(HERE, "cool")
+    found = beside if os.path.isfile(beside) and os.access(beside, os.X_OK) else shutil.which("cool")
+    if not found:
+        raise Missing("there is no program `cool`: install it by ./install, or name it by --cool or COOL")
+    return found
+
+
+def of_repository(script, seconds):
+    """What the script says is the program of the sources as they are."""
+    process = start([script])
+    try:
+        said, notes = process.communicate(timeout=seconds)
+    except subprocess.TimeoutExpired:
+        kill(process)
+        process.communicate()
+        raise Missing("%s did not end within %g seconds: call ./cool once" % (script, seconds)) from None
+    words = notes.decode("utf-8", "replace").split("\n")
+    for line in words[:-1]:
+        log(line)
+    if process.returncode or not said.strip():
+        raise Missing(words[-2] if words[1:] else "%s ended with status %d" % (script, process.returncode))
+    return os.fsdecode(said.rstrip(b"\n"))
+
+
+def start(words):
+    """A process in a group of its own, so that it is killed with all that it started."""
+    try:
+        return subprocess.Popen(words, stdin=subprocess.PIPE, stdout=subprocess.PIPE, stderr=subprocess.PIPE,
+                                env={**os.environ, **ENVIRONMENT}, start_new_session=True)
+    except OSError as error:
+        raise Missing("%s does not start: %s" % (words[0], error.strerror)) from None
+
+
+def kill(process):
+    try:
+        os.killpg(process.pid, signal.SIGKILL)
+    except OSError:
+        pass  # it ended by itself

@@ -1,0 +1,121 @@
+"""The settings of editors, each in the editor itself without a screen: what it shows of a file with one fault, after an edit, by `:make`, in colours."""
+import json
+import os
+import re
+import shutil
+import subprocess
+import xml.etree.ElementTree
+import zipfile
+
+from .client import HERE, NotTried, expect
+
+FAULTY = 'class Main {\n  s : String <- "ä𝒙"; t : Int <- true;\n  main() : Object { 0 };\n};\nclass Late { m : Main; };\n'
+TOLD = "initial value does not conform"
+CURE = "To mend it: the value is of the declared class or of one below it."
+SECONDS = 120
+VIM = ["--cmd", "set runtimepath^=%s" % str(HERE / "vim").replace(" ", "\\ "), "--cmd", "filetype plugin on", "--cmd", "syntax on"]
+
+
+def said_in(room, words, call, **environment):
+    """What an editor writes of the file, and its version."""
+    if not shutil.which(call[0]):
+        raise NotTried("%s is not installed" % call[0])
+    folder = room / "a b é"
+    folder.mkdir(exist_ok=True)
+    (folder / "m.cl").write_text(FAULTY)
+    given = {"COOL": words.cool, "COOL_SAID": str(room / "said"), "COOL_FILE": str(folder / "m.cl"), "HOME": str(room), "LC_ALL": "C.UTF-8"}
+    environment = {**os.environ, **given, **environment}
+    call = [folder / "m.cl" if word == "FILE" else word for word in call]
+    done = subprocess.run(call, env=environment, cwd=room, timeout=SECONDS, stdin=subprocess.DEVNULL, stdout=subprocess.PIPE, stderr=subprocess.STDOUT)
+    if not (room / "said").exists():
+        raise AssertionError("%s wrote nothing: %s" % (call[0], done.stdout.decode("utf-8", "replace")))
+    version = subprocess.run([call[0], "--version"], stdout=subprocess.PIPE).stdout.decode().split("\n")[0].split(" (")[0]
+    return (room / "said").read_text().splitlines(), version
+
+
+def neovim(room, words):
+    call = ["nvim", "--clean", "--headless", *VIM, "FILE", "-c", "luafile %s" % (HERE / "tests" / "neovim.lua")]
+    said, version = said_in(room, words, call)
+    expect("Neovim", said, ["2:26-27 " + TOLD, "1 told", CURE, "definition: 1:7", "0 told", "make: 2 E17: " + TOLD, "coolKeyword coolString"])
+    said, _ = said_in(room, words, call, COOL="/nowhere/cool", COOL_ONCE="1")
+    expect("no program", said[0], "1:0-0 not checked: /nowhere/cool does not start: No such file or directory")
+    later = "lua vim.lsp.start = function(config) vim.lsp.buf_attach_client(0, vim.lsp.start_client(config)) end"  # as from 0.8 on
+    said, _ = said_in(room, words, [*call[:1], "--cmd", later, *call[1:]], COOL_ONCE="1")
+    expect("by vim.lsp.start", said, ["2:26-27 " + TOLD, "1 told"])
+    return version
+
+
+def vim_make(room, words):
+    said, version = said_in(room, words, ["vim", "-Nu", "NONE", "-es", *VIM, "FILE", "-S", HERE / "tests" / "vim.vim"])
+    expect("Vim", said, ["make: 2 E17: " + TOLD, "coolKeyword coolString"])
+    return version
+
+
+def vim_with_ale(room, words):
+    if not os.path.exists("/usr/share/vim-ale"):
+        raise NotTried("vim-ale is not installed")
+    said, version = said_in(room, words, ["vim", "-Nu", "NONE", "-es", "--cmd", "packadd ale", *VIM, "FILE", "-S", HERE / "tests" / "vim.vim"], COOL_ALE="1")
+    # ALE takes the columns of UTF-16 for bytes, and so is at 24 behind these letters, and not at 27.
+    expect("Vim with ALE", said, ["2:24 E17: " + TOLD, "1 told", "0 told", "make: 2 E17: " + TOLD, "coolKeyword coolString"])
+    return version + " with ALE"
+
+
+def emacs(room, words):
+    call = ["emacs", "-q", "--batch", "-l", HERE / "tests" / "emacs.el"]
+    eglot = ["emacs", "-q", "--batch", "--eval", "(progn (package-initialize) (require 'eglot))"]
+    if shutil.which("emacs") and subprocess.run(eglot, stderr=subprocess.DEVNULL).returncode:
+        raise NotTried("eglot is not installed")
+    said, version = said_in(room, words, call, COOL_MODE=str(HERE / "emacs" / "cool-mode.el"), COOL_MAKE="'%s' check m.cl" % words.cool)
+    expect("Emacs", said, ["cool-mode", "2:22-23 cool [E17]: " + TOLD, "1 told", "0 told", "definition: line 1", "outline: (Method Class Field)", "font-lock-keyword-face font-lock-string-face",
+                           "next error: m.cl, line 2"])
+    return version
+
+
+def package(room):
+    """The package of VS Code, unpacked: the folder of the extension."""
+    for name in ("one.vsix", "two.vsix"):
+        subprocess.run([HERE / "vscode" / "package", room / name], check=True)
+    expect("the same each time", (room / "one.vsix").read_bytes() == (room / "two.vsix").read_bytes(), True)
+    with zipfile.ZipFile(room / "one.vsix") as found:
+        expect("sums", found.testzip(), None)
+        found.extractall(room / "unpacked")
+    return room / "unpacked" / "extension"
+
+
+def vscode_package(room, words):
+    """Its manifest, its types and what package.json names, as VS Code asks for them."""
+    extension = package(room)
+    about = json.loads((extension / "package.json").read_text())
+    expect("fields", [key for key in ("name", "publisher", "version", "engines", "main") if not about.get(key)], [])
+    expect("name", bool(re.fullmatch(r"[a-z0-9][a-z0-9-]*", about["name"]) and re.fullmatch(r"\d+\.\d+\.\d+", about["version"])), True)
+    languages, grammars = about["contributes"]["languages"], about["contributes"]["grammars"]
+    named = [about["main"], *(language["configuration"] for language in languages), *(grammar["path"] for grammar in grammars)]
+    expect("files", [name for name in named if not (extension / name).is_file()], [])
+    for name in extension.glob("*.json"):
+        json.loads(name.read_text())
+    manifest = xml.etree.ElementTree.parse(room / "unpacked" / "extension.vsixmanifest").getroot()
+    space = "{http://schemas.microsoft.com/developer/vsx-schema/2011}"
+    identity = manifest.find(space + "Metadata/" + space + "Identity").attrib
+    expect("identity", (identity["Id"], identity["Version"], identity["Publisher"]), (about["name"], about["version"], about["publisher"]))
+    assets = [asset.attrib["Path"] for asset in manifest.iter(space + "Asset")]
+    expect("assets", [path for path in assets if not (room / "unpacked" / path).is_file()], [])
+    types = xml.etree.ElementTree.parse(room / "unpacked" / "[Content_Types].xml").getroot()
+    known = {part.attrib.get("Extension") or part.attrib["PartName"] for part in types}
+    files = [path for path in (room / "unpacked").rglob("*") if path.is_file() and path.name != "[Content_Types].xml"]
+    expect("types", [str(path) for path in files if path.suffix not in known and "/" + str(path.relative_to(room / "unpacked")) not in known], [])
+
+
+def vscode_extension(room, words):
+    """The extension of the package, with a stand-in of VS Code's interface."""
+    if not shutil.which("node"):
+        raise NotTried("node is not installed")
+    (room / "m.cl").write_text(FAULTY)
+    call = ["node", HERE / "tests" / "vscode.cjs", package(room), words.cool, room / "m.cl"]
+    said = subprocess.run(call, timeout=SECONDS, stdout=subprocess.PIPE, check=True).stdout.decode().splitlines()
+    expect("VS Code", said, ["1:23-1:24 E17 %s 0" % TOLD, "To mend it: the value is of the declared class or of one below it.", "definition 0:6-0:10",
+                             "references 0:6-0:10 4:17-4:21", "Main 4 0:0-3:1 s 7 t 7 main 5", "Late 4 4:0-4:24 m 7",
+                             "completion Main", "rename 4:6-4:10 Later", "refused: the name of a class", "0 told; 0 problems"])
+    return "with a stand-in of its interface, on node " + subprocess.run(["node", "--version"], stdout=subprocess.PIPE).stdout.decode().strip()
+
+
+TESTS = [neovim, vim_make, vim_with_ale, emacs, vscode_package, vscode_extension]

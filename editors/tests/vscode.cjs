@@ -1,0 +1,59 @@
+// Runs the extension of VS Code without VS Code: node vscode.cjs EXTENSION PROGRAM FILE writes what it shows of the file, and of it after an edit.
+const Module = require('module');
+const fs = require('fs');
+const { pathToFileURL } = require('url');
+const [extension, program, file] = process.argv.slice(2);
+
+const providers = {}, handlers = {}, problems = [];
+const disposable = { dispose() {} };
+const on = (name) => (handler) => ((handlers[name] = handler), disposable);
+const document = {
+  uri: { toString: () => pathToFileURL(file).href }, languageId: 'cool', version: 1, text: fs.readFileSync(file, 'utf8'),
+  getText() { return this.text; },
+};
+let told;
+class Value { constructor(...parts) { Object.assign(this, parts); } }
+const provider = (kind) => (_, given) => ((providers[kind] = Object.values(given)[0]), disposable);
+const stub = {
+  Range: Value, Location: Value, Diagnostic: Value, DiagnosticRelatedInformation: Value, Hover: Value, MarkdownString: Value,
+  DocumentSymbol: Value, CompletionItem: Value,
+  WorkspaceEdit: class { constructor() { this.edits = []; } replace(...edit) { this.edits.push(edit); } },
+  Uri: { parse: (text) => text },
+  languages: {
+    createDiagnosticCollection: () => ({ set: (_, found) => told(found), clear() {}, dispose() {} }),
+    registerHoverProvider: provider('hover'), registerDefinitionProvider: provider('definition'),
+    registerReferenceProvider: provider('references'), registerDocumentSymbolProvider: provider('symbols'),
+    registerCompletionItemProvider: provider('completion'), registerRenameProvider: provider('rename'),
+  },
+  window: { createOutputChannel: () => ({ append: (text) => problems.push(text), dispose() {} }), showErrorMessage: (text) => problems.push(text) },
+  workspace: {
+    textDocuments: [document], workspaceFolders: undefined,
+    getConfiguration: () => ({ get: () => program }),
+    createFileSystemWatcher: () => ({ onDidChange: on('a'), onDidCreate: on('b'), onDidDelete: on('c'), dispose() {} }),
+    onDidOpenTextDocument: on('open'), onDidChangeTextDocument: on('change'), onDidCloseTextDocument: on('close'),
+  },
+};
+const load = Module._load;
+Module._load = (name, ...rest) => (name === 'vscode' ? stub : load(name, ...rest));
+
+const next = (act) => new Promise((answer) => ((told = answer), act()));
+const span = (r) => `${r[0]}:${r[1]}-${r[2]}:${r[3]}`;
+
+(async () => {
+  const { activate, deactivate } = require(extension);
+  let found = await next(() => activate({ subscriptions: [] }));
+  found.forEach((f) => console.log(span(f[0]), f.code, f[1], f[2]));
+  const hover = await providers.hover(document, { line: 1, character: 23 });
+  console.log(hover[0][0].split('\n')[2]);
+  for (const kind of ['definition', 'references']) console.log(kind, ...(await providers[kind](document, { line: 0, character: 7 })).map((l) => span(l[1])));
+  for (const s of await providers.symbols(document)) console.log(s[0], s[2], span(s[3]), ...s.children.map((c) => `${c[0]} ${c[2]}`));
+  console.log('completion', ...(await providers.completion(document, { line: 4, character: 18 })).map((c) => c[0]));
+  const renamed = await providers.rename(document, { line: 4, character: 8 }, 'Later');
+  console.log('rename', ...renamed.edits.map((e) => `${span(e[1])} ${e[2]}`));
+  await providers.rename(document, { line: 4, character: 8 }, 'later').catch((error) => console.log('refused:', error.message.slice(0, 19)));
+  document.version = 2;
+  document.text = document.text.replace(' <- true', '');
+  found = await next(() => handlers.change({ document }));
+  console.log(found.length, 'told;', problems.length, 'problems', ...problems);
+  deactivate();
+})();

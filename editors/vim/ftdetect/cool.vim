@@ -1,0 +1,1 @@
+autocmd BufNewFile,BufRead *.cl set filetype=cool

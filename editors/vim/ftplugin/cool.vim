@@ -1,0 +1,7 @@
+if exists('b:did_ftplugin')
+  finish
+endif
+let b:did_ftplugin = 1
+setlocal commentstring=--\ %s comments=sr:(*,mb:*,ex:*),:-- suffixesadd=.cl
+compiler cool
+let b:undo_ftplugin = 'setlocal commentstring< comments< suffixesadd< makeprg< errorformat<'

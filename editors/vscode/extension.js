@@ -1,0 +1,152 @@
+// Starts cool-lsp for files of Cool, and shows what it tells and answers. It uses VS Code's own interface and no package beside it.
+const vscode = require('vscode');
+const { spawn } = require('child_process');
+const fs = require('fs');
+const path = require('path');
+
+// In a package the server stands in it; in a repository, or where it is installed, beside it.
+const SERVER = [path.join(__dirname, 'editors', 'cool-lsp'), path.join(fs.realpathSync(__dirname), '..', 'cool-lsp')].find(fs.existsSync);
+const COOL = { language: 'cool' };
+let server, faults, log, rest, number, waiting;
+
+// Messages
+
+function send(message) {
+  const body = Buffer.from(JSON.stringify({ jsonrpc: '2.0', ...message }));
+  if (server) server.stdin.write(Buffer.concat([Buffer.from(`Content-Length: ${body.length}\r\n\r\n`), body]));
+}
+
+// What the server answers; null where it is not there, and an error where it refuses.
+function request(method, params) {
+  if (!server) return Promise.resolve(null);
+  return new Promise((answer, refuse) => {
+    waiting.set((number += 1), (message) => (message && message.error ? refuse(new Error(message.error.message)) : answer(message && message.result)));
+    send({ id: number, method, params });
+  });
+}
+
+function read(data) {
+  rest = Buffer.concat([rest, data]);
+  for (;;) {
+    const head = /^Content-Length: (\d+)\r\n\r\n/.exec(rest.subarray(0, 64).toString('latin1'));
+    const end = head && head[0].length + Number(head[1]);
+    if (!head || rest.length < end) return;
+    const message = JSON.parse(rest.subarray(head[0].length, end).toString());
+    rest = rest.subarray(end);
+    if (message.method === 'textDocument/publishDiagnostics') show(message.params);
+    if (!message.method && waiting.has(message.id)) {
+      waiting.get(message.id)(message);
+      waiting.delete(message.id);
+    }
+  }
+}
+
+// What the protocol says, as VS Code has it
+
+const range = (r) => new vscode.Range(r.start.line, r.start.character, r.end.line, r.end.character);
+const location = (l) => new vscode.Location(vscode.Uri.parse(l.uri), range(l.range));
+const item = (document) => ({ uri: document.uri.toString(), languageId: 'cool', version: document.version, text: document.getText() });
+const place = (document, position) => ({ textDocument: { uri: document.uri.toString() }, position: { line: position.line, character: position.character } });
+
+function show({ uri, diagnostics }) {
+  faults.set(vscode.Uri.parse(uri), diagnostics.map((d) => {
+    const shown = new vscode.Diagnostic(range(d.range), d.message, d.severity - 1);
+    shown.source = d.source;
+    shown.code = d.code;
+    shown.relatedInformation = (d.relatedInformation || []).map((r) => new vscode.DiagnosticRelatedInformation(location(r.location), r.message));
+    return shown;
+  }));
+}
+
+function symbol(s) {
+  const shown = new vscode.DocumentSymbol(s.name, '', s.kind - 1, range(s.range), range(s.selectionRange));
+  shown.children = s.children.map(symbol);
+  return shown;
+}
+
+function providers() {
+  const places = (method, more) => async (document, position) =>
+    ((await request(method, { ...place(document, position), ...more })) || []).map(location);
+  return [
+    vscode.languages.registerHoverProvider(COOL, {
+      provideHover: async (document, position) => {
+        const found = await request('textDocument/hover', place(document, position));
+        return found && new vscode.Hover(new vscode.MarkdownString(found.contents.value), range(found.range));
+      },
+    }),
+    vscode.languages.registerDefinitionProvider(COOL, { provideDefinition: places('textDocument/definition') }),
+    vscode.languages.registerReferenceProvider(COOL, { provideReferences: places('textDocument/references', { context: { includeDeclaration: true } }) }),
+    vscode.languages.registerCompletionItemProvider(COOL, {
+      provideCompletionItems: async (document, position) =>
+        ((await request('textDocument/completion', place(document, position))) || []).map((c) => new vscode.CompletionItem(c.label, c.kind - 1)),
+    }),
+    vscode.languages.registerRenameProvider(COOL, {
+      provideRenameEdits: async (document, position, newName) => {
+        const found = await request('textDocument/rename', { ...place(document, position), newName });
+        const shown = new vscode.WorkspaceEdit();
+        for (const [uri, edits] of Object.entries(found ? found.changes : {})) {
+          edits.forEach((e) => shown.replace(vscode.Uri.parse(uri), range(e.range), e.newText));
+        }
+        return shown;
+      },
+    }),
+    vscode.languages.registerDocumentSymbolProvider(COOL, {
+      provideDocumentSymbols: async (document) =>
+        ((await request('textDocument/documentSymbol', { textDocument: { uri: document.uri.toString() } })) || []).map(symbol),
+    }),
+  ];
+}
+
+// The server, from the first file of Cool on
+
+function start() {
+  [rest, number, waiting] = [Buffer.alloc(0), 0, new Map()];
+  const program = vscode.workspace.getConfiguration('cool').get('program');
+  const started = (server = spawn('python3', [SERVER, ...(program ? ['--cool', program] : [])]));
+  started.stdout.on('data', read);
+  started.stderr.on('data', (data) => log.append(data.toString()));
+  started.stdin.on('error', () => {});
+  started.on('error', (error) => vscode.window.showErrorMessage(`Cool: python3 does not start: ${error.message}`));
+  started.on('close', () => {
+    if (server !== started) return;
+    server = undefined; // the next file that is opened starts it again
+    waiting.forEach((answer) => answer(null));
+    faults.clear();
+  });
+  const folders = (vscode.workspace.workspaceFolders || []).map((f) => ({ uri: f.uri.toString(), name: f.name }));
+  const capabilities = { workspace: { didChangeWatchedFiles: { dynamicRegistration: true } } };
+  request('initialize', { processId: process.pid, rootUri: null, workspaceFolders: folders, capabilities });
+  send({ method: 'initialized', params: {} });
+  vscode.workspace.textDocuments.forEach((d) => d.languageId === 'cool' && send({ method: 'textDocument/didOpen', params: { textDocument: item(d) } }));
+}
+
+function opened(document) {
+  if (document.languageId !== 'cool') return;
+  if (!server) start();
+  else send({ method: 'textDocument/didOpen', params: { textDocument: item(document) } });
+}
+
+function activate(context) {
+  faults = vscode.languages.createDiagnosticCollection('cool');
+  log = vscode.window.createOutputChannel('Cool');
+  const about = (method, more) => (document) => {
+    if (document.languageId !== 'cool') return;
+    send({ method, params: { textDocument: { uri: document.uri.toString(), version: document.version }, ...(more && more(document)) } });
+  };
+  const change = about('textDocument/didChange', (document) => ({ contentChanges: [{ text: document.getText() }] }));
+  const files = vscode.workspace.createFileSystemWatcher('**/{*.cl,cool.files}');
+  const moved = () => send({ method: 'workspace/didChangeWatchedFiles', params: { changes: [] } });
+  context.subscriptions.push(
+    faults, log, files, files.onDidChange(moved), files.onDidCreate(moved), files.onDidDelete(moved), ...providers(),
+    vscode.workspace.onDidOpenTextDocument(opened),
+    vscode.workspace.onDidChangeTextDocument((event) => change(event.document)),
+    vscode.workspace.onDidCloseTextDocument(about('textDocument/didClose')));
+  if (vscode.workspace.textDocuments.some((d) => d.languageId === 'cool')) start();
+}
+
+function deactivate() {
+  send({ id: 'last', method: 'shutdown' });
+  send({ method: 'exit' });
+}
+
+module.exports = { activate, deactivate };
