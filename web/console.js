@@ -1,0 +1,122 @@
+// Runs of the program: output as it comes, and input as it is asked for.
+"use strict";
+
+const MOST_SHOWN = 200_000, SHOW_DELAY = 30;
+
+const program = new Runner();
+let shownLetters = 0;
+// What was typed for the last run.
+let typedLines = "";
+
+function numberOf(id, least, most) {
+    const value = Math.trunc(Number(at(id).value));
+    return String(Math.min(most, Math.max(least, Number.isFinite(value) ? value : least)));
+}
+
+const steps = () => ["--steps", numberOf("steps", 1, 1e15)];
+const machineLimits = () => [...steps(), "--heap", numberOf("heap", 4, 262_144), "--stack", numberOf("stack", 4, 65_536)];
+
+// What comes is shown in parts, since to lay out a long text takes time; and of a text without end its last part.
+let waiting = [], waitingLetters = 0, showing;
+
+function append(part, kind) {
+    waiting.push({ part, kind });
+    waitingLetters += part.length;
+    while (waiting.length > 1 && waitingLetters - waiting[0].part.length >= MOST_SHOWN) waitingLetters -= waiting.shift().part.length;
+    showing ??= setTimeout(showWaiting, SHOW_DELAY);
+}
+
+function showWaiting() {
+    clearTimeout(showing);
+    const out = at("output");
+    const atEnd = out.scrollTop + out.clientHeight >= out.scrollHeight - 30;
+    for (const { part, kind } of waiting) {
+        const last = out.lastChild;
+        if (last?.className === kind && last.textContent.length < 20_000) last.append(part);
+        else out.append(element("span", { className: kind }, part));
+    }
+    shownLetters += waitingLetters;
+    while (shownLetters > MOST_SHOWN && out.childNodes.length > 1) {
+        shownLetters -= out.firstChild.textContent.length;
+        out.firstChild.remove();
+    }
+    if (atEnd) out.scrollTop = out.scrollHeight;
+    forgetWaiting();
+}
+
+function forgetWaiting() {
+    clearTimeout(showing);
+    [waiting, waitingLetters, showing] = [[], 0, undefined];
+}
+
+function wantsLine(wants) {
+    for (const it of ["line", "send", "close"]) at(it).disabled = !wants;
+    if (wants) at("line").focus();
+}
+
+function busy(is) {
+    at("stop").disabled = !is;
+    at("run").disabled = is;
+}
+
+function clearConsole() {
+    forgetWaiting();
+    at("output").replaceChildren();
+    at("end").replaceChildren();
+    shownLetters = 0;
+}
+
+async function run() {
+    choose("console");
+    at("views").scrollIntoView({ block: "nearest" });
+    clearConsole();
+    typedLines = "";
+    busy(true);
+    tell("running…");
+    const decoders = { 1: new TextDecoder(), 2: new TextDecoder() };
+    const pieces = (all) => all.forEach(({ to, bytes }) => append(decoders[to].decode(bytes, { stream: true }), to === 2 ? "note" : "said"));
+    const wantsInput = () => (showWaiting(), wantsLine(true), tell("waiting for input"));
+    const how = at("how").value;
+    const options = how === "eval" ? steps() : [...machineLimits(), ...(at("fold").checked ? ["--fold"] : [])];
+    const came = await program.run([how, ...options, "--", ...fileNames()], sources(), { pieces, wantsInput, asks: true, input: encode(at("input").value) });
+    showWaiting();
+    wantsLine(false);
+    busy(false);
+    showEnd(came);
+}
+
+const PAST_LIMIT = { 4: "It may have more heap: see Options.", 5: "It may have more stack: see Options.", 6: "It may take more steps: see Options." };
+
+function showEnd(came) {
+    if (came.killed) return tell("stopped");
+    const time = `${(came.time / 1000).toFixed(2)} s`;
+    tell(came.status === undefined ? endWords(came) : `${endWords(came)}, status ${came.status}, ${time}`, came.status !== 0);
+    if (PAST_LIMIT[came.status] && at("how").value === "run") at("end").append(PAST_LIMIT[came.status]);
+    const fault = came.status === 3 ? placed(at("output").textContent.trimEnd().split("\n").at(-1)) : undefined;
+    if (fault) at("end").append(element("button", { onclick: () => goTo(fault.file, fault.line) }, `Show line ${fault.line} of ${fault.file}`));
+}
+
+// Gives the run a line, or null for the end of the input.
+function give(line) {
+    if (line !== null) append(line, "typed"), (typedLines += line);
+    at("keep-typed").disabled = typedLines === "";
+    wantsLine(false);
+    tell("running…");
+    program.give(line === null ? null : encode(line));
+}
+
+at("run").onclick = run;
+at("stop").onclick = () => program.stop();
+at("ask").onsubmit = (event) => {
+    event.preventDefault();
+    const line = at("line").value;
+    at("line").value = "";
+    give(`${line}\n`);
+};
+at("close").onclick = () => give(null);
+at("keep-typed").onclick = () => {
+    at("input").value += typedLines;
+    typedLines = "";
+    at("keep-typed").disabled = true;
+    changedFiles();
+};

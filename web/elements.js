@@ -1,0 +1,33 @@
+// Elements of the page. Text enters the page here, and as text alone: nothing in these scripts makes markup of a text.
+"use strict";
+
+const at = (id) => document.getElementById(id);
+
+function element(name, properties = {}, ...children) {
+    const made = document.createElement(name);
+    for (const [key, value] of Object.entries(properties)) {
+        if (key.includes("-") || key === "role") made.setAttribute(key, value);
+        else made[key] = value;
+    }
+    made.append(...children);
+    return made;
+}
+
+// What the page says of what goes on, read aloud by a screen reader.
+function tell(words, bad = false) {
+    at("state").textContent = words;
+    at("state").classList.toggle("bad", bad);
+}
+
+// Tabs in a row: the arrow keys go from one to the next, and only the chosen one is reached by the Tab key.
+function arrowsIn(list, choose) {
+    list.addEventListener("keydown", (event) => {
+        const tabs = [...list.querySelectorAll('[role="tab"]')];
+        const now = tabs.indexOf(document.activeElement);
+        const to = { ArrowRight: now + 1, ArrowLeft: now - 1, Home: 0, End: tabs.length - 1 }[event.key];
+        if (now < 0 || to === undefined) return;
+        event.preventDefault();
+        choose((to + tabs.length) % tabs.length);
+        list.querySelector('[aria-selected="true"]').focus();
+    });
+}

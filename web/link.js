@@ -1,0 +1,56 @@
+// A link carries the program in its fragment, deflated, in base 64 of addresses. A browser does not send the fragment of an address.
+"use strict";
+
+const MOST_LINK_BYTES = 3 << 20;
+
+async function bytesThrough(bytes, stream, most) {
+    const reader = new Blob([bytes]).stream().pipeThrough(stream).getReader();
+    const parts = [];
+    let total = 0;
+    for (let it; !(it = await reader.read()).done; ) {
+        total += it.value.length;
+        if (total > most) throw new Error("too large");
+        parts.push(it.value);
+    }
+    return new Uint8Array(await new Blob(parts).arrayBuffer());
+}
+
+async function linkOf(json) {
+    const packed = await bytesThrough(encode(json), new CompressionStream("deflate-raw"), MOST_LINK_BYTES);
+    let letters = "";
+    for (let i = 0; i < packed.length; i += 8192) letters += String.fromCharCode(...packed.subarray(i, i + 8192));
+    return `${location.href.split("#")[0]}#${btoa(letters).replace(/\+/g, "-").replace(/\//g, "_").replace(/=+$/, "")}`;
+}
+
+// The program in the fragment, or undefined where there is none or it is no program.
+async function programOfLink() {
+    const fragment = location.hash.slice(1);
+    if (fragment === "") return undefined;
+    try {
+        const packed = Uint8Array.from(atob(fragment.replace(/-/g, "+").replace(/_/g, "/")), (it) => it.charCodeAt(0));
+        return programFrom(decode(await bytesThrough(packed, new DecompressionStream("deflate-raw"), MOST_LINK_BYTES)));
+    } catch {
+        return undefined;
+    }
+}
+
+// The address of the page becomes the link; where the browser lets it, it is copied, too.
+async function makeLink() {
+    const link = await linkOf(programText());
+    history.replaceState(null, "", link);
+    try {
+        await navigator.clipboard.writeText(link);
+        tell(`link copied (${link.length.toLocaleString("en")} letters)`);
+    } catch {
+        tell("the page's address is the link: copy it from there");
+    }
+}
+
+async function openLink() {
+    const found = await programOfLink();
+    if (found) openProgram(found);
+    else tell("this link holds no program", true);
+}
+
+at("link").onclick = makeLink;
+addEventListener("hashchange", openLink);

@@ -1,0 +1,102 @@
+// What stands in the machine's memory, by the conventions of docs/runtime.md: objects with the names of their classes and attributes, and the
+// stack as frames. Functions of a state, a listing and an outline; they peek at memory, and are called again once what they lacked is read.
+"use strict";
+
+const MOST_LETTERS = 80, MOST_PUSHED = 100, MOST_FRAMES = 40, FRAME_BYTES = 12;
+
+// Describes a word: { text, object } with the object's address where it is one.
+function described(word, { state, listing }) {
+    if (word === undefined || word === null) return { text: "" };
+    if (word === 0) return { text: "void" };
+    if (word >= TEXT_START && word < DATA_START) return { text: inText(word, listing) };
+    const found = classAt(word, { state, listing });
+    if (found === undefined) return { text: String(word | 0) };
+    if (found.name === "Int") return { text: `Int ${state.peek(word + 12) | 0}` };
+    if (found.name === "Bool") return { text: state.peek(word + 12) === 1 ? "true" : "false" };
+    if (found.name === "String") return { text: `"${lettersAt(word, state)}"` };
+    return { text: found.name, object: word, class: found };
+}
+
+function inText(address, listing) {
+    const unit = unitAt(listing, address);
+    if (unit === undefined) return hex(address);
+    return address === unit.from ? unit.name : `${unit.name} + ${address - unit.from}`;
+}
+
+// The class of the object at an address: before it stands -1, at it the tag, and behind that its table.
+function classAt(address, { state, listing }) {
+    const inData = address >= DATA_START && address < HEAP_START, inHeap = address >= HEAP_START && address < state.registers.gp;
+    if (address % 4 !== 0 || (!inData && !inHeap)) return undefined;
+    if (state.peek(address - 4) !== 0xffffffff) return undefined;
+    const found = listing.classes[state.peek(address)];
+    return found && state.peek(address + 8) === listing.labels.get(`${found.name}_dispTab`) ? found : undefined;
+}
+
+function lettersAt(address, state) {
+    const length = state.peek((state.peek(address + 12) ?? 0) + 12) ?? 0;
+    const bytes = [];
+    for (let i = 0; i < Math.min(length, MOST_LETTERS); i += 1) bytes.push(((state.peek(address + 16 + (i & ~3)) ?? 0) >>> (8 * (i % 4))) & 255);
+    const shown = decode(new Uint8Array(bytes)).replace(/[\n\t]/g, (it) => (it === "\n" ? "\\n" : "\\t"));
+    return length > MOST_LETTERS ? `${shown}…` : shown;
+}
+
+// A line of the view: a name, a word and what it is; the attributes below an object whose path is open.
+function entry(name, word, path, view) {
+    const { text, object, class: its } = described(word, view);
+    const made = { name, word, text, path, opens: its !== undefined && its.attributes > 0 };
+    if (!made.opens || !view.open.has(path)) return made;
+    const names = attributesOf(view.outline, its.name);
+    made.entries = Array.from({ length: its.attributes }, (_, i) => {
+        const called = names.length === its.attributes ? names[i].name : `attribute ${i + 1}`;
+        return entry(called, view.state.peek(object + 12 + 4 * i), `${path}.${i}`, view);
+    });
+    return made;
+}
+
+// A frame that stands: the words at its $fp are the caller's $s0 and $fp and the return address. Without a frame of its own a routine has no fp.
+function frameOf(unit, pc, fp, self, { state }) {
+    return { unit, pc, fp, self, caller: state.peek(fp), next: state.peek(fp + 4), returns: state.peek(fp + 8) };
+}
+
+// The innermost frame. That of a method is made by its first instructions, up to the one that sets $fp, and taken away by its last.
+function innermost(view) {
+    const { pc, sp, fp, s0, a0, ra } = view.state.registers;
+    const unit = unitAt(view.listing, pc);
+    if (!unit?.body || pc > unit.body[1]) return { unit, pc, caller: s0, next: fp, returns: ra };
+    if (pc < unit.body[0]) return { unit, pc, fp: pc === unit.from ? sp - FRAME_BYTES : sp, self: a0, caller: s0, next: fp, returns: ra };
+    return frameOf(unit, pc, fp, pc <= unit.leave ? s0 : undefined, view);
+}
+
+// The frames from the innermost one on: { title, place, entries }.
+function framesOf(view) {
+    const { state, listing } = view;
+    const error = listing.errorAt.get(unitAt(listing, state.registers.pc)?.from);
+    if (error) return [{ title: error, place: { file: listing.strings.get(state.registers.t8), line: state.registers.t9 }, entries: [] }];
+    const frames = [];
+    let it = innermost(view), below = state.registers.sp;
+    while (!state.ended && it.unit && it.unit.name !== "__start") {
+        if (frames.length === MOST_FRAMES) return [...frames, { title: "…", entries: [] }];
+        const entries = it.fp === undefined ? [] : frameWords(it, below, frames.length, view);
+        if (it.self !== undefined) entries.unshift(entry("self", it.self, `${frames.length}.self`, view));
+        frames.push({ title: it.unit.name, place: placeAt(listing, it.pc), entries });
+        if (it.fp !== undefined) below = it.fp + FRAME_BYTES + 4 * it.unit.formals;
+        const unit = unitAt(listing, it.returns);
+        it = unit?.body ? frameOf(unit, it.returns - 4, it.next, it.caller, view) : {};
+    }
+    return frames;
+}
+
+// The arguments by their names, and what was pushed in the body, the last at `below`.
+function frameWords({ unit, pc, fp }, below, number, view) {
+    const [owner, method] = unit.name.split(".");
+    const names = view.outline.get(owner)?.methods.find((it) => it.name === method)?.formals ?? [];
+    const entries = [];
+    for (let k = 0; k < unit.formals; k += 1) {
+        entries.push(entry(names[k] ?? `argument ${k + 1}`, view.state.peek(fp + FRAME_BYTES + 4 * (unit.formals - 1 - k)), `${number}.a${k}`, view));
+    }
+    const pushed = pushedAt(unit, pc, view);
+    for (let i = 0, address = fp - 4; address >= below && i < MOST_PUSHED; i += 1, address -= 4) {
+        entries.push(entry(pushed[i] ?? `pushed ${i + 1}`, view.state.peek(address), `${number}.p${i}`, view));
+    }
+    return entries;
+}

@@ -1,0 +1,28 @@
+"""What the browsers of chromium.py and firefox.py have in common. Neither needs a package beside Python's own."""
+import os
+import shutil
+import time
+
+# Seconds that a browser may take to begin.
+SLOW_START = 300
+
+
+class Failed(Exception):
+    """What is not as it should be."""
+
+
+class Missing(Exception):
+    """What this browser cannot do for a test."""
+
+
+def found(kind):
+    return next(filter(None, map(shutil.which, kind.NAMES)), None)
+
+
+def cleared(profile):
+    """Takes the profile away, in which processes that end still write for a moment."""
+    for _ in range(50):
+        shutil.rmtree(profile, ignore_errors=True)
+        if not os.path.exists(profile):
+            return
+        time.sleep(0.1)

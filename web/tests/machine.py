@@ -1,0 +1,217 @@
+"""The machine. Expected values stand in docs/debugger.md and docs/runtime.md, or come from `debug` itself."""
+from page import example, same, test
+
+TWO = ("p.cl", "class Main {\n  f(a : Int, b : Int) : Int {\n    a + b\n  };\n  main() : Object {\n    f(1, 2)\n  };\n};\n")
+
+
+def debugs(page, *files, input=""):
+    page.start(*files, input=input)
+    page.run("machine.labels.clear(); machine.open = new Set(['0.self']);")
+    page.click("tab-machine")
+    page.moved()
+
+
+def register(page, name):
+    return page.run(f"return hex(machine.state.registers.{name});")
+
+
+def frames(page):
+    """Each frame as its method, its line, and its entries as the page shows them."""
+    return page.run("""
+        const words = (one) => `${one.querySelector('.name').textContent} = ${one.querySelector('.name + span').textContent}`;
+        const line = (it) => Number(it.lastChild.textContent.split(':')[1]);
+        const entries = (it) => [...it.nextSibling.querySelectorAll('li')].map(words);
+        return [...at('frames').querySelectorAll('h3')].map((it) => [it.firstChild.textContent, line(it), entries(it)]);
+    """)
+
+
+def sample(page):
+    debugs(page, ("average.cl", example("average.cl")))
+
+
+@test("stops at a label, with the registers and objects that docs/debugger.md tells")
+def label(page):
+    sample(page)
+    page.run("at('label').value = 'Numbers.average';")
+    page.click("add-break")
+    same(page.moved("go-on"), "At line 14 of average.cl, in Numbers.average, after 346 instructions.")
+    same([register(page, it) for it in ("pc", "zero", "at", "v0", "v1", "a0")], ["0x004008c4"] + ["0x00000000"] * 4 + ["0x20000014"])
+    lines = page.run("return [...at('registers').children].map((it) => it.textContent);")
+    same([it for it in lines if it.startswith("$a0")], ["$a0   20000014  Numbers"])
+    same(frames(page)[0], ["Numbers.average", 14, ["self = Numbers", "sum = Int 12", "count = Int 0"]])
+
+
+@test("shows memory at an address, a label and a register, and the code around pc")
+def memory(page):
+    sample(page)
+    page.moved("into")
+    page.run("at('count').value = 346 - machine.state.steps;")
+    page.moved("step")
+    for address, line in ("0x20000020", "0x20000020  20000054"), ("0x20000060", "0x20000060  0000000c"), ("$a0 + 16", "0x20000024  1000016c"):
+        page.run(f"at('address').value = '{address}'; at('address').onchange();")
+        page.moved()
+        same(page.text("memory")[:20], line)
+    same(page.run("return at('code').querySelector('.here').textContent;"), "  004008c4  addiu $sp, $sp, -12")
+
+
+@test("steps on and back, and marks what changed")
+def back(page):
+    sample(page)
+    same(register(page, "pc"), "0x00400000")
+    page.run("at('count').value = 1;")
+    page.moved("step")
+    same(register(page, "pc"), "0x00400004")
+    page.run("at('count').value = 99;")
+    page.moved("step")
+    there = page.run("return machine.state.registers;")
+    page.run("at('count').value = 1;")
+    page.moved("step")
+    changed = page.run("return [...at('registers').querySelectorAll('.changed')].map((it) => it.firstChild.textContent.trim());")
+    now = page.run("return machine.state.registers;")
+    same(changed, [it if it == "pc" else "$" + it for it in now if now[it] != there[it]])
+    page.moved("back")
+    same(page.run("return machine.state.registers;"), there)
+    page.moved("previous")
+    same(page.run("return machine.state.steps;"), 101)
+
+
+@test("shows the frame of the example of docs/runtime.md")
+def frame(page):
+    debugs(page, TWO)
+    page.run("at('label').value = 'Main.f';")
+    page.click("add-break")
+    page.moved("go-on")
+    entering = [["Main.f", 3, ["self = Main", "a = Int 1", "b = Int 2"]], ["Main.main", 6, ["self = Main"]]]
+    same(frames(page), entering)
+    page.moved("step")
+    same(frames(page), entering)
+    page.run("at('count').value = 8;")
+    page.moved("step")
+    same([register(page, "fp"), register(page, "sp")], ["0x7fffffe0", "0x7fffffe0"])
+    page.run("at('address').value = '$fp'; at('address').onchange();")
+    page.moved()
+    words = page.run("return Array.from({ length: 5 }, (_, i) => hex(machine.state.peek(0x7fffffe0 + 4 * i)));")
+    same(words, ["0x20000004", "0x7ffffff4", "0x00400888", "0x1000037c", "0x10000368"])
+    same(frames(page), entering)
+
+
+@test("names what a method keeps on the stack: variables, left operands, arguments")
+def variables(page):
+    debugs(page, ("p.cl", """class Main {
+  g(x : Int) : Int { x };
+  f(o : Object, p : Int) : Int {
+    let s : String <- "é", k : Int in
+      case o of
+        all : Object => 0;
+        i : Int => k + (1 + g(p * 2) * 3);
+      esac
+  };
+  main() : Object { f(7, 5) };
+};
+"""))
+    page.run("at('label').value = 'Main.g';")
+    page.click("add-break")
+    page.moved("go-on")
+    same(frames(page)[1][:2], ["Main.f", 7])
+    named = ["self = Main", "o = Int 7", "p = Int 5", 's = "é"', "k = Int 0", "all or i = Int 7"]
+    same(frames(page)[1][2], named + ["left of + = Int 0", "left of + = Int 1"])
+
+
+@test("goes by lines: over calls, into them, out of them, and to breaks at lines")
+def lines(page):
+    sample(page)
+
+    def line(button):
+        words = page.moved(button)
+        return words.split(",")[0]
+    same([line("over") for _ in range(4)], [f"At line {it} of average.cl" for it in (20, 21, 22)] + ["Ends by an error: division by zero"])
+    same(line("over"), "The run has ended after 387 instructions.")
+    page.moved("restart")
+    same([line(it) for it in ("into", "into", "into", "out")], [f"At line {it} of average.cl" for it in (20, 9, 10, 21)])
+    page.run("toggleBreak(8); toggleBreak(14);")
+    page.moved("restart")
+    same([line("go-on") for _ in range(3)], ["At line 9 of average.cl", "At line 9 of average.cl", "Ends by an error: division by zero"])
+    same(page.run("return [...document.querySelectorAll('#gutter .here')].map((it) => it.textContent);"), ["14"])
+
+
+@test("stops at each of many calls that a line makes, and passes over those of others")
+def recursion(page):
+    debugs(page, ("p.cl", """class Main {
+  fib(n : Int) : Int {
+    if n < 2 then n else
+      fib(n - 1)
+      + fib(n - 2)
+    fi
+  };
+  main() : Object {{
+    fib(12);
+    fib(1);
+    1 + 1;
+  }};
+};
+"""))
+    page.run("toggleBreak(9);")
+    page.moved("go-on")
+    same([page.moved("over").split(",")[0] for _ in range(2)], ["At line 10 of p.cl", "At line 11 of p.cl"])
+    page.moved("restart")
+    page.run("toggleBreak(9); toggleBreak(4);")
+    same([page.moved("go-on").split(",")[0] for _ in range(3)], ["At line 4 of p.cl"] * 3)
+    same([it[0] for it in frames(page)], ["Main.fib", "Main.fib", "Main.fib", "Main.main"])
+    page.run("toggleBreak(4); toggleBreak(10);")
+    same(page.moved("go-on").split(",")[0], "At line 10 of p.cl")
+
+
+@test("goes back in a run of a million instructions")
+def far(page):
+    debugs(page, ("life.cl", "class Main { main() : Object { let i : Int in while i < 60000 loop i <- i + 1 pool }; };"))
+    page.run("at('count').value = 1000000;")
+    page.moved("step")
+    page.run("at('count').value = 1;")
+    page.moved("back")
+    same(page.run("return machine.state.steps;"), 999999)
+
+
+@test("uses the addresses that the machine has: of all labels of the examples")
+def addresses(page):
+    for name in "life.cl", "interpreter.cl":
+        debugs(page, (name, example(name)))
+        wrong = page.run("""
+            const { listing } = machine;
+            const labels = [...listing.labels].filter(([, address]) => address < DATA_START && listing.rowAt.has(address));
+            const { notes } = await debug(labels.map(([label]) => `list ${label} 1`), labels.length);
+            const data = [...listing.labels].filter(([label]) => /_protObj$|^(int|str|bool)_const|^__(name|length|default)/.test(label));
+            const { notes: words } = await debug(data.flatMap(([, at]) => [`show ${hex(at - 4)}`, `show ${hex(at + 8)}`]), 2 * data.length);
+            const tables = new Set([...listing.labels].filter(([label]) => label.endsWith('_dispTab')).map(([, at]) => at));
+            const isObject = (i) => words[2 * i].endsWith('0xffffffff') && tables.has(parseInt(words[2 * i + 1].slice(14), 16));
+            const elsewhere = labels.filter(([, at], i) => parseInt(notes[i].slice(2), 16) !== at);
+            return [labels.length > 90, data.length > 40, elsewhere, data.filter((_, i) => !isObject(i))];
+        """)
+        same(wrong, [True, True, [], []])
+
+
+@test("gives a debugged program its input, and shows its output so far")
+def talks(page):
+    text = 'class Main inherits IO { main() : Object {{\n out_string(in_string());\n out_string("!");\n out_int(in_int());\n}}; };'
+    debugs(page, ("p.cl", text), input="Ada\n7\n")
+    page.run("toggleBreak(4);")
+    page.moved("go-on")
+    same(page.text("so-far"), "Ada!")
+    page.run("toggleBreak(4);")
+    same(page.moved("go-on").split(" after")[0], "The run has ended")
+    same(page.text("so-far"), "Ada!7COOL program successfully executed\n")
+
+
+@test("stops a move that does not end, and begins anew when the program changes")
+def stopped(page):
+    debugs(page, ("p.cl", "class Main { main() : Object { while true loop 1 pool }; };"))
+    page.run("at('steps').value = 1e15;")
+    page.click("go-on")
+    page.wait("debugged.runs")
+    page.press("Escape", 27)
+    same(page.moved(), "stopped")
+    page.run("at('steps').value = 1000;")
+    same(page.moved("go-on"), "The step limit is reached after 1,000 instructions.")
+    page.run("text.focus(); text.select();")
+    page.type("class Main { main() : Int { 1 }; };")
+    page.checked()
+    same(page.moved("go-on").split(" after")[0], "The run has ended")
