@@ -149,9 +149,6 @@ pub record Climbing (p : List Class) (first now b : ClassId) : Type 0 where
   pub down : Below p now b → Below p first b
   pub up : Below p first b → Below p now b
 
-pub climbing_start : (p : List Class) (a b : ClassId) → a.0 < length p → Climbing p a a b
-climbing_start p a b within = record { within = within; down = λ h. h; up = λ h. h }
-
 pub climbing_step : (p : List Class) (depth : ClassId → ℕ) → IsGrounded p depth → (a now q b : ClassId) → now ≢ b → parent_of p now ≡ Some q → Climbing p a now b → Climbing p a q b
 climbing_step p depth g a now q b other e w = record {
   within = (g.above now q w.within e).0;

@@ -26,13 +26,6 @@ other_class r a b is h e =
     let t : eqb a.0 b.0 ≡ true = eq-eqb a.0 b.0 (ap (λ (c : ClassId). c.0) e) in
     true≢false (sym h ∙ is ∙ ap not t)
 
--- the entry of a class
-pub entry_there : (es : List Entry) (c : ClassId) → c.0 < length es → class_at (classes es) c ≡ as_class (get_or es c.0 no_entry)
-entry_there es c h = get_or-map as_class es c.0 no_entry nothing h
-
-pub class_here : (es : List Entry) (c : ClassId) (e : Entry) → c.0 < length es → e ≡ get_or es c.0 e → class_at (classes es) c ≡ as_class e
-class_here es c e h is = get_or-map as_class es c.0 e nothing h ∙ ap as_class (sym is)
-
 pub class_read : (es : List Entry) (c : ClassId) (d : Entry) → c.0 < length es → class_at (classes es) c ≡ as_class (get_or es c.0 d)
 class_read es c d h = get_or-map as_class es c.0 d nothing h
 

@@ -96,9 +96,6 @@ keeps_with : (t : Tree) (o : Option Feature) → Keeps (with_body t) o
 keeps_with t None = tt
 keeps_with t (Some x) = declare_with t x
 
-pub alike_with_body : (p : List Class) (n k : ℕ) (t : Tree) → AreAllAlike p (with_body_at p (class_number n) k t)
-alike_with_body p n k t = alike_changed p n k (with_body t) (keeps_with t (slice_get (features_of p (class_number n)) k))
-
 keeps_declared : (x : Feature) (o : Option Feature) → IsDeclaredBy x o → Keeps (λ (y : Feature). x) o
 keeps_declared x None h = tt
 keeps_declared x (Some y) h = h

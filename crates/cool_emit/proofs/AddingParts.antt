@@ -18,15 +18,6 @@ use Rattle.cool_emit.specs.declared.emission.Part.{Part}
 use Rattle.cool_emit.specs.declared.emission.Part.TheVariants.{Attributes, Methods}
 use Rattle.cool_emit.specs.Programs.{Placed, attributes_from, methods_from, placed_code}
 
--- lines that ask for no constants
-pub adds_lines : (files : List (List ℕ)) (t : Constants) (ls front behind : List Line) → behind ≡ front ++ ls
-    → Adds files [] (λ _. ls) t t front behind
-adds_lines files t ls front behind e = record { lines = λ g _. e; constants = refl }
-
--- nothing
-pub adds_nothing : (files : List (List ℕ)) (t : Constants) (ls : List Line) → Adds files [] (λ _. []) t t ls ls
-adds_nothing files t ls = adds_lines files t [] ls ls (sym (append-nil ls))
-
 -- the constants after a part extend those before it
 pub extended : (files : List (List ℕ)) (fs : List Placed) (code : Constants → List Line) (a b g : Constants)
     (x y : List Line) → Adds files fs code a b x y → Extends b g → Extends a g

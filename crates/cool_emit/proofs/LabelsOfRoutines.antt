@@ -34,10 +34,6 @@ routines_are_named = refl
 pub routine_named : (n : Name) → Contains routine_names n → Has all_routine_lines n
 routine_named n h = subst (λ ns. Contains ns n) (sym routines_are_named) h
 
--- the label of each routine, and each label within one
-pub start_there : Has all_routine_lines start_name
-start_there = routine_named start_name (place_there routine_names 0 start_name refl refl)
-
 pub copy_there : Has all_routine_lines copy
 copy_there = routine_named copy (place_there routine_names 1 copy refl refl)
 

@@ -59,11 +59,6 @@ few_more_strings files fs code a b x y h =
     let same : length b.strings ≡ _ = ap (λ (t : Constants). length t.strings) h.constants in
     omega (arith, same, few_with_strings a.strings (strings_asked files fs), few_strings_asked files fs)
 
--- the attributes of a class weigh little
-pub light_attributes : (p : List Class) (files : List (List ℕ)) → IsBuildable p files → (c : ClassId)
-    → total placed_weight (attributes_in p c) ≤ 1048602
-light_attributes p files b c = omega (arith, parts_weigh 0 (features_of p c), light_class p files b c)
-
 -- numbers of classes in two parts
 pub numbers_parts : (k a b m j : ℕ) → m ≡ a + b → j ≡ k + a → numbers_from k m ≡ numbers_from k a ++ numbers_from j b
 numbers_parts k zero b m j whole from =
@@ -73,17 +68,3 @@ numbers_parts k zero b m j whole from =
 numbers_parts k (suc a) b zero j whole from = absurd (omega arith)
 numbers_parts k (suc a) b (suc m) j whole from =
     ap (λ (cs : List ClassId). class_number k ∷ cs) (numbers_parts (k + 1) a b m j (omega arith) (omega arith))
-
--- and so do the first classes of a program
-pub light_classes : (p : List Class) (files : List (List ℕ)) → IsBuildable p files → (n : ℕ) → n ≤ length p
-    → total placed_weight (flat_map (class_features p) (numbers_from 0 n)) ≤ 1048602
-light_classes p files b n low =
-    let rest : ℕ = length p - n in
-    let parts : numbers_from 0 (length p) ≡ numbers_from 0 n ++ numbers_from n rest =
-    numbers_parts 0 n rest (length p) n (omega arith) (omega arith) in
-    let front = flat_map (class_features p) (numbers_from 0 n) in
-    let behind = flat_map (class_features p) (numbers_from n rest) in
-    let all : all_features p ≡ front ++ behind =
-    ap (flat_map (class_features p)) parts ∙ flat_map-append (class_features p) (numbers_from 0 n) (numbers_from n rest) in
-    let weight : total placed_weight (all_features p) ≡ total placed_weight (front ++ behind) = ap (total placed_weight) all in
-    omega (arith, weight, total-append placed_weight front behind, features_weigh p, table_weight p files b)

@@ -40,10 +40,6 @@ pub text_room-append : (xs ys : List Line) → text_room (xs ++ ys) ≡ text_roo
 text_room-append [] ys = omega arith
 text_room-append (x ∷ xs) ys = omega (arith, text_room-append xs ys)
 
-pub text_room-flat_map : {X : Type 0} (f : X → List Line) (xs : List X) → text_room (flat_map f xs) ≡ total (λ x. text_room (f x)) xs
-text_room-flat_map f [] = refl
-text_room-flat_map f (x ∷ xs) = omega (arith, text_room-append (f x) (flat_map f xs), text_room-flat_map f xs)
-
 -- pieces
 
 pub room_pop : text_room pop_lines ≡ 1

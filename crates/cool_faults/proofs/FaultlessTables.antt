@@ -117,10 +117,6 @@ settled ds os none depths = record {
 pub hierarchy_of : (ds : List ClassDef) → Hierarchy (parents_meant (names_with_basic ds) ds) (parents_within ds)
 hierarchy_of ds = hierarchy (parents_meant (names_with_basic ds) ds) (parents_within ds)
 
--- definitions have a list of the faults of classes
-pub class_phase_of : (ds : List ClassDef) → (fs : List ClassFault) × HasClassPhase ds fs
-class_phase_of ds = let h = hierarchy_of ds in (class_phase ds h.cyclic, (h.cyclic, h.cycles, refl))
-
 no_cyclic : (ds : List ClassDef) (ks : List ℕ) → cycle_faults ds ks ≡ [] → ks ≡ []
 no_cyclic ds [] e = refl
 no_cyclic ds (k ∷ ks) e = absurd (cc)

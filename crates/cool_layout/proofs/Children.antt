@@ -15,9 +15,6 @@ pub record AreRooted (p : List Class) (n : ℕ) : Type 0 where
   pub above : (c q : ClassId) → c.0 < n → parent_of p c ≡ Some q → q.0 < length p
   pub top : (c : ClassId) → c.0 < n → parent_of p c ≡ None → c ≡ class_number 0
 
-pub none_rooted : (p : List Class) → AreRooted p 0
-none_rooted p = record { above = λ c q l e. absurd (omega arith); top = λ c l e. absurd (omega arith) }
-
 before_next : (c : ClassId) (n : ℕ) → c.0 < n + 1 → (c.0 < n) ⊎ (c ≡ class_number n)
 before_next c n l = elim (cases_eq c.0 n) [ inl e ↦ inr (λ i. record { 0 = e i }) | inr e ↦ inl (omega arith) ]
 

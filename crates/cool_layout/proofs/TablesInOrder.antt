@@ -38,9 +38,6 @@ parent_tag p r c q within up =
     apart : (m n : ℕ) → n ≤ m → m ≢ n → n < m
     apart m n l other = omega arith
 
-pub top_tag : (p : List Class) → IsRooted p → (c : ClassId) → c.0 < length p → parent_of p c ≡ None → IsAbove p (tag p c) None
-top_tag p r c within top = ap (parent_of p) (at_tag p r c within).1 ∙ top
-
 pub above_in : (p : List Class) (k : ℕ) (o : Option ℕ) → IsAbove p k o → IfSome o (λ j. j < k)
 above_in p k None h = tt
 above_in p k (Some j) h = h.0
@@ -55,6 +52,3 @@ tables_more p n all t are low is = record {
     | inr other ↦ subst (IsTableAt p k) (sym (get_or_append_left all (t ∷ []) d k (let s = are.same in omega arith))) (are.tables k d (omega arith))
   ];
 }
-
-pub none_yet : (p : List Class) → AreTables p 0 []
-none_yet p = record { same = refl; low = omega arith; tables = λ k d l. absurd (omega arith) }

@@ -19,15 +19,6 @@ pub record Walking (p : List Class) (order : List ClassId) (next : List (Option 
   pub same : length next ≡ length order
   pub nexts : AreNext p order next
 
-pub walking_start : (p : List Class) → IsRooted p → Walking p [] [] (class_number 0 ∷ [])
-walking_start p r = record {
-  rooted = r;
-  split = append-nil (preorder p);
-  within = (object_in p r, tt);
-  same = refl;
-  nexts = λ k l. absurd (omega arith);
-}
-
 all_parts : (P : ClassId → Type 0) (xs ys : List ClassId) → AllByRecursion P (xs ++ ys) → AllByRecursion P xs × AllByRecursion P ys
 all_parts P [] ys all = (tt, all)
 all_parts P (x ∷ xs) ys all = let h = all_parts P xs ys all.1 in ((all.0, h.0), h.1)
@@ -124,9 +115,6 @@ fewer p order next waiting rest c popped w =
     let a : length (flat_map f (reverse (rest ++ reverse (children p c)))) ≡ length (below ++ after) = ap length new in
     let b : length (flat_map f (reverse waiting)) ≡ suc (length (below ++ after)) = ap length old in
     omega arith
-
-pub walking_end : (p : List Class) (order : List ClassId) (next : List (Option ClassId)) → Walking p order next [] → order ≡ preorder p
-walking_end p order next w = sym (append-nil order) ∙ w.split
 
 -- the class that waits last is one of the table
 pub last_within : (p : List Class) (order : List ClassId) (next : List (Option ClassId)) (waiting rest : List ClassId) (c : ClassId) → waiting ≡ rest ++ c ∷ [] → Walking p order next waiting → c.0 < length p

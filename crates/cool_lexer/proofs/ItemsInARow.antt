@@ -74,11 +74,6 @@ pub run_long : (r : Run) (ts : List Token) → r.length ≤ MOST_TOKENS → Fits
 run_long r [] h fits = h
 run_long r (t ∷ ts) h fits = run_long (run_after r t.kind) ts (no_longer (ends_run t.kind r.depth) r.length fits.0) fits.1
 
--- items end where they lead
-pub leads_length : (at : ℕ) (rest : List ℕ) (items : List Item) (to : ℕ) (left : List ℕ) → Leads at rest items to left → to + length left ≡ at + length rest
-leads_length at rest [] to left h = let l = ap length h.1 in omega arith
-leads_length at rest (i ∷ items) to left h = omega (arith, leads_length (at + i.size) (drop i.size rest) items to left h.2, h.1.within, length-drop i.size rest)
-
 -- an item makes one token at most
 one_at_most : (f : Form) (p : Place) → length (token_of f p) ≤ 1
 one_at_most Space p = omega arith

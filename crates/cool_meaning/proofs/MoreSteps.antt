@@ -180,9 +180,6 @@ giving_alike k h = metered_alike (λ x. x) (λ x. k + x) (λ x. x) as_is (with_m
 pub holding_alike : {A : Type 0} (k : ℕ) {d d' : Computation A} → Alike d d' → Alike (holding k d) (holding k d')
 holding_alike k h = metered_alike (λ x. x) (λ x. x) (λ x. k + x) as_is as_is (with_more k) h
 
-pub rule_alike : {A : Type 0} {d d' : Computation A} → Alike d d' → Alike (rule d) (rule d')
-rule_alike h = working_alike 1 (holding_alike 1 h)
-
 -- either of two
 pub if_alike : {A : Type 0} (b : Bool) {c c' d d' : Computation A} → Alike c c' → Alike d d' → Alike (if b then c else d) (if b then c' else d')
 if_alike true h k = h

@@ -18,7 +18,6 @@ pub mod FoldedTableIsTyped
 pub mod FoldedSizes
 pub mod FoldedWithin
 pub mod FoldedTableFits
-pub mod FoldsOfShapes
 pub mod TypesInScope
 pub mod ShrinkingFolds
 pub mod ClassesAbove

@@ -30,17 +30,11 @@ pub record Keeps {A : Type 0} (p : List Class) (b : ℕ) (w : World) (d d' : Com
 pub record Always {A : Type 0} (d d' : Computation A) : Type 0 where
   pub always : (s : State) (n : ℕ) → NoMore (d s n) (d' s n)
 
-pub keeps_always : {A : Type 0} {p : List Class} {b : ℕ} {w : World} {d d' : Computation A} → Always d d' → Keeps p b w d d'
-keeps_always h = record { keeps = λ s n less fits. h.always s n }
-
 pub keeps_same : {A : Type 0} {p : List Class} {b : ℕ} {w : World} (d : Computation A) → Keeps p b w d d
 keeps_same d = record { keeps = λ s n less fits. no_more_same (d s n) }
 
 pub keeps_then : {A : Type 0} {p : List Class} {b : ℕ} {w : World} {d e f : Computation A} → Keeps p b w d e → Always e f → Keeps p b w d f
 keeps_then {d = d} {e = e} {f = f} h k = record { keeps = λ s n less fits. no_more_then (d s n) (e s n) (f s n) (h.keeps s n less fits) (k.always s n) }
-
-pub always_then : {A : Type 0} {d e f : Computation A} → Always d e → Always e f → Always d f
-always_then {d = d} {e = e} {f = f} h k = record { always = λ s n. no_more_then (d s n) (e s n) (f s n) (h.always s n) (k.always s n) }
 
 -- One after the other
 
@@ -76,13 +70,6 @@ pub then_keeps : {A B : Type 0} {p : List Class} {b : ℕ} {w : World} {Q : Worl
     → ((w' : World) → Grown w w' → Keeps p b w' e e') → Keeps p b w (d >> e) (d' >> e')
 then_keeps {p = p} {b = b} {w = w} {Q = Q} {d = d} {d' = d'} {e = e} {e' = e'} sound h k = bind_keeps {Q = Q} {d = d} {d' = d'} {f = λ _. e} {f' = λ _. e'} sound h (λ w' v g q. k w' g)
 
-pub bind_always : {A B : Type 0} {d d' : Computation A} {f f' : A → Computation B} → Always d d' → ((v : A) → Always (f v) (f' v)) → Always (d >>= f) (d' >>= f')
-bind_always {d = d} {d' = d'} {f = f} {f' = f'} h k = record {
-  always = λ s n.
-      let one = h.always s n in
-      bind_by (d s n).outcome (d s n).work (d s n).words (d s n).peak (d' s n).work (d' s n).words (d' s n).peak (d' s n).outcome f f' one.outcome one.work one.words one.peak (λ v t left e. (k v).always t left);
-}
-
 -- The words
 
 pub working_keeps : {A : Type 0} {p : List Class} {b : ℕ} {w : World} {d d' : Computation A} (k : ℕ) → Keeps p b w d d' → Keeps p b w (working k d) (working k d')
@@ -102,15 +89,6 @@ holding_keeps k h = record {
 
 pub rule_keeps : {A : Type 0} {p : List Class} {b : ℕ} {w : World} {d d' : Computation A} → Keeps p b w d d' → Keeps p b w (rule d) (rule d')
 rule_keeps h = working_keeps 1 (holding_keeps 1 h)
-
-pub rule_always : {A : Type 0} {d d' : Computation A} → Always d d' → Always (rule d) (rule d')
-rule_always h = record {
-  always = λ s n. let one = h.always s n in let a = one.work in let c = one.peak in record { outcome = one.outcome; work = omega arith; words = one.words; peak = omega arith };
-}
-
--- a rule less
-pub rule_gone : {A : Type 0} (d : Computation A) → Always (rule d) d
-rule_gone d = record { always = λ s n. record { outcome = refl; work = omega arith; words = omega arith; peak = omega arith } }
 
 spend_by : {A : Type 0} {p : List Class} {b : ℕ} {w : World} (d d' : Computation A) → ((m : ℕ) → m < b → Keeps p m w d d') → (s : State) (n : ℕ) → n ≤ b → AllFit p w s.store w → NoMore (spend d s n) (spend d' s n)
 spend_by d d' h s zero less fits = record { outcome = refl; work = omega arith; words = omega arith; peak = omega arith }

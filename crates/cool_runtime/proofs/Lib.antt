@@ -27,4 +27,3 @@ pub mod Measuring
 pub mod MeaningsMet
 pub mod Starting
 pub mod Naming
-pub mod WritingFive

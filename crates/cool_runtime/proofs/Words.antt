@@ -42,10 +42,6 @@ byte_set m a v = grind arith
 pub byte_kept : (m : Bytes) (a v q : ℕ) → q ≢ a → set_byte m a v q ≡ m q
 byte_kept m a v q h = grind arith
 
-pub word_beside : (m : Bytes) (a b v : ℕ) → (a < b) ⊎ (b + 4 ≤ a) → word (set_byte m a v) b ≡ word m b
-unfolding word
-word_beside m a b v h = grind arith
-
 -- equal parts
 pub store_eq : (m m' : Bytes) (a a' v v' : ℕ) → a ≡ a' → v ≡ v' → m ≡ m' → set_word m a v ≡ set_word m' a' v'
 store_eq m m' a a' v v' p q r = cc

@@ -63,10 +63,6 @@ short_lexed files ls h small = all_short ls (tokens_few 0 files ls (all_found Is
 pub few_files : (files : List (List ℕ)) (ls : List Lexed) (p : List Class) → IsRead files ls p → length files ≤ MOST_FILES → length ls < 4294967296
 few_files files ls p h few = few_lexed files ls h.lexed few
 
-pub short_files : (files : List (List ℕ)) (ls : List Lexed) (p : List Class) → IsRead files ls p → total files ≤ MOST_SOURCE_BYTES
-    → AllByRecursion HasFewTokens ls
-short_files files ls p h small = short_lexed files ls h.lexed small
-
 -- Files come to be typed in one way
 
 one_features : (file : ℕ) (files : List (List ℕ)) (fs gs : List (List TokenKind)) → HaveFeatures file files fs → HaveFeatures file files gs → fs ≡ gs

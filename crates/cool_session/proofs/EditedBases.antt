@@ -227,10 +227,6 @@ asked_once files now base before after is read fresh = record {
       (λ (h : IsRead files now.lexed.items now.classes). let n = fresh_once files now h base 1 fresh count later types in omega (arith, n));
 }
 
--- one that was not asked too
-pub never_asked : (files : List (List ℕ)) (base : Option Base) (before : ℕ) → IsAskedWithin files base before before
-never_asked files base before = record { number = 0; asked = refl; most = λ count later types. omega arith }
-
 -- What a typer answers of a feature of tokens is to be kept of it, where it is merely known to be one.
 pub kept_merely : (tokens run : List Token) (r : Checked (Unit {0})) (x : Feature) (kept : Option KeptFault) → tokens ≡ run
     → (IsFeature tokens x → IsKeptOf tokens r kept) → ∥ IsFeature run x ∥₁ → IsKeptOf run r kept

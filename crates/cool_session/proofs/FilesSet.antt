@@ -9,10 +9,6 @@ use Rattle.cool_session.specs.declared.error.SetError.{SetError}
 use Rattle.cool_session.specs.declared.error.SetError.TheVariants.{TooMany, TooLarge}
 use Rattle.cool_session.specs.Files.{placed, length_at, position_from, position, room, set_room}
 
-pub placed_map : {X Y : Type 0} (f : X → Y) (place : Option ℕ) (xs : List X) (x : X) → map f (placed place xs x) ≡ placed place (map f xs) (f x)
-placed_map f None xs x = map-append f xs (x ∷ [])
-placed_map f (Some k) xs x = map-set f xs k x
-
 pub removed_map : {X Y : Type 0} (f : X → Y) (xs : List X) (k : ℕ) → map f (remove xs k) ≡ remove (map f xs) k
 removed_map f [] zero = refl
 removed_map f [] (suc k) = refl

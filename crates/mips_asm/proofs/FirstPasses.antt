@@ -195,14 +195,6 @@ taken_more old new taken line none same fine table items position number h =
     subst (λ (fault : Option AsmFault). IsPassed fault new (taken ++ line ∷ [])) (sym (same ∙ none_at old.fault none))
     (passed_more old new taken line (passed old taken (none_at old.fault none) h) fine table items position number)
 
--- a line with a fault
-pub taken_fault : (old new : FirstPass) (taken : List Line) (line : Line) (fault : AsmFault) → is_some old.fault ≡ false → new.fault ≡ Some fault
-    → defining_fault (names_of (shown old.table.entries)) (position_of old.position) line ≡ Some fault.kind → fault.line ≡ old.lines + 1
-    → HasTaken old taken → HasTaken new (taken ++ line ∷ [])
-taken_fault old new taken line fault none here some number h =
-    subst (λ (found : Option AsmFault). IsPassed found new (taken ++ line ∷ [])) (sym here)
-    (passed_fault old taken line fault (passed old taken (none_at old.fault none) h) some number)
-
 -- the fault of lines
 pub fault_of_taken : (pass : FirstPass) (taken : List Line) (fault : AsmFault) → pass.fault ≡ Some fault → HasTaken pass taken
     → first_pass [] start_position 1 taken ≡ Some fault

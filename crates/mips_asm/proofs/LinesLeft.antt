@@ -31,11 +31,6 @@ pub left_here : (place : Name → Option Place) (all rest : List Line) (a : Asse
     → Assembled place all rest a.number a.output.text.items a.output.bytes.items a.output.segment
 left_here place all rest a none left = subst (λ (fault : Option AsmFault). LeftBy fault place all rest a) none left.state
 
--- the fault, where there is one
-pub left_fault : (place : Name → Option Place) (all rest : List Line) (a : Assembly) (fault : AsmFault) → a.fault ≡ Some fault → IsLeft place all rest a
-    → second_pass (place_of all) start_position 1 all ≡ Some fault
-left_fault place all rest a fault some left = subst (λ (found : Option AsmFault). LeftBy found place all rest a) some left.state
-
 -- no fault, by a test
 pub left_now : (place : Name → Option Place) (all rest : List Line) (a : Assembly) → is_some a.fault ≡ false → IsLeft place all rest a
     → Assembled place all rest a.number a.output.text.items a.output.bytes.items a.output.segment

@@ -27,12 +27,6 @@ get_or_same [] i d e h = absurd (omega arith)
 get_or_same (x ∷ xs) zero d e h = refl
 get_or_same (x ∷ xs) (suc i) d e h = let less : i < length xs = omega arith in get_or_same xs i d e less
 
--- an element that is looked up, and copied
-pub copied_there : {X : Type 0} (r : Option (Bor X)) (xs : List X) (i : ℕ) → is_some r ≡ nat_lt i (length xs) → IfSome r (λ x. x.now ≡ get_or xs i x.now)
-    → option_copied r ≡ slice_get xs i
-copied_there None xs i some at = sym (slice_get_past xs i (ltb-false i (length xs) (sym some)))
-copied_there (Some x) xs i some at = ap Some at ∙ sym (slice_get-get_or xs i x.now (ltb-true i (length xs) (sym some)))
-
 -- the numbers of the lines from an index on are in their ranges
 ranges_rest : (lines : List declared_line.Line) (k : ℕ) → AreInRange (lines_of lines) → AreInRange (lines_of (drop k lines))
 ranges_rest lines zero h = h

@@ -4,4 +4,3 @@ pub mod DecodedIsItsWord
 pub mod DecodingWords
 pub mod RunsInParts
 pub mod OutputGrows
-pub mod WalkingText

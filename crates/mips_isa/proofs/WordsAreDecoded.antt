@@ -234,21 +234,3 @@ not_a_word word i none range same =
     let some : decoded (word_of i) ≡ Some i = decoded-word_of i range in
     let moved : decoded (word_of i) ≡ decoded word = ap decoded same in
     cc
-
--- the word of an instruction in range has 32 bits
-pub word_of-small : (i : Instr) → InRange i → word_of i < 4294967296
-word_of-small (Three op rd rs rt) h = omega (arith, three_small op)
-word_of-small (Shift op rd rt sh) h = omega (arith, shift_small op)
-word_of-small (ShiftReg op rd rt rs) h = omega (arith, shift_reg_small op)
-word_of-small (Jr rs) h = omega arith
-word_of-small (Jalr rd rs) h = omega arith
-word_of-small Syscall h = omega arith
-word_of-small (MoveFrom op rd) h = omega (arith, from_small op)
-word_of-small (MoveTo op rs) h = omega (arith, to_small op)
-word_of-small (MulDiv op rs rt) h = omega (arith, mul_div_small op)
-word_of-small (Imm op rt rs imm) h = omega (arith, imm_small op)
-word_of-small (Lui rt imm) h = omega arith
-word_of-small (BranchTwo op rs rt imm) h = omega (arith, two_small op)
-word_of-small (BranchOne op rs imm) h = omega (arith, one_small op)
-word_of-small (Jump op index) h = omega (arith, jump_small op)
-word_of-small (Mem op rt rs imm) h = omega (arith, mem_small op)

@@ -27,14 +27,3 @@ line_more lines next rest line behind total e f inv =
 pub lines_read : (lines : List declared_line.Line) (bytes rest : List ℕ) → length rest ≤ 0 → map Ok (lines_of lines) ++ readings rest ≡ readings bytes → Reads bytes (lines_of lines)
 lines_read lines bytes [] h inv = sym inv ∙ append-nil (map Ok (lines_of lines))
 lines_read lines bytes (b ∷ bs) h inv = absurd (omega arith)
-
--- a line is at fault
-pub fault_met : (lines : List declared_line.Line) (bytes rest line behind : List ℕ) (fault : AsmFault) → lines_in rest ≡ line ∷ lines_in behind → line_read (words_of line) ≡ Err fault.kind → fault.line ≡ length lines + 1 → map Ok (lines_of lines) ++ readings rest ≡ readings bytes → FirstFault bytes fault
-fault_met lines bytes rest line behind fault e f n inv =
-    let one : readings rest ≡ Err fault.kind ∷ readings behind = readings_cut rest line behind e ∙ ap (λ r. r ∷ readings behind) f in
-    record {
-      good = lines_of lines;
-      rest = readings behind;
-      readings_are = sym inv ∙ ap (λ l. map Ok (lines_of lines) ++ l) one;
-      line = n ∙ ap (λ k. k + 1) (sym (length-map lines line_of));
-    }

@@ -11,12 +11,6 @@ goes_on breaks text b most left s t u within some goes free steps =
     let next : suc (most - left) ≡ most - (left - 1) = omega (arith, within, some) in
     subst (λ k. Goes breaks text b k s u) next (t, goes, free, steps)
 
--- none yet
-pub goes_none : (breaks : ℕ → Bool) (text : List ℕ) (b : Segments) (most : ℕ) (s t : Core) → t ≡ s → Goes breaks text b (most - most) s t
-goes_none breaks text b most s t same =
-    let none : 0 ≡ most - most = omega arith in
-    subst (λ k. Goes breaks text b k s t) none same
-
 -- addresses at which a run stops, fewer of them
 pub goes_less : (p q : ℕ → Bool) (text : List ℕ) (b : Segments) (n : ℕ) (s t : Core) → ((a : ℕ) → p a ≡ false → q a ≡ false) → Goes p text b n s t → Goes q text b n s t
 goes_less p q text b zero s t fewer goes = goes

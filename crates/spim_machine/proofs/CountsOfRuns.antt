@@ -13,10 +13,6 @@ counted_some (Running s) later = omega arith
 counted_some (Exited code s) later = omega arith
 counted_some (Trapped trap s) later = omega arith
 
--- so that the run moves where its budget is not spent
-pub moved_some : (breaks : ℕ → Bool) (text : List ℕ) (b : Segments) (n : ℕ) (s : State) → 0 < moved breaks text b (suc n) s
-moved_some breaks text b n s = counted_some (cycle text b s) (before_break breaks text b n)
-
 -- but by no more than its budget
 counted_within : (o : Outcome) (later : State → ℕ) (n : ℕ) → ((s : State) → later s ≤ n) → counted o later ≤ suc n
 counted_within (Running s) later n within = let here : later s ≤ n = within s in omega arith
@@ -35,10 +31,6 @@ before_within breaks text b (suc n) s =
 pub moved_within : (breaks : ℕ → Bool) (text : List ℕ) (b : Segments) (n : ℕ) (s : State) → moved breaks text b n s ≤ n
 moved_within breaks text b zero s = omega arith
 moved_within breaks text b (suc n) s = counted_within (cycle text b s) (before_break breaks text b n) n (before_within breaks text b n)
-
--- where the budget is spent, or pc is a break address, no instruction is left
-pub before_spent : (breaks : ℕ → Bool) (text : List ℕ) (b : Segments) (n : ℕ) (s : State) → n ≡ 0 → before_break breaks text b n s ≡ 0
-before_spent breaks text b n s spent = ap (λ i. before_break breaks text b i s) spent
 
 pub moved_spent : (breaks : ℕ → Bool) (text : List ℕ) (b : Segments) (n : ℕ) (s : State) → n ≡ 0 → moved breaks text b n s ≡ 0
 moved_spent breaks text b n s spent = ap (λ i. moved breaks text b i s) spent

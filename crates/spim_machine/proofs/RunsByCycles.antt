@@ -56,23 +56,3 @@ noted_counts text b n s first (halts.Trap trap) m left held halted ran = refl
 noted_counts text b n s first halts.StepLimit m left held halted ran = refl
 noted_counts text b n s first halts.ReadFault m left held halted (at, comes, (fails, parts)) = refl
 noted_counts text b n s first halts.WriteFault m left held halted (at, comes, (fails, parts)) = refl
-
--- the faults of the last instruction are those of the run
-pub counted_on : (halt : Halt) (s mid s' k mid' k' : ℕ) → mid ≡ s → mid' ≡ k → Counted halt mid s' mid' k' → Counted halt s s' k k'
-counted_on halt s mid s' k mid' k' source sink counted =
-    subst (λ (i : ℕ). Counted halt i s' k k') source (subst (λ (j : ℕ). Counted halt mid s' j k') sink counted)
-
--- an end is no spent budget: it is what a further run answers
-pub halted_is : (halt : Halt) (s s' k k' : ℕ) → CountedIf (Err halt) s s' k k' → Some halt ≡ halted_by halt
-halted_is (halts.Exit code) s s' k k' counted = refl
-halted_is (halts.Trap trap) s s' k k' counted = refl
-halted_is halts.StepLimit s s' k k' counted = absurd counted
-halted_is halts.ReadFault s s' k k' counted = refl
-halted_is halts.WriteFault s s' k k' counted = refl
-
-pub counted_end : (halt : Halt) (s s' k k' : ℕ) → CountedIf (Err halt) s s' k k' → Counted halt s s' k k'
-counted_end (halts.Exit code) s s' k k' counted = counted
-counted_end (halts.Trap trap) s s' k k' counted = counted
-counted_end halts.StepLimit s s' k k' counted = absurd counted
-counted_end halts.ReadFault s s' k k' counted = counted
-counted_end halts.WriteFault s s' k k' counted = counted
