@@ -1,4 +1,4 @@
-//! Laws on checking: no table that the rules type has a typing fault, and an expression has one type at most.
+//! Laws on checking: a table and a feature have no fault exactly where the rules type them, and an expression has one type at most.
 
 ghost use Rattle.cool_check.specs.Laws.{HasOneType, IsCheckedWhereTyped, IsFaultlessWhereTyped};
 
