@@ -1,2 +1,2 @@
 mod LinesInOrder
-pub mod TextIsLong
+mod TextIsLong

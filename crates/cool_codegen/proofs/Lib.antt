@@ -1,14 +1,14 @@
 pub mod AttributesOfClasses
-pub mod WholeBodies
-pub mod OperationsAsk
-pub mod VariablesHave
-pub mod CodeByNumbers
-pub mod ConstantsKept
+mod WholeBodies
+mod OperationsAsk
+mod VariablesHave
+mod CodeByNumbers
+mod ConstantsKept
 pub mod NumbersAgree
-pub mod NodesThere
-pub mod ArmsInOrder
+mod NodesThere
+mod ArmsInOrder
 pub mod FeaturesThere
-pub mod NatsAreEqual
-pub mod NumbersStay
-pub mod SameSettings
-pub mod VariablesInOrder
+mod NatsAreEqual
+mod NumbersStay
+mod SameSettings
+mod VariablesInOrder

@@ -1,2 +1,2 @@
-pub mod MoreLines
-pub mod StringKeys
+mod MoreLines
+mod StringKeys

@@ -1,44 +1,44 @@
-pub mod LabelsSeenOnce
+mod LabelsSeenOnce
 pub mod RoomOfLines
 pub mod SoundLinesAssemble
 pub mod RootedTables
-pub mod Totals
-pub mod ClassesInTurn
-pub mod ConstantsAsked
-pub mod RoomOfPieces
-pub mod RoomOfText
-pub mod StringsOnce
-pub mod SlotsInLimits
-pub mod TotalsByTag
-pub mod RoomOfData
+mod Totals
+mod ClassesInTurn
+mod ConstantsAsked
+mod RoomOfPieces
+mod RoomOfText
+mod StringsOnce
+mod SlotsInLimits
+mod TotalsByTag
+mod RoomOfData
 pub mod LabelsOfParts
-pub mod LabelsOfRoutines
+mod LabelsOfRoutines
 pub mod LabelsThere
-pub mod ConstantsThere
+mod ConstantsThere
 pub mod FixedNamesThere
 pub mod ConstantsInRange
-pub mod DataOfPrograms
+mod DataOfPrograms
 pub mod TextOfPieces
-pub mod TextOfParts
-pub mod TextOfCode
-pub mod TextOfFeatures
-pub mod TextOfRoutines
-pub mod NamesMeant
-pub mod LowNumbers
-pub mod TextOfPrograms
-pub mod AddingParts
-pub mod ResultsOfCalls
+mod TextOfParts
+mod TextOfCode
+mod TextOfFeatures
+mod TextOfRoutines
+mod NamesMeant
+mod LowNumbers
+mod TextOfPrograms
+mod AddingParts
+mod ResultsOfCalls
 pub mod CountedNames
 pub mod NamesApart
 pub mod LabelsOfCode
 pub mod NamesOfClasses
-pub mod MethodsInPlace
-pub mod LabelsOfFeatures
-pub mod LabelsOfClasses
-pub mod RoutineLabelsApart
-pub mod LabelsOfData
-pub mod LabelsAreDifferent
+mod MethodsInPlace
+mod LabelsOfFeatures
+mod LabelsOfClasses
+mod RoutineLabelsApart
+mod LabelsOfData
+mod LabelsAreDifferent
 pub mod ProgramsAreSound
-pub mod PartsAreLight
-pub mod SectionsInTurn
-pub mod PassesEnd
+mod PartsAreLight
+mod SectionsInTurn
+mod PassesEnd

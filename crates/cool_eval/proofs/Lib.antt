@@ -1,32 +1,32 @@
-pub mod ArgumentsLocated
-pub mod AttributesInTables
-pub mod ClassesByName
-pub mod CopiedObjects
-pub mod ErrorsEnd
-pub mod GivenValues
-pub mod Growth
-pub mod LayoutsOfTables
-pub mod LoadedValues
-pub mod LocalsAtEnd
-pub mod LocationsOfNames
-pub mod MethodsAct
-pub mod MethodsCalled
-pub mod NearestBranches
-pub mod NewLocations
-pub mod NewObjects
-pub mod NoStepLeft
+mod ArgumentsLocated
+mod AttributesInTables
+mod ClassesByName
+mod CopiedObjects
+mod ErrorsEnd
+mod GivenValues
+mod Growth
+mod LayoutsOfTables
+mod LoadedValues
+mod LocalsAtEnd
+mod LocationsOfNames
+mod MethodsAct
+mod MethodsCalled
+mod NearestBranches
+mod NewLocations
+mod NewObjects
+mod NoStepLeft
 pub mod PartsOfRuns
-pub mod PropertiesOfMeanings
-pub mod QuietFrames
-pub mod QuietSteps
-pub mod RunBegins
-pub mod RunEnds
-pub mod RunSoFar
-pub mod RunsMean
-pub mod Stacks
-pub mod SteadySteps
-pub mod StepsMean
-pub mod StepsOnDevices
-pub mod StoredValues
-pub mod TakingLines
-pub mod WrappedDigits
+mod PropertiesOfMeanings
+mod QuietFrames
+mod QuietSteps
+mod RunBegins
+mod RunEnds
+mod RunSoFar
+mod RunsMean
+mod Stacks
+mod SteadySteps
+mod StepsMean
+mod StepsOnDevices
+mod StoredValues
+mod TakingLines
+mod WrappedDigits

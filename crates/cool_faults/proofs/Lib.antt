@@ -1,23 +1,23 @@
 pub mod AcceptedFiles
 pub mod AllItems
-pub mod AlwaysOneVerdict
+mod AlwaysOneVerdict
 pub mod DefinitionsOfTrees
-pub mod EarlyRefusals
-pub mod EarlyVerdicts
-pub mod FaultlessTables
-pub mod FilesRead
+mod EarlyRefusals
+mod EarlyVerdicts
+mod FaultlessTables
+mod FilesRead
 pub mod FindingsInARow
-pub mod HierarchiesFound
-pub mod LexicalFaults
-pub mod MeantTables
-pub mod OneOrder
-pub mod OneStanding
+mod HierarchiesFound
+mod LexicalFaults
+mod MeantTables
+mod OneOrder
+mod OneStanding
 pub mod OneVerdict
 pub mod OrderOfFaults
-pub mod PlacedFaultLists
-pub mod RowsOfFiles
-pub mod SlicesParsed
-pub mod SortedFaults
+mod PlacedFaultLists
+mod RowsOfFiles
+mod SlicesParsed
+mod SortedFaults
 pub mod SyntaxFaults
-pub mod TablesFit
+mod TablesFit
 pub mod VerdictsOfPhases

@@ -1,22 +1,22 @@
 pub mod ShortChains
 pub mod Counting
-pub mod Families
+mod Families
 pub mod TagRanges
-pub mod Children
-pub mod Walking
-pub mod LastTags
-pub mod TagsNoted
+mod Children
+mod Walking
+mod LastTags
+mod TagsNoted
 pub mod AttributePlaces
-pub mod BasicMethods
-pub mod KeptOffsets
+mod BasicMethods
+mod KeptOffsets
 pub mod SlotNames
-pub mod TablesGrow
-pub mod FindingSlots
-pub mod TablesStart
-pub mod TablesInOrder
+mod TablesGrow
+mod FindingSlots
+mod TablesStart
+mod TablesInOrder
 pub mod KeptSlots
-pub mod ClassesByTag
+mod ClassesByTag
 pub mod BasicNames
 pub mod MethodsThere
-pub mod AttributesThere
-pub mod AttributesCounted
+mod AttributesThere
+mod AttributesCounted

@@ -1,36 +1,36 @@
-pub mod NoMoreMeters
-pub mod Rows
-pub mod FoldedCalls
-pub mod TypesGiven
-pub mod OnlyMethods
-pub mod FoldedDispatches
-pub mod FoldedExpressions
-pub mod FoldedTypes
-pub mod SameShapes
+mod NoMoreMeters
+mod Rows
+mod FoldedCalls
+mod TypesGiven
+mod OnlyMethods
+mod FoldedDispatches
+mod FoldedExpressions
+mod FoldedTypes
+mod SameShapes
 pub mod FoldedTables
-pub mod FoldedRuns
+mod FoldedRuns
 pub mod FoldedPrograms
-pub mod NothingLeft
-pub mod FoldedFeatures
-pub mod TypesOfShapes
-pub mod TypingOfShapes
+mod NothingLeft
+mod FoldedFeatures
+mod TypesOfShapes
+mod TypingOfShapes
 pub mod FoldedTableIsTyped
-pub mod FoldedSizes
-pub mod FoldedWithin
-pub mod FoldedTableFits
-pub mod TypesInScope
-pub mod ShrinkingFolds
-pub mod ClassesAbove
-pub mod NodesPlaced
-pub mod ShrunkSizes
-pub mod FoldedRows
-pub mod ScopesEntered
-pub mod FoldedConditionals
-pub mod PartsPlaced
-pub mod FoldedForms
-pub mod FoldedWholes
-pub mod FoldedBodies
-pub mod DefinersGrow
-pub mod ExpressionsLeft
-pub mod ReplacedExpressions
-pub mod PartsOfForms
+mod FoldedSizes
+mod FoldedWithin
+mod FoldedTableFits
+mod TypesInScope
+mod ShrinkingFolds
+mod ClassesAbove
+mod NodesPlaced
+mod ShrunkSizes
+mod FoldedRows
+mod ScopesEntered
+mod FoldedConditionals
+mod PartsPlaced
+mod FoldedForms
+mod FoldedWholes
+mod FoldedBodies
+mod DefinersGrow
+mod ExpressionsLeft
+mod ReplacedExpressions
+mod PartsOfForms

@@ -3,16 +3,16 @@ pub mod Runs
 pub mod Walking
 pub mod Words
 pub mod Strings
-pub mod Printing
+mod Printing
 pub mod Allocating
 pub mod Objects
 pub mod Pieces
-pub mod Reading
+mod Reading
 pub mod Copying
 pub mod CopiedObjects
-pub mod Building
+mod Building
 pub mod MadeStrings
-pub mod Joining
+mod Joining
 pub mod JoinedStrings
 pub mod PlacesOfLabels
 pub mod LinesOfImages
@@ -20,10 +20,10 @@ pub mod DataOfImages
 pub mod LinesOfInput
 pub mod ReadingStrings
 pub mod Cutting
-pub mod Errors
-pub mod Comparing
+mod Errors
+mod Comparing
 pub mod Calling
-pub mod Measuring
+mod Measuring
 pub mod MeaningsMet
 pub mod Starting
-pub mod Naming
+mod Naming

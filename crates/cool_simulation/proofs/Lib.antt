@@ -1,5 +1,5 @@
-pub mod ground
-pub mod forms
-pub mod calls
-pub mod loading
+mod ground
+mod forms
+mod calls
+mod loading
 pub mod theorem

@@ -1,3 +1,3 @@
-pub mod FoundValues
-pub mod NoNumbers
-pub mod ParsedWords
+mod FoundValues
+mod NoNumbers
+mod ParsedWords

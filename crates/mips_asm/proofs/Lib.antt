@@ -1,14 +1,14 @@
-pub mod SmallUnits
-pub mod LabelTables
+mod SmallUnits
+mod LabelTables
 pub mod LoopRests
-pub mod FirstPasses
+mod FirstPasses
 pub mod LinePlaces
-pub mod PlacesOfMarks
-pub mod LinesLeft
-pub mod Completions
+mod PlacesOfMarks
+mod LinesLeft
+mod Completions
 pub mod Targets
-pub mod ItemsLeft
+mod ItemsLeft
 pub mod Assembled
 pub mod AllAssembled
-pub mod WordsOfText
-pub mod LabelsOfText
+mod WordsOfText
+mod LabelsOfText

@@ -1,4 +1,4 @@
 pub mod ReadingParts
 pub mod ImagesAreRead
 pub mod ReadingIsImage
-pub mod ReadingImages
+mod ReadingImages

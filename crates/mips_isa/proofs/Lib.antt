@@ -1,6 +1,6 @@
-pub mod JoiningFields
+mod JoiningFields
 pub mod WordsAreDecoded
 pub mod DecodedIsItsWord
-pub mod DecodingWords
+mod DecodingWords
 pub mod RunsInParts
 pub mod OutputGrows

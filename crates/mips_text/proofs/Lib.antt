@@ -1,29 +1,29 @@
-pub mod CappedNumbers
-pub mod CutTexts
-pub mod FrontsAreLongest
-pub mod KindsOfReading
-pub mod LabelsOfLines
-pub mod LinesOfTexts
-pub mod Longest
-pub mod LongestNumbers
-pub mod LongestStrings
-pub mod LongestWords
-pub mod LongestWordsAreThere
-pub mod MissingOperands
-pub mod NamedMnemonics
+mod CappedNumbers
+mod CutTexts
+mod FrontsAreLongest
+mod KindsOfReading
+mod LabelsOfLines
+mod LinesOfTexts
+mod Longest
+mod LongestNumbers
+mod LongestStrings
+mod LongestWords
+mod LongestWordsAreThere
+mod MissingOperands
+mod NamedMnemonics
 pub mod OneReading
-pub mod Prefixes
-pub mod PrintedInstructions
+mod Prefixes
+mod PrintedInstructions
 pub mod PrintedLines
-pub mod PrintedParts
-pub mod ReadLines
-pub mod ReadLinesArePrintable
-pub mod ReadingTables
-pub mod SpelledNumbers
-pub mod SpelledRegisters
-pub mod SpelledRows
-pub mod SpelledStrings
-pub mod SpelledWords
-pub mod SpellingRows
-pub mod StatementsInRange
-pub mod WordsBehind
+mod PrintedParts
+mod ReadLines
+mod ReadLinesArePrintable
+mod ReadingTables
+mod SpelledNumbers
+mod SpelledRegisters
+mod SpelledRows
+mod SpelledStrings
+mod SpelledWords
+mod SpellingRows
+mod StatementsInRange
+mod WordsBehind

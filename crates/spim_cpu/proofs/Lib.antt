@@ -1,5 +1,5 @@
-pub mod JumpTargets
-pub mod SignedDivision
-pub mod Stepping
-pub mod Starting
-pub mod Advancing
+mod JumpTargets
+mod SignedDivision
+mod Stepping
+mod Starting
+mod Advancing

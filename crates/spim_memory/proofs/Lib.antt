@@ -1,7 +1,7 @@
-pub mod StoringBytes
-pub mod MakingBytes
-pub mod LoadingBytes
-pub mod LoadsAnswer
-pub mod StringsOfBytes
+mod StoringBytes
+mod MakingBytes
+mod LoadingBytes
+mod LoadsAnswer
+mod StringsOfBytes
 pub mod DecodedInRange
-pub mod GrowingStacks
+mod GrowingStacks
