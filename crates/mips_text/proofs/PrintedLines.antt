@@ -19,7 +19,7 @@ use Rattle.mips_text.specs.declared.class.Start.TheVariants as start
 use Rattle.mips_text.specs.Names.{directive_named, directive_text, is_name, mnemonic_named}
 use Rattle.mips_text.specs.Operands.{each_fault, is_within, many_fault, word_fault}
 use Rattle.mips_text.specs.Printable.{ArePrintable, IsName, IsPrintableData, IsPrintableDirective, IsPrintableStatement}
-use Rattle.mips_text.specs.Printing.{data_text, item_operand, label_text, other_directive_text, printed, statement_text, string_operand}
+use Rattle.mips_text.specs.Printing.{data_text, indented_text, item_operand, label_text, other_directive_text, printed, statement_text, string_operand}
 use Rattle.mips_text.specs.Reading.{Reads, directive_read, has_label, instruction_read, judged, line_read, lines_in, statement_read, with_byte, with_label, without_label}
 use Rattle.mips_text.specs.Spelling.{letter_text, operands_text, row_text}
 use Rattle.mips_text.specs.Statements.{byte_made, directive_fault, directive_made, item_made}
@@ -132,23 +132,35 @@ statement_said (lines.Instruction i) h g = instruction_is_said i h g
 statement_said (lines.Data item) h g = data_said item h g
 statement_said (lines.Directive d) h g = other_said d h g
 
+-- a statement behind a tab is read as it is without one
+behind_tab : (text : List ℕ) (s : Statement) → Said text s → Said (9 ∷ text) s
+behind_tab text s said = record {
+  words = said.words;
+  row = record { reads = said.row.reads; one_line = said.row.one_line };
+  no_label = said.no_label;
+  reads = said.reads;
+}
+
+indented_said : (s : Statement) → IsInRange s → IsPrintableStatement s → Said (indented_text s) s
+indented_said lines.Empty h g = statement_said lines.Empty h g
+indented_said (lines.Instruction i) h g = behind_tab (statement_text (lines.Instruction i)) (lines.Instruction i) (statement_said (lines.Instruction i) h g)
+indented_said (lines.Data item) h g = behind_tab (statement_text (lines.Data item)) (lines.Data item) (statement_said (lines.Data item) h g)
+indented_said (lines.Directive d) h g = behind_tab (statement_text (lines.Directive d)) (lines.Directive d) (statement_said (lines.Directive d) h g)
+
 -- Labels
 
-abbrev label_words : List ℕ → List Word
-label_words name = Name name ∷ Colon ∷ []
-
-colon_read : (rest : List ℕ) → words_of (58 ∷ 32 ∷ rest) ≡ Colon ∷ words_of rest
-colon_read rest = word_here start.Colon 58 [] (32 ∷ rest) Colon refl refl
+colon_read : (rest : List ℕ) → words_of (58 ∷ rest) ≡ Colon ∷ words_of rest
+colon_read rest = word_here start.Colon 58 [] rest Colon refl refl
 
 label_reads : (name rest : List ℕ) → is_name name ≡ true → words_of (label_text name ++ rest) ≡ Name name ∷ Colon ∷ words_of rest
 label_reads name rest h =
     let n : Spells name (Name name ∷ []) = name_spells name h in
-    ap words_of (append_assoc name (codes ": ") rest) ∙ (n.reads (58 ∷ 32 ∷ rest) refl ∙ ap (λ ws. Name name ∷ ws) (colon_read rest))
+    ap words_of (append_assoc name (codes ":") rest) ∙ (n.reads (58 ∷ rest) refl ∙ ap (λ ws. Name name ∷ ws) (colon_read rest))
 
 label_in_line : (name : List ℕ) → is_name name ≡ true → list_all in_line (label_text name) ≡ true
 label_in_line name h =
     let n : Spells name (Name name ∷ []) = name_spells name h in
-    list_all-append in_line name (codes ": ") ∙ and_both _ _ n.one_line refl
+    list_all-append in_line name (codes ":") ∙ and_both _ _ n.one_line refl
 
 -- a line without its newline
 abbrev labels_before : List (List ℕ) → List ℕ → List ℕ
@@ -192,10 +204,10 @@ regroup labels statement rest = simp append_assoc
 pub printed_is_read : (ls : List Line) → ArePrintable ls → Reads (printed ls) ls
 printed_is_read [] h = refl
 printed_is_read (line ∷ ls) h =
-    let said : Said (statement_text line.statement) line.statement = statement_said line.statement h.0.ranges h.0.names in
-    let body : List ℕ = labels_before line.labels (statement_text line.statement) in
+    let said : Said (indented_text line.statement) line.statement = indented_said line.statement h.0.ranges h.0.names in
+    let body : List ℕ = labels_before line.labels (indented_text line.statement) in
     let cut : lines_in (printed (line ∷ ls)) ≡ body ∷ lines_in (printed ls) =
-    ap lines_in (regroup (flat_map label_text line.labels) (statement_text line.statement) (printed ls))
-    ∙ line_ends body (printed ls) (one_line line.labels (statement_text line.statement) h.0.labels said.row.one_line) in
+    ap lines_in (regroup (flat_map label_text line.labels) (indented_text line.statement) (printed ls))
+    ∙ line_ends body (printed ls) (one_line line.labels (indented_text line.statement) h.0.labels said.row.one_line) in
     ap (map (λ l. line_read (words_of l))) cut
-    ∙ (λ i. line_reads line.labels (statement_text line.statement) line.statement h.0.labels said i ∷ printed_is_read ls h.1 i)
+    ∙ (λ i. line_reads line.labels (indented_text line.statement) line.statement h.0.labels said i ∷ printed_is_read ls h.1 i)

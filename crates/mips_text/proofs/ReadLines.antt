@@ -1,11 +1,10 @@
 -- Texts that are read line by line.
-use Rattle.std.proofs.Common.{◌≡◌, ◌∙◌, sym, ap, arith, ℕ, ◌+◌, ◌≤◌, List, [], ◌∷◌, ◌++◌, append_assoc, length, map, Result, Ok, Err}
-use Rattle.std.proofs.lemmas.List.{append-nil, length-map, map-append}
+use Rattle.std.proofs.Common.{◌≡◌, ◌∙◌, sym, ap, arith, ℕ, ◌≤◌, List, [], ◌∷◌, ◌++◌, append_assoc, length, map, Result, Ok}
+use Rattle.std.proofs.lemmas.List.{append-nil, map-append}
 use Rattle.mips_isa.specs.declared.asm_fault.AsmKind.{AsmKind}
-use Rattle.mips_isa.specs.declared.asm_fault.AsmFault.{AsmFault}
 use Rattle.mips_isa.specs.declared.line.Line as declared_line
 use Rattle.mips_isa.specs.Lines.{Line, line_of, lines_of}
-use Rattle.mips_text.specs.Reading.{Reads, FirstFault, line_read, lines_in, readings}
+use Rattle.mips_text.specs.Reading.{Reads, line_read, lines_in, readings}
 use Rattle.mips_text.specs.Words.{words_of}
 
 abbrev read : List ℕ → Result Line AsmKind

@@ -94,13 +94,20 @@ statement_text (Instruction i) = instruction_text i
 statement_text (Data item) = data_text item
 statement_text (Directive directive) = other_directive_text directive
 
--- a label before a statement
+-- a statement behind a tab, or nothing for none
+abbrev pub indented_text : Statement → List ℕ
+indented_text Empty = []
+indented_text (Instruction i) = 9 ∷ instruction_text i
+indented_text (Data item) = 9 ∷ data_text item
+indented_text (Directive directive) = 9 ∷ other_directive_text directive
+
+-- a label before what follows
 abbrev pub label_text : Name → List ℕ
-label_text name = name ++ codes ": "
+label_text name = name ++ codes ":"
 
 -- the labels, the statement, and a newline
 abbrev pub line_text : Line → List ℕ
-line_text line = flat_map label_text line.labels ++ (statement_text line.statement ++ 10 ∷ [])
+line_text line = flat_map label_text line.labels ++ (indented_text line.statement ++ 10 ∷ [])
 
 -- lines, one after another
 abbrev pub printed : List Line → List ℕ
@@ -108,7 +115,7 @@ printed = flat_map line_text
 
 -- worked examples: a label and registers, memory after a negative offset, words, a string with an escape, and two lines
 text_of_addu : line_text (record { labels = codes "main" ∷ []; statement = Instruction (Plain (instructions.Three Addu 2 4 0)) })
-    ≡ codes "main: addu $v0, $a0, $zero\n"
+    ≡ codes "main:\taddu $v0, $a0, $zero\n"
 text_of_addu = refl
 
 text_of_lw : instruction_text (Plain (instructions.Mem Lw 8 29 (negsuc 3))) ≡ codes "lw $t0, -4($sp)"
@@ -124,5 +131,5 @@ text_of_asciiz = refl
 
 text_of_two_lines : printed (record { labels = []; statement = Directive ToText }
     ∷ record { labels = codes "a" ∷ codes "b" ∷ []; statement = Empty } ∷ [])
-    ≡ codes ".text\na: b: \n"
+    ≡ codes "\t.text\na:b:\n"
 text_of_two_lines = refl

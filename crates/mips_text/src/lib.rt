@@ -35,5 +35,5 @@ pub use laws::{
 };
 pub use names::is_name;
 pub use numbers::{LARGEST, value_of_digits};
-pub use printing::print_asm;
+pub use printing::{print_asm, print_statement};
 pub use reading::read_asm;

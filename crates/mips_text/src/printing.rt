@@ -2,7 +2,7 @@
 
 ghost use Rattle.std.specs.Prelude.{◌≡◌, ◌++◌, IfOk, OnOk, flat_map};
 ghost use Rattle.mips_isa.specs.Lines.{line_of, lines_of, instruction_of, data_item_of, directive_of, statement_of};
-ghost use Rattle.mips_text.specs.Printing.{plain_text, instruction_text, data_text, other_directive_text, statement_text, label_text, line_text, printed};
+ghost use Rattle.mips_text.specs.Printing.{plain_text, instruction_text, data_text, other_directive_text, statement_text, indented_text, label_text, line_text, printed};
 
 use crate::directives::Directive;
 use crate::mnemonics::Mnemonic;
@@ -15,8 +15,8 @@ use std::alloc::{AllocError, Global};
 
 /// The text of lines, in the one spelling, which `docs/assembly.md` has under Printing.
 ///
-/// A line is each label as its name, `:` and a space, then the mnemonic or directive and, where there are operands, a space and
-/// the operands with `, ` between, then a newline. Numbers stand in decimal. `Err` comes only for want of memory.
+/// A line is each label as its name and `:`, then a tab and the statement, where there is one, then a newline. `Err` comes only for
+/// want of memory.
 pub fn print_asm(alloc: Global, lines: &[Line]) -> Result<Vec<u8>, AllocError>
     ensures text { IfOk result (λ text. text.items ≡ printed (lines_of lines.now)) }
 {
@@ -27,24 +27,47 @@ pub fn print_asm(alloc: Global, lines: &[Line]) -> Result<Vec<u8>, AllocError>
     Ok(out)
 }
 
+/// The text of a statement, without a tab or a newline: the mnemonic or directive and, where there are operands, a space and the
+/// operands with `, ` between. Numbers stand in decimal. `Err` comes only for want of memory.
+pub fn print_statement(alloc: Global, statement: &Statement) -> Result<Vec<u8>, AllocError>
+    ensures text { IfOk result (λ text. text.items ≡ statement_text (statement_of statement.now)) }
+{
+    let mut out = Vec::new(alloc);
+    put_statement(&mut out, statement)?;
+    Ok(out)
+}
+
 /// Writes a line.
 fn put_line(out: &mut Vec<u8>, line: &Line) -> Result<(), AllocError>
     ensures { OnOk result (out.new.items ≡ out.old.items ++ line_text (line_of line.now)) }
 {
     put_labels(out, line.labels.as_slice())?;
-    put_statement(out, &line.statement)?;
+    put_indented(out, &line.statement)?;
     out.extend_from_slice(b"\n")
 }
 
-/// Writes each label as its name, `:` and a space.
+/// Writes each label as its name and `:`.
 fn put_labels(out: &mut Vec<u8>, labels: &[Label]) -> Result<(), AllocError>
     ensures { OnOk result (out.new.items ≡ out.old.items ++ flat_map label_text labels.now) }
 {
     for label in labels {
         out.extend_from_slice(label.as_slice())?;
-        out.extend_from_slice(b": ")?;
+        out.extend_from_slice(b":")?;
     }
     Ok(())
+}
+
+/// Writes a statement behind a tab, or nothing for none.
+fn put_indented(out: &mut Vec<u8>, statement: &Statement) -> Result<(), AllocError>
+    ensures { OnOk result (out.new.items ≡ out.old.items ++ indented_text (statement_of statement.now)) }
+{
+    match statement {
+        Statement::Empty => Ok(()),
+        Statement::Instruction(_) | Statement::Data(_) | Statement::Directive(_) => {
+            out.extend_from_slice(b"\t")?;
+            put_statement(out, statement)
+        }
+    }
 }
 
 /// Writes a statement, or nothing for none.

@@ -3,6 +3,8 @@
 ghost use Rattle.std.specs.Prelude.{◌≡◌, ◌+◌, ◌≤◌, ◌++◌, IfOk, decimal, codes, Result};
 ghost use Rattle.arrayvec.specs.ArrayString.{array_string_len};
 ghost use Rattle.mips_isa.specs.Decoding.{decoded};
+ghost use Rattle.mips_isa.specs.Lines.{statement_of};
+ghost use Rattle.mips_text.specs.Printing.{statement_text};
 ghost use Rattle.spim_memory.specs.Memory.{segments, bytes_of};
 ghost use Rattle.spim_cpu.specs.Cpu.{core_of};
 ghost use Rattle.spim_debug.specs.Notes as spec;
@@ -10,12 +12,11 @@ ghost use Rattle.spim_debug.specs.Notes as spec;
 use crate::{disassemble, hexadecimal_digits};
 use arrayvec::ArrayString;
 use itoa::Buffer;
-use mips_isa::Reg;
-use mips_text::print_asm;
+use mips_isa::{Line, Reg};
+use mips_text::print_statement;
 use spim_cpu::Cpu;
 use spim_memory::{MemFault, Memory};
 use std::alloc::{AllocError, Global};
-use std::slice;
 
 /// A note that takes no memory. The longest one has the registers.
 pub type Note = ArrayString<302>;
@@ -89,8 +90,17 @@ fn instruction_line(alloc: Global, word: u32) -> Result<Vec<u8>, AllocError>
 {
     match disassemble(word) {
         None => Vec::from_slice(alloc, b"no instruction\n"),
-        Some(line) => print_asm(alloc, slice::from_ref(&line)),
+        Some(line) => statement_line(alloc, &line),
     }
+}
+
+/// The statement of a line, and a newline. `Err` comes only for want of memory.
+fn statement_line(alloc: Global, line: &Line) -> Result<Vec<u8>, AllocError>
+    ensures { IfOk result (λ text. text.items ≡ statement_text (statement_of line.now.statement) ++ codes "\n") }
+{
+    let mut text = print_statement(alloc, &line.statement)?;
+    text.push(b'\n')?;
+    Ok(text)
 }
 
 /// Adds what a load answers.
