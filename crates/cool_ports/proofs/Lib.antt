@@ -1,3 +1,4 @@
 pub mod GettingBytes
 pub mod GivingBytes
 pub mod InputsInParts
+pub mod PuttingPieces

@@ -1,6 +1,7 @@
 pub mod Counts
 pub mod Answers
 pub mod SinkBytes
+pub mod SinkPuts
 pub mod SourceBytes
 pub mod Taking
 pub mod ShelfFiles

@@ -32,10 +32,11 @@ faulted s = record { failing = s.failing; calls = s.calls; faults = min (s.fault
 abbrev pub failing_at : Schedule → ℕ → Schedule
 failing_at s number = record { failing = s.failing ++ number ∷ []; calls = s.calls; faults = s.faults }
 
--- A sink in memory: the bytes that it holds, and the most that it can hold.
+-- A sink in memory: the bytes that it holds, the most that it can hold, and what it was given to put.
 pub record SinkState : Type 0 where
   pub held : List ℕ
   pub room : ℕ
+  pub puts : List (List ℕ)
   pub schedule : Schedule
 
 -- A source in memory: the bytes that are left, and what it has answered.

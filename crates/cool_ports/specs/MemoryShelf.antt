@@ -8,6 +8,10 @@ use Rattle.cool_ports.specs.MemoryObjects.{Schedule}
 abbrev pub file_of : MemShelf → List ℕ → Option (List ℕ)
 file_of shelf name = option_map (λ file. file.items) (get_by_text shelf.contents name)
 
+-- the names that it was asked for
+abbrev pub asked_of : MemShelf → List (List ℕ)
+asked_of shelf = shelf.asked.entries
+
 -- which calls are to fail, and what came so far
 abbrev pub schedule_of : MemShelf → Schedule
 schedule_of shelf = shelf.schedule

@@ -1,8 +1,8 @@
 //! A shelf over the files of the system.
 
-ghost use Rattle.std.specs.Prelude.{◌≡◌, ◌<◌, ◌≤◌, ◌^◌, IfOk, None, vec_len};
+ghost use Rattle.std.specs.Prelude.{◌≡◌, ◌<◌, ◌≤◌, ◌^◌, [], IfOk, None, vec_len};
 
-use crate::{Shelf, ShelfFault};
+use crate::{Log, Shelf, ShelfFault};
 use std::alloc::Global;
 use std::fs::File;
 use std::io;
@@ -14,14 +14,20 @@ use std::rt::Files;
 pub struct FileShelf<R> {
     files: R,
     faults: u64,
+    asked: Log,
 }
 
 impl<R: Files> FileShelf<R> {
     /// A shelf over the files that this runtime opens.
     pub fn new(files: R) -> FileShelf<R>
         ensures faults { ⟦<FileShelf<R> as Shelf>⟧.faults result ≡ 0 }
+        ensures asked { ⟦<FileShelf<R> as Shelf>⟧.asked result ≡ [] }
     {
-        FileShelf { files, faults: 0 }
+        FileShelf {
+            files,
+            faults: 0,
+            asked: Log::new(),
+        }
     }
 }
 
@@ -30,8 +36,11 @@ impl<R: Files> Shelf for FileShelf<R> {
 
     ghost files = { λ _. None };
 
+    ghost asked = { λ shelf. shelf.asked.entries };
+
     fn read(&mut self, alloc: Global, name: &str, most: u64) -> Result<Vec<u8>, ShelfFault> {
         let faults = self.faults;
+        self.asked = self.asked.with(name.as_bytes());
         let read = read_file(&self.files, alloc, name, most);
         if read.is_err() {
             self.faults = faults.saturating_add(1);

@@ -7,6 +7,7 @@
 mod fault_schedule;
 mod file_shelf;
 mod history;
+mod log;
 mod mem_shelf;
 mod mem_sink;
 mod mem_source;
@@ -21,6 +22,7 @@ mod sure_source;
 mod taking;
 
 pub use file_shelf::FileShelf;
+pub use log::Log;
 pub use mem_shelf::MemShelf;
 pub use mem_sink::MemSink;
 pub use mem_source::MemSource;

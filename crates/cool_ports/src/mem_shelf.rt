@@ -1,12 +1,12 @@
 //! A shelf in memory.
 
-ghost use Rattle.std.specs.Prelude.{◌≡◌, ℕ, ◌<◌, ◌≤◌, ◌^◌, ◌⊎◌, ◌↔◌, List, IfOk, IsErrOf, OnOk, OnErr, Some, vec_len, if◌then◌else◌, bytes_eq};
+ghost use Rattle.std.specs.Prelude.{◌≡◌, ℕ, ◌<◌, ◌≤◌, ◌^◌, ◌⊎◌, ◌↔◌, List, [], ◌∷◌, ◌++◌, IfOk, IsErrOf, OnOk, OnErr, Some, vec_len, if◌then◌else◌, bytes_eq};
 ghost use Rattle.cool_ports.specs.Counts.{GoesOn, Rose};
 ghost use Rattle.cool_ports.specs.ShelfFiles.{MayHold, IsMissing, IsLonger, IsWanting};
 ghost use Rattle.cool_ports.specs.MemoryObjects.{no_faults, IsToFail, called, faulted, failing_at};
 
 use crate::fault_schedule::FaultSchedule;
-use crate::{Shelf, ShelfFault};
+use crate::{Log, Shelf, ShelfFault};
 use std::alloc::{AllocError, Global};
 use std::collections::BTreeMap;
 
@@ -15,20 +15,23 @@ use std::collections::BTreeMap;
 pub struct MemShelf {
     alloc: Global,
     contents: BTreeMap<String, Vec<u8>>,
+    asked: Log,
     schedule: FaultSchedule,
 }
 
 impl MemShelf {
-    ghost use Rattle.cool_ports.specs.MemoryShelf.{file_of, schedule_of};
+    ghost use Rattle.cool_ports.specs.MemoryShelf.{file_of, asked_of, schedule_of};
 
     /// A shelf without files, of which no call is to fail.
     pub fn new(alloc: Global) -> MemShelf
         ensures empty { (name : List ℕ) → file_of result name ≡ None }
+        ensures asked { asked_of result ≡ [] }
         ensures schedule { schedule_of result ≡ no_faults }
     {
         MemShelf {
             alloc,
             contents: BTreeMap::new(alloc),
+            asked: Log::new(),
             schedule: FaultSchedule::new(alloc),
         }
     }
@@ -37,6 +40,7 @@ impl MemShelf {
     pub fn put_file(&mut self, name: &str, bytes: &[u8]) -> Result<(), AllocError>
         ensures ok { OnOk result ((q : List ℕ) → file_of self.new q ≡ (if bytes_eq name.now q then Some bytes.now else file_of self.old q)) }
         ensures err { OnErr result ((q : List ℕ) → file_of self.new q ≡ file_of self.old q) }
+        ensures asked { asked_of self.new ≡ asked_of self.old }
         ensures schedule { schedule_of self.new ≡ schedule_of self.old }
     {
         let key = String::from_str(self.alloc, name)?;
@@ -50,6 +54,7 @@ impl MemShelf {
     pub fn fail_call(&mut self, number: u64) -> Result<(), AllocError>
         ensures ok { OnOk result (schedule_of self.new ≡ failing_at (schedule_of self.old) number) }
         ensures err { OnErr result (schedule_of self.new ≡ schedule_of self.old) }
+        ensures asked { asked_of self.new ≡ asked_of self.old }
         ensures files { (q : List ℕ) → file_of self.new q ≡ file_of self.old q }
     {
         self.schedule.fail_call(number)
@@ -57,11 +62,13 @@ impl MemShelf {
 }
 
 impl Shelf for MemShelf {
-    ghost use Rattle.cool_ports.specs.MemoryShelf.{file_of, schedule_of};
+    ghost use Rattle.cool_ports.specs.MemoryShelf.{file_of, asked_of, schedule_of};
 
     ghost faults = { λ shelf. (schedule_of shelf).faults };
 
     ghost files = { λ shelf. Some (file_of shelf) };
+
+    ghost asked = { λ shelf. asked_of shelf };
 
     /// `Failed` comes exactly where the number of this call was given to `fail_call`.
     fn read(&mut self, alloc: Global, name: &str, most: u64) -> Result<Vec<u8>, ShelfFault>
@@ -73,12 +80,14 @@ impl Shelf for MemShelf {
         ensures too_large { IsErrOf result ShelfFault.TooLarge → IsLonger (Some (file_of self.old)) name.now most (schedule_of self.old).faults (schedule_of self.new).faults }
         ensures failed { IsErrOf result ShelfFault.Failed → Rose (schedule_of self.old).faults (schedule_of self.new).faults }
         ensures memory { IsErrOf result ShelfFault.Memory → IsWanting (Some (file_of self.old)) (schedule_of self.old).faults (schedule_of self.new).faults }
+        ensures asked { asked_of self.new ≡ asked_of self.old ++ name.now ∷ [] }
         ensures kept { Some (file_of self.new) ≡ Some (file_of self.old) }
         ensures count { GoesOn (schedule_of self.old).faults (schedule_of self.new).faults }
         ensures counted { IsErrOf result ShelfFault.Failed ⊎ (schedule_of self.new ≡ called (schedule_of self.old)) }
         ensures refused { IsErrOf result ShelfFault.Failed → schedule_of self.new ≡ faulted (called (schedule_of self.old)) }
         ensures when { IsErrOf result ShelfFault.Failed ↔ IsToFail (schedule_of self.old) }
     {
+        self.asked = self.asked.with(name.as_bytes());
         if self.schedule.begin_call() {
             self.schedule.count_fault();
             return Err(ShelfFault::Failed);

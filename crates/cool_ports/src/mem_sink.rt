@@ -1,12 +1,12 @@
 //! A sink in memory.
 
-ghost use Rattle.std.specs.Prelude.{◌≡◌, ℕ, ◌+◌, ◌<◌, ◌≤◌, ◌⊎◌, ◌↔◌, ◌++◌, [], List, length, IfOk, IsErr, OnOk, OnErr, Some};
+ghost use Rattle.std.specs.Prelude.{◌≡◌, ℕ, ◌+◌, ◌<◌, ◌≤◌, ◌⊎◌, ◌↔◌, ◌++◌, [], ◌∷◌, List, length, IfOk, IsErr, OnOk, OnErr, Some};
 ghost use Rattle.cool_ports.specs.Counts.{GoesOn, Rose};
 ghost use Rattle.cool_ports.specs.SinkBytes.{appended, GotPrefix};
 ghost use Rattle.cool_ports.specs.MemoryObjects.{no_faults, IsToFail, called, faulted, failing_at};
 
 use crate::fault_schedule::FaultSchedule;
-use crate::{Failed, Sink};
+use crate::{Failed, Log, Sink};
 use std::alloc::{AllocError, Global};
 use std::marker::Model;
 
@@ -15,6 +15,7 @@ use std::marker::Model;
 pub struct MemSink {
     bytes: Vec<u8>,
     room: usize,
+    puts: Log,
     schedule: FaultSchedule,
 }
 
@@ -24,7 +25,7 @@ impl Model for MemSink {
 
     ghost Value = { SinkState };
 
-    ghost view = { λ s. record { held = s.bytes.items; room = s.room; schedule = s.schedule } };
+    ghost view = { λ s. record { held = s.bytes.items; room = s.room; puts = s.puts.entries; schedule = s.schedule } };
 
     ghost invariant = { λ s. (vec_len s.bytes ≤ s.room) × (s.room ≤ vec_capacity s.bytes) };
 }
@@ -32,12 +33,13 @@ impl Model for MemSink {
 impl MemSink {
     /// An empty sink with memory for `room` bytes, of which no call is to fail. `Err` comes only for want of memory.
     pub fn new(alloc: Global, room: u32) -> Result<MemSink, AllocError>
-        ensures made { IfOk result (λ sink. sink ≡ record { held = []; room = room; schedule = no_faults }) }
+        ensures made { IfOk result (λ sink. sink ≡ record { held = []; room = room; puts = []; schedule = no_faults }) }
     {
         let room = room as usize;
         Ok(MemSink {
             bytes: Vec::with_capacity(alloc, room)?,
             room,
+            puts: Log::new(),
             schedule: FaultSchedule::new(alloc),
         })
     }
@@ -64,20 +66,24 @@ impl Sink for MemSink {
 
     ghost held = { λ sink. Some sink.held };
 
+    ghost puts = { λ sink. sink.puts };
+
     /// Takes no memory. `Failed` comes exactly where the number of this call was given to `fail_call` or the bytes
     /// pass the room that is left; then nothing is put.
     #[tactic(auto, unfolding(crate::specs::SinkBytes::appended))]
     fn put(&mut self, bytes: &[u8]) -> Result<(), Failed>
         requires { 0 < length bytes.now }
         ensures put { OnOk result (Some self.new.held ≡ appended (Some self.old.held) bytes.now) }
+        ensures puts { self.new.puts ≡ self.old.puts ++ bytes.now ∷ [] }
         ensures no_fault { OnOk result (self.new.schedule.faults ≡ self.old.schedule.faults) }
         ensures failed { OnErr result (Rose self.old.schedule.faults self.new.schedule.faults) }
         ensures prefix { OnErr result (GotPrefix (Some self.old.held) bytes.now (Some self.new.held)) }
         ensures count { GoesOn self.old.schedule.faults self.new.schedule.faults }
         ensures when { IsErr result ↔ (IsToFail self.old.schedule ⊎ (self.old.room < length self.old.held + length bytes.now)) }
-        ensures counted { OnOk result (self.new ≡ record { held = self.old.held ++ bytes.now; room = self.old.room; schedule = called self.old.schedule }) }
-        ensures nothing_put { OnErr result (self.new ≡ record self.old { schedule = faulted (called self.old.schedule) }) }
+        ensures counted { OnOk result (self.new ≡ record { held = self.old.held ++ bytes.now; room = self.old.room; puts = self.old.puts ++ bytes.now ∷ []; schedule = called self.old.schedule }) }
+        ensures nothing_put { OnErr result (self.new ≡ record self.old { puts = self.old.puts ++ bytes.now ∷ []; schedule = faulted (called self.old.schedule) }) }
     {
+        self.puts = self.puts.with(bytes);
         if self.schedule.begin_call() || self.room - self.bytes.len() < bytes.len() {
             self.schedule.count_fault();
             return Err(Failed);

@@ -1,6 +1,6 @@
 //! What gives files.
 
-ghost use Rattle.std.specs.Prelude.{◌≡◌, ℕ, ◌<◌, ◌≤◌, ◌^◌, vec_len, IfOk, OnOk, IsErrOf, Option};
+ghost use Rattle.std.specs.Prelude.{◌≡◌, ℕ, ◌<◌, ◌≤◌, ◌^◌, List, [], ◌∷◌, ◌++◌, vec_len, IfOk, OnOk, IsErrOf, Option};
 ghost use Rattle.cool_ports.specs.Counts.{GoesOn, Rose};
 ghost use Rattle.cool_ports.specs.ShelfFiles.{FileMap, MayHold, IsMissing, IsLonger, IsWanting};
 
@@ -27,6 +27,9 @@ pub trait Shelf {
     /// Its files, where it tells them. No call changes them.
     ghost files: { Self → Option FileMap };
 
+    /// The names that it was asked for, one for each read, those that failed among them.
+    ghost asked: { Self → List (List ℕ) };
+
     /// All bytes of the file of this name; they are at most `most`.
     ///
     /// `Missing` comes exactly where the told map lacks the name and the call did not fail, `TooLarge` exactly where
@@ -42,6 +45,7 @@ pub trait Shelf {
         ensures too_large { IsErrOf result ShelfFault.TooLarge → IsLonger (files self.old) name.now most (faults self.old) (faults self.new) }
         ensures failed { IsErrOf result ShelfFault.Failed → Rose (faults self.old) (faults self.new) }
         ensures memory { IsErrOf result ShelfFault.Memory → IsWanting (files self.old) (faults self.old) (faults self.new) }
+        ensures asked { asked self.new ≡ asked self.old ++ name.now ∷ [] }
         ensures kept { files self.new ≡ files self.old }
         ensures count { GoesOn (faults self.old) (faults self.new) };
 }

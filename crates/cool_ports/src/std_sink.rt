@@ -1,11 +1,11 @@
 //! A sink over a writer of std.
 
-ghost use Rattle.std.specs.Prelude.{◌≡◌, ◌<◌, length, OnOk, OnErr, None};
+ghost use Rattle.std.specs.Prelude.{◌≡◌, ◌<◌, [], ◌∷◌, ◌++◌, length, OnOk, OnErr, None};
 ghost use Rattle.std.specs.Io.KnownBytes.{Appends};
 ghost use Rattle.cool_ports.specs.Counts.{GoesOn, Rose};
 ghost use Rattle.cool_ports.specs.SinkBytes.{appended, GotPrefix};
 
-use crate::{Failed, Sink};
+use crate::{Failed, Log, Sink};
 use std::io;
 use std::io::Write;
 
@@ -14,6 +14,7 @@ use std::io::Write;
 pub struct StdSink<W> {
     writer: W,
     faults: u64,
+    puts: Log,
 }
 
 impl<W: Write> StdSink<W> {
@@ -21,8 +22,13 @@ impl<W: Write> StdSink<W> {
     pub fn new(writer: W) -> StdSink<W>
         ensures writer { result.writer ≡ writer }
         ensures faults { ⟦<StdSink<W> as Sink>⟧.faults result ≡ 0 }
+        ensures puts { ⟦<StdSink<W> as Sink>⟧.puts result ≡ [] }
     {
-        StdSink { writer, faults: 0 }
+        StdSink {
+            writer,
+            faults: 0,
+            puts: Log::new(),
+        }
     }
 }
 
@@ -31,18 +37,22 @@ impl<W: Write> Sink for StdSink<W> {
 
     ghost held = { λ _. None };
 
+    ghost puts = { λ sink. sink.puts.entries };
+
     /// All bytes are handed on before it returns: after those of the writer, where it tells them.
     #[tactic(auto, unfolding(crate::specs::SinkBytes::appended))]
     fn put(&mut self, bytes: &[u8]) -> Result<(), Failed>
         requires { 0 < length bytes.now }
         ensures writes { OnOk result (Appends (W.contents self.old.writer) (W.contents self.new.writer) bytes.now) }
         ensures put { OnOk result (None ≡ appended None bytes.now) }
+        ensures puts { self.new.puts.entries ≡ self.old.puts.entries ++ bytes.now ∷ [] }
         ensures no_fault { OnOk result (self.new.faults ≡ self.old.faults) }
         ensures failed { OnErr result (Rose self.old.faults self.new.faults) }
         ensures prefix { OnErr result (GotPrefix None bytes.now None) }
         ensures count { GoesOn self.old.faults self.new.faults }
     {
         let faults = self.faults;
+        self.puts = self.puts.with(bytes);
         if write_through(&mut self.writer, bytes).is_err() {
             self.faults = faults.saturating_add(1);
             return Err(Failed);
