@@ -2,3 +2,4 @@ pub mod GettingBytes
 pub mod GivingBytes
 pub mod InputsInParts
 pub mod PuttingPieces
+pub mod SeenSinks

@@ -93,11 +93,13 @@ put_more before middle after texts rest text h is = record {
 }
 
 -- so it is of the first piece of the bytes that are left
-pub put_piece : (size : ℕ) (before middle after texts : List (List ℕ)) (bytes piece later : List ℕ) → 0 < size → 0 < length bytes → piece ≡ take (min (length bytes) size) bytes → later ≡ drop (min (length bytes) size) bytes
+pub put_piece : (size cut : ℕ) (before middle after texts : List (List ℕ)) (bytes piece later : List ℕ) → 0 < size → 0 < length bytes → cut ≡ min (length bytes) size → piece ≡ take cut bytes → later ≡ drop cut bytes
     → PutUpTo before texts (pieces_of size bytes) middle → after ≡ middle ++ piece ∷ [] → PutUpTo before texts (pieces_of size later) after
-put_piece size before middle after texts bytes piece later some any piece_is later_is h is =
+put_piece size cut before middle after texts bytes piece later some any cut_is piece_is later_is h is =
+    let first : piece ≡ take (min (length bytes) size) bytes = piece_is ∙ ap (λ n. take n bytes) cut_is in
+    let others : later ≡ drop (min (length bytes) size) bytes = later_is ∙ ap (λ n. drop n bytes) cut_is in
     let next : pieces_of size bytes ≡ piece ∷ pieces_of size later =
-    pieces_split size bytes some any ∙ ap (λ xs. xs ∷ pieces_of size (drop (min (length bytes) size) bytes)) (sym piece_is) ∙ ap (λ xs. piece ∷ pieces_of size xs) (sym later_is) in
+    pieces_split size bytes some any ∙ ap (λ xs. xs ∷ pieces_of size (drop (min (length bytes) size) bytes)) (sym first) ∙ ap (λ xs. piece ∷ pieces_of size xs) (sym others) in
     put_more before middle after texts (pieces_of size later) piece (rw next at h) is
 
 -- where no text is still to come, all came

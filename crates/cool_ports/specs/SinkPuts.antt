@@ -1,7 +1,8 @@
 -- What a sink was given to put: the bytes of each put, in order, those of a put that failed among them.
-use Rattle.std.specs.Prelude.{◌≡◌, ℕ, ◌*◌, List, [], ◌∷◌, ◌++◌, length, take, drop, map, refl}
+use Rattle.std.specs.Prelude.{◌≡◌, ℕ, ◌*◌, List, [], ◌∷◌, ◌++◌, length, take, drop, map, Option, refl}
 use Rattle.std.specs.Int.{div_ceil}
-use Rattle.std.specs.List.{range_with_len}
+use Rattle.std.specs.List.{range_with_len, concat}
+use Rattle.cool_ports.specs.SinkBytes.{appended, GotPrefix}
 
 -- the piece of this number, the first being 0, where bytes are cut into pieces of so many of them
 abbrev pub piece_of : ℕ → List ℕ → ℕ → List ℕ
@@ -29,3 +30,20 @@ pub record PutUpTo (before texts rest after : List (List ℕ)) : Type 0 where
 -- A sink that was given `before` was then given a front of the texts, one after another, and so was given `after`.
 abbrev pub PutFront : List (List ℕ) → List (List ℕ) → List (List ℕ) → Type 0
 PutFront before texts after = (rest : List (List ℕ)) × PutUpTo before texts rest after
+
+-- What is known of a sink: the bytes that it holds, where it tells them, and what it was given to put.
+pub record SinkSeen : Type 0 where
+  pub held : Option (List ℕ)
+  pub puts : List (List ℕ)
+
+abbrev pub seen : Option (List ℕ) → List (List ℕ) → SinkSeen
+seen held puts = record { held = held; puts = puts }
+
+-- after texts, a put for each
+abbrev pub after_puts : SinkSeen → List (List ℕ) → SinkSeen
+after_puts sink texts = record { held = appended sink.held (concat texts); puts = sink.puts ++ texts }
+
+-- A front of the texts was put, one after another; of the last of these perhaps a part came.
+pub record PutSome (before : SinkSeen) (texts : List (List ℕ)) (after : SinkSeen) : Type 0 where
+  pub bytes : GotPrefix before.held (concat texts) after.held
+  pub puts : PutFront before.puts texts after.puts

@@ -1,4 +1,4 @@
-use Rattle.std.proofs.Common.{◌≡◌, ◌++◌, take, drop, arith, refl, ap, ◌∙◌}
+use Rattle.std.proofs.Common.{◌≡◌, ◌++◌, arith, refl, ◌∙◌}
 use Rattle.std.proofs.lemmas.List.{take-append-drop}
 use Rattle.std.proofs.lemmas.Result.{err_from_is_err_and}
 use Rattle.cool_ports.proofs.GettingBytes.{got_none, got_more, got_prefix}
@@ -19,14 +19,14 @@ loop-rest-preserved g c =
     let split : c.split_at.result.0.now ++ c.split_at.result.1.now ≡ c.loop-rest.rest.now = rw (c.split_at.ensures.front, c.split_at.ensures.back) (take-append-drop _ _) in
     record {
       got = got_more _ _ _ _ _ _ _ c.loop-rest.invariant.got split c.in_ok-put.ensures.put;
-      pieces = put_piece _ _ _ _ _ _ _ _ c.requires (grind (arith, c.loop-rest-test.ensures, c.is_empty.ensures)) (c.split_at.ensures.front ∙ ap (λ n. take n c.loop-rest.rest.now) c.min.ensures) (c.split_at.ensures.back ∙ ap (λ n. drop n c.loop-rest.rest.now) c.min.ensures) c.loop-rest.invariant.pieces c.in_ok-put.ensures.puts;
+      pieces = put_piece _ _ _ _ _ _ _ _ _ c.requires (grind (arith, c.loop-rest-test.ensures, c.is_empty.ensures)) c.min.ensures c.split_at.ensures.front c.split_at.ensures.back c.loop-rest.invariant.pieces c.in_ok-put.ensures.puts;
       no_fault = c.in_ok-put.ensures.no_fault ∙ c.loop-rest.invariant.no_fault;
     }
 
 pub returns-in_err-put-clause-pieces_up_to : goal.returns-in_err-put-clause-pieces_up_to
 returns-in_err-put-clause-pieces_up_to g c =
     let p = err_from_is_err_and c.from_residual.result c.from_residual.ensures.1 in
-    rw p.1 (put_so_far _ _ _ _ (put_piece _ _ _ _ _ _ _ _ c.requires (grind (arith, c.loop-rest-test.ensures, c.is_empty.ensures)) (c.split_at.ensures.front ∙ ap (λ n. take n c.loop-rest.rest.now) c.min.ensures) (c.split_at.ensures.back ∙ ap (λ n. drop n c.loop-rest.rest.now) c.min.ensures) c.loop-rest.invariant.pieces c.in_err-put.ensures.puts))
+    rw p.1 (put_so_far _ _ _ _ (put_piece _ _ _ _ _ _ _ _ _ c.requires (grind (arith, c.loop-rest-test.ensures, c.is_empty.ensures)) c.min.ensures c.split_at.ensures.front c.split_at.ensures.back c.loop-rest.invariant.pieces c.in_err-put.ensures.puts))
 
 pub returns-clause-pieces : goal.returns-clause-pieces
 returns-clause-pieces g c = put_pieces_all _ _ _ _ _ c.requires (grind (arith, c.loop-rest-test.ensures, c.is_empty.ensures)) c.loop-rest.invariant.pieces
