@@ -4,7 +4,8 @@ use Rattle.std.specs.Prelude.{◌≢◌, ◌==◌, Option, Some, None, option_ma
 use Rattle.std.specs.Result.{is_err}
 use Rattle.cool_faults.specs.declared.fault.Fault.{Fault}
 use Rattle.cool_faults.specs.Verdicts.{IsFaultList}
-use Rattle.cool_ports.proofs.GettingBytes.{appended-nil, got_none}
+use Rattle.cool_ports.specs.SinkPuts.{SinkSeen}
+use Rattle.cool_ports.proofs.SeenSinks.{after-nil, some_all}
 use Rattle.cool_session.specs.declared.command.Command as declared
 use Rattle.cool_session.specs.declared.ending.Ending.TheVariants.{Over, BadCommand, EndsInFile, TooLarge}
 use Rattle.cool_session.specs.declared.ending.Interruption.{Interruption}
@@ -44,30 +45,30 @@ less_or_equal (suc n) (suc m) most = later (less_or_equal n m (omega (arith, mos
 
 module _ (number : ℕ) (h : Held) (input : List ℕ) where
   -- no lines leave a sink as it is
-  quiet : (h' : Held) (left : List ℕ) (held : Option (List ℕ)) → Does h input [] h' left → Obeyed number h input (Ok None) h' left held held
-  quiet h' left held does = ([], does, sym (appended-nil held))
+  quiet : (h' : Held) (left : List ℕ) (sink : SinkSeen) → Does h input [] h' left → Obeyed number h input (Ok None) h' left sink sink
+  quiet h' left sink does = ([], does, sym (after-nil sink))
 
-  pub bad_command : (h' : Held) (left : List ℕ) (held : Option (List ℕ)) → Asks input None left
-      → Obeyed number h input (Ok (Some (BadCommand number))) h' left held held
-  bad_command h' left held ask = (no_command left ask, refl)
+  pub bad_command : (h' : Held) (left : List ℕ) (sink : SinkSeen) → Asks input None left
+      → Obeyed number h input (Ok (Some (BadCommand number))) h' left sink sink
+  bad_command h' left sink ask = (no_command left ask, refl)
 
-  pub quit_command : (h' : Held) (left : List ℕ) (held : Option (List ℕ)) → Asks input (Some Quit) left
-      → Obeyed number h input (Ok (Some Over)) h' left held held
-  quit_command h' left held ask = (quits left ask, refl)
+  pub quit_command : (h' : Held) (left : List ℕ) (sink : SinkSeen) → Asks input (Some Quit) left
+      → Obeyed number h input (Ok (Some Over)) h' left sink sink
+  quit_command h' left sink ask = (quits left ask, refl)
 
-  pub drop_command : (name : List ℕ) (h' : Held) (left : List ℕ) (held : Option (List ℕ)) → Asks input (Some (Drop name)) left
+  pub drop_command : (name : List ℕ) (h' : Held) (left : List ℕ) (sink : SinkSeen) → Asks input (Some (Drop name)) left
       → h' ≡ without_file h name
-      → Obeyed number h input (Ok None) h' left held held
-  drop_command name h' left held ask is = rw is (quiet (without_file h name) left held (drops name left ask))
+      → Obeyed number h input (Ok None) h' left sink sink
+  drop_command name h' left sink ask is = rw is (quiet (without_file h name) left sink (drops name left ask))
 
   -- memory ran out after the line was taken
-  pub line_cut : (line : List ℕ) (h' : Held) (left : List ℕ) (held : Option (List ℕ)) → head input ≡ Line line left
-      → Obeyed number h input (Err Memory) h' left held held
-  line_cut line h' left held taken = inr (inr (line, taken, refl))
+  pub line_cut : (line : List ℕ) (h' : Held) (left : List ℕ) (sink : SinkSeen) → head input ≡ Line line left
+      → Obeyed number h input (Err Memory) h' left sink sink
+  line_cut line h' left sink taken = inr (inr (line, taken, refl))
 
   module _ (name : List ℕ) (n : ℕ) (rest : List ℕ) (ask : Asks input (Some (File name n)) rest) (h' : Held) (left : List ℕ)
-      (held : Option (List ℕ)) where
-    pub file_too_large : (HasRoom h name n → ⊥) → left ≡ rest → Obeyed number h input (Ok (Some (TooLarge number))) h' left held held
+      (sink : SinkSeen) where
+    pub file_too_large : (HasRoom h name n → ⊥) → left ≡ rest → Obeyed number h input (Ok (Some (TooLarge number))) h' left sink sink
     file_too_large full same = rw same (large name n rest ask full, refl)
 
     part_begins : HasRoom h name n → (part : List ℕ) → rest ≡ part ++ left → length part < n → Begins h input left
@@ -83,34 +84,34 @@ module _ (number : ℕ) (h : Held) (input : List ℕ) where
 
     -- all bytes of the file were taken, and memory ran out
     pub file_unset : HasRoom h name n → (bytes : List ℕ) → (length bytes ≡ n) × (rest ≡ bytes ++ left)
-        → Obeyed number h input (Err Memory) h' left held held
+        → Obeyed number h input (Err Memory) h' left sink sink
     file_unset room bytes (long, is) =
-        inr (inl ([], with_file h name bytes, file_does room bytes long is, ([], got_none held [])))
+        inr (inl ([], with_file h name bytes, file_does room bytes long is, some_all sink sink [] (sym (after-nil sink))))
 
     part_unset : HasRoom h name n → (part : List ℕ) → rest ≡ part ++ left → (length part < n) ⊎ (length part ≡ n)
-        → Obeyed number h input (Err Memory) h' left held held
+        → Obeyed number h input (Err Memory) h' left sink sink
     part_unset room part is (inl short) = inl (part_begins room part is short, refl)
     part_unset room part is (inr long) = file_unset room part (long, is)
 
-    pub file_cut : HasRoom h name n → (e : Interruption) → TookFile n (Err e) rest left → Obeyed number h input (Err e) h' left held held
+    pub file_cut : HasRoom h name n → (e : Interruption) → TookFile n (Err e) rest left → Obeyed number h input (Err e) h' left sink sink
     file_cut room ReadFault (part, is, short) = (part_begins room part is short, refl)
     file_cut room WriteFault k = absurd k
     file_cut room Memory (part, is, most) = part_unset room part is (less_or_equal (length part) n most)
 
-    pub file_unended : HasRoom h name n → (length rest < n) × (left ≡ []) → Obeyed number h input (Ok (Some (EndsInFile number))) h' left held held
+    pub file_unended : HasRoom h name n → (length rest < n) × (left ≡ []) → Obeyed number h input (Ok (Some (EndsInFile number))) h' left sink sink
     file_unended room (short, none) = rw none (cut name n rest ask room short, refl)
 
     pub file_set : HasRoom h name n → (bytes : List ℕ) → (length bytes ≡ n) × (rest ≡ bytes ++ left) → h' ≡ with_file h name bytes
-        → Obeyed number h input (Ok None) h' left held held
+        → Obeyed number h input (Ok None) h' left sink sink
     file_set room bytes (long, is) set =
-        rw set (quiet (with_file h name bytes) left held (file_does room bytes long is))
+        rw set (quiet (with_file h name bytes) left sink (file_does room bytes long is))
 
-  module _ (left : List ℕ) (ask : Asks input (Some Check) left) (h' : Held) (before : Option (List ℕ)) where
+  module _ (left : List ℕ) (ask : Asks input (Some Check) left) (h' : Held) (before : SinkSeen) where
     pub nothing_to_check : h.files ≡ [] → Obeyed number h input (Ok (Some (BadCommand number))) h' left before before
     nothing_to_check none = (no_file left ask none, refl)
 
     module _ (faults : List Fault) (typed : ℕ) (base : Option Base) (some : h.files ≢ []) (list : IsFaultList h.files faults)
-        (types : Types h.files h.base typed base) (after : Option (List ℕ)) where
+        (types : Types h.files h.base typed base) (after : SinkSeen) where
       pub checked : PutLines (reply_lines h.names faults typed) (Ok tt) before after → h' ≡ with_base h base
           → Obeyed number h input (Ok None) h' left before after
       checked put is = rw is (reply_lines h.names faults typed, checks faults typed base left ask some list types, put)

@@ -2,7 +2,7 @@
 use Rattle.std.proofs.Common.{◌≡◌, true≢false, is_ok, is_some, subst, not, bytes_eq, if◌then◌else◌, Result, ℕ, zero, suc, ◌+◌, ◌<◌, ◌≤◌, Bool, true, false, List, [], ◌∷◌, ◌++◌, map, length, get_or, slice_set, Option, Some, None, IfSome, unwrap_or, ap, sym, ◌∙◌, refl, arith}
 use Rattle.std.specs.Prelude.{remove, nat_lt, Ok, Err}
 use Rattle.std.proofs.lemmas.Slice.Eq.{bytes_eq-Decides}
-use Rattle.std.proofs.lemmas.List.{map-set, map-append, length-set}
+use Rattle.std.proofs.lemmas.List.{length-set}
 use Rattle.cool_syntax.specs.declared.TheConstants.{MOST_FILES, MOST_SOURCE_BYTES}
 use Rattle.cool_faults.specs.Files.{total}
 use Rattle.cool_session.specs.declared.error.SetError.{SetError}

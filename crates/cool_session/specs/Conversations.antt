@@ -1,8 +1,9 @@
 -- What comes of a session over a source and a sink that may fail.
-use Rattle.std.specs.Prelude.{◌≡◌, ◌⊎◌, ℕ, List, Option, Result, Ok, Err}
+use Rattle.std.specs.Prelude.{◌≡◌, ◌⊎◌, ℕ, List, ◌++◌, Option, Result, Ok, Err}
 use Rattle.std.specs.List.{concat}
 use Rattle.cool_ports.specs.Counts.{Rose}
 use Rattle.cool_ports.specs.SinkBytes.{appended, GotPrefix}
+use Rattle.cool_ports.specs.SinkPuts.{PutFront}
 use Rattle.cool_session.specs.declared.ending.Ending.{Ending}
 use Rattle.cool_session.specs.declared.ending.Interruption.{Interruption}
 use Rattle.cool_session.specs.declared.ending.Interruption.TheVariants.{ReadFault, WriteFault, Memory}
@@ -33,6 +34,18 @@ Conversed input (Err ReadFault) left before after = CutInInput input left before
 Conversed input (Err WriteFault) left before after = CutInWork input left before after
 Conversed input (Err Memory) left before after =
     CutInInput input left before after ⊎ CutInWork input left before after ⊎ CutAfterLine input left before after
+
+-- The same of the puts: the sink had been given `before`, and was given `after`. Each line of a reply was one put; where a write, or want
+-- of memory while lines were written, cut the session short, those of a front of the lines.
+abbrev pub LinesPut : List ℕ → Result Ending Interruption → List ℕ → List (List ℕ) → List (List ℕ) → Type 0
+LinesPut input (Ok end) left before after = (replies : List (List ℕ)) × Exchange input replies end left × (after ≡ before ++ replies)
+LinesPut input (Err ReadFault) left before after = (replies : List (List ℕ)) × Unread input replies left × (after ≡ before ++ replies)
+LinesPut input (Err WriteFault) left before after =
+    (replies : List (List ℕ)) × (lines : List (List ℕ)) × Unwritten input replies lines left × PutFront (before ++ replies) lines after
+LinesPut input (Err Memory) left before after =
+    ((replies : List (List ℕ)) × Unread input replies left × (after ≡ before ++ replies))
+    ⊎ ((replies : List (List ℕ)) × (lines : List (List ℕ)) × Unwritten input replies lines left × PutFront (before ++ replies) lines after)
+    ⊎ ((replies : List (List ℕ)) × Undone input replies left × (after ≡ before ++ replies))
 
 -- a prefix of the replies of a part of a session was put
 abbrev pub GotOfPart : List ℕ → Option (List ℕ) → Option (List ℕ) → Type 0

@@ -1,8 +1,8 @@
 -- What the parts of a conversation answer: lines and files that are taken, commands that are read and done, and replies that are put.
 use Rattle.std.specs.Prelude.{◌≡◌, ◌≢◌, ℕ, ◌<◌, ◌≤◌, ◌^◌, ◌⊎◌, ◌==◌, not, Bool, true, false, List, [], ◌++◌, length, Option, Some, None, Result, Ok, Err}
 use Rattle.std.specs.Global.{Vec}
-use Rattle.std.specs.List.{concat, list_all}
-use Rattle.cool_ports.specs.SinkBytes.{appended, GotPrefix}
+use Rattle.std.specs.List.{list_all}
+use Rattle.cool_ports.specs.SinkPuts.{SinkSeen, after_puts, PutSome}
 use Rattle.cool_session.specs.declared.command.Command.{Command}
 use Rattle.cool_session.specs.declared.command.Command.TheVariants as read
 use Rattle.cool_session.specs.declared.ending.Ending.{Ending}
@@ -66,23 +66,23 @@ command_of (read.Drop name) = commands.Drop name.now
 command_of read.Check = commands.Check
 command_of read.Quit = commands.Quit
 
--- Lines were put to a sink that held `before` and holds `after`, or a prefix of them.
-abbrev pub PutLines : List (List ℕ) → Result (Unit {0}) Interruption → Option (List ℕ) → Option (List ℕ) → Type 0
-PutLines lines (Ok u) before after = after ≡ appended before (concat lines)
+-- Lines were put to a sink of which `before` was known and `after` is, each by a put, or a front of them.
+abbrev pub PutLines : List (List ℕ) → Result (Unit {0}) Interruption → SinkSeen → SinkSeen → Type 0
+PutLines lines (Ok u) before after = after ≡ after_puts before lines
 PutLines lines (Err ReadFault) before after = ⊥
-PutLines lines (Err WriteFault) before after = GotPrefix before (concat lines) after
-PutLines lines (Err Memory) before after = GotPrefix before (concat lines) after
+PutLines lines (Err WriteFault) before after = PutSome before lines after
+PutLines lines (Err Memory) before after = PutSome before lines after
 
--- The command at the head of an input was done, or ended the session, or was cut short; it had this number. The sink held `before` and
--- holds `after`.
-abbrev pub Obeyed : ℕ → Held → List ℕ → Result (Option Ending) Interruption → Held → List ℕ → Option (List ℕ) → Option (List ℕ) → Type 0
+-- The command at the head of an input was done, or ended the session, or was cut short; it had this number. Of the sink `before` was
+-- known, and `after` is.
+abbrev pub Obeyed : ℕ → Held → List ℕ → Result (Option Ending) Interruption → Held → List ℕ → SinkSeen → SinkSeen → Type 0
 Obeyed number h input (Ok None) h' left before after =
-    (lines : List (List ℕ)) × Does h input lines h' left × (after ≡ appended before (concat lines))
+    (lines : List (List ℕ)) × Does h input lines h' left × (after ≡ after_puts before lines)
 Obeyed number h input (Ok (Some end)) h' left before after = EndsAt number h input end left × (after ≡ before)
 Obeyed number h input (Err ReadFault) h' left before after = Begins h input left × (after ≡ before)
 Obeyed number h input (Err WriteFault) h' left before after =
-    (lines : List (List ℕ)) × (now : Held) × Does h input lines now left × GotPrefix before (concat lines) after
+    (lines : List (List ℕ)) × (now : Held) × Does h input lines now left × PutSome before lines after
 Obeyed number h input (Err Memory) h' left before after =
     (Begins h input left × (after ≡ before))
-    ⊎ ((lines : List (List ℕ)) × (now : Held) × Does h input lines now left × GotPrefix before (concat lines) after)
+    ⊎ ((lines : List (List ℕ)) × (now : Held) × Does h input lines now left × PutSome before lines after)
     ⊎ ((line : List ℕ) × (head input ≡ Line line left) × (after ≡ before))

@@ -2,9 +2,10 @@
 
 ghost use Rattle.std.specs.Prelude.{◌≡◌, ◌≤◌, ℕ, Bool, false, List, Option, Some, IfOk, IsErrOf};
 ghost use Rattle.cool_ports.specs.Answers.{Leaves};
+ghost use Rattle.cool_ports.specs.SinkPuts.{SinkSeen, seen};
 ghost use Rattle.cool_ports.specs.Taking.{Took};
 ghost use Rattle.cool_session.specs.Commands.{command};
-ghost use Rattle.cool_session.specs.Conversations.{Conversed, Counted};
+ghost use Rattle.cool_session.specs.Conversations.{Conversed, LinesPut, Counted};
 ghost use Rattle.cool_session.specs.Exchanges.{Line, head, Asks};
 ghost use Rattle.cool_session.specs.Held.{held_by};
 ghost use Rattle.cool_session.specs.Obeying.{Obeyed, command_ended, command_of};
@@ -31,6 +32,8 @@ pub fn converse<S: Source, K: Sink>(
     ensures unended { IsErrOf result Interruption.ReadFault → (S.past source.new).ends ≡ (S.past source.old).ends }
     ensures conversed { (input left : List ℕ) → Leaves (S.past source.old) (S.past source.new) input left
         → Conversed input result left (K.held sink.old) (K.held sink.new) }
+    ensures lines { (input left : List ℕ) → Leaves (S.past source.old) (S.past source.new) input left
+        → LinesPut input result left (K.puts sink.old) (K.puts sink.new) }
     ensures counts { Counted result (S.faults source.old) (S.faults source.new) (K.faults sink.old) (K.faults sink.new) }
 {
     let mut session = Session::new(alloc);
@@ -60,7 +63,7 @@ fn obey<S: Source, K: Sink>(
 ) -> Result<Option<Ending>, Interruption>
     ensures took { Took false (command_ended result) (S.past source.old) (S.past source.new) (S.left source.old) (S.left source.new) }
     ensures obeyed { (input rest left : List ℕ) → head input ≡ Line line.now rest → Leaves (S.past source.old) (S.past source.new) rest left
-        → Obeyed number (held_by session.old) input result (held_by session.new) left (K.held sink.old) (K.held sink.new) }
+        → Obeyed number (held_by session.old) input result (held_by session.new) left (seen (K.held sink.old) (K.puts sink.old)) (seen (K.held sink.new) (K.puts sink.new)) }
     ensures room { IfOk result (λ _. S.room source.new ≤ S.room source.old) }
     ensures counts { Counted result (S.faults source.old) (S.faults source.new) (K.faults sink.old) (K.faults sink.new) }
 {
@@ -86,8 +89,8 @@ fn set_file<S: Source>(
     source: &mut S,
 ) -> Result<Option<Ending>, Interruption>
     ensures took { Took false (command_ended result) (S.past source.old) (S.past source.new) (S.left source.old) (S.left source.new) }
-    ensures obeyed { (input rest left : List ℕ) (held : Option (List ℕ)) → Asks input (Some (commands.File name.now size)) rest → Leaves (S.past source.old) (S.past source.new) rest left
-        → Obeyed number (held_by session.old) input result (held_by session.new) left held held }
+    ensures obeyed { (input rest left : List ℕ) (sink : SinkSeen) → Asks input (Some (commands.File name.now size)) rest → Leaves (S.past source.old) (S.past source.new) rest left
+        → Obeyed number (held_by session.old) input result (held_by session.new) left sink sink }
     ensures room { IfOk result (λ _. S.room source.new ≤ S.room source.old) }
     ensures counts { Counted result (S.faults source.old) (S.faults source.new) 0 0 }
 {
@@ -111,7 +114,7 @@ fn check<K: Sink>(
     sink: &mut K,
 ) -> Result<Option<Ending>, Interruption>
     ensures ended { command_ended result ≡ false }
-    ensures obeyed { (input left : List ℕ) → Asks input (Some commands.Check) left → Obeyed number (held_by session.old) input result (held_by session.new) left (K.held sink.old) (K.held sink.new) }
+    ensures obeyed { (input left : List ℕ) → Asks input (Some commands.Check) left → Obeyed number (held_by session.old) input result (held_by session.new) left (seen (K.held sink.old) (K.puts sink.old)) (seen (K.held sink.new) (K.puts sink.new)) }
     ensures counts { Counted result 0 0 (K.faults sink.old) (K.faults sink.new) }
 {
     if session.names().is_empty() {

@@ -2,6 +2,7 @@
 
 ghost use Rattle.std.specs.Prelude.{◌≡◌, ◌<◌, [], ◌∷◌, length, map, IfOk, string_bytes};
 ghost use Rattle.std.specs.List.{AllByRecursion};
+ghost use Rattle.cool_ports.specs.SinkPuts.{seen};
 ghost use Rattle.cool_syntax.specs.TokenFacts.{IsPlaced};
 ghost use Rattle.cool_faults.specs.Texts.{fault_line};
 ghost use Rattle.cool_faults.specs.Verdicts.{place_of};
@@ -34,7 +35,7 @@ pub(crate) fn put_reply<K: Sink>(
     sink: &mut K,
 ) -> Result<(), Interruption>
     requires placed { AllByRecursion (λ f. IsPlaced (length names.now) (place_of f)) reply.now.faults.items }
-    ensures put { PutLines (reply_lines (names_of names.now) reply.now.faults.items reply.now.typed) result (K.held sink.old) (K.held sink.new) }
+    ensures put { PutLines (reply_lines (names_of names.now) reply.now.faults.items reply.now.typed) result (seen (K.held sink.old) (K.puts sink.old)) (seen (K.held sink.new) (K.puts sink.new)) }
     ensures counts { Counted result 0 0 (K.faults sink.old) (K.faults sink.new) }
 {
     put_first(alloc, reply.faults.len(), reply.typed, sink)?;
@@ -48,7 +49,7 @@ fn put_first<K: Sink>(
     typed: u64,
     sink: &mut K,
 ) -> Result<(), Interruption>
-    ensures put { PutLines (first_line faults typed ∷ []) result (K.held sink.old) (K.held sink.new) }
+    ensures put { PutLines (first_line faults typed ∷ []) result (seen (K.held sink.old) (K.puts sink.old)) (seen (K.held sink.new) (K.puts sink.new)) }
     ensures counts { Counted result 0 0 (K.faults sink.old) (K.faults sink.new) }
 {
     let line = first_line(alloc, faults, typed)?;
@@ -70,7 +71,7 @@ fn put_faults<K: Sink>(
     sink: &mut K,
 ) -> Result<(), Interruption>
     requires placed { AllByRecursion (λ f. IsPlaced (length names.now) (place_of f)) faults.now }
-    ensures put { PutLines (map (fault_line (names_of names.now)) faults.now) result (K.held sink.old) (K.held sink.new) }
+    ensures put { PutLines (map (fault_line (names_of names.now)) faults.now) result (seen (K.held sink.old) (K.puts sink.old)) (seen (K.held sink.new) (K.puts sink.new)) }
     ensures counts { Counted result 0 0 (K.faults sink.old) (K.faults sink.new) }
 {
     for fault in faults {
@@ -83,7 +84,7 @@ fn put_faults<K: Sink>(
 /// Puts a line at once.
 fn put_line<K: Sink>(line: &[u8], sink: &mut K) -> Result<(), Interruption>
     requires { 0 < length line.now }
-    ensures put { PutLines (line.now ∷ []) result (K.held sink.old) (K.held sink.new) }
+    ensures put { PutLines (line.now ∷ []) result (seen (K.held sink.old) (K.puts sink.old)) (seen (K.held sink.new) (K.puts sink.new)) }
     ensures counts { Counted result 0 0 (K.faults sink.old) (K.faults sink.new) }
 {
     match sink.put(line) {

@@ -2,6 +2,7 @@ use Rattle.std.proofs.Common.{◌≡◌, ◌+◌, ◌<◌, ◌≤◌, ◌^◌, r
 use Rattle.std.specs.Prelude.{Err}
 use Rattle.cool_faults.specs.Files.{bytes_of}
 use Rattle.cool_ports.proofs.InputsInParts.{took_nothing, took_both, in_two, leaves_same}
+use Rattle.cool_ports.specs.SinkPuts.{seen}
 use Rattle.cool_session.specs.Exchanges.{Line, head}
 use Rattle.cool_session.specs.Files.{names_of}
 use Rattle.cool_session.specs.Held.{Held, nothing_held, held_by}
@@ -12,7 +13,7 @@ use Rattle.cool_session.proofs.conversation.converse.Goals as goal
 
 pub loop-session-init : goal.loop-session-init
 loop-session-init g c =
-    let first = g.K.Sink.held c.args.sink.now in
+    let first = seen (g.K.Sink.held c.args.sink.now) (g.K.Sink.puts c.args.sink.now) in
     let new : held_by c.new-session.result ≡ nothing_held =
     held_is _ _ _ _ _ _ (ap names_of c.new-session.ensures.names) (ap bytes_of c.new-session.ensures.files) (ap base_seen c.new-session.ensures.base) in
     record {
@@ -34,7 +35,18 @@ returns-in_err-take_line-clause-conversed g c =
     let two = in_two _ _ _ _ _ _ _ _ _ input left i.took c.in_err-take_line.ensures.took leaves in
     rw same
     (cut_in_line input c.loop-session.number (held_by c.loop-session.session) two.middle _ _ (i.so_far input two.middle two.before) e left
-    (c.in_err-take_line.ensures.line two.middle left two.later))
+    (c.in_err-take_line.ensures.line two.middle left two.later)).0
+
+pub returns-in_err-take_line-clause-lines : goal.returns-in_err-take_line-clause-lines
+returns-in_err-take_line-clause-lines g c =
+    let i = c.loop-session.invariant in
+    let e = c.in_err-take_line.field-0.0 in
+    let same : c.from_residual.result ≡ Err e = search rules in
+    λ input left leaves.
+    let two = in_two _ _ _ _ _ _ _ _ _ input left i.took c.in_err-take_line.ensures.took leaves in
+    rw same
+    (cut_in_line input c.loop-session.number (held_by c.loop-session.session) two.middle _ _ (i.so_far input two.middle two.before) e left
+    (c.in_err-take_line.ensures.line two.middle left two.later)).1
 
 pub returns-in-Nothing-clause-conversed : goal.returns-in-Nothing-clause-conversed
 returns-in-Nothing-clause-conversed g c =
@@ -43,7 +55,16 @@ returns-in-Nothing-clause-conversed g c =
     λ input left leaves.
     let two = in_two _ _ _ _ _ _ _ _ _ input left i.took took leaves in
     let line = rw c.in-Nothing.is at (c.in_ok-take_line.ensures.line two.middle left two.later) in
-    ends_at_nothing input c.loop-session.number (held_by c.loop-session.session) two.middle _ _ (i.so_far input two.middle two.before) left line
+    (ends_at_nothing input c.loop-session.number (held_by c.loop-session.session) two.middle _ _ (i.so_far input two.middle two.before) left line).0
+
+pub returns-in-Nothing-clause-lines : goal.returns-in-Nothing-clause-lines
+returns-in-Nothing-clause-lines g c =
+    let i = c.loop-session.invariant in
+    let took = rw c.in-Nothing.is at c.in_ok-take_line.ensures.took in
+    λ input left leaves.
+    let two = in_two _ _ _ _ _ _ _ _ _ input left i.took took leaves in
+    let line = rw c.in-Nothing.is at (c.in_ok-take_line.ensures.line two.middle left two.later) in
+    (ends_at_nothing input c.loop-session.number (held_by c.loop-session.session) two.middle _ _ (i.so_far input two.middle two.before) left line).1
 
 pub returns-in-TooLong-clause-conversed : goal.returns-in-TooLong-clause-conversed
 returns-in-TooLong-clause-conversed g c =
@@ -51,7 +72,15 @@ returns-in-TooLong-clause-conversed g c =
     λ input left leaves.
     let two = in_two _ _ _ _ _ _ _ _ _ input left i.took c.in_ok-take_line.ensures.took leaves in
     let line = no_line_taken c.in_ok-take_line.field-0 two.middle left c.in-TooLong.is (c.in_ok-take_line.ensures.line two.middle left two.later) in
-    ends_at_no_line input c.loop-session.number (held_by c.loop-session.session) two.middle _ _ (i.so_far input two.middle two.before) left line
+    (ends_at_no_line input c.loop-session.number (held_by c.loop-session.session) two.middle _ _ (i.so_far input two.middle two.before) left line).0
+
+pub returns-in-TooLong-clause-lines : goal.returns-in-TooLong-clause-lines
+returns-in-TooLong-clause-lines g c =
+    let i = c.loop-session.invariant in
+    λ input left leaves.
+    let two = in_two _ _ _ _ _ _ _ _ _ input left i.took c.in_ok-take_line.ensures.took leaves in
+    let line = no_line_taken c.in_ok-take_line.field-0 two.middle left c.in-TooLong.is (c.in_ok-take_line.ensures.line two.middle left two.later) in
+    (ends_at_no_line input c.loop-session.number (held_by c.loop-session.session) two.middle _ _ (i.so_far input two.middle two.before) left line).1
 
 -- a command was cut short
 pub returns-in_err-ending-in-Whole-clause-conversed : goal.returns-in_err-ending-in-Whole-clause-conversed
@@ -68,7 +97,23 @@ returns-in_err-ending-in-Whole-clause-conversed g c =
     let obeyed = (c.in_err-ending-in-Whole.ensures.obeyed two.middle last.middle left at last.later) in
     rw same
     (cut_at_command input c.loop-session.number (held_by c.loop-session.session) two.middle _ _ (i.so_far input two.middle two.before) e
-    (held_by c.obey.new.session) left _ obeyed)
+    (held_by c.obey.new.session) left _ obeyed).0
+
+pub returns-in_err-ending-in-Whole-clause-lines : goal.returns-in_err-ending-in-Whole-clause-lines
+returns-in_err-ending-in-Whole-clause-lines g c =
+    let i = c.loop-session.invariant in
+    let e = c.in_err-ending-in-Whole.field-0.0 in
+    let same : c.from_residual-in_err-ending-in-Whole.result ≡ Err e = search rules in
+    let took = rw c.in-Whole.is at c.in_ok-take_line.ensures.took in
+    λ input left leaves.
+    let last = in_two _ _ _ _ _ _ _ _ _ input left (took_both _ _ _ _ _ _ _ _ _ i.took took) c.in_err-ending-in-Whole.ensures.took leaves in
+    let two = in_two _ _ _ _ _ _ _ _ _ input last.middle i.took took last.before in
+    let line = rw c.in-Whole.is at (c.in_ok-take_line.ensures.line two.middle last.middle two.later) in
+    let at = subst (λ (bytes : List ℕ). head two.middle ≡ Line bytes last.middle) (sym c.deref.ensures.value) line in
+    let obeyed = (c.in_err-ending-in-Whole.ensures.obeyed two.middle last.middle left at last.later) in
+    rw same
+    (cut_at_command input c.loop-session.number (held_by c.loop-session.session) two.middle _ _ (i.so_far input two.middle two.before) e
+    (held_by c.obey.new.session) left _ obeyed).1
 
 pub returns-in-Some-clause-conversed : goal.returns-in-Some-clause-conversed
 returns-in-Some-clause-conversed g c =
@@ -80,9 +125,23 @@ returns-in-Some-clause-conversed g c =
     let line = rw c.in-Whole.is at (c.in_ok-take_line.ensures.line two.middle last.middle two.later) in
     let at = subst (λ (bytes : List ℕ). head two.middle ≡ Line bytes last.middle) (sym c.deref.ensures.value) line in
     let obeyed = rw c.in-Some.is at (c.in_ok-ending-in-Whole.ensures.obeyed two.middle last.middle left at last.later) in
-    ends_at_command input c.loop-session.number (held_by c.loop-session.session) two.middle _ _ (i.so_far input two.middle two.before)
+    (ends_at_command input c.loop-session.number (held_by c.loop-session.session) two.middle _ _ (i.so_far input two.middle two.before)
     c.in-Some.ending
-    (held_by c.obey.new.session) left _ obeyed
+    (held_by c.obey.new.session) left _ obeyed).0
+
+pub returns-in-Some-clause-lines : goal.returns-in-Some-clause-lines
+returns-in-Some-clause-lines g c =
+    let i = c.loop-session.invariant in
+    let took = rw c.in-Whole.is at c.in_ok-take_line.ensures.took in
+    λ input left leaves.
+    let last = in_two _ _ _ _ _ _ _ _ _ input left (took_both _ _ _ _ _ _ _ _ _ i.took took) c.in_ok-ending-in-Whole.ensures.took leaves in
+    let two = in_two _ _ _ _ _ _ _ _ _ input last.middle i.took took last.before in
+    let line = rw c.in-Whole.is at (c.in_ok-take_line.ensures.line two.middle last.middle two.later) in
+    let at = subst (λ (bytes : List ℕ). head two.middle ≡ Line bytes last.middle) (sym c.deref.ensures.value) line in
+    let obeyed = rw c.in-Some.is at (c.in_ok-ending-in-Whole.ensures.obeyed two.middle last.middle left at last.later) in
+    (ends_at_command input c.loop-session.number (held_by c.loop-session.session) two.middle _ _ (i.so_far input two.middle two.before)
+    c.in-Some.ending
+    (held_by c.obey.new.session) left _ obeyed).1
 
 -- one more command was done
 pub loop-session-preserved : goal.loop-session-preserved

@@ -1,7 +1,7 @@
 use Rattle.std.proofs.Common.{◌≡◌, map, drop}
-use Rattle.std.specs.List.{concat}
 use Rattle.cool_faults.specs.Texts.{fault_line}
-use Rattle.cool_ports.specs.SinkBytes.{GotUpTo}
+use Rattle.cool_ports.specs.SinkPuts.{seen}
+use Rattle.cool_ports.proofs.SeenSinks.{SeenUpTo}
 use Rattle.cool_session.specs.Files.{names_of}
 use Rattle.cool_session.proofs.reply.put_faults.Given as goal
 
@@ -11,6 +11,6 @@ invariant-loop-fault g l =
     let k = g.K.Sink in
     let line = fault_line (names_of l.names) in
     record {
-      got : GotUpTo (k.held l.fn.sink) (concat (map line l.faults)) (concat (map line (drop l.fault-index l.faults))) (k.held l.sink);
+      got : SeenUpTo (seen (k.held l.fn.sink) (k.puts l.fn.sink)) (map line l.faults) (map line (drop l.fault-index l.faults)) (seen (k.held l.sink) (k.puts l.sink));
       no_fault : k.faults l.sink ≡ k.faults l.fn.sink;
     }
