@@ -1,12 +1,12 @@
 -- Break addresses that a command sets or takes away, and the other commands that leave the run where it is.
-use Rattle.std.proofs.Common.{◌≡◌, ◌⊎◌, inl, inr, ◌∙◌, refl, sym, ap, subst, ℕ, Bool, true, false, List, [], ◌∷◌, append-nil, cond, arith}
+use Rattle.std.proofs.Common.{◌≡◌, ◌⊎◌, inl, inr, ◌∙◌, refl, sym, ap, subst, ℕ, Bool, true, false, List, [], ◌∷◌, cond, arith}
 use Rattle.std.specs.Prelude.{◌==◌, ◌&&◌, ◌||◌, not, Option, Some}
-use Rattle.std.specs.List.{concat, filter}
+use Rattle.std.specs.List.{filter}
 use Rattle.std.proofs.lemmas.Bool.{cases_eq}
 use Rattle.cool_ports.specs.Answers.{Past, Leaves}
-use Rattle.cool_ports.specs.SinkBytes.{appended}
+use Rattle.cool_ports.specs.SinkPuts.{SinkSeen, after_puts}
 use Rattle.cool_ports.proofs.InputsInParts.{leaves_same}
-use Rattle.cool_ports.proofs.GettingBytes.{appended-nil}
+use Rattle.cool_ports.proofs.SeenSinks.{after-nil}
 use Rattle.mips_isa.specs.Bytes.{Segments}
 use Rattle.mips_isa.specs.Machine.{Core}
 use Rattle.spim_memory.specs.Memory.{segments, bytes_of}
@@ -15,8 +15,8 @@ use Rattle.spim_debug.specs.declared.debugger.Debugger.{Debugger}
 use Rattle.spim_debug.specs.declared.script.DebugCommand.{DebugCommand}
 use Rattle.spim_debug.specs.declared.script.DebugCommand.TheVariants as commands
 use Rattle.spim_debug.specs.BreakSets.{in_set}
-use Rattle.spim_debug.specs.Moves.{Debuggee, Progress, outcome, moves, is_break}
-use Rattle.spim_debug.specs.Notes.{registers_note, memory_note, listed_from, words_from, state_in, notes}
+use Rattle.spim_debug.specs.Moves.{Debuggee, Progress, moves, is_break}
+use Rattle.spim_debug.specs.Notes.{registers_note, memory_note, listed_from, words_from, notes}
 use Rattle.spim_debug.specs.Obeying.{Stands}
 
 -- with other break addresses it stands where it stood
@@ -68,30 +68,31 @@ stands_deleted d p first x left held marks address st set =
 -- the notes of the other commands, by the debugger's parts
 pub registers_text : (d : Debuggee) (p : Progress) (first : Option (List ℕ)) (x : Debugger) (left held : Option (List ℕ))
     (bytes : List ℕ) → Stands d p first x left held → bytes ≡ registers_note (core_of x.machine.cpu)
-    → concat (notes d commands.Regs p.executed) ≡ bytes
+    → notes d commands.Regs p.executed ≡ bytes ∷ []
 registers_text d p first x left held bytes st is =
-    append-nil (registers_note (state_in (outcome d p.executed)).core) ∙ ap (λ (c : Core). registers_note c) (sym st.state.core) ∙ sym is
+    ap (λ (note : List ℕ). note ∷ []) (ap (λ (c : Core). registers_note c) (sym st.state.core) ∙ sym is)
 
 pub memory_text : (d : Debuggee) (p : Progress) (first : Option (List ℕ)) (x : Debugger) (left held : Option (List ℕ)) (a : ℕ)
     (bytes : List ℕ) → Stands d p first x left held
     → bytes ≡ memory_note (segments x.machine.cpu.memory) (bytes_of x.machine.cpu.memory) a
-    → concat (notes d (commands.Show a) p.executed) ≡ bytes
+    → notes d (commands.Show a) p.executed ≡ bytes ∷ []
 memory_text d p first x left held a bytes st is =
-    append-nil (memory_note d.segments (state_in (outcome d p.executed)).core.memory a) ∙ ap (λ (c : Core). memory_note d.segments c.memory a) (sym st.state.core)
-    ∙ ap (λ (b : Segments). memory_note b (bytes_of x.machine.cpu.memory) a) (sym st.segments) ∙ sym is
+    ap (λ (note : List ℕ). note ∷ [])
+    (ap (λ (c : Core). memory_note d.segments c.memory a) (sym st.state.core)
+    ∙ ap (λ (b : Segments). memory_note b (bytes_of x.machine.cpu.memory) a) (sym st.segments) ∙ sym is)
 
 pub listed_text : (d : Debuggee) (p : Progress) (first : Option (List ℕ)) (x : Debugger) (left held : Option (List ℕ)) (a n : ℕ)
     (text : List ℕ) → Stands d p first x left held → x.machine.cpu.memory.text ≡ text
-    → concat (notes d (commands.List a n) p.executed) ≡ concat (listed_from a (words_from text a n))
-listed_text d p first x left held a n text st is = ap (λ (t : List ℕ). concat (listed_from a (words_from t a n))) (sym st.text ∙ is)
+    → notes d (commands.List a n) p.executed ≡ listed_from a (words_from text a n)
+listed_text d p first x left held a n text st is = ap (λ (t : List ℕ). listed_from a (words_from t a n)) (sym st.text ∙ is)
 
 -- a command that has no note, and one whose note was put
-pub stayed : (d : Debuggee) (p : Progress) (first : Option (List ℕ)) (x : Debugger) (left held noted : Option (List ℕ))
+pub stayed : (d : Debuggee) (p : Progress) (first : Option (List ℕ)) (x : Debugger) (left held : Option (List ℕ)) (noted : SinkSeen)
     (c told : DebugCommand) → c ≡ told → notes d told (moves d told p).executed ≡ [] → Stands d (moves d told p) first x left held
-    → Stands d (moves d c p) first x left held × (noted ≡ appended noted (concat (notes d c (moves d c p).executed)))
+    → Stands d (moves d c p) first x left held × (noted ≡ after_puts noted (notes d c (moves d c p).executed))
 stayed d p first x left held noted c told is none st =
-    subst (λ (k : DebugCommand). Stands d (moves d k p) first x left held × (noted ≡ appended noted (concat (notes d k (moves d k p).executed)))) (sym is)
-    (st, sym (appended-nil noted) ∙ ap (λ (ns : List (List ℕ)). appended noted (concat ns)) (sym none))
+    subst (λ (k : DebugCommand). Stands d (moves d k p) first x left held × (noted ≡ after_puts noted (notes d k (moves d k p).executed))) (sym is)
+    (st, sym (after-nil noted) ∙ ap (after_puts noted) (sym none))
 
 -- of an input of which nothing was taken, all is left
 pub left_as : (d : Debuggee) (p : Progress) (first : Option (List ℕ)) (x : Debugger) (past : Past) (input rest : List ℕ)

@@ -1,7 +1,6 @@
 -- The words of a text from an address on, and the notes of them.
-use Rattle.std.proofs.Common.{◌≡◌, ◌∙◌, sym, ap, ℕ, ◌+◌, ◌-◌, ◌/◌, ◌<◌, ◌≤◌, List, ◌++◌, length, take, drop, get_or, arith}
+use Rattle.std.proofs.Common.{◌≡◌, ◌∙◌, sym, ap, ℕ, ◌+◌, ◌-◌, ◌/◌, ◌<◌, ◌≤◌, List, ◌∷◌, length, take, drop, get_or, arith}
 use Rattle.std.specs.Prelude.{min}
-use Rattle.std.specs.List.{concat}
 use Rattle.std.proofs.lemmas.List.{at_drop_more, take_min, take_rest, length-drop}
 use Rattle.mips_isa.specs.declared.address_map.TheConstants.{TEXT_START, MOST_TEXT_WORDS}
 use Rattle.spim_cpu.specs.Advancing.{word_index}
@@ -22,5 +21,5 @@ words_are text a n i count bound few is at same most =
     ∙ take_min n (drop i text) ∙ ap (λ (k : ℕ). take n (drop k text)) (at ∙ index_of text a few is)
 
 -- the note of a word stands before those of the words after it
-pub listed_at : (a : ℕ) (words : List ℕ) (i : ℕ) → i < length words → listed a (get_or words i 0) ++ concat (listed_from (a + 4) (drop (i + 1) words)) ≡ concat (listed_from a (drop i words))
-listed_at a words i inside = sym (at_drop_more (λ (ws : List ℕ). concat (listed_from a ws)) words i 0 inside)
+pub listed_at : (a : ℕ) (words : List ℕ) (i : ℕ) → i < length words → listed_from a (drop i words) ≡ listed a (get_or words i 0) ∷ listed_from (a + 4) (drop (i + 1) words)
+listed_at a words i inside = at_drop_more (λ (ws : List ℕ). listed_from a ws) words i 0 inside

@@ -3,6 +3,7 @@ use Rattle.std.specs.Prelude.{◌≡◌, ◌⊎◌, ℕ, ◌≤◌, ◌<◌, ◌
 use Rattle.std.specs.List.{AllByRecursion, concat}
 use Rattle.cool_ports.specs.Counts.{Rose}
 use Rattle.cool_ports.specs.SinkBytes.{appended, GotPrefix}
+use Rattle.cool_ports.specs.SinkPuts.{PutFront}
 use Rattle.mips_isa.specs.declared.address_map.TheConstants.{TEXT_START}
 use Rattle.mips_isa.specs.ImageBounds.{ImageParts}
 use Rattle.mips_isa.specs.Bytes.{segments_of}
@@ -116,6 +117,31 @@ Debugged d script end.NoteFault first left held noted noted' =
 Debugged d script end.Memory first left held noted noted' =
     (at : StandsEarlier d first left held) × GotPrefix noted (concat (all_notes d script beginning)) noted'
     × (NotBegun at.executed noted noted' ⊎ StoppedIn d script at.executed noted noted')
+
+-- Notes of a front of a script were put.
+pub record PutOfFront (d : Debuggee) (script : List DebugCommand) (puts puts' : List (List ℕ)) : Type 0 where
+  pub front : List DebugCommand
+  pub rest : List DebugCommand
+  pub script_is : script ≡ front ++ rest
+  pub put : puts' ≡ puts ++ all_notes d front beginning
+
+-- The same, and then a front of the notes of the command behind it.
+pub record PutInCommand (d : Debuggee) (script : List DebugCommand) (puts puts' : List (List ℕ)) : Type 0 where
+  pub front : List DebugCommand
+  pub command : DebugCommand
+  pub rest : List DebugCommand
+  pub script_is : script ≡ front ++ command ∷ rest
+  pub put : PutFront (puts ++ all_notes d front beginning) (notes d command (moves d command (all_moves d front beginning)).executed) puts'
+
+-- What the notes' sink was given to put: each note is one put, and those of a script that was done are all its notes, in order.
+abbrev pub NotesPut : Debuggee → List DebugCommand → DebugEnd → List (List ℕ) → List (List ℕ) → Type 0
+NotesPut d script (end.Halt (Exit code)) puts puts' = puts' ≡ puts ++ all_notes d script beginning
+NotesPut d script (end.Halt (Trap trap)) puts puts' = puts' ≡ puts ++ all_notes d script beginning
+NotesPut d script (end.Halt StepLimit) puts puts' = puts' ≡ puts ++ all_notes d script beginning
+NotesPut d script (end.Halt ReadFault) puts puts' = PutOfFront d script puts puts'
+NotesPut d script (end.Halt WriteFault) puts puts' = PutOfFront d script puts puts'
+NotesPut d script end.NoteFault puts puts' = PutInCommand d script puts puts'
+NotesPut d script end.Memory puts puts' = (puts' ≡ puts) ⊎ PutInCommand d script puts puts'
 
 -- Which count of faults rose: of the source (s, then s'), of the sink (k, then k') and of the notes (e, then e').
 abbrev pub CountedBy : DebugEnd → ℕ → ℕ → ℕ → ℕ → ℕ → ℕ → Type 0

@@ -1,8 +1,7 @@
 -- What a debugger's parts have to do with how far its script is, and what it leaves after a command.
-use Rattle.std.specs.Prelude.{◌≡◌, ℕ, ◌-◌, ◌≤◌, List, length, Option, Some, None, Result, Ok, Err}
-use Rattle.std.specs.List.{concat}
+use Rattle.std.specs.Prelude.{◌≡◌, ℕ, ◌-◌, ◌≤◌, List, [], ◌∷◌, length, Option, Some, None, Result, Ok, Err}
 use Rattle.cool_ports.specs.Counts.{Rose}
-use Rattle.cool_ports.specs.SinkBytes.{appended, GotPrefix}
+use Rattle.cool_ports.specs.SinkPuts.{SinkSeen, after_puts, PutSome}
 use Rattle.mips_isa.specs.declared.address_map.TheConstants.{MOST_TEXT_WORDS}
 use Rattle.mips_isa.specs.Calls.{Outcome, Running, Exited, Trapped}
 use Rattle.spim_memory.specs.Memory.{segments}
@@ -76,21 +75,21 @@ EndsFrom d p n first ReadFault left held = Fails d p n first ReadFault left held
 EndsFrom d p n first WriteFault left held = Fails d p n first WriteFault left held
 
 -- a note was put, or its put failed
-abbrev pub IsPut : List ℕ → Result Unit DebugEnd → Option (List ℕ) → Option (List ℕ) → Type 0
-IsPut note (Ok done) noted noted' = noted' ≡ appended noted note
+abbrev pub IsPut : List ℕ → Result Unit DebugEnd → SinkSeen → SinkSeen → Type 0
+IsPut note (Ok done) noted noted' = noted' ≡ after_puts noted (note ∷ [])
 IsPut note (Err (end.Halt halt)) noted noted' = ⊥
-IsPut note (Err end.NoteFault) noted noted' = GotPrefix noted note noted'
+IsPut note (Err end.NoteFault) noted noted' = PutSome noted (note ∷ []) noted'
 IsPut note (Err end.Memory) noted noted' = ⊥
 
--- the same of several notes, for which memory may run out
-abbrev pub ArePut : List ℕ → Result Unit DebugEnd → Option (List ℕ) → Option (List ℕ) → Type 0
-ArePut bytes (Ok done) noted noted' = noted' ≡ appended noted bytes
-ArePut bytes (Err (end.Halt halt)) noted noted' = ⊥
-ArePut bytes (Err end.NoteFault) noted noted' = GotPrefix noted bytes noted'
-ArePut bytes (Err end.Memory) noted noted' = GotPrefix noted bytes noted'
+-- the same of several notes, a put for each, for which memory may run out
+abbrev pub ArePut : List (List ℕ) → Result Unit DebugEnd → SinkSeen → SinkSeen → Type 0
+ArePut texts (Ok done) noted noted' = noted' ≡ after_puts noted texts
+ArePut texts (Err (end.Halt halt)) noted noted' = ⊥
+ArePut texts (Err end.NoteFault) noted noted' = PutSome noted texts noted'
+ArePut texts (Err end.Memory) noted noted' = PutSome noted texts noted'
 
 -- where the machine stopped was noted, unless a read or a write failed
-abbrev pub StopNoted : Halt → ℕ → ℕ → Result Unit DebugEnd → Option (List ℕ) → Option (List ℕ) → Type 0
+abbrev pub StopNoted : Halt → ℕ → ℕ → Result Unit DebugEnd → SinkSeen → SinkSeen → Type 0
 StopNoted (Exit code) pc n result noted noted' = IsPut (ended_note n) result noted noted'
 StopNoted (Trap trap) pc n result noted noted' = IsPut (ended_note n) result noted noted'
 StopNoted StepLimit pc n result noted noted' = IsPut (at_note pc n) result noted noted'
@@ -98,13 +97,13 @@ StopNoted ReadFault pc n result noted noted' = (result ≡ Err (end.Halt ReadFau
 StopNoted WriteFault pc n result noted noted' = (result ≡ Err (end.Halt WriteFault)) × (noted' ≡ noted)
 
 -- What a command leaves: the debugger is as far as the command moves it, and its notes were put, unless a call failed.
-abbrev pub Obeyed : Debuggee → DebugCommand → Progress → Option (List ℕ) → Result Unit DebugEnd → Debugger → Option (List ℕ) → Option (List ℕ) → Option (List ℕ) → Option (List ℕ) → Type 0
+abbrev pub Obeyed : Debuggee → DebugCommand → Progress → Option (List ℕ) → Result Unit DebugEnd → Debugger → Option (List ℕ) → Option (List ℕ) → SinkSeen → SinkSeen → Type 0
 Obeyed d c p first (Err (end.Halt ReadFault)) x left held noted noted' =
     Fails d p ((moves d c p).executed - p.executed) first ReadFault left held × (noted' ≡ noted)
 Obeyed d c p first (Err (end.Halt WriteFault)) x left held noted noted' =
     Fails d p ((moves d c p).executed - p.executed) first WriteFault left held × (noted' ≡ noted)
 Obeyed d c p first result x left held noted noted' =
-    Stands d (moves d c p) first x left held × ArePut (concat (notes d c (moves d c p).executed)) result noted noted'
+    Stands d (moves d c p) first x left held × ArePut (notes d c (moves d c p).executed) result noted noted'
 
 -- Which count of faults rose, if any.
 abbrev pub CountedUnless : Result Unit DebugEnd → ℕ → ℕ → ℕ → ℕ → ℕ → ℕ → Type 0

@@ -1,15 +1,15 @@
 //! The debugger: a run of the machine that stops where it is asked to, and notes what it is asked for.
 
-ghost use Rattle.std.specs.Prelude.{◌≡◌, ◌≤◌, ◌<◌, ◌+◌, ◌-◌, List, ℕ, Bool, Option, Some, false, length, IfOk, OnOk};
-ghost use Rattle.std.specs.List.{concat};
+ghost use Rattle.std.specs.Prelude.{◌≡◌, ◌≤◌, ◌<◌, ◌+◌, ◌-◌, List, [], ◌∷◌, ℕ, Bool, Option, Some, false, length, IfOk, OnOk};
 ghost use Rattle.cool_ports.specs.Answers.{Leaves};
+ghost use Rattle.cool_ports.specs.SinkPuts.{seen};
 ghost use Rattle.cool_ports.specs.Taking.{Took, OfAnyInput};
 ghost use Rattle.mips_isa.specs.declared.address_map.TheConstants.{MOST_TEXT_WORDS};
 ghost use Rattle.spim_memory.specs.Memory.{IsLimits};
 ghost use Rattle.spim_debug.specs.declared.script.DebugCommand.TheVariants as commands;
 ghost use Rattle.spim_debug.specs.Moves.{Debuggee, Progress, beginning};
 ghost use Rattle.spim_debug.specs.Notes.{listed, listed_from, words_from};
-ghost use Rattle.spim_debug.specs.Debugging.{IsTextAddress, IsCommandFor, IsScriptFor, debuggee, Debugged, CountedBy};
+ghost use Rattle.spim_debug.specs.Debugging.{IsTextAddress, IsCommandFor, IsScriptFor, debuggee, Debugged, NotesPut, CountedBy};
 ghost use Rattle.spim_debug.specs.Obeying.{IsDebuggerOf, IsReady, KeepsText, Stands, EndsFrom, IsPut, ArePut, StopNoted, Obeyed, CountedUnless, NotesCounted};
 ghost use Rattle.spim_machine.specs.Ends.{Counted};
 
@@ -54,6 +54,8 @@ pub fn debug<S: Source, K: Sink, E: Sink>(
     ensures taken { (ended : Bool) × Took false ended (S.past source.old) (S.past source.new) (S.left source.old) (S.left source.new) }
     ensures debugged { (input rest : List ℕ) → Leaves (S.past source.old) (S.past source.new) input rest
         → Debugged (debuggee image.now limits.heap limits.stack budget input) script.now result (K.held sink.old) (Some rest) (K.held sink.new) (E.held notes.old) (E.held notes.new) }
+    ensures notes_put { (input rest : List ℕ) → Leaves (S.past source.old) (S.past source.new) input rest
+        → NotesPut (debuggee image.now limits.heap limits.stack budget input) script.now result (E.puts notes.old) (E.puts notes.new) }
     ensures counts { CountedBy result (S.faults source.old) (S.faults source.new) (K.faults sink.old) (K.faults sink.new) (E.faults notes.old) (E.faults notes.new) }
 {
     let Ok(mut debugger) = Debugger::load(alloc, image, limits, budget) else {
@@ -112,7 +114,7 @@ impl Debugger {
         ensures debugger { OnOk result (IsDebuggerOf text.now self.new) }
         ensures took { Took self.old.machine.ended self.new.machine.ended (S.past source.old) (S.past source.new) (S.left source.old) (S.left source.new) }
         ensures obeyed { (d : Debuggee) (p : Progress) (first : Option (List ℕ)) → OfAnyInput (S.past source.old) (S.past source.new) (λ input rest. Stands d p first self.old input (K.held sink.old)
-            → Obeyed d command p first result self.new rest (K.held sink.new) (E.held notes.old) (E.held notes.new)) }
+            → Obeyed d command p first result self.new rest (K.held sink.new) (seen (E.held notes.old) (E.puts notes.old)) (seen (E.held notes.new) (E.puts notes.new))) }
         ensures counts { CountedUnless result (S.faults source.old) (S.faults source.new) (K.faults sink.old) (K.faults sink.new) (E.faults notes.old) (E.faults notes.new) }
     {
         match command {
@@ -157,7 +159,7 @@ impl Debugger {
         ensures ready { OnOk result (IsReady self.new) }
         ensures took { Took self.old.machine.ended self.new.machine.ended (S.past source.old) (S.past source.new) (S.left source.old) (S.left source.new) }
         ensures obeyed { (d : Debuggee) (p : Progress) (first : Option (List ℕ)) → OfAnyInput (S.past source.old) (S.past source.new) (λ input rest. Stands d p first self.old input (K.held sink.old)
-            → Obeyed d (commands.Step most) p first result self.new rest (K.held sink.new) (E.held notes.old) (E.held notes.new)) }
+            → Obeyed d (commands.Step most) p first result self.new rest (K.held sink.new) (seen (E.held notes.old) (E.puts notes.old)) (seen (E.held notes.new) (E.puts notes.new))) }
         ensures counts { CountedUnless result (S.faults source.old) (S.faults source.new) (K.faults sink.old) (K.faults sink.new) (E.faults notes.old) (E.faults notes.new) }
     {
         let left = self.budget - self.executed;
@@ -177,7 +179,7 @@ impl Debugger {
         ensures ready { OnOk result (IsReady self.new) }
         ensures took { Took self.old.machine.ended self.new.machine.ended (S.past source.old) (S.past source.new) (S.left source.old) (S.left source.new) }
         ensures obeyed { (d : Debuggee) (p : Progress) (first : Option (List ℕ)) → OfAnyInput (S.past source.old) (S.past source.new) (λ input rest. Stands d p first self.old input (K.held sink.old)
-            → Obeyed d commands.Run p first result self.new rest (K.held sink.new) (E.held notes.old) (E.held notes.new)) }
+            → Obeyed d commands.Run p first result self.new rest (K.held sink.new) (seen (E.held notes.old) (E.puts notes.old)) (seen (E.held notes.new) (E.puts notes.new))) }
         ensures counts { CountedUnless result (S.faults source.old) (S.faults source.new) (K.faults sink.old) (K.faults sink.new) (E.faults notes.old) (E.faults notes.new) }
     {
         let left = self.budget - self.executed;
@@ -189,7 +191,7 @@ impl Debugger {
     fn note_stop<E: Sink>(&mut self, stopped: Stopped, notes: &mut E) -> Result<(), DebugEnd>
         requires { self.old.executed + stopped.executed ≤ self.old.budget }
         ensures debugger { self.new ≡ record self.old { executed = self.old.executed + stopped.executed } }
-        ensures noted { StopNoted stopped.halt self.old.machine.cpu.pc (self.old.executed + stopped.executed) result (E.held notes.old) (E.held notes.new) }
+        ensures noted { StopNoted stopped.halt self.old.machine.cpu.pc (self.old.executed + stopped.executed) result (seen (E.held notes.old) (E.puts notes.old)) (seen (E.held notes.new) (E.puts notes.new)) }
         ensures counts { NotesCounted result (E.faults notes.old) (E.faults notes.new) }
     {
         self.executed += stopped.executed;
@@ -229,7 +231,7 @@ fn list<E: Sink>(
 ) -> Result<(), DebugEnd>
     requires address { IsTextAddress text.now address }
     requires few { length text.now ≤ MOST_TEXT_WORDS }
-    ensures put { ArePut (concat (listed_from address (words_from text.now address most))) result (E.held notes.old) (E.held notes.new) }
+    ensures put { ArePut (listed_from address (words_from text.now address most)) result (seen (E.held notes.old) (E.puts notes.old)) (seen (E.held notes.new) (E.puts notes.new)) }
     ensures counts { NotesCounted result (E.faults notes.old) (E.faults notes.new) }
 {
     let rest = &text[word_index(address)..];
@@ -244,7 +246,7 @@ fn list<E: Sink>(
 
 /// Puts a note of a word at an address. `Memory` comes only for want of memory.
 fn list_word<E: Sink>(alloc: Global, at: u32, word: u32, notes: &mut E) -> Result<(), DebugEnd>
-    ensures put { ArePut (listed at word) result (E.held notes.old) (E.held notes.new) }
+    ensures put { ArePut (listed at word ∷ []) result (seen (E.held notes.old) (E.puts notes.old)) (seen (E.held notes.new) (E.puts notes.new)) }
     ensures counts { NotesCounted result (E.faults notes.old) (E.faults notes.new) }
 {
     let Ok(note) = listed(alloc, at, word) else {
@@ -256,7 +258,7 @@ fn list_word<E: Sink>(alloc: Global, at: u32, word: u32, notes: &mut E) -> Resul
 /// Puts a note at once.
 fn put_note<E: Sink>(notes: &mut E, note: &[u8]) -> Result<(), DebugEnd>
     requires { 0 < length note.now }
-    ensures put { IsPut note.now result (E.held notes.old) (E.held notes.new) }
+    ensures put { IsPut note.now result (seen (E.held notes.old) (E.puts notes.old)) (seen (E.held notes.new) (E.puts notes.new)) }
     ensures counts { NotesCounted result (E.faults notes.old) (E.faults notes.new) }
 {
     match notes.put(note) {

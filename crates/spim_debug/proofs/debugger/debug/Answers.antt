@@ -1,4 +1,4 @@
-use Rattle.std.proofs.Common.{◌≡◌, ◌∙◌, refl, sym, ap, subst, ℕ, Bool, false, List, arith}
+use Rattle.std.proofs.Common.{◌≡◌, ◌∙◌, inl, refl, sym, ap, subst, ℕ, Bool, false, List, arith}
 use Rattle.std.specs.Prelude.{Some}
 use Rattle.std.proofs.lemmas.List.{get_or_default}
 use Rattle.cool_ports.specs.Taking.{Took}
@@ -47,8 +47,18 @@ returns-in-Err-clause-debugged g c input rest leaves =
     let two = in_two _ _ _ _ _ _ _ _ _ input rest inv.took c.obey.ensures.took leaves in
     let so = inv.so_far input two.middle two.before in
     let inside = c.loop-command-test.true in
-    stopped_in d c.args.script.now c.loop-command.command-index _ _ c.in-Err.end _ c.obey.new.self _ _ _ _ _ _ _ inside (get_or_default c.args.script.now c.loop-command.command-index _ _ inside) so
-    (c.in-Err.ensures.obeyed d (all_moves d so.front beginning) _ two.middle rest two.later so.stands)
+    (stopped_in d c.args.script.now c.loop-command.command-index _ _ c.in-Err.end _ c.obey.new.self _ _ _ _ _ _ _ inside (get_or_default c.args.script.now c.loop-command.command-index _ _ inside) so
+    (c.in-Err.ensures.obeyed d (all_moves d so.front beginning) _ two.middle rest two.later so.stands)).0
+
+pub returns-in-Err-clause-notes_put : goal.returns-in-Err-clause-notes_put
+returns-in-Err-clause-notes_put g c input rest leaves =
+    let inv = c.loop-command.invariant in
+    let d = debuggee c.args.image.now c.args.limits.heap c.args.limits.stack c.args.budget input in
+    let two = in_two _ _ _ _ _ _ _ _ _ input rest inv.took c.obey.ensures.took leaves in
+    let so = inv.so_far input two.middle two.before in
+    let inside = c.loop-command-test.true in
+    (stopped_in d c.args.script.now c.loop-command.command-index _ _ c.in-Err.end _ c.obey.new.self _ _ _ _ _ _ _ inside (get_or_default c.args.script.now c.loop-command.command-index _ _ inside) so
+    (c.in-Err.ensures.obeyed d (all_moves d so.front beginning) _ two.middle rest two.later so.stands)).1
 
 -- one more command is done
 pub loop-command-preserved : goal.loop-command-preserved
@@ -77,5 +87,17 @@ returns-clause-debugged g c input rest leaves =
     let d = debuggee c.args.image.now c.args.limits.heap c.args.limits.stack c.args.budget input in
     let two = in_two _ _ _ _ _ _ _ _ _ input rest inv.took c.finish.ensures.took leaves in
     let so = inv.so_far input two.middle two.before in
-    done_all d c.args.script.now c.loop-command.command-index _ c.finish.result _ _ _ _ _ _ _ (omega (arith, c.loop-command-test.false)) so
-    (c.finish.ensures.ended d (all_moves d so.front beginning) _ two.middle rest two.later so.stands)
+    (done_all d c.args.script.now c.loop-command.command-index _ c.finish.result _ _ _ _ _ _ _ (omega (arith, c.loop-command-test.false)) so
+    (c.finish.ensures.ended d (all_moves d so.front beginning) _ two.middle rest two.later so.stands)).0
+
+pub returns-clause-notes_put : goal.returns-clause-notes_put
+returns-clause-notes_put g c input rest leaves =
+    let inv = c.loop-command.invariant in
+    let d = debuggee c.args.image.now c.args.limits.heap c.args.limits.stack c.args.budget input in
+    let two = in_two _ _ _ _ _ _ _ _ _ input rest inv.took c.finish.ensures.took leaves in
+    let so = inv.so_far input two.middle two.before in
+    (done_all d c.args.script.now c.loop-command.command-index _ c.finish.result _ _ _ _ _ _ _ (omega (arith, c.loop-command-test.false)) so
+    (c.finish.ensures.ended d (all_moves d so.front beginning) _ two.middle rest two.later so.stands)).1
+
+pub returns-in_default-clause-notes_put : goal.returns-in_default-clause-notes_put
+returns-in_default-clause-notes_put g c input rest leaves = inl refl

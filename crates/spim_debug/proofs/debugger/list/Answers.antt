@@ -1,8 +1,8 @@
 use Rattle.std.proofs.Common.{◌≡◌, ◌-◌, refl, List, ℕ, length, take, drop, get_or, ◌∙◌, sym, subst, arith, rules}
 use Rattle.std.specs.Prelude.{Result, Err}
-use Rattle.std.specs.List.{concat}
 use Rattle.std.proofs.lemmas.List.{length-take, length-drop}
-use Rattle.cool_ports.proofs.GettingBytes.{got_none, got_more}
+use Rattle.cool_ports.proofs.SeenSinks.{seen_none, seen_more}
+use Rattle.cool_ports.specs.SinkPuts.{seen}
 use Rattle.spim_debug.specs.declared.debugger.DebugEnd.{DebugEnd}
 use Rattle.spim_debug.specs.Notes.{listed, listed_from, words_from}
 use Rattle.spim_debug.specs.Obeying.{ArePut}
@@ -11,7 +11,7 @@ use Rattle.spim_debug.proofs.ObeyedCommands.{puts_failed}
 use Rattle.spim_debug.proofs.debugger.list.Goals as goal
 
 pub loop-word-init : goal.loop-word-init
-loop-word-init g c = record { at = omega arith; got = got_none _ _; calm = refl }
+loop-word-init g c = record { at = omega arith; got = seen_none _ _; calm = refl }
 
 -- a note was not put
 pub returns-in_err-list_word-clause-put : goal.returns-in_err-list_word-clause-put
@@ -23,9 +23,9 @@ returns-in_err-list_word-clause-put g c =
     let inv = c.loop-word.invariant in
     let stop = c.in_err-list_word.field-0.0 in
     let same : c.from_residual.result ≡ Err stop = search rules in
-    subst (λ (r : Result Unit DebugEnd). ArePut (concat (listed_from c.args.address (words_from text c.args.address c.args.most))) r (g.E.Sink.held c.args.notes.now) (g.E.Sink.held c.list_word.new.notes)) (sym same)
-    (subst (λ (ws : List ℕ). ArePut (concat (listed_from c.args.address ws)) (Err stop) (g.E.Sink.held c.args.notes.now) (g.E.Sink.held c.list_word.new.notes)) due
-    (puts_failed stop _ _ _ _ _ (listed c.loop-word.at (get_or words c.loop-word.word-index 0)) _ inv.got (listed_at c.loop-word.at words c.loop-word.word-index c.loop-word-test.true) c.in_err-list_word.ensures.put))
+    subst (λ (r : Result Unit DebugEnd). ArePut (listed_from c.args.address (words_from text c.args.address c.args.most)) r (seen (g.E.Sink.held c.args.notes.now) (g.E.Sink.puts c.args.notes.now)) (seen (g.E.Sink.held c.list_word.new.notes) (g.E.Sink.puts c.list_word.new.notes))) (sym same)
+    (subst (λ (ws : List ℕ). ArePut (listed_from c.args.address ws) (Err stop) (seen (g.E.Sink.held c.args.notes.now) (g.E.Sink.puts c.args.notes.now)) (seen (g.E.Sink.held c.list_word.new.notes) (g.E.Sink.puts c.list_word.new.notes))) due
+    (puts_failed stop _ _ _ _ _ (listed c.loop-word.at (get_or words c.loop-word.word-index 0)) (rw (listed_at c.loop-word.at words c.loop-word.word-index c.loop-word-test.true) at inv.got) c.in_err-list_word.ensures.put))
 
 -- one more note was put
 pub loop-word-preserved : goal.loop-word-preserved
@@ -36,6 +36,6 @@ loop-word-preserved g c =
     let inv = c.loop-word.invariant in
     record {
       at = omega (arith, inv.at);
-      got = got_more _ _ _ _ _ (listed c.loop-word.at (get_or words c.loop-word.word-index 0)) _ inv.got (listed_at c.loop-word.at words c.loop-word.word-index c.loop-word-test.true) c.in_ok-list_word.ensures.put;
+      got = seen_more _ _ _ _ _ (listed c.loop-word.at (get_or words c.loop-word.word-index 0)) (rw (listed_at c.loop-word.at words c.loop-word.word-index c.loop-word-test.true) at inv.got) c.in_ok-list_word.ensures.put;
       calm = c.in_ok-list_word.ensures.counts ∙ inv.calm;
     }

@@ -1,6 +1,6 @@
 use Rattle.std.proofs.Common.{◌≡◌, ◌+◌, ◌*◌, drop}
-use Rattle.std.specs.List.{concat}
-use Rattle.cool_ports.specs.SinkBytes.{GotUpTo}
+use Rattle.cool_ports.proofs.SeenSinks.{SeenUpTo}
+use Rattle.cool_ports.specs.SinkPuts.{seen}
 use Rattle.spim_debug.specs.Notes.{listed_from}
 use Rattle.spim_debug.proofs.debugger.list.Given as goal
 
@@ -8,6 +8,6 @@ use Rattle.spim_debug.proofs.debugger.list.Given as goal
 abbrev pub invariant-loop-word : goal.invariant-loop-word
 invariant-loop-word g l = record {
   at : l.at ≡ l.fn.address + 4 * l.word-index;
-  got : GotUpTo (g.E.Sink.held l.fn.notes) (concat (listed_from l.fn.address l.words)) (concat (listed_from l.at (drop l.word-index l.words))) (g.E.Sink.held l.notes);
+  got : SeenUpTo (seen (g.E.Sink.held l.fn.notes) (g.E.Sink.puts l.fn.notes)) (listed_from l.fn.address l.words) (listed_from l.at (drop l.word-index l.words)) (seen (g.E.Sink.held l.notes) (g.E.Sink.puts l.notes));
   calm : g.E.Sink.faults l.notes ≡ g.E.Sink.faults l.fn.notes;
 }

@@ -2,6 +2,7 @@ use Rattle.std.proofs.Common.{◌∙◌, refl, sym, ap, subst}
 use Rattle.std.specs.Prelude.{Some}
 use Rattle.spim_cpu.specs.Cpu.{CpuParts, core_of}
 use Rattle.spim_memory.specs.Memory.{MemoryParts, segments, bytes_of}
+use Rattle.cool_ports.specs.SinkPuts.{seen}
 use Rattle.spim_debug.specs.declared.script.DebugCommand.{DebugCommand}
 use Rattle.spim_debug.specs.declared.script.DebugCommand.TheVariants as commands
 use Rattle.spim_debug.specs.Notes.{registers_note, memory_note}
@@ -24,7 +25,7 @@ pub returns-in-Regs-clause-obeyed : goal.returns-in-Regs-clause-obeyed
 returns-in-Regs-clause-obeyed g c d p first input rest leaves st =
     let here = left_as d p first c.args.self.now _ input rest _ leaves st in
     let bytes = c.as_bytes.ensures.value ∙ c.as_str.ensures.value ∙ c.registers_note.ensures ∙ ap (λ (u : CpuParts). registers_note (core_of u)) c.cpu.ensures in
-    subst (λ (k : DebugCommand). Obeyed d k p first c.put_note.result c.args.self.now (Some rest) (g.K.Sink.held c.args.sink.now) (g.E.Sink.held c.args.notes.now) (g.E.Sink.held c.put_note.new.notes)) (sym c.in-Regs.is)
+    subst (λ (k : DebugCommand). Obeyed d k p first c.put_note.result c.args.self.now (Some rest) (g.K.Sink.held c.args.sink.now) (seen (g.E.Sink.held c.args.notes.now) (g.E.Sink.puts c.args.notes.now)) (seen (g.E.Sink.held c.put_note.new.notes) (g.E.Sink.puts c.put_note.new.notes))) (sym c.in-Regs.is)
     (obeyed_put d commands.Regs p first c.put_note.result c.args.self.now _ _ _ _ _ here (registers_text d p first c.args.self.now _ _ _ here bytes) (one_put _ c.put_note.result _ _ c.put_note.ensures.put))
 
 pub returns-in-Show-clause-obeyed : goal.returns-in-Show-clause-obeyed
@@ -33,11 +34,11 @@ returns-in-Show-clause-obeyed g c d p first input rest leaves st =
     let a = c.in-Show.address in
     let memory = c.memory.ensures ∙ ap (λ (u : CpuParts). u.memory) c.cpu-in-Show.ensures in
     let bytes = c.as_bytes-in-Show.ensures.value ∙ c.as_str-in-Show.ensures.value ∙ c.memory_note.ensures ∙ ap (λ (m : MemoryParts). memory_note (segments m) (bytes_of m) a) memory in
-    subst (λ (k : DebugCommand). Obeyed d k p first c.put_note-in-Show.result c.args.self.now (Some rest) (g.K.Sink.held c.args.sink.now) (g.E.Sink.held c.args.notes.now) (g.E.Sink.held c.put_note-in-Show.new.notes)) (sym c.in-Show.is)
+    subst (λ (k : DebugCommand). Obeyed d k p first c.put_note-in-Show.result c.args.self.now (Some rest) (g.K.Sink.held c.args.sink.now) (seen (g.E.Sink.held c.args.notes.now) (g.E.Sink.puts c.args.notes.now)) (seen (g.E.Sink.held c.put_note-in-Show.new.notes) (g.E.Sink.puts c.put_note-in-Show.new.notes))) (sym c.in-Show.is)
     (obeyed_put d (commands.Show a) p first c.put_note-in-Show.result c.args.self.now _ _ _ _ _ here (memory_text d p first c.args.self.now _ _ a _ here bytes) (one_put _ c.put_note-in-Show.result _ _ c.put_note-in-Show.ensures.put))
 
 pub returns-in-List-clause-obeyed : goal.returns-in-List-clause-obeyed
 returns-in-List-clause-obeyed g c d p first input rest leaves st =
     let here = left_as d p first c.args.self.now _ input rest _ leaves st in
-    subst (λ (k : DebugCommand). Obeyed d k p first c.list.result c.args.self.now (Some rest) (g.K.Sink.held c.args.sink.now) (g.E.Sink.held c.args.notes.now) (g.E.Sink.held c.list.new.notes)) (sym c.in-List.is)
+    subst (λ (k : DebugCommand). Obeyed d k p first c.list.result c.args.self.now (Some rest) (g.K.Sink.held c.args.sink.now) (seen (g.E.Sink.held c.args.notes.now) (g.E.Sink.puts c.args.notes.now)) (seen (g.E.Sink.held c.list.new.notes) (g.E.Sink.puts c.list.new.notes))) (sym c.in-List.is)
     (obeyed_put d (commands.List c.in-List.address c.in-List.most) p first c.list.result c.args.self.now _ _ _ _ _ here (listed_text d p first c.args.self.now _ _ c.in-List.address c.in-List.most c.args.text.now here c.requires.debugger.words) c.list.ensures.put)

@@ -2,6 +2,7 @@ use Rattle.std.proofs.Common.{◌∙◌, refl, sym, ap, subst, ℕ, ◌-◌, Boo
 use Rattle.std.specs.Prelude.{Some}
 use Rattle.spim_memory.specs.Memory.{segments}
 use Rattle.spim_machine.specs.Counting.{RanTo}
+use Rattle.cool_ports.specs.SinkPuts.{seen}
 use Rattle.spim_debug.specs.declared.debugger.Debugger.{Debugger}
 use Rattle.spim_debug.specs.declared.script.DebugCommand.TheVariants as commands
 use Rattle.spim_debug.specs.Moves.{is_break}
@@ -23,5 +24,5 @@ returns-clause-obeyed g c d p first input rest leaves st =
     (λ s none is. subst (λ (b : ℕ → Bool). RanTo b x.machine.cpu.memory.text (segments x.machine.cpu.memory) (x.budget - x.executed) s first stopped m (Some rest) (g.K.Sink.held c.run_to-stopped.new.sink)) same (run.ran first s none input rest leaves is))
     run.halted run.again run.machine (λ halt h. ap g.S.Source.past (run.source halt h)) (λ halt h. ap g.K.Sink.held (run.sink halt h)) in
     let went = went_on d p (is_break p.breaks) d.budget first x stopped m _ _ _ _ st answers in
-    subst (λ (y : Debugger). Obeyed d commands.Run p first c.note_stop.result y (Some rest) (g.K.Sink.held c.run_to-stopped.new.sink) (g.E.Sink.held c.args.notes.now) (g.E.Sink.held c.note_stop.new.notes)) (sym c.note_stop.ensures.debugger)
+    subst (λ (y : Debugger). Obeyed d commands.Run p first c.note_stop.result y (Some rest) (g.K.Sink.held c.run_to-stopped.new.sink) (seen (g.E.Sink.held c.args.notes.now) (g.E.Sink.puts c.args.notes.now)) (seen (g.E.Sink.held c.note_stop.new.notes) (g.E.Sink.puts c.note_stop.new.notes))) (sym c.note_stop.ensures.debugger)
     (obeyed_stop d commands.Run p first stopped.halt c.note_stop.result (after_run x m stopped.executed) _ _ _ _ refl went c.note_stop.ensures.noted)

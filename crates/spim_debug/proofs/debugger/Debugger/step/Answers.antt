@@ -1,5 +1,6 @@
 use Rattle.std.proofs.Common.{◌≡◌, ◌∙◌, refl, sym, ap, subst, ◌-◌}
 use Rattle.std.specs.Prelude.{min, Some}
+use Rattle.cool_ports.specs.SinkPuts.{seen}
 use Rattle.spim_debug.specs.declared.debugger.Debugger.{Debugger}
 use Rattle.spim_debug.specs.declared.script.DebugCommand.TheVariants as commands
 use Rattle.spim_debug.specs.Moves.{no_break}
@@ -18,5 +19,5 @@ returns-clause-obeyed g c d p first input rest leaves st =
     (c.min.ensures ∙ ap (min c.args.most) room) leaves run.memory (λ s none is. run.ran first s none input rest leaves is) run.halted run.again run.machine
     (λ halt h. ap g.S.Source.past (run.source halt h)) (λ halt h. ap g.K.Sink.held (run.sink halt h)) in
     let went = went_on d p no_break c.args.most first x c.run_to-stopped.result c.run_to-stopped.new.self _ _ _ _ st answers in
-    subst (λ (y : Debugger). Obeyed d (commands.Step c.args.most) p first c.note_stop.result y (Some rest) (g.K.Sink.held c.run_to-stopped.new.sink) (g.E.Sink.held c.args.notes.now) (g.E.Sink.held c.note_stop.new.notes)) (sym c.note_stop.ensures.debugger)
+    subst (λ (y : Debugger). Obeyed d (commands.Step c.args.most) p first c.note_stop.result y (Some rest) (g.K.Sink.held c.run_to-stopped.new.sink) (seen (g.E.Sink.held c.args.notes.now) (g.E.Sink.puts c.args.notes.now)) (seen (g.E.Sink.held c.note_stop.new.notes) (g.E.Sink.puts c.note_stop.new.notes))) (sym c.note_stop.ensures.debugger)
     (obeyed_stop d (commands.Step c.args.most) p first c.run_to-stopped.result.halt c.note_stop.result (after_run x c.run_to-stopped.new.self c.run_to-stopped.result.executed) _ _ _ _ refl went c.note_stop.ensures.noted)
