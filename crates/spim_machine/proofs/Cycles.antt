@@ -15,17 +15,17 @@ use Rattle.spim_machine.specs.Ends.{call_stores, IsResultIn, IsResultOf, Cycled}
 use Rattle.spim_machine.proofs.RunsGoOn.{is_state}
 
 -- what the instruction does, by what the processor answered: no system call, a system call, a trap
-next_is : (n : Next) (old new : CpuParts) → Stepped n answer.Next old new → n ≡ On (core_of new)
+pub next_is : (n : Next) (old new : CpuParts) → Stepped n answer.Next old new → n ≡ On (core_of new)
 next_is (On core) old new is = ap On (sym is)
 next_is (Call core) old new is = absurd is
 next_is (Stop trap) old new is = absurd is
 
-call_is : (n : Next) (old new : CpuParts) → Stepped n answer.Call old new → n ≡ Call (core_of new)
+pub call_is : (n : Next) (old new : CpuParts) → Stepped n answer.Call old new → n ≡ Call (core_of new)
 call_is (On core) old new is = absurd is
 call_is (Call core) old new is = ap Call (sym is)
 call_is (Stop trap) old new is = absurd is
 
-trap_is : (n : Next) (t : Trap) (old new : CpuParts) → Stepped n (answer.Trap t) old new → (n ≡ Stop t) × (new ≡ old)
+pub trap_is : (n : Next) (t : Trap) (old new : CpuParts) → Stepped n (answer.Trap t) old new → (n ≡ Stop t) × (new ≡ old)
 trap_is (On core) t old new is = absurd is
 trap_is (Call core) t old new is = absurd is
 trap_is (Stop trap) t old new (same, kept) = (ap Stop (sym same), kept)

@@ -18,3 +18,4 @@ pub mod AdvancesAreRuns
 pub mod CountsOfRuns
 pub mod RunsUpToBreaks
 pub mod RunsWithoutBreaks
+pub mod PutsOfRuns

@@ -1,5 +1,8 @@
 -- The bytes of a memory one after another: all at once, and in two pieces.
-use Rattle.std.proofs.Common.{◌≡◌, ◌∙◌, refl, ap, ap₂, ℕ, zero, suc, ◌+◌, ◌-◌, ◌<◌, ◌≤◌, List, [], ◌∷◌, ◌++◌, length, get_or, arith}
+use Rattle.std.proofs.Common.{◌≡◌, ◌∙◌, refl, sym, ap, ap₂, ℕ, zero, suc, ◌+◌, ◌-◌, ◌<◌, ◌≤◌, min, List, [], ◌∷◌, ◌++◌, length, take, drop, get_or, arith}
+use Rattle.cool_ports.specs.SinkPuts.{pieces_of, PutUpTo}
+use Rattle.cool_ports.proofs.PuttingPieces.{put_piece, put_pieces_all}
+use Rattle.std.proofs.Math.Seq.{take-append_seam, drop-append_seam}
 use Rattle.mips_isa.specs.Bytes.{Bytes, Segments, readable}
 use Rattle.spim_memory.specs.Strings.{bytes_from, MayLoad}
 
@@ -46,3 +49,29 @@ pub may_load-piece : (s : Segments) (a done size count : ℕ) → MayLoad s a co
 may_load-piece s a done size count each within k below =
     let same : a + done + k ≡ a + (done + k) = omega arith in
     ap (λ q. readable s q 1) same ∙ each (done + k) (omega (arith, within, below))
+
+-- how many bytes there are
+bytes_from-length : (m : Bytes) (a count : ℕ) → length (bytes_from m a count) ≡ count
+bytes_from-length m a zero = refl
+bytes_from-length m a (suc count) = ap suc (bytes_from-length m (a + 1) count)
+
+-- a piece of 64 of the bytes that are left was put, or all that are left
+pub piece_put : (m : Bytes) (a done size count : ℕ) (before middle after texts : List (List ℕ)) (piece : List ℕ) → done < count → size ≡ min (count - done) 64
+    → piece ≡ bytes_from m (a + done) size → PutUpTo before texts (pieces_of 64 (bytes_from m (a + done) (count - done))) middle → after ≡ middle ++ piece ∷ []
+    → PutUpTo before texts (pieces_of 64 (bytes_from m (a + (done + size)) (count - (done + size)))) after
+piece_put m a done size count before middle after texts piece more size_is piece_is h is =
+    let left : List ℕ = bytes_from m (a + done) (count - done) in
+    let later : List ℕ = bytes_from m (a + (done + size)) (count - (done + size)) in
+    let whole : piece ++ later ≡ left = next_piece m a done size count piece piece_is (omega (arith, more, size_is)) in
+    let long : length piece ≡ size = ap length piece_is ∙ bytes_from-length m (a + done) size in
+    let first : piece ≡ take size left = sym (take-append_seam piece later) ∙ ap (λ n. take n (piece ++ later)) long ∙ ap (take size) whole in
+    let others : later ≡ drop size left = sym (drop-append_seam piece later) ∙ ap (λ n. drop n (piece ++ later)) long ∙ ap (drop size) whole in
+    let all : length left ≡ count - done = bytes_from-length m (a + done) (count - done) in
+    put_piece 64 size before middle after texts left piece later (omega arith) (omega (arith, all, more)) (omega (arith, all, size_is)) first others h is
+
+-- all pieces were put
+pub all_put : (m : Bytes) (a done count : ℕ) (before after texts : List (List ℕ)) → done ≤ count → count ≤ done
+    → PutUpTo before texts (pieces_of 64 (bytes_from m (a + done) (count - done))) after → after ≡ before ++ texts
+all_put m a done count before after texts within over h =
+    let none : length (bytes_from m (a + done) (count - done)) ≡ 0 = bytes_from-length m (a + done) (count - done) ∙ omega (arith, over) in
+    put_pieces_all 64 before after texts (bytes_from m (a + done) (count - done)) (omega arith) none h

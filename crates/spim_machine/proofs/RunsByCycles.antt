@@ -1,14 +1,14 @@
 -- What an instruction and an end leave of a run, for a machine that keeps its text and its segments.
-use Rattle.std.proofs.Common.{◌≡◌, ◌∙◌, refl, subst, ℕ, List, Option, Some}
-use Rattle.std.specs.Prelude.{Result, Err}
+use Rattle.std.proofs.Common.{◌≡◌, ◌∙◌, refl, subst, ℕ, List, Option}
+use Rattle.std.specs.Prelude.{Result}
 use Rattle.mips_isa.specs.Bytes.{Segments}
 use Rattle.mips_isa.specs.Calls.{State}
 use Rattle.spim_memory.specs.Memory.{MemoryParts, segments}
 use Rattle.spim_cpu.specs.Cpu.{KeepsSegments}
 use Rattle.spim_machine.specs.declared.halt.Halt.{Halt}
 use Rattle.spim_machine.specs.declared.halt.Halt.TheVariants as halts
-use Rattle.spim_machine.specs.Machine.{MachineParts, IsIn, HasParts, Keeps, halted_by}
-use Rattle.spim_machine.specs.Ends.{Counted, CountedIf, Cycled, Ran}
+use Rattle.spim_machine.specs.Machine.{MachineParts, IsIn, HasParts, Keeps}
+use Rattle.spim_machine.specs.Ends.{Cycled, Ran}
 use Rattle.spim_machine.specs.Counting.{executed_in}
 
 -- what a machine keeps over two steps

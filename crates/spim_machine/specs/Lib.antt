@@ -3,3 +3,4 @@ pub mod Numbers
 pub mod Machine
 pub mod Ends
 pub mod Counting
+pub mod Puts

@@ -9,7 +9,8 @@ ghost use Rattle.cool_ports.specs.Taking.{Took, OfAnyInput};
 ghost use Rattle.spim_machine.specs.Machine.{state_of, IsIn, Keeps, halted_by};
 ghost use Rattle.spim_machine.specs.Ends.{Counted, CountedIf, Cycled, Ran};
 ghost use Rattle.spim_machine.specs.Counting.{RanTo};
-ghost use Rattle.spim_cpu.specs.Cpu.{KeepsSegments};
+ghost use Rattle.spim_machine.specs.Puts.{PutBy, PutIf, PutWithin, cycle_puts, run_puts};
+ghost use Rattle.spim_cpu.specs.Cpu.{core_of, KeepsSegments};
 
 mod calls;
 
@@ -79,6 +80,8 @@ impl Machine {
         ensures took { self.old.halted ≡ None → Took self.old.ended self.new.ended (S.past source.old) (S.past source.new) (S.left source.old) (S.left source.new) }
         ensures ran { (first : Option (List ℕ)) (s : State) → self.old.halted ≡ None → OfAnyInput (S.past source.old) (S.past source.new) (λ input rest. IsIn first s self.old input (K.held sink.old)
             → Ran self.old.cpu.memory.text (segments self.old.cpu.memory) budget s first result self.new rest (K.held sink.new)) }
+        ensures puts { (first : Option (List ℕ)) (s : State) → self.old.halted ≡ None → OfAnyInput (S.past source.old) (S.past source.new) (λ input rest. IsIn first s self.old input (K.held sink.old)
+            → PutWithin result (run_puts self.old.cpu.memory.text (segments self.old.cpu.memory) budget s) (K.puts sink.old) (K.puts sink.new)) }
         ensures counts { self.old.halted ≡ None → Counted result (S.faults source.old) (S.faults source.new) (K.faults sink.old) (K.faults sink.new) }
         ensures halted { self.old.halted ≡ None → self.new.halted ≡ halted_by result }
         ensures memory { KeepsSegments self.old.cpu.memory self.new.cpu.memory }
@@ -108,6 +111,8 @@ impl Machine {
         ensures took { self.old.halted ≡ None → Took self.old.ended self.new.ended (S.past source.old) (S.past source.new) (S.left source.old) (S.left source.new) }
         ensures ran { (first : Option (List ℕ)) (s : State) → self.old.halted ≡ None → OfAnyInput (S.past source.old) (S.past source.new) (λ input rest. IsIn first s self.old input (K.held sink.old)
             → RanTo (B.holds breaks.now) self.old.cpu.memory.text (segments self.old.cpu.memory) budget s first result self.new rest (K.held sink.new)) }
+        ensures puts { (first : Option (List ℕ)) (s : State) → self.old.halted ≡ None → OfAnyInput (S.past source.old) (S.past source.new) (λ input rest. IsIn first s self.old input (K.held sink.old)
+            → PutBy result.halt (run_puts self.old.cpu.memory.text (segments self.old.cpu.memory) result.executed s) (K.puts sink.old) (K.puts sink.new)) }
         ensures counts { self.old.halted ≡ None → Counted result.halt (S.faults source.old) (S.faults source.new) (K.faults sink.old) (K.faults sink.new) }
         ensures halted { self.old.halted ≡ None → self.new.halted ≡ halted_by result.halt }
         ensures memory { KeepsSegments self.old.cpu.memory self.new.cpu.memory }
@@ -148,6 +153,7 @@ impl Machine {
         ensures took { Took self.old.ended self.new.ended (S.past source.old) (S.past source.new) (S.left source.old) (S.left source.new) }
         ensures cycled { (first : Option (List ℕ)) (s : State) → OfAnyInput (S.past source.old) (S.past source.new) (λ before after. IsIn first s self.old before (K.held sink.old)
             → Cycled self.old.cpu.memory.text (segments self.old.cpu.memory) s first result self.new after (K.held sink.new)) }
+        ensures puts { PutIf result (cycle_puts self.old.cpu.memory.text (segments self.old.cpu.memory) (core_of self.old.cpu)) (K.puts sink.old) (K.puts sink.new) }
         ensures counts { CountedIf result (S.faults source.old) (S.faults source.new) (K.faults sink.old) (K.faults sink.new) }
         ensures keeps { Keeps self.old self.new }
     {

@@ -1,8 +1,9 @@
 //! What calls put into a sink.
 
-ghost use Rattle.std.specs.Prelude.{◌≡◌, ◌+◌, ◌<◌, length, OnOk, OnErr};
+ghost use Rattle.std.specs.Prelude.{◌≡◌, ◌+◌, ◌<◌, ◌++◌, length, OnOk, OnErr};
 ghost use Rattle.cool_ports.specs.Counts.{Rose};
 ghost use Rattle.cool_ports.specs.SinkBytes.{appended, GotPrefix};
+ghost use Rattle.cool_ports.specs.SinkPuts.{pieces_of, PutFront};
 ghost use Rattle.mips_isa.specs.declared.address_map.TheConstants.{STACK_END};
 ghost use Rattle.spim_memory.specs.Memory.{segments, bytes_of};
 ghost use Rattle.spim_memory.specs.Strings.{bytes_from, MayLoad};
@@ -26,6 +27,8 @@ pub fn put_string<K: Sink>(
     requires below { address + count < STACK_END }
     ensures put { OnOk result (K.held sink.new ≡ appended (K.held sink.old) (bytes_from (bytes_of memory.now) address count)) }
     ensures prefix { OnErr result (GotPrefix (K.held sink.old) (bytes_from (bytes_of memory.now) address count) (K.held sink.new)) }
+    ensures pieces { OnOk result (K.puts sink.new ≡ K.puts sink.old ++ pieces_of 64 (bytes_from (bytes_of memory.now) address count)) }
+    ensures pieces_up_to { OnErr result (PutFront (K.puts sink.old) (pieces_of 64 (bytes_from (bytes_of memory.now) address count)) (K.puts sink.new)) }
     ensures no_fault { OnOk result (K.faults sink.new ≡ K.faults sink.old) }
     ensures failed { OnErr result (Rose (K.faults sink.old) (K.faults sink.new)) }
 {

@@ -11,6 +11,7 @@ ghost use Rattle.spim_cpu.specs.Cpu.{core_of};
 ghost use Rattle.cool_ports.specs.Taking.{Took, OfAnyInput};
 ghost use Rattle.spim_machine.specs.Input.{TookAll, TookSome};
 ghost use Rattle.spim_machine.specs.Machine.{Keeps};
+ghost use Rattle.spim_machine.specs.Puts.{PutIf, call_puts, string_puts};
 ghost use Rattle.spim_machine.specs.Ends.{CountedIf, IsResultOf, stores_none, stores_string, call_stores};
 
 use super::Machine;
@@ -40,6 +41,7 @@ impl Machine {
     ) -> Result<(), Halt>
         ensures took { Took self.old.ended self.new.ended (S.past source.old) (S.past source.new) (S.left source.old) (S.left source.new) }
         ensures does { OfAnyInput (S.past source.old) (S.past source.new) (λ before after. IsResultOf (calls.call (segments self.old.cpu.memory)) call_stores self.old before (K.held sink.old) result self.new after (K.held sink.new)) }
+        ensures puts { PutIf result (call_puts (segments self.old.cpu.memory) (core_of self.old.cpu)) (K.puts sink.old) (K.puts sink.new) }
         ensures counts { CountedIf result (S.faults source.old) (S.faults source.new) (K.faults sink.old) (K.faults sink.new) }
         ensures keeps { Keeps self.old self.new }
     {
@@ -63,6 +65,7 @@ impl Machine {
     /// Puts `$a0` as a signed decimal.
     fn print_int<K: Sink>(&self, sink: &mut K) -> Result<(), Halt>
         ensures does { (left : Option (List ℕ)) → IsResultOf (λ s. calls.print s (signed_decimal (calls.signed (calls.a0 s)))) stores_none self.now left (K.held sink.old) result self.now left (K.held sink.new) }
+        ensures puts { PutIf result (signed_decimal (calls.signed ((core_of self.now.cpu).registers A0)) ∷ []) (K.puts sink.old) (K.puts sink.new) }
         ensures counts { CountedIf result 0 0 (K.faults sink.old) (K.faults sink.new) }
     {
         let mut buffer = itoa::Buffer::new();
@@ -76,6 +79,7 @@ impl Machine {
     /// Puts the bytes from `$a0` on up to a 0, in pieces of 64 bytes.
     fn print_string<K: Sink>(&self, sink: &mut K) -> Result<(), Halt>
         ensures does { (left : Option (List ℕ)) → IsResultOf (λ s. calls.print_string s (calls.string_at (segments self.now.cpu.memory) s.core.memory (calls.a0 s))) stores_none self.now left (K.held sink.old) result self.now left (K.held sink.new) }
+        ensures puts { PutIf result (string_puts (calls.string_at (segments self.now.cpu.memory) (core_of self.now.cpu).memory ((core_of self.now.cpu).registers A0))) (K.puts sink.old) (K.puts sink.new) }
         ensures counts { CountedIf result 0 0 (K.faults sink.old) (K.faults sink.new) }
     {
         let address = self.a0();
@@ -92,6 +96,7 @@ impl Machine {
     /// Puts the low byte of `$a0`.
     fn print_char<K: Sink>(&self, sink: &mut K) -> Result<(), Halt>
         ensures does { (left : Option (List ℕ)) → IsResultOf (λ s. calls.print s (calls.a0 s % 256 ∷ [])) stores_none self.now left (K.held sink.old) result self.now left (K.held sink.new) }
+        ensures puts { PutIf result (((core_of self.now.cpu).registers A0 % 256 ∷ []) ∷ []) (K.puts sink.old) (K.puts sink.new) }
         ensures counts { CountedIf result 0 0 (K.faults sink.old) (K.faults sink.new) }
     {
         match sink.put(&[(self.a0() % 0x100) as u8]) {
