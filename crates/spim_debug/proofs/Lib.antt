@@ -1,15 +1,15 @@
-pub mod Disassembled
-pub mod HexDigits
-pub mod GoingOn
-pub mod RegistersInOrder
-pub mod ListedWords
-pub mod LinesOfWords
-pub mod ObeyedCommands
-pub mod ChangedBreaks
-pub mod DoneScripts
-pub mod ScriptParts
-pub mod ScriptNumbers
-pub mod ScriptCommands
-pub mod ReadScripts
-pub mod LabelsOfText
-pub mod CommandsForText
+mod Disassembled
+mod HexDigits
+mod GoingOn
+mod RegistersInOrder
+mod ListedWords
+mod LinesOfWords
+mod ObeyedCommands
+mod ChangedBreaks
+mod DoneScripts
+mod ScriptParts
+mod ScriptNumbers
+mod ScriptCommands
+mod ReadScripts
+mod LabelsOfText
+mod CommandsForText

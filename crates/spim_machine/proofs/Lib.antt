@@ -1,21 +1,21 @@
-pub mod TakingBytes
-pub mod ReadingNumbers
-pub mod SameResults
-pub mod ReadingCalls
-pub mod FillingBuffers
-pub mod KeepingParts
-pub mod ReadingStrings
-pub mod PiecesOfBytes
-pub mod PartsOfMachines
-pub mod Printing
-pub mod SignedDecimals
-pub mod MovingBreak
-pub mod CallsByNumber
-pub mod Cycles
+mod TakingBytes
+mod ReadingNumbers
+mod SameResults
+mod ReadingCalls
+mod FillingBuffers
+mod KeepingParts
+mod ReadingStrings
+mod PiecesOfBytes
+mod PartsOfMachines
+mod Printing
+mod SignedDecimals
+mod MovingBreak
+mod CallsByNumber
+mod Cycles
 pub mod RunsGoOn
-pub mod RunsByCycles
-pub mod AdvancesAreRuns
+mod RunsByCycles
+mod AdvancesAreRuns
 pub mod CountsOfRuns
-pub mod RunsUpToBreaks
+mod RunsUpToBreaks
 pub mod RunsWithoutBreaks
-pub mod PutsOfRuns
+mod PutsOfRuns
