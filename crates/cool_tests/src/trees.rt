@@ -8,7 +8,10 @@ use cool_lexer::lex;
 use cool_parser::parse;
 use cool_pool::{Column, Pool};
 use cool_rules::Scope;
-use cool_syntax::{Expr, Name, Node, NodeId, Place, copy_expr, same_expr, tokens_of};
+use cool_syntax::{
+    ArithOp, AttributeDef, Expr, Feature, Name, Node, NodeId, Place, copy_expr, same_expr,
+    tokens_of,
+};
 use std::alloc::{AllocError, Global};
 use std::test::Fail;
 
@@ -99,8 +102,11 @@ fn a_name_that_was_left_has_no_type(rt: HostRuntime) -> Result<(), Fail> {
     Ok(())
 }
 
+/// The operands of a subtraction whose first is one, too, by the numbers of their nodes.
+const ONE_BY_ONE: [(u32, u32, u32); 2] = [(2, 0, 1), (4, 2, 3)];
+
 #[test]
-fn an_operand_is_written_in_parentheses(rt: HostRuntime) -> Result<(), Fail> {
+fn what_is_written_of_a_tree_is_parsed_to_it(rt: HostRuntime) -> Result<(), Fail> {
     let text = b"class A { x : Int <- 1 - 2 - 3; };".as_slice();
     assert!(rt; text.len() <= 1_048_576);
     let found = lex(rt.alloc(), 0, text)?;
@@ -108,6 +114,38 @@ fn an_operand_is_written_in_parentheses(rt: HostRuntime) -> Result<(), Fail> {
     assert!(rt; tokens.len() <= 1_048_576);
     let tree = parse(rt.alloc(), 0, tokens, found.end)?;
     assert_eq!(rt; tokens.len(), 15);
-    assert_eq!(rt; tokens_of(rt.alloc(), &tree)?.len(), 17);
+    // with parentheses about the operand that is no constant
+    let written = tokens_of(rt.alloc(), &tree)?;
+    assert_eq!(rt; written.len(), 17);
+    let again = parse(rt.alloc(), 0, written.as_slice(), found.end)?;
+    let body = match again.classes.as_slice() {
+        [class] => match class.features.as_slice() {
+            [
+                Feature::Attribute(
+                    AttributeDef {
+                        init: Some(body),
+                        ..
+                    },
+                ),
+            ] => body,
+            _ => panic!(rt; "no attribute"),
+        },
+        _ => panic!(rt; "no class"),
+    };
+    assert_eq!(rt; body.len(), 5);
+    for (number, first, second) in ONE_BY_ONE {
+        assert!(rt; number < body.len());
+        match body.node(NodeId(number)) {
+            Node::Arith {
+                op: ArithOp::Sub,
+                left,
+                right,
+                ..
+            } => {
+                assert_eq!(rt; (left.0, right.0), (first, second));
+            }
+            _ => panic!(rt; "no subtraction"),
+        }
+    }
     Ok(())
 }
