@@ -23,7 +23,7 @@ async function showAssembly() {
     const { text: all = "", fault } = await assembly();
     at("lines").textContent = fault ?? all.slice(0, MOST_ASSEMBLY_SHOWN);
     at("cut").hidden = all.length <= MOST_ASSEMBLY_SHOWN;
-    const labels = [...all.matchAll(/^([A-Z]\w*(?:\.\w+|_init|_protObj|_dispTab)|__start|class_nameTab): /gm)];
+    const labels = [...all.matchAll(/^([A-Z]\w*(?:\.\w+|_init|_protObj|_dispTab)|__start|class_nameTab):/gm)];
     at("labels").replaceChildren(element("option", { value: "" }, "choose…"), ...labels.map((it) => element("option", { value: it.index }, it[1])));
     const method = methodAt(outlineOf(files), shownFile.name, cursorLine());
     const label = labels.find((it) => it[1] === method);

@@ -3,6 +3,8 @@
 "use strict";
 
 const TEXT_START = 0x00400000, DATA_START = 0x10000000, HEAP_START = 0x20000000, STACK_END = 0x80000000;
+// The label of a line of the assembly, and its statement.
+const LINE = /^\s*(?:([A-Za-z_.][\w.]*):\s*)?([^]*)$/;
 const TWO_WORDS = /^(la|li|mul|bgt|ble|blt|bge)\b/;
 // The routines by which a run ends before its end.
 const ERRORS = {
@@ -23,7 +25,7 @@ const ROUTINE = /\.|_init$|^__start$|^equality_test$|_abort2?$|_limit$/;
 //             routine there that ends the run by an error
 function listingOf(assembly) {
     const lines = assembly.split("\n");
-    const data = lines.findIndex((it) => it.startsWith(".data"));
+    const data = lines.findIndex((it) => it.trimStart() === ".data");
     const { rows, labels } = textOf(lines.slice(0, data));
     const words = dataOf(lines.slice(data + 1), labels);
     const units = unitsOf(rows);
@@ -42,7 +44,7 @@ function textOf(lines) {
     const rows = [], labels = new Map();
     let address = TEXT_START, waiting = [];
     for (const line of lines) {
-        const [, label, text] = /^(?:([A-Za-z_.][\w.]*): ?)?([^]*)$/.exec(line);
+        const [, label, text] = LINE.exec(line);
         if (label !== undefined) labels.set(label, address), waiting.push(label);
         if (text === "" || text[0] === ".") continue;
         const words = TWO_WORDS.test(text) ? 2 : 1;
@@ -62,7 +64,7 @@ function dataOf(lines, labels) {
     const words = new Map(), strings = new Map();
     let address = DATA_START, last;
     for (const line of lines) {
-        const [, label, text] = /^(?:([A-Za-z_.][\w.]*): ?)?([^]*)$/.exec(line);
+        const [, label, text] = LINE.exec(line);
         if (label !== undefined) labels.set((last = label), address), words.set(label, []);
         if (text.startsWith(".word ")) {
             const all = text.slice(6).split(", ");

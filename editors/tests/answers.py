@@ -20,7 +20,7 @@ def compiled(program, paths):
     for name, method in re.findall(r"(?m)^(\w+)\.(\w+):", text):
         if name in classes:
             classes[name].append(method)
-    sizes = {name: int(size) - 3 for name, size in re.findall(r"(?m)^(\w+)_protObj: *\n\.word \d+, (\d+),", text)}
+    sizes = {name: int(size) - 3 for name, size in re.findall(r"(?m)^(\w+)_protObj: *\n\s*\.word \d+, (\d+),", text)}
     return classes, sizes
 
 
