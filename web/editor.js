@@ -12,31 +12,31 @@ const cursorLine = () => text.value.slice(0, text.selectionStart).split("\n").le
 const marks = { faults: new Map(), breaks: new Set(), here: undefined };
 
 function paint() {
-    const height = lineHeight();
-    const first = Math.floor(text.scrollTop / height);
-    const last = Math.min(coloured.lines.length, first + Math.ceil(text.clientHeight / height) + 1);
-    const lines = [], numbers = [];
-    for (let i = first; i < last; i += 1) {
-        lines.push(paintedLine(i));
-        numbers.push(paintedNumber(i + 1));
-    }
-    at("paint").replaceChildren(...lines);
-    at("gutter").replaceChildren(...numbers);
-    const up = first * height - text.scrollTop;
-    at("paint").style.transform = `translate(${-text.scrollLeft}px, ${up}px)`;
+    const height = lineHeight(), { scrollTop, scrollLeft, clientHeight } = text;
+    const first = Math.floor(scrollTop / height);
+    const last = Math.min(coloured.lines.length, first + Math.ceil(clientHeight / height) + 1);
+    const shown = Array.from({ length: last - first }, (_, i) => first + i);
+    showRows(at("paint"), shown.map(lineRow), paintedLine);
+    showRows(at("gutter"), shown.map((i) => numberRow(i + 1)), paintedNumber);
+    const up = first * height - scrollTop;
+    at("paint").style.transform = `translate(${-scrollLeft}px, ${up}px)`;
     at("gutter").style.transform = `translateY(${up}px)`;
 }
 
-function paintedLine(i) {
-    const { parts } = colouredLine(coloured.lines[i], coloured.states[i]);
-    const kinds = ["line", marks.faults.has(i + 1) && "bad", marks.here === i + 1 && "here"].filter(Boolean);
-    return element("div", { className: kinds.join(" ") }, ...parts.map(([kind, part]) => (kind ? element("span", { className: kind }, part) : part)));
+const kindsOf = (...kinds) => kinds.filter(Boolean).join(" ");
+const lineRow = (i) => [kindsOf("line", marks.faults.has(i + 1) && "bad", marks.here === i + 1 && "here"), coloured.states[i], coloured.lines[i]];
+
+function paintedLine(kinds, state, line) {
+    const { parts } = colouredLine(line, state);
+    return element("div", { className: kinds }, ...parts.map(([kind, part]) => (kind ? element("span", { className: kind }, part) : part)));
 }
 
-function paintedNumber(line) {
-    const kinds = ["number", marks.faults.has(line) && "bad", marks.breaks.has(line) && "break", marks.here === line && "here"].filter(Boolean);
-    return element("div", { className: kinds.join(" "), textContent: line, title: marks.faults.get(line) ?? "" });
+function numberRow(line) {
+    const kinds = kindsOf("number", marks.faults.has(line) && "bad", marks.breaks.has(line) && "break", marks.here === line && "here");
+    return [kinds, line, marks.faults.get(line) ?? ""];
 }
+
+const paintedNumber = (kinds, line, words) => element("div", { className: kinds, textContent: line, title: words });
 
 // Takes up the text as it is in the text area.
 function repaint() {

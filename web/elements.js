@@ -13,9 +13,21 @@ function element(name, properties = {}, ...children) {
     return made;
 }
 
+// Has a room hold an element for each row, made of it. One whose row is as it was stays, for a new one is laid out and painted anew.
+function showRows(room, rows, make) {
+    rows.forEach((row, i) => {
+        const old = room.children[i], key = row.join("\n");
+        if (old?.rowKey === key) return;
+        const made = Object.assign(make(...row), { rowKey: key });
+        if (old) old.replaceWith(made);
+        else room.append(made);
+    });
+    while (room.children.length > rows.length) room.lastChild.remove();
+}
+
 // What the page says of what goes on, read aloud by a screen reader.
 function tell(words, bad = false) {
-    at("state").textContent = words;
+    if (at("state").textContent !== words) at("state").textContent = words;
     at("state").classList.toggle("bad", bad);
 }
 

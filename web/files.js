@@ -44,16 +44,17 @@ function showFile(file) {
 // While a name is typed its field stands there still.
 function showTabs() {
     if (at("names").querySelector("input")) return;
-    at("names").replaceChildren(...files.map((file) => {
-        const chosen = file === shownFile;
-        const bad = faults.some((it) => it.file === file.name);
-        return element("button", {
-            role: "tab", "aria-selected": String(chosen), "aria-controls": "editor", "aria-label": bad ? `${file.name}, has faults` : file.name,
-            tabIndex: chosen ? 0 : -1, className: bad ? "bad" : "", textContent: file.name,
-            onclick: () => (showFile(file), at("names").querySelector('[aria-selected="true"]').focus()),
-        });
-    }));
+    const bad = new Set(faults.map((it) => it.file));
+    showRows(at("names"), files.map((file) => [file.name, file === shownFile, bad.has(file.name)]), tabOf);
     at("remove-file").disabled = files.length < 2;
+}
+
+function tabOf(name, chosen, bad) {
+    return element("button", {
+        role: "tab", "aria-selected": String(chosen), "aria-controls": "editor", "aria-label": bad ? `${name}, has faults` : name,
+        tabIndex: chosen ? 0 : -1, className: bad ? "bad" : "", textContent: name,
+        onclick: () => (showFile(fileNamed(name)), at("names").querySelector('[aria-selected="true"]').focus()),
+    });
 }
 
 function addFile() {
@@ -120,8 +121,8 @@ function goTo(name, line) {
 text.addEventListener("input", () => {
     moveBreaks(shownFile, shownFile.text, text.value);
     shownFile.text = text.value;
-    repaint();
     changedFiles();
+    repaint();
 });
 at("gutter-room").addEventListener("click", (event) => {
     const line = Number(event.target.closest(".number")?.textContent);

@@ -19,12 +19,12 @@ function choose(name) {
 // A file was changed, added, renamed or removed, or the input: by the user, unless it is said otherwise.
 function changedFiles(isEdited = true) {
     edited = isEdited;
+    if (compiledModule) check();
     showTabs();
     keepProgramSoon();
     assembled = undefined;
     if (!at("assembly").hidden) showAssembly();
     forgetMachine();
-    if (compiledModule) check();
 }
 
 function pressed(event) {

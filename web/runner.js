@@ -3,7 +3,7 @@
 
 const encode = (text) => new TextEncoder().encode(text);
 const decode = (bytes) => new TextDecoder().decode(bytes);
-const { load } = coolProgram();
+const { load, canSuspend } = coolProgram();
 
 const STATUSES = {
     0: "ended", 1: "has faults", 2: "bad command line", 3: "ended by an error", 4: "heap used up", 5: "stack used up", 6: "step limit", 7: "input failed",

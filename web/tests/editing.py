@@ -152,5 +152,5 @@ def disk(page):
         same(page.state(), "no faults")
         page.browser.downloads(str(folder / "saved"))
         page.click("save")
-        saved = folder / "saved" / "a é.cl"
-        page.until(lambda: saved.exists() and saved.read_text() == example("stack.cl"))
+        wanted = {"a é.cl": example("stack.cl"), "b.cl": "-- ü\r\n" + example("brackets.cl")}
+        page.until(lambda: {it.name: it.read_bytes().decode() for it in (folder / "saved").glob("*")} == wanted)

@@ -116,7 +116,7 @@ class Firefox:
         self.call("input.performActions", actions=[{"type": "key", "id": "keyboard", "actions": values}], **self.context)
 
     def press(self, key, code=0, modifiers=0, text=None):
-        values = [*HELD.get(modifiers, []), KEYS[key]]
+        values = [*HELD.get(modifiers, []), KEYS.get(key, key)]
         self.keys([{"type": "keyDown", "value": it} for it in values] + [{"type": "keyUp", "value": it} for it in reversed(values)])
 
     def insert(self, letters):

@@ -38,7 +38,7 @@ class Page:
     def open(self, first="", fragment=""):
         self.browser.open(ADDRESS + fragment, first)
         self.fresh = first == ""
-        self.wait("compiledModule !== undefined && !checker.runs && at('state').textContent !== 'loading…'")
+        self.wait("compiledModule !== undefined && !checking && at('state').textContent !== 'loading…'")
 
     def start(self, *files, input="", first=""):
         """The page with this program, given as pairs of a name and a text; it is opened anew only where that makes a difference."""
@@ -50,7 +50,7 @@ class Page:
         self.checked()
 
     def checked(self):
-        self.wait("!checker.runs && !checkIsDue")
+        self.wait("!checking")
 
     def wait(self, condition, within=20):
         """Waits until an expression of the page is true, and answers it."""
