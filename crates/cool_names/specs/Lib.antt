@@ -1,0 +1,5 @@
+pub mod Scopes
+pub mod Meanings
+pub mod Marks
+pub mod Programs
+pub mod Settings

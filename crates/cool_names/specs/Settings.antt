@@ -1,0 +1,43 @@
+-- In what an expression is walked through: a class of a whole table, whose classes are the basic ones and these definitions.
+use Rattle.std.specs.Prelude.{◌≡◌, ℕ, ◌+◌, ◌<◌, List, length, map, Option}
+use Rattle.std.specs.Option.{option_map}
+use Rattle.cool_syntax.specs.declared.file_tree.ClassDef.{ClassDef}
+use Rattle.cool_syntax.specs.declared.node.Node.{Node}
+use Rattle.cool_syntax.specs.declared.node.NodeBranch.{NodeBranch}
+use Rattle.cool_syntax.specs.declared.node.NodeId.{NodeId}
+use Rattle.cool_syntax.specs.Tree.{Tree, Trees, MaybeTree, Cases, of_list, of_option, of_twigs, tree_size}
+use Rattle.cool_syntax.specs.NodeLists.{all_trees, at_id, made, twig_at}
+use Rattle.cool_classes.specs.Chains.{Class}
+use Rattle.cool_classes.specs.Tables.{IsTable}
+use Rattle.cool_names.specs.declared.program.Program.{Program}
+use Rattle.cool_names.specs.declared.setting.Setting.{Setting}
+use Rattle.cool_names.specs.Marks.{Context}
+
+-- a whole table, with a definition of each class that is not a basic one
+pub record AreClasses (p : List Class) (ds : List ClassDef) : Type 0 where
+  pub table : IsTable p
+  pub each : length p ≡ length ds + 5
+
+abbrev pub IsSound : Setting → Type 0
+IsSound s = AreClasses s.program.table.now s.program.definitions.now × (s.class.0 < length s.program.table.now)
+
+abbrev pub context : Setting → Context
+context s = record { table = s.program.table.now; definitions = s.program.definitions.now; class = s.class; attributes = s.attributes.now }
+
+-- the expressions before this number of the body can be walked through
+pub record IsReady (s : Setting) (number : ℕ) : Type 0 where
+  pub sound : IsSound s
+  pub below : number < tree_size s.body.now
+
+-- the trees that parts of the body in a setting stand for
+abbrev pub tree_of_node : Setting → Node → Tree
+tree_of_node s node = made (all_trees s.body.now) node
+
+abbrev pub trees_of : Setting → List NodeId → Trees
+trees_of s ids = of_list (map (at_id (all_trees s.body.now)) ids)
+
+abbrev pub maybe_tree_of : Setting → Option NodeId → MaybeTree
+maybe_tree_of s id = of_option (option_map (at_id (all_trees s.body.now)) id)
+
+abbrev pub cases_of : Setting → List NodeBranch → Cases
+cases_of s branches = of_twigs (map (twig_at (all_trees s.body.now)) branches)

@@ -1,0 +1,127 @@
+//! The marks of `let` and `case`.
+
+ghost use Rattle.std.specs.Prelude.{◌≡◌, ◌<◌, ◌∷◌, ◌++◌, IfSome, OnOk};
+ghost use Rattle.std.specs.List.{AllByRecursion};
+ghost use Rattle.cool_syntax.specs.NodeGroups.{IsBinding};
+ghost use Rattle.cool_syntax.specs.NodeLists.{tree_at, HasPartsBelow};
+ghost use Rattle.cool_names.specs.Marks.{marks_of, marks_of_cases, marks_of_maybe};
+ghost use Rattle.cool_names.specs.Scopes.{variable_of};
+ghost use Rattle.cool_names.specs.Settings.{IsReady, cases_of, context, maybe_tree_of, tree_of_node};
+
+use crate::expression::add_marks;
+use crate::mark::{Mark, Role};
+use crate::scope::{Entry, Scope};
+use crate::setting::Setting;
+use cool_syntax::{Node, NodeBranch, NodeId};
+use std::alloc::AllocError;
+
+/// Adds the marks of a `let` or a `case`, whose parts have numbers below this one. `Err` comes only for want of memory.
+#[cycle(walk)]
+pub(crate) fn add_binding<'a>(
+    setting: &Setting<'a, '_>,
+    locals: &mut Scope<'a>,
+    marks: &mut Vec<Mark>,
+    id: NodeId,
+    node: &'a Node,
+) -> Result<(), AllocError>
+    requires group { IsBinding node.now }
+    requires parts { HasPartsBelow id.0 node.now }
+    requires ready { IsReady setting.now id.0 }
+    ensures scope { OnOk result (locals.new ≡ locals.old) }
+    ensures marks { OnOk result (marks.new.items ≡ marks.old.items ++ marks_of (context setting.now) locals.old (tree_of_node setting.now node.now)) }
+{
+    match node {
+        Node::Let {
+            at,
+            name,
+            declared,
+            init,
+            body,
+        } => {
+            setting
+                .program
+                .add_declared(marks, Role::Let, *at, name, declared)?;
+            add_option(setting, locals, marks, id, *init)?;
+            let entry = Entry {
+                name,
+                declared: &declared.name,
+                at: *at,
+            };
+            add_within(setting, locals, marks, entry, *body)
+        }
+        Node::Case {
+            value,
+            branches,
+            ..
+        } => {
+            add_marks(setting, locals, marks, *value)?;
+            add_branches(setting, locals, marks, id, branches.as_slice())
+        }
+        _ => unreachable!(),
+    }
+}
+
+/// Adds the marks of an initial value, where there is one. `Err` comes only for want of memory.
+#[cycle(walk)]
+fn add_option<'a>(
+    setting: &Setting<'a, '_>,
+    locals: &mut Scope<'a>,
+    marks: &mut Vec<Mark>,
+    end: NodeId,
+    init: Option<NodeId>,
+) -> Result<(), AllocError>
+    requires init { IfSome init (λ value. value.0 < end.0) }
+    requires ready { IsReady setting.now end.0 }
+    ensures scope { OnOk result (locals.new ≡ locals.old) }
+    ensures marks { OnOk result (marks.new.items ≡ marks.old.items ++ marks_of_maybe (context setting.now) locals.old (maybe_tree_of setting.now init)) }
+{
+    match init {
+        Some(value) => add_marks(setting, locals, marks, value),
+        None => Ok(()),
+    }
+}
+
+/// Adds the marks of an expression in the scope with one more variable. `Err` comes only for want of memory.
+#[cycle(walk)]
+fn add_within<'a>(
+    setting: &Setting<'a, '_>,
+    locals: &mut Scope<'a>,
+    marks: &mut Vec<Mark>,
+    variable: Entry<'a>,
+    body: NodeId,
+) -> Result<(), AllocError>
+    requires ready { IsReady setting.now body.0 }
+    ensures scope { OnOk result (locals.new ≡ locals.old) }
+    ensures marks { OnOk result (marks.new.items ≡ marks.old.items ++ marks_of (context setting.now) (variable_of variable.entry ∷ locals.old) (tree_at setting.now.body.now body)) }
+{
+    locals.enter(variable)?;
+    add_marks(setting, locals, marks, body)?;
+    locals.leave();
+    Ok(())
+}
+
+/// Adds the marks of branches, in order. `Err` comes only for want of memory.
+#[cycle(walk)]
+fn add_branches<'a>(
+    setting: &Setting<'a, '_>,
+    locals: &mut Scope<'a>,
+    marks: &mut Vec<Mark>,
+    end: NodeId,
+    branches: &'a [NodeBranch],
+) -> Result<(), AllocError>
+    requires branches { AllByRecursion (λ branch. branch.body.0 < end.0) branches.now }
+    requires ready { IsReady setting.now end.0 }
+    ensures scope { OnOk result (locals.new ≡ locals.old) }
+    ensures marks { OnOk result (marks.new.items ≡ marks.old.items ++ marks_of_cases (context setting.now) locals.old (cases_of setting.now branches.now)) }
+{
+    for branch in branches {
+        setting.program.add_declared(marks, Role::Case, branch.at, &branch.name, &branch.declared)?;
+        let entry = Entry {
+            name: &branch.name,
+            declared: &branch.declared.name,
+            at: branch.at,
+        };
+        add_within(setting, locals, marks, entry, branch.body)?;
+    }
+    Ok(())
+}

@@ -1,0 +1,165 @@
+//! The marks of features, and the variables that they have in scope.
+
+ghost use Rattle.std.specs.Prelude.{◌≡◌, ◌<◌, ◌++◌, [], length, IfOk, OnOk, Some};
+ghost use Rattle.cool_syntax.specs.declared.file_tree.Feature.TheVariants as feature;
+ghost use Rattle.cool_classes.specs.Features.{HasAttribute};
+ghost use Rattle.cool_classes.specs.Tables.{IsTable};
+ghost use Rattle.cool_names.specs.Marks.{marks_of, type_mark};
+ghost use Rattle.cool_names.specs.Programs.{attribute_variable, attributes_in_scope, feature_marks, features_marks, formals_in_scope, formals_marks, class_context};
+ghost use Rattle.cool_names.specs.Scopes.{variable_of};
+ghost use Rattle.cool_names.specs.Settings.{AreClasses};
+
+use crate::expression::add_marks;
+use crate::mark::{Mark, Role};
+use crate::meaning::defined_method;
+use crate::program::Program;
+use crate::scope::{Entry, Scope};
+use crate::setting::Setting;
+use cool_classes::{AttributeRef, ClassId, ClassTable};
+use cool_syntax::{AttributeDef, Body, Feature, Formal, MethodDef};
+use std::alloc::{AllocError, Global};
+
+/// Adds the marks of the features of a class, in order. `Err` comes only for want of memory.
+pub(crate) fn add_features<'a>(
+    program: &Program<'a>,
+    marks: &mut Vec<Mark>,
+    class: ClassId,
+    features: &'a [Feature],
+) -> Result<(), AllocError>
+    requires classes { AreClasses program.now.table.now program.now.definitions.now }
+    requires class { class.0 < length program.now.table.now }
+    ensures { OnOk result (marks.new.items ≡ marks.old.items ++ features_marks (class_context program.now.table.now program.now.definitions.now class) features.now) }
+{
+    let attributes = attribute_scope(program.alloc, program.table, class)?;
+    for feature in features {
+        match feature {
+            Feature::Method(method) => add_method(program, marks, class, &attributes, method)?,
+            Feature::Attribute(attribute) => {
+                add_attribute(program, marks, class, &attributes, attribute)?;
+            }
+        }
+    }
+    Ok(())
+}
+
+/// Adds the marks of a method. `Err` comes only for want of memory.
+fn add_method<'a>(
+    program: &Program<'a>,
+    marks: &mut Vec<Mark>,
+    class: ClassId,
+    attributes: &Scope<'a>,
+    method: &'a MethodDef,
+) -> Result<(), AllocError>
+    requires classes { AreClasses program.now.table.now program.now.definitions.now }
+    requires class { class.0 < length program.now.table.now }
+    requires attributes { attributes.now ≡ attributes_in_scope program.now.table.now class }
+    ensures { OnOk result (marks.new.items ≡ marks.old.items ++ feature_marks (class_context program.now.table.now program.now.definitions.now class) (feature.Method method.now)) }
+{
+    marks.push(Mark {
+        at: method.at,
+        role: Role::Method,
+        name: method.name.copy(program.alloc)?,
+        meaning: defined_method(program.alloc, method)?,
+    })?;
+    let mut locals = add_formals(program, marks, method.formals.as_slice())?;
+    marks.push(program.type_mark(&method.result)?)?;
+    let setting = Setting {
+        program: *program,
+        class,
+        attributes,
+        body: &method.body,
+    };
+    add_marks(&setting, &mut locals, marks, method.body.root())
+}
+
+/// Adds the marks of formals, in order, and gives them as a scope. `Err` comes only for want of memory.
+fn add_formals<'a>(
+    program: &Program<'a>,
+    marks: &mut Vec<Mark>,
+    formals: &'a [Formal],
+) -> Result<Scope<'a>, AllocError>
+    requires classes { AreClasses program.now.table.now program.now.definitions.now }
+    ensures marks { OnOk result (marks.new.items ≡ marks.old.items ++ formals_marks program.now.table.now program.now.definitions.now formals.now) }
+    ensures scope { IfOk result (λ scope. scope ≡ formals_in_scope formals.now) }
+{
+    let mut locals = Scope::new(program.alloc);
+    for formal in formals {
+        program.add_declared(
+            marks,
+            Role::Formal,
+            formal.at,
+            &formal.name,
+            &formal.declared,
+        )?;
+        locals.enter(Entry {
+            name: &formal.name,
+            declared: &formal.declared.name,
+            at: formal.at,
+        })?;
+    }
+    Ok(locals)
+}
+
+/// Adds the marks of an attribute. `Err` comes only for want of memory.
+fn add_attribute<'a>(
+    program: &Program<'a>,
+    marks: &mut Vec<Mark>,
+    class: ClassId,
+    attributes: &Scope<'a>,
+    attribute: &'a AttributeDef,
+) -> Result<(), AllocError>
+    requires classes { AreClasses program.now.table.now program.now.definitions.now }
+    requires class { class.0 < length program.now.table.now }
+    requires attributes { attributes.now ≡ attributes_in_scope program.now.table.now class }
+    ensures { OnOk result (marks.new.items ≡ marks.old.items ++ feature_marks (class_context program.now.table.now program.now.definitions.now class) (feature.Attribute attribute.now)) }
+{
+    program.add_declared(
+        marks,
+        Role::Attribute,
+        attribute.at,
+        &attribute.name,
+        &attribute.declared,
+    )?;
+    let Some(body) = &attribute.init else {
+        return Ok(());
+    };
+    let setting = Setting {
+        program: *program,
+        class,
+        attributes,
+        body,
+    };
+    add_marks(&setting, &mut Scope::new(program.alloc), marks, body.root())
+}
+
+/// The attributes of a class with those that it inherits, as a scope. `Err` comes only for want of memory.
+fn attribute_scope(
+    alloc: Global,
+    table: &ClassTable,
+    class: ClassId,
+) -> Result<Scope<'_>, AllocError>
+    requires table { IsTable table.now }
+    requires class { class.0 < length table.now }
+    ensures { IfOk result (λ scope. scope ≡ attributes_in_scope table.now class) }
+{
+    let mut scope = Scope::new(alloc);
+    for attribute in table.attributes(alloc, class)? {
+        scope.enter(attribute_entry(table, attribute))?;
+    }
+    Ok(scope)
+}
+
+/// An attribute as an entry of a scope.
+fn attribute_entry(table: &ClassTable, attribute: AttributeRef) -> Entry<'_>
+    requires has { HasAttribute table.now attribute }
+    ensures { variable_of result ≡ attribute_variable table.now attribute }
+{
+    match &table.features(attribute.owner)[attribute.index as usize] {
+        Feature::Attribute(found) => Entry {
+            name: &found.name,
+            declared: &found.declared.name,
+            at: found.at,
+        },
+        Feature::Method(_) => unreachable!(),
+    }
+}

@@ -1,0 +1,18 @@
+//! The names of a program: where each stands, what it is there, and which definition it means.
+//!
+//! Comes in: the class table of a program and the definitions of its classes. Goes out: a mark for each name, in the order of the text.
+//! `specs/Marks.antt` and `specs/Programs.antt` define which marks there are, and `specs/Meanings.antt` what a name means.
+#![tactic(auto)]
+
+mod binding;
+mod call;
+mod expression;
+mod feature;
+mod mark;
+mod meaning;
+mod program;
+mod scope;
+mod setting;
+
+pub use mark::{Mark, Meaning, Role, Target};
+pub use program::program_marks;
