@@ -1,0 +1,2 @@
+pub mod PartsLeft
+pub mod ScopesInOrder

@@ -50,9 +50,7 @@ pub(crate) fn add_call<'a>(
             args,
         } => {
             add_marks(setting, locals, marks, *receiver)?;
-            marks.push(setting.program.type_mark(class)?)?;
-            let owner = setting.program.type_named(&class.name);
-            marks.push(setting.call_mark(*at, name, owner)?)?;
+            setting.add_static(marks, *at, class, name)?;
             add_all(setting, locals, marks, id, args.as_slice())
         }
         _ => unreachable!(),

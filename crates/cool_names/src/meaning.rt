@@ -84,7 +84,8 @@ fn signature(alloc: Global, method: &MethodDef) -> Result<Vec<u8>, AllocError>
 {
     let mut text = Vec::from_slice(alloc, b"(")?;
     let mut sign: &[u8] = b"";
-    for formal in method.formals.as_slice() {
+    let formals = method.formals.as_slice();
+    for formal in formals {
         text.extend_from_slice(sign)?;
         text.extend_from_slice(formal.declared.name.as_slice())?;
         sign = b",";

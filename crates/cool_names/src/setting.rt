@@ -1,12 +1,12 @@
 //! In what an expression is walked through, and what its names mean there.
 
-ghost use Rattle.std.specs.Prelude.{◌≡◌, ◌<◌, length, IfOk, IfSome, option_map, bytes_eq, codes};
+ghost use Rattle.std.specs.Prelude.{◌≡◌, ◌<◌, [], ◌∷◌, ◌++◌, length, IfOk, IfSome, OnOk, option_map, bytes_eq, codes};
 ghost use Rattle.std.specs.Option.{option_or};
 ghost use Rattle.cool_classes.specs.Features.{HasMethod, result_of};
 ghost use Rattle.cool_rules.specs.Conformance.{IsType, class_of};
-ghost use Rattle.cool_rules.specs.Rules.{method_of, type_meant};
+ghost use Rattle.cool_rules.specs.Rules.{method_of, type_meant, type_of_name};
 ghost use Rattle.cool_rules.specs.Typing.{result_on};
-ghost use Rattle.cool_names.specs.Marks.{mark, call_mark, type_of_call, type_of_variable};
+ghost use Rattle.cool_names.specs.Marks.{mark, call_mark, type_mark, type_of_call, type_of_variable};
 ghost use Rattle.cool_names.specs.Meanings.{call_meaning, name_meaning};
 ghost use Rattle.cool_names.specs.Scopes.{variable_of, bound_in};
 ghost use Rattle.cool_names.specs.Settings.{IsSound, context};
@@ -17,7 +17,7 @@ use crate::program::Program;
 use crate::scope::{Entry, Scope};
 use cool_classes::{ClassId, MethodRef, Ty};
 use cool_rules::class_of;
-use cool_syntax::{Body, Name, Place};
+use cool_syntax::{Body, Name, Place, TypeRef};
 use std::alloc::AllocError;
 
 /// The program, the class whose feature it is with its attributes, and the expression.
@@ -145,6 +145,23 @@ impl<'a, 's> Setting<'a, 's> {
             name: name.copy(alloc)?,
             meaning: self.call_meaning(owner, name)?,
         })
+    }
+
+    /// Adds the marks of the class after `@` and of the method that is called. `Err` comes only for want of memory.
+    pub(crate) fn add_static(
+        &self,
+        marks: &mut Vec<Mark>,
+        at: Place,
+        class: &TypeRef,
+        name: &Name,
+    ) -> Result<(), AllocError>
+        requires sound { IsSound self.now }
+        ensures { OnOk result (marks.new.items ≡ marks.old.items ++ type_mark self.now.program.table.now self.now.program.definitions.now class.now ∷ call_mark (context self.now) at name.now (type_of_name self.now.program.table.now class.now.name) ∷ []) }
+    {
+        marks.push(self.program.type_mark(class)?)?;
+        let owner = self.program.type_named(&class.name);
+        marks.push(self.call_mark(at, name, owner)?)?;
+        Ok(())
     }
 
     /// What the name of a method means on an object of a type, where that is known. `Err` comes only for want of memory.

@@ -1,0 +1,55 @@
+-- What is left from one position on: the part there, and what comes after it.
+use Rattle.std.proofs.Common.{◌≡◌, ℕ, zero, suc, ◌+◌, ◌<◌, List, [], ◌∷◌, ◌++◌, length, map, drop, get_or, ap, sym, ◌∙◌, subst, arith, append_assoc}
+use Rattle.std.specs.Prelude.{codes}
+use native.Mathlib.Numerals.{add-one}
+use Rattle.cool_syntax.specs.declared.file_tree.ClassDef.{ClassDef}
+use Rattle.cool_syntax.specs.declared.file_tree.Feature.{Feature}
+use Rattle.cool_syntax.specs.declared.file_tree.Formal.{Formal}
+use Rattle.cool_classes.specs.Chains.{Class}
+use Rattle.cool_names.specs.declared.mark.Mark.{Mark}
+use Rattle.cool_names.specs.declared.mark.Role.TheVariants as role
+use Rattle.cool_names.specs.Marks.{Context, declared_marks}
+use Rattle.cool_names.specs.Meanings.{separated}
+use Rattle.cool_names.specs.Programs.{class_marks, feature_marks, features_marks, formal_variable, formals_marks, marks_from}
+use Rattle.cool_names.specs.Scopes.{Variable, entered}
+
+-- the items from one position on
+drop_first : {X : Type 0} (xs : List X) (i : ℕ) (x : X) → i < length xs → x ≡ get_or xs i x → drop i xs ≡ x ∷ drop (suc i) xs
+drop_first [] i x within is = absurd (omega arith)
+drop_first (y ∷ xs) zero x within is = ap (λ z. z ∷ xs) (sym is)
+drop_first (y ∷ xs) (suc i) x within is = drop_first xs i x (omega arith) is
+
+pub drop_one : {X : Type 0} (xs : List X) (i : ℕ) (x : X) → i < length xs → x ≡ get_or xs i x → drop i xs ≡ x ∷ drop (i + 1) xs
+drop_one xs i x within is = subst (λ (j : ℕ). drop i xs ≡ x ∷ drop j xs) (sym (add-one i)) (drop_first xs i x within is)
+
+-- the name of a formal's type, after a sign, is followed by those after it
+pub name_later : (text sign : List ℕ) (fs : List Formal) (i : ℕ) (f : Formal) → i < length fs → f ≡ get_or fs i f
+    → ((text ++ sign) ++ f.declared.name) ++ separated (codes ",") (map (λ (g : Formal). g.declared.name) (drop (i + 1) fs)) ≡ text ++ separated sign (map (λ (g : Formal). g.declared.name) (drop i fs))
+name_later text sign fs i f within is =
+    let rest = separated (codes ",") (map (λ (g : Formal). g.declared.name) (drop (i + 1) fs)) in
+    append_assoc (text ++ sign) f.declared.name rest ∙ append_assoc text sign (f.declared.name ++ rest)
+    ∙ sym (ap (λ (gs : List Formal). text ++ separated sign (map (λ (g : Formal). g.declared.name) gs)) (drop_one fs i f within is))
+
+-- the marks of a formal come before those of the formals after it
+pub formals_later : (p : List Class) (ds : List ClassDef) (before : List Mark) (fs : List Formal) (i : ℕ) (f : Formal) → i < length fs → f ≡ get_or fs i f
+    → (before ++ declared_marks p ds role.Formal f.at f.name f.declared) ++ formals_marks p ds (drop (i + 1) fs) ≡ before ++ formals_marks p ds (drop i fs)
+formals_later p ds before fs i f within is =
+    append_assoc before (declared_marks p ds role.Formal f.at f.name f.declared) (formals_marks p ds (drop (i + 1) fs))
+    ∙ sym (ap (λ (gs : List Formal). before ++ formals_marks p ds gs) (drop_one fs i f within is))
+
+-- a formal is entered before those after it
+pub entered_later : (fs : List Formal) (scope : List Variable) (i : ℕ) (f : Formal) → i < length fs → f ≡ get_or fs i f
+    → entered (map formal_variable (drop (i + 1) fs)) (formal_variable f ∷ scope) ≡ entered (map formal_variable (drop i fs)) scope
+entered_later fs scope i f within is = sym (ap (λ (gs : List Formal). entered (map formal_variable gs) scope) (drop_one fs i f within is))
+
+-- the marks of a feature come before those of the features after it
+pub features_later : (s : Context) (before : List Mark) (fs : List Feature) (i : ℕ) (f : Feature) → i < length fs → f ≡ get_or fs i f
+    → (before ++ feature_marks s f) ++ features_marks s (drop (i + 1) fs) ≡ before ++ features_marks s (drop i fs)
+features_later s before fs i f within is =
+    append_assoc before (feature_marks s f) (features_marks s (drop (i + 1) fs)) ∙ sym (ap (λ (gs : List Feature). before ++ features_marks s gs) (drop_one fs i f within is))
+
+-- the marks of a class come before those of the classes after it
+pub classes_later : (p : List Class) (all : List ClassDef) (before : List Mark) (ds : List ClassDef) (k i : ℕ) (d : ClassDef) → i < length ds → d ≡ get_or ds i d
+    → (before ++ class_marks p all k d) ++ marks_from p all (k + 1) (drop (i + 1) ds) ≡ before ++ marks_from p all k (drop i ds)
+classes_later p all before ds k i d within is =
+    append_assoc before (class_marks p all k d) (marks_from p all (k + 1) (drop (i + 1) ds)) ∙ sym (ap (λ (es : List ClassDef). before ++ marks_from p all k es) (drop_one ds i d within is))

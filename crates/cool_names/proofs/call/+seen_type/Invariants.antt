@@ -1,0 +1,5 @@
+-- Parts have smaller numbers.
+use Rattle.cool_names.proofs.call.+seen_type.Given as goal
+
+abbrev pub decreases-seen_type : goal.decreases-seen_type
+decreases-seen_type l = l.id.0

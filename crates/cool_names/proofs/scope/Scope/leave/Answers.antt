@@ -1,0 +1,10 @@
+-- What is left is the rest of what was there.
+use Rattle.std.proofs.Common.{ℕ, ◌-◌, take, ap, ◌∙◌}
+use Rattle.cool_names.specs.Scopes.{left, latest_first}
+use Rattle.cool_names.proofs.ScopesInOrder.{latest_less}
+use Rattle.cool_names.proofs.scope.Scope.leave.Goals as goal
+
+pub returns : goal.returns
+returns c =
+    let es = c.self.inside.entries.items in
+    ap latest_first (c.pop.ensures.rest ∙ ap (λ (n : ℕ). take (n - 1) es) c.self.inside.entries.ok.0) ∙ latest_less es ∙ ap left c.self.view_is
