@@ -1,3 +1,4 @@
+pub mod Laws
 pub mod Scopes
 pub mod Meanings
 pub mod Marks

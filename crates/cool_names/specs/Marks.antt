@@ -9,7 +9,7 @@ use Rattle.cool_syntax.specs.Tree.{Tree, Trees, MaybeTree, Cases, Last, More, Wi
 use Rattle.cool_syntax.specs.Tree as trees
 use Rattle.cool_classes.specs.declared.class_id.ClassId.{ClassId}
 use Rattle.cool_classes.specs.declared.class_id.Ty.{Ty}
-use Rattle.cool_classes.specs.declared.class_id.Ty.TheVariants.{Class as IsClass, SelfType}
+use Rattle.cool_classes.specs.declared.class_id.Ty.TheVariants.{SelfType}
 use Rattle.cool_classes.specs.declared.method.MethodRef.{MethodRef}
 use Rattle.cool_classes.specs.Chains.{Class}
 use Rattle.cool_classes.specs.Features.{result_of}
@@ -46,6 +46,9 @@ declared_marks p ds kind at name declared = mark at kind name (record { declared
 abbrev pub with_variable : List ℕ → TypeRef → Place → List Variable → List Variable
 with_variable name declared at scope = record { name = name; declared = declared.name; at = at } ∷ scope
 
+-- The rules type a whole feature or nothing of it, and what is being edited is often not typed yet. So a call's method is found by the type
+-- that its receiver has at first sight; where the rules give the receiver a type, it is that one (`law_seen_type`).
+--
 -- The type that an expression has at first sight: of a name, a constant, a new object, an operator and a call. Of a conditional, a block, a
 -- `let` and a `case` none is given, nor where a name or a method is unknown.
 

@@ -9,7 +9,6 @@ use Rattle.cool_syntax.specs.Tree.{Tree, Trees, MaybeTree, Cases, of_list, of_op
 use Rattle.cool_syntax.specs.NodeLists.{all_trees, at_id, made, twig_at}
 use Rattle.cool_classes.specs.Chains.{Class}
 use Rattle.cool_classes.specs.Tables.{IsTable}
-use Rattle.cool_names.specs.declared.program.Program.{Program}
 use Rattle.cool_names.specs.declared.setting.Setting.{Setting}
 use Rattle.cool_names.specs.Marks.{Context}
 

@@ -8,11 +8,13 @@ mod binding;
 mod call;
 mod expression;
 mod feature;
+mod laws;
 mod mark;
 mod meaning;
 mod program;
 mod scope;
 mod setting;
 
+pub use laws::{law_declared_type, law_seen_type};
 pub use mark::{Mark, Meaning, Role, Target};
 pub use program::program_marks;
