@@ -1,0 +1,42 @@
+-- The files of names are read one after another.
+use Rattle.std.proofs.Common.{◌≡◌, ℕ, ◌+◌, ◌<◌, List, [], ◌∷◌, ◌++◌, length, map, get_or, take, sym, ◌∙◌, ap, subst, arith}
+use Rattle.std.specs.Prelude.{Option, string_bytes, String}
+use Rattle.std.specs.Global.{Global, Vec}
+use Rattle.std.proofs.lemmas.List.{map_more, map_push}
+use Rattle.cool_ports.specs.ShelfFiles.{FileMap, MayHold}
+use Rattle.cool_faults.specs.Files.{bytes_of, total}
+use Rattle.cool_editor.specs.Ends.{AreHeld}
+
+-- one more file is held
+held_more : (told : Option FileMap) (names contents : List (List ℕ)) (name bytes : List ℕ) → AreHeld told names contents → MayHold told name bytes → AreHeld told (names ++ name ∷ []) (contents ++ bytes ∷ [])
+held_more told [] [] name bytes held here = (here, tt)
+held_more told [] (x ∷ contents) name bytes held here = absurd held
+held_more told (n ∷ names) [] name bytes held here = absurd held
+held_more told (n ∷ names) (x ∷ contents) name bytes held here = (held.0, held_more told names contents name bytes held.1 here)
+
+-- the bytes of one more file are counted
+total_more : (contents : List (List ℕ)) (bytes : List ℕ) → total (contents ++ bytes ∷ []) ≡ total contents + length bytes
+total_more [] bytes = omega arith
+total_more (x ∷ contents) bytes = omega (arith, total_more contents bytes)
+
+-- one more file was read
+pub held_turn : (told now : Option FileMap) (names : List (String Global)) (i : ℕ) (name : String Global) (given : List ℕ) (contents more : List (Vec ℕ)) (file : Vec ℕ) → now ≡ told → i < length names → name ≡ get_or names i name → given ≡ string_bytes name
+    → AreHeld told (map string_bytes (take i names)) (bytes_of contents) → MayHold now given file.items → more ≡ contents ++ file ∷ [] → AreHeld told (map string_bytes (take (i + 1) names)) (bytes_of more)
+held_turn told now names i name given contents more file same h is called held got pushed =
+    let here : MayHold told (string_bytes name) file.items = subst (λ (n : List ℕ). MayHold told n file.items) called (subst (λ (t : Option FileMap). MayHold t given file.items) same got) in
+    let all : bytes_of more ≡ bytes_of contents ++ file.items ∷ [] = ap bytes_of pushed ∙ map_push _ _ _ in
+    let names_more : map string_bytes (take (i + 1) names) ≡ map string_bytes (take i names) ++ string_bytes name ∷ [] =
+    map_more string_bytes names i name h ∙ ap (λ (n : String Global). map string_bytes (take i names) ++ string_bytes n ∷ []) (sym is) in
+    subst (λ (ns : List (List ℕ)). AreHeld told ns (bytes_of more)) (sym names_more)
+    (subst (λ (cs : List (List ℕ)). AreHeld told (map string_bytes (take i names) ++ string_bytes name ∷ []) cs) (sym all) (held_more told (map string_bytes (take i names)) (bytes_of contents) (string_bytes name) file.items held here))
+
+-- what the files so far have together
+pub total_turn : (contents more : List (Vec ℕ)) (file : Vec ℕ) → more ≡ contents ++ file ∷ [] → total (bytes_of more) ≡ total (bytes_of contents) + length file.items
+total_turn contents more file pushed =
+    let all : bytes_of more ≡ bytes_of contents ++ file.items ∷ [] = ap bytes_of pushed ∙ map_push _ _ _ in
+    ap total all ∙ total_more (bytes_of contents) file.items
+
+-- one more item is counted
+pub length_more : {X : Type 0} (xs : List X) (x : X) → length (xs ++ x ∷ []) ≡ length xs + 1
+length_more [] x = omega arith
+length_more (y ∷ xs) x = omega (arith, length_more xs x)

@@ -1,0 +1,15 @@
+-- The files so far were read, and `left` is the rest of the bytes.
+use Rattle.std.proofs.Common.{◌≡◌, ◌+◌, length, map, take}
+use Rattle.std.specs.Prelude.{string_bytes}
+use Rattle.cool_syntax.specs.declared.TheConstants.{MOST_SOURCE_BYTES}
+use Rattle.cool_faults.specs.Files.{bytes_of, total}
+use Rattle.cool_editor.specs.Ends.{AreHeld}
+use Rattle.cool_editor.proofs.reading.read_files.Given as goal
+
+abbrev pub invariant-loop-index : goal.invariant-loop-index
+invariant-loop-index g l = record {
+  held : AreHeld (g.F.Shelf.files l.fn.files) (map string_bytes (take l.index l.names)) (bytes_of l.contents.items);
+  rest : total (bytes_of l.contents.items) + l.left ≡ MOST_SOURCE_BYTES;
+  each : length l.contents.items ≡ l.index;
+  kept : g.F.Shelf.files l.files ≡ g.F.Shelf.files l.fn.files;
+}

@@ -1,0 +1,72 @@
+//! How a call ends, and the notes.
+
+ghost use Rattle.std.specs.Prelude.{◌≡◌, ◌<◌, ◌⊎◌, length};
+
+use cool_ports::{Failed, Sink};
+use std::alloc::{AllocError, AllocFailed};
+
+/// How a call ends, as for `cool`.
+#[derive(Clone, Copy, Debug, PartialEq, Eq)]
+pub enum Status {
+    /// The names were listed.
+    Done = 0,
+    /// The files are no class table.
+    Refused = 1,
+    /// The words name no file.
+    Usage = 2,
+    /// A write failed.
+    WriteFault = 8,
+    /// Memory ran out.
+    Memory = 9,
+    /// A file was not read, or there are too many.
+    FileFault = 10,
+}
+
+impl From<AllocError> for Status {
+    ghost use Rattle.std.specs.Prelude.{◌≡◌};
+    ghost use Rattle.cool_editor.specs.declared.status.Status.TheVariants as ends;
+
+    ghost from_gives = { λ _ e. e ≡ ends.Memory };
+
+    fn from(_error: AllocError) -> Status {
+        Status::Memory
+    }
+}
+
+impl<T: Drop> From<AllocFailed<T>> for Status {
+    ghost use Rattle.std.specs.Prelude.{◌≡◌};
+    ghost use Rattle.cool_editor.specs.declared.status.Status.TheVariants as ends;
+
+    ghost from_gives = { λ _ e. e ≡ ends.Memory };
+
+    fn from(_error: AllocFailed<T>) -> Status {
+        Status::Memory
+    }
+}
+
+impl Status {
+    /// The program's exit status.
+    pub fn code(self) -> u8 {
+        self as u8
+    }
+}
+
+/// Of words that name no file.
+pub const BAD_COMMAND_LINE: &[u8] = b"cool_editor: bad command line\n";
+
+/// Of files that are no class table.
+pub const NO_CLASS_TABLE: &[u8] = b"cool_editor: no class table\n";
+
+/// Of files that are too many, or of which one was not read.
+pub const FILES_NOT_READ: &[u8] = b"cool_editor: files not read\n";
+
+/// Writes a note and answers this status, or that the write failed.
+pub fn tell<E: Sink>(notes: &mut E, status: Status, note: &[u8]) -> Status
+    requires { 0 < length note.now }
+    ensures { (result ≡ status) ⊎ (result ≡ Status.WriteFault) }
+{
+    match notes.put(note) {
+        Ok(()) => status,
+        Err(Failed) => Status::WriteFault,
+    }
+}
