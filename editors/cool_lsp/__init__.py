@@ -13,6 +13,8 @@
     cures         what mends each kind of fault (docs/faults.md)
     answers       what is answered about a fault or a file
     classes       what is answered about a class
+    marks         where the names of a program stand, and what they mean (docs/editor.md)
+    meanings      what is answered about a name, by the marks
     server        what each message of an editor does
     words         the command line
 """

@@ -7,6 +7,8 @@ from .answers import Answers
 from .classes import Classes, Refused
 from .diagnostics import Checker
 from .files import Document, Files, is_path, to_path
+from .marks import Marks
+from .meanings import Meanings
 from .programs import LIST, Programs
 from .protocol import log, messages
 from .session import Session
@@ -39,13 +41,14 @@ class Server:
             "workspace/didChangeWorkspaceFolders": self.folders_changed,
         }
         answers, classes = Answers(self.files, self.programs, self.told), Classes(self.files, self.programs)
+        meanings = Meanings(self.files, self.programs, Marks(seconds))
         self.questions = {
-            "textDocument/hover": answers.hover,
+            "textDocument/hover": first(answers.hover, meanings.hover),
             "textDocument/documentSymbol": answers.symbols,
-            "textDocument/definition": classes.definition,
-            "textDocument/references": classes.references,
-            "textDocument/completion": classes.completion,
-            "textDocument/rename": classes.rename,
+            "textDocument/definition": first(meanings.definition, classes.definition),
+            "textDocument/references": first(meanings.references, classes.references),
+            "textDocument/completion": first(meanings.completion, classes.completion),
+            "textDocument/rename": first(meanings.rename, classes.rename),
         }
 
     def run(self):
@@ -98,7 +101,7 @@ class Server:
         sync = {"openClose": True, "change": 1, "save": {"includeText": False}}
         folders = {"workspaceFolders": {"supported": True, "changeNotifications": True}}
         answers = {name + "Provider": True for name in ("hover", "documentSymbol", "definition", "references", "rename")}
-        answers["completionProvider"] = {}
+        answers["completionProvider"] = {"triggerCharacters": ["."]}
         return {"capabilities": {"textDocumentSync": sync, "workspace": folders, **answers}, "serverInfo": {"name": "cool-lsp"}}
 
     def initialized(self, _):
@@ -172,6 +175,11 @@ class Server:
             if (version, notes) != old:
                 params = {"uri": uri, "diagnostics": notes}
                 self.output.send(method="textDocument/publishDiagnostics", params=params if version is None else {**params, "version": version})
+
+
+def first(*functions):
+    """The answer of the first function that has one."""
+    return lambda params: next((found for found in (function(params) for function in functions) if found is not None), None)
 
 
 def outcome(method, function, params):

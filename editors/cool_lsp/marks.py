@@ -1,0 +1,58 @@
+"""Where the names of a program stand, what each is and which definition it means: the lines of `cool_editor` (docs/editor.md)."""
+import os
+import re
+import shutil
+import subprocess
+import tempfile
+from collections import namedtuple
+
+from .program import HERE
+
+LINE = re.compile(rb"(\d+):\d+:(\d+) (\w+) (\S+) (\S+) (?:(\d+):\d+:(\d+)|[-?])\n")
+
+# The place is (path, byte); that of the definition is another one, or None where no file has it. The type is "?" where nothing is known.
+Mark = namedtuple("Mark", "place role name type target")
+
+
+def find():
+    """The path of the program, or None: the one that COOL_EDITOR names, installed beside the server, or built in its repository; else on PATH."""
+    named = os.environ.get("COOL_EDITOR")
+    built = (os.path.join(HERE, *parts) for parts in (("cool_editor",), ("release", "cool_editor"), ("crates", "cool_editor", "out", "cool_editor")))
+    return named or next((path for path in built if os.path.isfile(path) and os.access(path, os.X_OK)), None) or shutil.which("cool_editor")
+
+
+class Marks:
+    """The marks of programs. What was asked last for the same files is known."""
+
+    def __init__(self, seconds):
+        self.seconds, self.known = seconds, (None, None)
+
+    def of(self, files):
+        """The marks of files, a dictionary of bytes by path, in the order of the files and the text; None where they are no class table, or where
+        there is no program."""
+        if self.known[0] != files:
+            self.known = dict(files), self.ask(files)
+        return self.known[1]
+
+    def ask(self, files):
+        program = find()
+        if not program or None in files.values():
+            return None
+        with tempfile.TemporaryDirectory(prefix="cool-lsp-") as room:
+            for number, data in enumerate(files.values()):
+                with open(os.path.join(room, "%d.cl" % number), "wb") as file:
+                    file.write(data)
+            try:
+                done = subprocess.run([program] + ["%d.cl" % number for number in range(len(files))], cwd=room, stdin=subprocess.DEVNULL,
+                                      stdout=subprocess.PIPE, stderr=subprocess.DEVNULL, timeout=self.seconds)
+            except (OSError, subprocess.TimeoutExpired):
+                return None
+        return read(list(files), done.stdout) if done.returncode == 0 else None
+
+
+def read(paths, lines):
+    found = []
+    for file, at, role, name, type_, other, there in LINE.findall(lines):
+        target = (paths[int(other)], int(there)) if other else None
+        found.append(Mark((paths[int(file)], int(at)), role.decode(), name, type_.decode(), target))
+    return found

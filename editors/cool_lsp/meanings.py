@@ -1,0 +1,249 @@
+"""What is answered about a name by the marks of its program: what it means, where it is defined and used, a new name for it, and what completes a
+word. Where there are no marks, since the files are no class table or there is no program for them, each answer is None."""
+import re
+
+from .answers import position
+from .classes import Refused
+from .diagnostics import MAIN
+from .files import to_path
+from .names import BASIC, KEYWORDS
+from .ranges import Text
+
+NAME = re.compile(rb"[a-z][A-Za-z0-9_]*")
+BEGUN = re.compile(rb"[A-Za-z0-9_]*\Z")
+DOT = re.compile(rb"\.\s*([A-Za-z0-9_]*)\Z")
+RECEIVER = re.compile(rb"\s*(?:@\s*[A-Z][A-Za-z0-9_]*\s*)?\.\s*\Z")
+RESERVED = KEYWORDS | {b"true", b"false", b"self"}
+VARIABLES = ("attribute", "formal", "let", "case")
+METHOD, VARIABLE = 2, 6  # kinds of what completes a word
+# The methods of the basic classes (docs/language.md).
+GIVEN = {
+    "Object": ("abort ():Object", "type_name ():String", "copy ():SELF_TYPE"),
+    "IO": ("out_string (String):SELF_TYPE", "out_int (Int):SELF_TYPE", "in_string ():String", "in_int ():Int"),
+    "String": ("length ():Int", "concat (String):String", "substr (Int,Int):String"),
+}
+
+
+class Class:
+    """A class as the marks have it: its name, its parent's, and the marks of its methods."""
+
+    def __init__(self, name):
+        self.name, self.parent, self.methods = name, "Object", []
+
+
+def classes(marks):
+    """The classes by name. Where a type stands right behind the name of a class it is its parent."""
+    found, last, before = {}, None, None
+    for mark in marks:
+        if mark.role == "class":
+            last = found[mark.name.decode()] = Class(mark.name.decode())
+        elif mark.role == "type" and before == "class":
+            last.parent = mark.name.decode()
+        elif mark.role == "method":
+            last.methods.append(mark)
+        before = mark.role
+    return found
+
+
+def chain(found, name):
+    """The names of a class and of those above it."""
+    while name in found:
+        yield name
+        name = found[name].parent
+    yield from dict.fromkeys((name, "Object"))
+
+
+class Meanings:
+    """Of the files as they were looked at last."""
+
+    def __init__(self, files, programs, marks):
+        self.files, self.programs, self.marks = files, programs, marks
+
+    def of(self, path, changed=None):
+        """The marks of a program of a file, with other bytes for some files, or None."""
+        for program in self.programs.of(path):
+            files = {**{other: self.files.data(other) for other in program}, **(changed or {})}
+            found = self.marks.of(files) or self.marks.of({**files, "": MAIN})
+            if found is not None:
+                return found
+        return None
+
+    def named(self, params):
+        """The marks of the program of a file, and the one at a place of it; None where there are none."""
+        path = to_path(params["textDocument"]["uri"])
+        at = Text(self.files.data(path)).place(*position(params["position"]))
+        marks = self.of(path)
+        there = [mark for mark in marks or () if mark.place[0] == path and mark.place[1] <= at <= mark.place[1] + len(mark.name)]
+        return (marks, there[-1]) if there else (marks, None)
+
+    def location(self, place, name):
+        text = Text(self.files.data(place[0]))
+        return {"uri": self.files.uri(place[0]), "range": text.range(place[1], place[1] + len(name))}
+
+    def hover(self, params):
+        """The type of a name, or the signature of a method."""
+        _, mark = self.named(params)
+        if not mark or mark.type == "?":
+            return None
+        return {"contents": {"kind": "markdown", "value": "```cool\n%s\n```" % told(mark)}, "range": self.location(mark.place, mark.name)["range"]}
+
+    def definition(self, params):
+        marks, mark = self.named(params)
+        return marks and [self.location(mark.target, mark.name)] if mark and mark.target and mark.target[0] else None
+
+    def references(self, params):
+        marks, mark = self.named(params)
+        if not mark or not mark.target:
+            return None
+        declared = (params.get("context") or {}).get("includeDeclaration", True)
+        uses = [other for other in marks if other.target == mark.target and other.place[0]]
+        return [self.location(other.place, other.name) for other in uses if declared or other.place != mark.target]
+
+    # New names.
+
+    def rename(self, params):
+        """The edits that give a variable or a method another name, a method with those that it redefines and that redefine it. None for a class.
+        With them the program has the same marks but for the name: else they are refused."""
+        marks, mark = self.named(params)
+        if not mark or mark.role in ("class", "type"):
+            return None
+        new = params["newName"].encode()
+        if not mark.target or not mark.target[0]:
+            raise Refused("only what the program defines can be renamed")
+        if not NAME.fullmatch(new) or new in RESERVED:
+            raise Refused("a name is a small letter, and then letters, digits and `_`; keywords and `self` are none")
+        if len(self.programs.of(mark.target[0])) > 1:
+            raise Refused("%s is a part of several programs" % mark.target[0])
+        targets = self.family(marks, mark)
+        due = [other for other in marks if other.target in targets]
+        texts = {path: edited(self.files.data(path), [other for other in due if other.place[0] == path], new) for path in {other.place[0] for other in due}}
+        renamed = self.of(mark.place[0], texts)
+        if renamed is None or shape(renamed) != shape(marks, set(due), new):
+            raise Refused("with this name something would mean something else")
+        changes = {}
+        for other in due:
+            place = self.location(other.place, other.name)
+            changes.setdefault(place["uri"], []).append({"range": place["range"], "newText": params["newName"]})
+        return {"changes": changes}
+
+    @staticmethod
+    def family(marks, mark):
+        """The places of the definitions that have one name with that of a mark: of a method those of all classes that are below or above one another."""
+        found, targets = classes(marks), {mark.target}
+        if not mark.type.startswith("("):
+            return targets
+        owners = {method.place: owner for owner in found.values() for method in owner.methods if method.name == mark.name}
+        above = {place: set(chain(found, owner.name)) for place, owner in owners.items()}
+        while True:
+            more = {place for place in owners for other in targets if owners[place].name in above[other] or owners[other].name in above[place]}
+            if more <= targets:
+                break
+            targets |= more
+        given = {line.split()[0] for place in targets for name in above[place] for line in GIVEN.get(name, ())}
+        if mark.name.decode() in given:
+            raise Refused("a basic class has this method")
+        return targets
+
+    # What completes a word.
+
+    def completion(self, params):
+        """The methods of what stands before a dot, or the variables in scope. The program is asked with something in place of the word: what is being
+        written is no class table."""
+        path = to_path(params["textDocument"]["uri"])
+        data = self.files.data(path)
+        at = Text(data).place(*position(params["position"]))
+        dot = DOT.search(data, 0, at)
+        return self.methods(path, data, at, dot) if dot else self.variables(path, data, at)
+
+    def methods(self, path, data, at, dot):
+        for rest in (b"z()", b"z();", b"z() }"):
+            marks = self.of(path, {path: data[: dot.start() + 1] + rest + data[at:]})
+            if marks is not None:
+                type_ = self.type_before(marks, path, data, dot.start())
+                begun = dot[1].decode()
+                return [item for item in members(classes(marks), type_) if item["label"].startswith(begun)]
+        return None
+
+    def type_before(self, marks, path, data, dot):
+        """The type of what ends before a place: a name, a call, a class after `new` in parentheses."""
+        code = data[:dot].rstrip()
+        ends = {len(code): ("variable", "type"), len(code[:-1].rstrip()) if code.endswith(b")") else -1: ("type",), opening(code): ("call",)}
+        own = last = None
+        for mark in marks:
+            if mark.place[0] == path and mark.place[1] < dot:
+                own = mark.name.decode() if mark.role == "class" else own
+                last = mark if mark.role in ends.get(mark.place[1] + len(mark.name), ()) else last
+        if not last:
+            return None
+        type_ = last.name.decode() if last.role == "type" else last.type.rpartition(":")[2]
+        receiver = RECEIVER.search(data, 0, last.place[1]) if type_ == "SELF_TYPE" and last.role == "call" else None
+        if receiver:
+            return self.type_before(marks, path, data, receiver.start())
+        return own if type_ == "SELF_TYPE" else type_
+
+    def variables(self, path, data, at):
+        """The names that have a meaning at a place: each is asked for as an expression there."""
+        begun = BEGUN.search(data, 0, at).group()
+        if begun[:1].isupper():
+            return None
+        end = at + len(re.compile(rb"[A-Za-z0-9_]*").match(data, at).group())
+        names, seen = [], set()
+        plain = self.of(path, {path: data[: at - len(begun)] + b"0" + data[end:]}) or ()
+        for mark in plain:
+            if mark.role in VARIABLES and mark.name.startswith(begun) and mark.name not in seen:
+                seen.add(mark.name)
+                names.append(mark.name)
+        start = at - len(begun)
+        block = b"{" + b"".join(name + b";" for name in names) + b"}"
+        marks = names and self.of(path, {path: data[:start] + block + data[end:]})
+        if not marks:
+            return [] if plain else None
+        found = [mark for mark in marks if mark.place[0] == path and start < mark.place[1] < start + len(block) and mark.type != "?"]
+        return [{"label": mark.name.decode(), "kind": VARIABLE, "detail": mark.type} for mark in found]
+
+
+def opening(code):
+    """The end of what stands before the parentheses in which code ends, or -1."""
+    depth = 0
+    for start in range(len(code) - 1, -1, -1):
+        depth += {b")": 1, b"(": -1}.get(code[start : start + 1], 0)
+        if depth <= 0:
+            return len(code[:start].rstrip()) if start < len(code) - 1 else -1
+    return -1
+
+
+def members(found, type_):
+    """The methods of a class with those that it inherits, the nearest of each name, as what completes a word."""
+    items = {}
+    for owner in chain(found, type_) if type_ else ():
+        own = [line.split() for line in GIVEN.get(owner, ())]
+        if owner in found:
+            own = [(mark.name.decode(), mark.type) for mark in found[owner].methods]
+        for name, signature in own:
+            items.setdefault(name, {"label": name, "kind": METHOD, "detail": spaced(signature)})
+    return list(items.values())
+
+
+def edited(data, due, new):
+    for mark in sorted(due, key=lambda mark: mark.place[1], reverse=True):
+        data = data[: mark.place[1]] + new + data[mark.place[1] + len(mark.name) :]
+    return data
+
+
+def shape(marks, due=(), new=b""):
+    """The marks without their places: of each its role, its name, which is a new one where that is due, its type, and the number of the mark at which
+    it is defined."""
+    numbers = {mark.place: number for number, mark in enumerate(marks)}
+    return [(mark.role, new if mark in due else mark.name, mark.type, numbers.get(mark.target)) for mark in marks]
+
+
+def told(mark):
+    """A mark as a person reads it."""
+    name = mark.name.decode()
+    if mark.role in ("class", "type"):
+        return "class " + name
+    return name + spaced(mark.type) if mark.type.startswith("(") else name + " : " + mark.type
+
+
+def spaced(signature):
+    return signature.replace(",", ", ").replace("):", ") : ")

@@ -1,0 +1,125 @@
+"""What is answered about a name, against the program: renamed in all its places a program means the same, and in all but one it does not."""
+import random
+import re
+import subprocess
+
+from .client import EXAMPLES, HERE, Client, NotTried, check, expect, fill
+from .edits import place
+
+TEXT = """class Shape { side : Int; area() : Int { side * side }; grow(by : Int) : SELF_TYPE { { side <- side + by; self; } }; };
+class Square inherits Shape { area() : Int { side }; };
+class Main inherits IO {
+  main() : Object { let one : Square <- new Square, side : Int <- 2 in { out_int(one.grow(side).area()); one@Shape.area(); } };
+};
+"""
+
+
+def editor():
+    """The program that tells marks, or that it is not there."""
+    words = ["python3", "-Bc", "from cool_lsp import marks; print(marks.find() or '')"]
+    found = subprocess.run(words, cwd=HERE, stdout=subprocess.PIPE).stdout.decode().strip()
+    if not found:
+        raise NotTried("no program cool_editor is built")
+    return found
+
+
+def where(path, text, at):
+    line = text.count("\n", 0, at)
+    return {"textDocument": {"uri": path.as_uri()}, "position": {"line": line, "character": at - text.rfind("\n", 0, at) - 1}}
+
+
+def spans(text, places):
+    return sorted(tuple(place(text, one["range"][side]) for side in ("start", "end")) for one in places or ())
+
+
+def names_are_told(room, words):
+    """Hover, definition and references of the names of one text."""
+    editor()
+    at, client = fill(room / "program", shapes=TEXT) / "shapes.cl", Client(room / "program", words.cool)
+    client.open(at, TEXT)
+
+    def ask(method, word, number=0, **more):
+        found = [match.start() for match in re.finditer(r"\b%s\b" % word, TEXT)][number]
+        return client.request("textDocument/" + method, {**where(at, TEXT, found), **more})["result"]
+
+    def said(word, number=0):
+        found = ask("hover", word, number)
+        return found and found["contents"]["value"].split("\n")[1]
+
+    expect("types", [said("side"), said("side", 6), said("one", 1), said("self")], ["side : Int", "side : Int", "one : Square", "self : SELF_TYPE"])
+    expect("signatures", [said("grow", 1), said("out_int"), said("Square", 1)], ["grow(Int) : SELF_TYPE", "out_int(Int) : SELF_TYPE", "class Square"])
+    expect("of a let and of an attribute", [TEXT[: spans(TEXT, ask("definition", "side", number))[0][0]].count("\n") for number in (5, 7)], [0, 3])
+    expect("area of Square", spans(TEXT, ask("definition", "area", 2))[0][0], TEXT.index("area", TEXT.index("Square")))
+    expect("area of Shape", spans(TEXT, ask("definition", "area", 3))[0][0], TEXT.index("area"))
+    expect("of a basic class", ask("definition", "out_int"), [])
+    expect("uses of one", len(ask("references", "one")), 3)
+    client.end()
+
+
+def words_are_completed(room, words):
+    editor()
+    at, client = fill(room / "program", shapes=TEXT) / "shapes.cl", Client(room / "program", words.cool)
+
+    def offered(old, new, behind):
+        text = TEXT.replace(old, new)
+        client.open(at, text)
+        found = client.request("textDocument/completion", where(at, text, text.index(behind) + len(behind)))["result"]
+        client.close(at)
+        return sorted(item["label"] for item in found)
+
+    expect("after a dot", offered("one@Shape.area();", "one.", " one."), ["abort", "area", "copy", "grow", "type_name"])
+    expect("begun", offered("one@Shape.area();", "one.gr", " one.gr"), ["grow"])
+    expect("of a call", offered("one@Shape.area();", "one.grow(3).", "grow(3)."), ["abort", "area", "copy", "grow", "type_name"])
+    expect("of a new object", offered("one@Shape.area();", "(new IO).in", "(new IO).in"), ["in_int", "in_string"])
+    expect("of the class after @", offered("one@Shape.area();", "one@Shape.gr", "@Shape.gr"), ["grow"])
+    expect("in scope", offered("one@Shape.area();", "on;", "; on"), ["one"])
+    expect("attributes and formals", offered("side <- side + by;", "s;", "{ { s"), ["side"])
+    client.end()
+
+
+def names_are_renamed(room, words):
+    """In the examples and the text above: each time all places of a name are what is accepted, and all but one are not."""
+    editor()
+    rnd, compared = random.Random(words.seed), 0
+    client = Client(room, words.cool)
+    for source in [TEXT] + [(EXAMPLES / (name + ".cl")).read_text() for name in ("list", "bank", "queens")]:
+        at = room / "one.cl"
+        client.open(at, source)
+        declared = [match.start() for match in re.finditer(r"\b[a-z]\w*(?= *:)", source)]
+        for start in rnd.sample(declared, min(5, len(declared))):
+            answer = client.request("textDocument/rename", {**where(at, source, start), "newName": "zz_new"})
+            if "error" in answer or answer["result"] is None:
+                continue
+            edits = spans(source, answer["result"]["changes"][at.as_uri()])
+
+            def accepted(edits):
+                text = source
+                for begin, end in sorted(edits, reverse=True):
+                    text = text[:begin] + "zz_new" + text[end:]
+                (room / "renamed.cl").write_text(text)
+                return not any(check(words.cool, [room / "renamed.cl"]).values())
+
+            expect("all of %s renamed" % source[slice(*edits[0])], accepted(edits), True)
+            if len(edits) > 1:
+                expect("all but one of %s" % source[slice(*edits[0])], accepted(rnd.sample(edits, len(edits) - 1)), False)
+            compared += len(edits)
+        client.close(at)
+    client.end()
+    return "%d places" % compared
+
+
+def names_that_cannot_be_given(room, words):
+    editor()
+    at, client = fill(room / "program", shapes=TEXT) / "shapes.cl", Client(room / "program", words.cool)
+    client.open(at, TEXT)
+
+    def refused(word, new):
+        return client.request("textDocument/rename", {**where(at, TEXT, TEXT.index(word)), "newName": new})["error"]["message"]
+
+    expect("captured", refused("by :", "side"), "with this name something would mean something else")
+    expect("no name", refused("by :", "By")[:6], "a name")
+    expect("of a basic class", refused("out_int", "out"), "only what the program defines can be renamed")
+    client.end()
+
+
+TESTS = [names_are_told, words_are_completed, names_are_renamed, names_that_cannot_be_given]
