@@ -1,2 +1,2 @@
-pub mod FilesRead
-pub mod TreesOfTokens
+mod FilesRead
+mod TreesOfTokens

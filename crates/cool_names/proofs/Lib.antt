@@ -1,3 +1,3 @@
-pub mod PartsLeft
-pub mod ScopesInOrder
-pub mod SeenTypes
+mod PartsLeft
+mod ScopesInOrder
+mod SeenTypes
