@@ -1,12 +1,12 @@
 """Where the names of a program stand, what each is and which definition it means: the lines of `cool_editor` (docs/editor.md)."""
 import os
 import re
-import shutil
 import subprocess
 import tempfile
 from collections import namedtuple
 
-from .program import HERE
+from . import program
+from .protocol import log
 
 LINE = re.compile(rb"(\d+):\d+:(\d+) (\w+) (\S+) (\S+) (?:(\d+):\d+:(\d+)|[-?])\n")
 
@@ -14,18 +14,11 @@ LINE = re.compile(rb"(\d+):\d+:(\d+) (\w+) (\S+) (\S+) (?:(\d+):\d+:(\d+)|[-?])\
 Mark = namedtuple("Mark", "place role name type target")
 
 
-def find():
-    """The path of the program, or None: the one that COOL_EDITOR names, installed beside the server, or built in its repository; else on PATH."""
-    named = os.environ.get("COOL_EDITOR")
-    built = (os.path.join(HERE, *parts) for parts in (("cool_editor",), ("release", "cool_editor"), ("crates", "cool_editor", "out", "cool_editor")))
-    return named or next((path for path in built if os.path.isfile(path) and os.access(path, os.X_OK)), None) or shutil.which("cool_editor")
-
-
 class Marks:
     """The marks of programs. What was asked last for the same files is known."""
 
     def __init__(self, seconds):
-        self.seconds, self.known = seconds, (None, None)
+        self.seconds, self.known, self.program, self.why = seconds, (None, None), None, None
 
     def of(self, files):
         """The marks of files, a dictionary of bytes by path, in the order of the files and the text; None where they are no class table, or where
@@ -34,16 +27,25 @@ class Marks:
             self.known = dict(files), self.ask(files)
         return self.known[1]
 
+    def find(self):
+        """The path of the program, or None; why there is none is told once."""
+        try:
+            self.program = self.program or program.find(None, self.seconds, "cool_editor")
+        except program.Missing as why:
+            if self.why != str(why):
+                self.why = str(why)
+                log(self.why)
+        return self.program
+
     def ask(self, files):
-        program = find()
-        if not program or None in files.values():
+        if None in files.values() or not self.find():
             return None
         with tempfile.TemporaryDirectory(prefix="cool-lsp-") as room:
             for number, data in enumerate(files.values()):
                 with open(os.path.join(room, "%d.cl" % number), "wb") as file:
                     file.write(data)
             try:
-                done = subprocess.run([program] + ["%d.cl" % number for number in range(len(files))], cwd=room, stdin=subprocess.DEVNULL,
+                done = subprocess.run([self.program] + ["%d.cl" % number for number in range(len(files))], cwd=room, stdin=subprocess.DEVNULL,
                                       stdout=subprocess.PIPE, stderr=subprocess.DEVNULL, timeout=self.seconds)
             except (OSError, subprocess.TimeoutExpired):
                 return None

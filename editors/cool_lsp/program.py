@@ -15,35 +15,36 @@ class Missing(Exception):
     """There is no program; the words say why."""
 
 
-def find(named, seconds):
-    """The path of the program: the one that is named, else the one installed beside the server, else that of the repository in which the server
-    stands, else the one on PATH."""
-    named = named or os.environ.get("COOL")
+def find(named, seconds, name="cool"):
+    """The path of the program of this name: the one that is named, by a word or by COOL or COOL_EDITOR in the environment, else the one installed beside
+    the server, else that of the repository in which the server stands, else the one on PATH."""
+    named = named or os.environ.get(name.upper())
     if named:
         return named
     if os.access(os.path.join(HERE, "release", "program"), os.X_OK):
-        return of_repository(os.path.join(HERE, "release", "program"), seconds)
-    beside = os.path.join(HERE, "cool")
-    found = beside if os.path.isfile(beside) and os.access(beside, os.X_OK) else shutil.which("cool")
+        return of_repository([os.path.join(HERE, "release", "program"), name], seconds)
+    beside = os.path.join(HERE, name)
+    found = beside if os.path.isfile(beside) and os.access(beside, os.X_OK) else shutil.which(name)
     if not found:
-        raise Missing("there is no program `cool`: install it by ./install, or name it by --cool or COOL")
+        option = "--cool or " if name == "cool" else ""
+        raise Missing("there is no program `%s`: install it by ./install, or name it by %s%s" % (name, option, name.upper()))
     return found
 
 
-def of_repository(script, seconds):
-    """What the script says is the program of the sources as they are."""
-    process = start([script])
+def of_repository(words, seconds):
+    """What the script that these words call says is the program of the sources as they are."""
+    process = start(words)
     try:
         said, notes = process.communicate(timeout=seconds)
     except subprocess.TimeoutExpired:
         kill(process)
         process.communicate()
-        raise Missing("%s did not end within %g seconds: call ./cool once" % (script, seconds)) from None
-    words = notes.decode("utf-8", "replace").split("\n")
-    for line in words[:-1]:
+        raise Missing("%s did not end within %g seconds: call ./cool once" % (words[0], seconds)) from None
+    lines = notes.decode("utf-8", "replace").split("\n")
+    for line in lines[:-1]:
         log(line)
     if process.returncode or not said.strip():
-        raise Missing(words[-2] if words[1:] else "%s ended with status %d" % (script, process.returncode))
+        raise Missing(lines[-2] if lines[1:] else "%s ended with status %d" % (words[0], process.returncode))
     return os.fsdecode(said.rstrip(b"\n"))
 
 
