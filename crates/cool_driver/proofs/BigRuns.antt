@@ -15,8 +15,8 @@ use Rattle.spim_machine.specs.Machine.{MachineParts, state_of, IsIn}
 use Rattle.spim_machine.specs.Ends.{Counted, Ran}
 use Rattle.cool_words.specs.declared.plan.RunLimits.{RunLimits}
 use Rattle.cool_driver.specs.Execution.{heap_of, stack_of, left_by, run_of, segments_within, status_of, status_of_halt}
-use Rattle.cool_driver.specs.Big.{RunsTo}
-use Rattle.cool_driver.specs.Big.RunsTo.{counted, too_long}
+use Rattle.cool_driver.specs.commands.Big.{RunsTo}
+use Rattle.cool_driver.specs.commands.Big.RunsTo.{counted, too_long}
 use Rattle.cool_driver.specs.declared.TheConstants.{MOST_BIG_OUTPUT}
 use Rattle.cool_driver.proofs.RunsWithinLimits.{run_of-is, ran_within, no_rise}
 

@@ -20,9 +20,9 @@ use Rattle.cool_driver.specs.Debugging.{commands_for, debug_notes}
 use Rattle.cool_driver.specs.Execution.{segments_within, run_of, ComesTo, left_by, status_of, note_of}
 use Rattle.cool_driver.specs.Notes.{read_fault_note, script_note}
 use Rattle.cool_driver.specs.Calls.{Request, IsRead, IsScriptRead, Told}
-use Rattle.cool_driver.specs.Ends.{Due, IsRunOf, IsDebugged, IsDebugOf}
-use Rattle.cool_driver.specs.Ends.IsRunOf.{of_file, of_program}
-use Rattle.cool_driver.specs.Ends.Due.{checked, built, refused, executed, unread_input, debugged, unread_debugged, misscripted, unscripted, evaluated, unread_source, unfit, misread, summed, conversed, usage, too_many, missing, unread, too_large}
+use Rattle.cool_driver.specs.Before.{Due, IsRunOf, IsDebugged, IsDebugOf}
+use Rattle.cool_driver.specs.Before.IsRunOf.{of_file, of_program}
+use Rattle.cool_driver.specs.Before.Due.{checked, built, refused, executed, unread_input, debugged, unread_debugged, misscripted, unscripted, evaluated, unread_source, unfit, misread, summed, conversed, usage, too_many, missing, unread, too_large}
 use Rattle.cool_driver.specs.declared.command_line.Command.TheVariants.{Check, Build, Run, Eval, Exec, Debug}
 use Rattle.cool_driver.proofs.Findings.{no_file_fault, missing_fault, large_fault, script_fault}
 use Rattle.cool_driver.proofs.Plans.{no_files_for_big, no_files_for_nothing, no_files_for_session}

@@ -13,64 +13,28 @@ use Rattle.cool_driver.specs.CommandLine.{words_of, is_number_of_files, plan_of,
 use Rattle.cool_driver.specs.Contents.{texts}
 use Rattle.cool_driver.specs.Notes.{missing_note, unread_note, too_large_note, too_many_note}
 use Rattle.cool_driver.specs.Calls.{Request, IsRead, IsReadUpTo, AreHeld, HasScript}
-use Rattle.cool_driver.specs.Ends.{Due}
-use Rattle.cool_driver.specs.Ends.Due.{checked, built, refused, unfit, misread, too_many, missing, unread, too_large}
-use Rattle.cool_driver.specs.Ends.IsRunOf.{of_file, of_program}
-use Rattle.cool_driver.specs.Ends.Writing.{by_build}
+use Rattle.cool_driver.specs.Before.{Due}
+use Rattle.cool_driver.specs.Before.Due.{refused, unfit, misread, too_many, missing, unread, too_large}
+use Rattle.cool_driver.specs.Before.IsRunOf.{of_file, of_program}
 use Rattle.cool_driver.specs.Reading.{IsCause, IsStopAt}
-use Rattle.cool_driver.specs.Tasks.{fault_note, IsTaskOf, IsTaskOfFile, IsTaskOfChecked, IsTaskOfBuilt, IsTaskOfRun, IsTaskOfEval, IsLine, IsUnreadLine, HasLimits, TakesNoScript, IsDue, IsFileTask}
+use Rattle.cool_driver.specs.Tasks.{fault_note, IsTaskOf, IsTaskOfFile, IsTaskOfRun, IsLine, IsUnreadLine, HasLimits, GoesByTask, IsDue, IsFileTask}
 use Rattle.cool_driver.specs.declared.command_line.Command.{Command}
 use Rattle.cool_driver.specs.declared.command_line.Command.TheVariants as command
 use Rattle.cool_driver.specs.declared.command_line.Form.{Form}
 use Rattle.cool_driver.specs.declared.status.Status.TheVariants as statuses
 use Rattle.cool_driver.specs.declared.task.Task.{Task}
-use Rattle.cool_driver.specs.declared.task.Task.TheVariants.{Tell, Write, Execute, Debug, Evaluate, Converse}
+use Rattle.cool_driver.specs.declared.task.Task.TheVariants.{Tell, Execute, Debug}
 use Rattle.cool_driver.proofs.NoteLines.{line_due}
 use Rattle.cool_driver.proofs.ScriptsOfCalls.{plain_script}
-
--- for files that `check` names
-checked_due : (r : Request) (names contents : List (List ℕ)) (task : Task) → IsRead r command.Check names contents → IsTaskOfChecked names contents task → IsDue r task
-checked_due r names contents (Tell status lines) read (are, inl h) = rw (h.0, h.1) (checked names contents h.2.0 read h.2.1, are, λ e. omega (arith, e))
-checked_due r names contents (Tell status lines) read (are, inr h) = rw (h.0, h.1.2) (refused command.Check names contents h.1.0 read tt h.1.1, are, λ e. omega (arith, e))
-checked_due r names contents (Write made) read h = absurd h
-checked_due r names contents (Execute within image) read h = absurd h
-checked_due r names contents (Evaluate steps p files) read h = absurd h
-checked_due r names contents (Debug within image commands) read h = absurd h
-checked_due r names contents Converse read h = absurd h
-
--- for files that `asm` or `build` names
-built_due : (r : Request) (form : Form) (names contents : List (List ℕ)) (task : Task) → IsRead r (command.Build form) names contents
-    → IsTaskOfBuilt form names contents task → IsDue r task
-built_due r form names contents (Tell status lines) read (are, one, h) =
-    rw (one, h.2) (refused (command.Build form) names contents h.0 read tt h.1, are, λ e. omega (arith, e))
-built_due r form names contents (Write made) read h = rw h.3 (built form names contents h.0 read h.1 h.2, by_build form names contents h.0 read h.1)
-built_due r form names contents (Execute within image) read h = absurd h
-built_due r form names contents (Evaluate steps p files) read h = absurd h
-built_due r form names contents (Debug within image commands) read h = absurd h
-built_due r form names contents Converse read h = absurd h
 
 -- for files that `run` names
 run_due : (r : Request) (limits : RunLimits) (fold : Bool) (names contents : List (List ℕ)) (task : Task) → IsBounded limits
     → IsRead r (command.Run limits fold) names contents → IsTaskOfRun limits fold names contents task → IsDue r task
 run_due r limits fold names contents (Tell status lines) bounded read (are, one, h) =
     rw (one, h.2) (refused (command.Run limits fold) names contents h.0 read tt h.1, are, λ e. omega (arith, e))
-run_due r limits fold names contents (Write made) bounded read h = absurd h
 run_due r limits fold names contents (Execute within image) bounded read (same, h) =
     rw same (bounded, of_program fold names contents h.0 read h.1 h.2 bounded)
-run_due r limits fold names contents (Evaluate steps p files) bounded read h = absurd h
 run_due r limits fold names contents (Debug within image commands) bounded read h = absurd h
-run_due r limits fold names contents Converse bounded read h = absurd h
-
--- for files that `eval` names
-eval_due : (r : Request) (steps : ℕ) (names contents : List (List ℕ)) (task : Task) → IsRead r (command.Eval steps) names contents
-    → IsTaskOfEval steps names contents task → IsDue r task
-eval_due r steps names contents (Tell status lines) read (are, one, h) =
-    rw (one, h.2) (refused (command.Eval steps) names contents h.0 read tt h.1, are, λ e. omega (arith, e))
-eval_due r steps names contents (Write made) read h = absurd h
-eval_due r steps names contents (Execute within image) read h = absurd h
-eval_due r steps names contents (Debug within image commands) read h = absurd h
-eval_due r steps names contents Converse read h = absurd h
-eval_due r steps names contents (Evaluate most p files) read (same, named, is) = rw (same, named) (record { contents = contents; read = read; accepted = is })
 
 -- for the file that `exec` names
 file_due : (r : Request) (limits : RunLimits) (name bytes : List ℕ) (task : Task) → IsBounded limits → IsRead r (command.Exec limits) (name ∷ []) (bytes ∷ [])
@@ -79,11 +43,8 @@ file_due r limits name bytes (Tell status lines) bounded read (twelve, are, inl 
     rw (twelve, h.1) (unfit limits name bytes h.0 read h.2 h.3, are, λ e. omega (arith, e))
 file_due r limits name bytes (Tell status lines) bounded read (twelve, are, inr h) =
     rw (twelve, h.1) (misread limits name bytes h.0 read h.2 h.3, are, λ e. omega (arith, e))
-file_due r limits name bytes (Write made) bounded read h = absurd h
 file_due r limits name bytes (Execute within image) bounded read (same, h) = rw same (bounded, of_file name bytes read h)
-file_due r limits name bytes (Evaluate steps p files) bounded read h = absurd h
 file_due r limits name bytes (Debug within image commands) bounded read h = absurd h
-file_due r limits name bytes Converse bounded read h = absurd h
 
 -- `exec` names one file
 exec_due : (r : Request) (limits : RunLimits) (names contents : List (List ℕ)) (task : Task) → IsBounded limits → IsRead r (command.Exec limits) names contents → length names ≡ 1
@@ -113,10 +74,10 @@ task_of_file limits asked names contents name bytes task is number each named he
 -- for files that were read
 task_due : (r : Request) (asked : Command) (names contents : List (List ℕ)) (task : Task) → HasLimits asked → IsRead r asked names contents
     → is_number_of_files asked (length names) ≡ true → IsTaskOf asked names contents task → IsDue r task
-task_due r command.Check names contents task bounded read number h = checked_due r names contents task read h
-task_due r (command.Build form) names contents task bounded read number h = built_due r form names contents task read h
+task_due r command.Check names contents task bounded read number h = absurd h
+task_due r (command.Build form) names contents task bounded read number h = absurd h
 task_due r (command.Run limits fold) names contents task bounded read number h = run_due r limits fold names contents task bounded read h
-task_due r (command.Eval steps) names contents task bounded read number h = eval_due r steps names contents task read h
+task_due r (command.Eval steps) names contents task bounded read number h = absurd h
 task_due r (command.Exec limits) names contents task bounded read number h = exec_due r limits names contents task bounded read (eqb-true (length names) 1 number) read.held h
 task_due r (command.Debug limits) names contents task bounded read number h = absurd h
 
@@ -127,7 +88,7 @@ for_ok P Q (Ok made) f h = f made h
 
 -- for files that were read, for any words that ask for them and over any input
 pub file_task : (files : Option FileMap) (before after : ℕ) (asked : Command) (names contents : List (List ℕ)) (task : Task)
-    → HasLimits asked → TakesNoScript asked → is_number_of_files asked (length names) ≡ true → AreHeld files names contents
+    → HasLimits asked → GoesByTask asked → is_number_of_files asked (length names) ≡ true → AreHeld files names contents
     → length names ≤ MOST_FILES → total contents ≤ most_bytes asked → after ≡ before → IsTaskOf asked names contents task → IsFileTask files before after asked names task
 file_task files before after asked names contents task bounded plain number held few within calm h words input plan =
     let r : Request = record { words = words; files = files; faults_before = before; faults_after = after; input = input } in
@@ -191,7 +152,7 @@ stop_due r asked names name fault task plan script few s (note, is, h) =
 
 -- the same, for any words that ask for these files and over any input
 pub stop_task : (files : Option FileMap) (before after : ℕ) (asked : Command) (names : List (List ℕ)) (name : List ℕ) (fault : ShelfFault)
-    (task : Task) → TakesNoScript asked → length names ≤ MOST_FILES → IsStopAt files before after names (most_bytes asked) name fault → IsUnreadLine name fault task
+    (task : Task) → GoesByTask asked → length names ≤ MOST_FILES → IsStopAt files before after names (most_bytes asked) name fault → IsUnreadLine name fault task
     → IsFileTask files before after asked names task
 stop_task files before after asked names name fault task plain few s h words input plan =
     let r : Request = record { words = words; files = files; faults_before = before; faults_after = after; input = input } in

@@ -19,8 +19,8 @@ use Rattle.cool_driver.specs.Debugging.{debuggee_within, debug_notes}
 use Rattle.cool_driver.specs.Execution.{heap_of, stack_of}
 use Rattle.cool_driver.specs.Calls.{Call}
 use Rattle.cool_driver.specs.Headline.{StopsWriting}
-use Rattle.cool_driver.specs.Ends.{IsDebugOf, DebuggedPart, Ends}
-use Rattle.cool_driver.specs.Ends.Due.{debugged, unread_debugged}
+use Rattle.cool_driver.specs.Before.{IsDebugOf, DebuggedPart, Ends}
+use Rattle.cool_driver.specs.Before.Due.{debugged, unread_debugged}
 use Rattle.cool_driver.specs.Tasks.{code_of, HaltNoted}
 use Rattle.cool_driver.proofs.EndsOfDue.{ends_write_fault, ends_short}
 use Rattle.cool_driver.proofs.EndsOfRuns.{HaltDue, halt_ends}

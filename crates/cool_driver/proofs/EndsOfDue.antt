@@ -10,9 +10,9 @@ use Rattle.cool_driver.specs.declared.command_line.Command.{Command}
 use Rattle.cool_driver.specs.declared.command_line.Command.TheVariants.{Check, Build}
 use Rattle.cool_driver.specs.Compiled.{compiled_program}
 use Rattle.cool_driver.specs.Calls.{Request, Call, NoLess, DidNothing, Got, Told, IsRead, MayRefuse}
-use Rattle.cool_driver.specs.Ends.{Due, Writing, Ends, FailedOutput, FailedNote, FailedDebugged, RanShort, DebuggedShort}
-use Rattle.cool_driver.specs.Sessions.{SessionShort}
-use Rattle.cool_driver.specs.Ends.Writing.{by_build, by_big, by_image, by_eval, by_last_line, by_session}
+use Rattle.cool_driver.specs.Before.{Due, Writing, Ends, FailedOutput, FailedNote, FailedDebugged, RanShort, DebuggedShort}
+use Rattle.cool_driver.specs.commands.Session.{SessionShort}
+use Rattle.cool_driver.specs.Before.Writing.{by_build, by_big, by_image, by_eval, by_last_line, by_session}
 use Rattle.cool_driver.proofs.HeadlineOfCalls.{headline_written, headline_failed, not_run}
 use Rattle.cool_driver.proofs.HeadlineOfDebugs.{misscripted_ends, debugged_ends, debug_written, debug_failed, debug_short}
 use Rattle.cool_driver.proofs.NotesOfTexts.{misread_note}
@@ -22,6 +22,7 @@ use Rattle.cool_driver.proofs.Findings.{Finding, finding_of_due, finding_below}
 use Rattle.cool_driver.proofs.EvaluationsOfCalls.{evaluated_ends, evaluated_unwritten, evaluated_short, prefix_of_due, prefix_of_failed, prefix_of_short}
 use Rattle.cool_driver.proofs.ImagesOfCalls.{read_for_run}
 use Rattle.cool_driver.proofs.SessionsOfCalls.{session_written, written_exactly, session_failed, session_short}
+use Rattle.cool_driver.proofs.DevicesOfCalls.{only_seven, input_no_less}
 
 -- The counts of faults after a run of an image, or where none was made: only status 7 comes with a fault, of the input.
 pub record Calm (c : Call) (status : ℕ) : Type 0 where
@@ -29,30 +30,6 @@ pub record Calm (c : Call) (status : ℕ) : Type 0 where
   pub read_fault : status ≡ 7 → Rose c.input_before c.input_after
   pub out : c.out.faults_after ≡ c.out.faults_before
   pub notes : c.notes.faults_after ≡ c.notes.faults_before
-
--- where the input failed, the status is 7: the two cases of the test
-seven_or_calm : (status before after : ℕ) → (status ≢ 7 → after ≡ before) → before < after → (b : Bool) → (status == 7) ≡ b → status ≡ 7
-seven_or_calm status before after calm more true e = grind (arith, e)
-seven_or_calm status before after calm more false e =
-    let other : status ≢ 7 = λ q. grind (arith, e, q) in
-    absurd (omega (arith, calm other, more))
-
--- where the input failed, the status is 7
-only_seven : (status before after : ℕ) → (status ≢ 7 → after ≡ before) → before < after → status ≡ 7
-only_seven status before after calm more = seven_or_calm status before after calm more (status == 7) refl
-
--- the count of faults of an input, by the two cases of the test
-no_less_at : (status before after : ℕ) → (status ≢ 7 → after ≡ before) → (status ≡ 7 → Rose before after) → (b : Bool) → (status == 7) ≡ b → before ≤ after
-no_less_at status before after calm rose true e =
-    let seven : status ≡ 7 = grind (arith, e) in
-    (rose seven).no_less
-no_less_at status before after calm rose false e =
-    let other : status ≢ 7 = λ q. grind (arith, e, q) in
-    omega (arith, calm other)
-
--- it does not fall
-pub input_no_less : (status before after : ℕ) → (status ≢ 7 → after ≡ before) → (status ≡ 7 → Rose before after) → before ≤ after
-input_no_less status before after calm rose = no_less_at status before after calm rose (status == 7) refl
 
 -- a status with a finding, without a write fault
 ends_found : (c : Call) (status : ℕ) → Finding c.request status → Calm c status

@@ -18,12 +18,13 @@ use Rattle.cool_driver.specs.declared.status.Status.{Status}
 use Rattle.cool_driver.specs.Notes.{read_fault_note}
 use Rattle.cool_driver.specs.Execution.{segments_within, run_of, ComesTo, left_by, status_of, note_of, status_of_halt, note_of_halt}
 use Rattle.cool_driver.specs.Calls.{Request, Got, GotPart, Call}
-use Rattle.cool_driver.specs.Ends.{Due, IsRunOf, Writing, Ends}
-use Rattle.cool_driver.specs.Ends.Due.{executed, unread_input}
-use Rattle.cool_driver.specs.Ends.Writing.{by_image}
+use Rattle.cool_driver.specs.Before.{Due, IsRunOf, Writing, Ends}
+use Rattle.cool_driver.specs.Before.Due.{executed, unread_input}
+use Rattle.cool_driver.specs.Before.Writing.{by_image}
 use Rattle.cool_driver.specs.Tasks.{code_of, Noted, HaltNoted}
 use Rattle.cool_driver.proofs.RunsWithinLimits.{run_of-is}
-use Rattle.cool_driver.proofs.EndsOfDue.{ends_written, ends_write_fault, input_no_less}
+use Rattle.cool_driver.proofs.EndsOfDue.{ends_written, ends_write_fault}
+use Rattle.cool_driver.proofs.DevicesOfCalls.{input_no_less}
 
 -- What is due at the end of the run of an image, after these notes, and what where a read fails on the way.
 abbrev EndDue : Request → RunLimits → ImageParts → List ℕ → Type 0
@@ -232,8 +233,3 @@ run_ends c halts.ReadFault answered limits image last is ran counted noted =
 run_ends c halts.WriteFault answered limits image last is (at, comes, (fails, machine)) counted (inl (status, got)) =
     subst (λ (n : ℕ). Ends c n) (sym status) (write_failed c limits image got is at comes fails counted)
 run_ends c halts.WriteFault answered limits image last is ran counted (inr (status, some, part)) = absurd (some refl)
-
--- what is neither used nor written got nothing
-pub got_nothing : (held : Option (List ℕ)) (faults : ℕ)
-    → Got (record { held_before = held; held_after = held; faults_before = faults; faults_after = faults }) []
-got_nothing held faults = (sym (appended-nil held), refl)

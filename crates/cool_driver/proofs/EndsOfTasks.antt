@@ -1,7 +1,7 @@
 -- A task that was done ends a call as it should.
 use Rattle.std.proofs.Common.{◌≡◌, ◌≢◌, ℕ, inl, inr, List, [], sym, subst, arith}
 use Rattle.cool_driver.specs.Calls.{Call, Got}
-use Rattle.cool_driver.specs.Ends.{Due, Ends, Writing}
+use Rattle.cool_driver.specs.Before.{Due, Ends, Writing}
 use Rattle.cool_driver.specs.Tasks.{code_of, Noted}
 use Rattle.cool_driver.specs.declared.status.Status.{Status}
 use Rattle.cool_driver.specs.declared.status.Status.TheVariants as statuses
@@ -25,14 +25,3 @@ note_ends c status answered note due other out alone (inl told) =
 note_ends c status answered note due other out alone (inr failed) =
     subst (λ (s : Status). Ends c (code_of s)) (sym failed.0)
     (ends_write_fault c (inr failed.1.1) (inr (inl (code_of status, [], note, due_left c (code_of status) [] note alone due, out, failed.1))) (omega (arith, alone.calm)))
-
--- bytes that are due were written, or their write failed
-pub written_ends : (c : Call) (bytes : List ℕ) (answered : Status) → Due c.request 0 bytes [] c.request.input → Writing c.request [] bytes c.request.input
-    → Got c.notes [] → Untouched c → Noted c.out bytes statuses.Done answered → Ends c (code_of answered)
-written_ends c bytes answered due writing notes alone (inl done) =
-    subst (λ (s : Status). Ends c (code_of s)) (sym done.0)
-    (ends_written c 0 bytes [] (due_left c 0 bytes [] alone due) done.1 notes (λ _. alone.calm) (λ e. absurd (omega (arith, e))))
-written_ends c bytes answered due writing notes alone (inr failed) =
-    subst (λ (s : Status). Ends c (code_of s)) (sym failed.0)
-    (ends_write_fault c (inl failed.1.1)
-    (inl ([], bytes, subst (λ left. Writing c.request [] bytes left) (sym alone.left) writing, failed.1, notes)) (omega (arith, alone.calm)))

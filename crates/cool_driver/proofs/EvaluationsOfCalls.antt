@@ -15,11 +15,11 @@ use Rattle.cool_words.specs.declared.plan.RunLimits.{RunLimits}
 use Rattle.cool_driver.specs.CommandLine.{plan_of, TakesNoInput}
 use Rattle.cool_driver.specs.Evaluation.{status_of_end, note_of_end}
 use Rattle.cool_driver.specs.Calls.{Request, IsRead, SinkUse, Got, Call, DidNothing, Told}
-use Rattle.cool_driver.specs.Ends.{Due, Writing, IsRunOf, IsEvaluationOf, FailedOutput, FailedNote, FailedDebugged, RanShort, DebuggedShort, FailsToWrite, EndsAs}
-use Rattle.cool_driver.specs.Sessions.{SessionShort}
-use Rattle.cool_driver.specs.Ends.IsRunOf.{of_file, of_program}
-use Rattle.cool_driver.specs.Ends.Due.{checked, built, refused, executed, unread_input, debugged, unread_debugged, misscripted, unscripted, evaluated, unread_source, unfit, misread, summed, conversed, usage, too_many, missing, unread, too_large}
-use Rattle.cool_driver.specs.Ends.Writing.{by_build, by_big, by_image, by_eval, by_last_line, by_session}
+use Rattle.cool_driver.specs.Before.{Due, Writing, IsRunOf, IsEvaluationOf, FailedOutput, FailedNote, FailedDebugged, RanShort, DebuggedShort, FailsToWrite, EndsAs}
+use Rattle.cool_driver.specs.commands.Session.{SessionShort}
+use Rattle.cool_driver.specs.Before.IsRunOf.{of_file, of_program}
+use Rattle.cool_driver.specs.Before.Due.{checked, built, refused, executed, unread_input, debugged, unread_debugged, misscripted, unscripted, evaluated, unread_source, unfit, misread, summed, conversed, usage, too_many, missing, unread, too_large}
+use Rattle.cool_driver.specs.Before.Writing.{by_build, by_big, by_image, by_eval, by_last_line, by_session}
 use Rattle.cool_driver.specs.declared.command_line.Command.{Command}
 use Rattle.cool_driver.specs.declared.command_line.Command.TheVariants.{Check, Build, Run, Eval, Exec, Debug}
 use Rattle.cool_driver.proofs.Plans.{no_files_for_big, no_files_for_nothing, no_files_for_session}

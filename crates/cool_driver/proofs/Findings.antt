@@ -24,16 +24,17 @@ use Rattle.cool_driver.specs.Execution.{IsTextFault, is_text_file, run_of, statu
 use Rattle.cool_driver.specs.Evaluation.{status_of_end}
 use Rattle.cool_words.specs.declared.plan.RunLimits.{RunLimits}
 use Rattle.cool_driver.specs.Calls.{Request, IsRead, IsReadUpTo, IsScriptRead, AreHeld, MayRefuse, Told}
-use Rattle.cool_driver.specs.Ends.{Due, IsRunOf, IsDebugged, IsDebugOf, IsUnreadScript}
-use Rattle.cool_driver.specs.Ends.IsUnreadScript.{missing_script, unread_script, large_script}
-use Rattle.cool_driver.specs.Ends.Due.{checked, built, refused, executed, unread_input, debugged, unread_debugged, misscripted, unscripted, evaluated, unread_source, unfit, misread, summed, conversed, usage, too_many, missing, unread, too_large}
+use Rattle.cool_driver.specs.Before.{Due, IsRunOf, IsDebugged, IsDebugOf, IsUnreadScript}
+use Rattle.cool_driver.specs.Before.IsUnreadScript.{missing_script, unread_script, large_script}
+use Rattle.cool_driver.specs.Before.Due.{checked, built, refused, executed, unread_input, debugged, unread_debugged, misscripted, unscripted, evaluated, unread_source, unfit, misread, summed, conversed, usage, too_many, missing, unread, too_large}
 use Rattle.cool_session.specs.declared.ending.Ending.{Ending}
 use Rattle.cool_session.specs.declared.ending.Ending.TheVariants.{Over, BadCommand, EndsInFile, TooLarge}
-use Rattle.cool_driver.specs.Sessions.{DueToSession, status_of_ending}
-use Rattle.cool_driver.specs.Sessions.DueToSession.{to_end, to_read}
+use Rattle.cool_driver.specs.commands.Session.{DueToSession, status_of_ending}
+use Rattle.cool_driver.specs.commands.Session.DueToSession.{to_end, to_read}
 use Rattle.cool_driver.specs.declared.command_line.Command.{Command}
 use Rattle.cool_driver.specs.declared.command_line.Command.TheVariants.{Check, Build, Eval, Exec, Debug}
 use Rattle.cool_driver.proofs.HeldFiles.{held_later}
+use Rattle.cool_driver.proofs.rooms.Sessions.{IsSessionStatus, status_of_session}
 use Rattle.cool_driver.proofs.Plans.{no_files_for_big, no_files_for_nothing, no_files_for_session}
 use Rattle.cool_driver.proofs.ReadTwice.{same_plan, RunsNothing, held_told, files_read}
 use Rattle.cool_driver.proofs.ScriptsOfCalls.{debug_plan, debug_script, script_there}
@@ -83,10 +84,6 @@ script_fault {r} {command} {script} {files} {names} {limits} {note} asked why =
 abbrev pub IsRunStatus : ℕ → Type 0
 IsRunStatus status = ((end : Outcome) × (status ≡ status_of end)) ⊎ (status ≡ 7)
 
--- a status that a session may end with
-abbrev pub IsSessionStatus : ℕ → Type 0
-IsSessionStatus status = (status ≡ 0) ⊎ (status ≡ 7) ⊎ (status ≡ 12)
-
 -- the status that is left where no files are asked about
 abbrev pub IsWithoutFiles : Option Asked → ℕ → Type 0
 IsWithoutFiles asked status =
@@ -119,17 +116,6 @@ status_of_source source.Done status e = inl (one_status 0 status e)
 status_of_source (source.Failed error) status e = inr (inl (one_status 3 status e))
 status_of_source source.GoesOn status e = inr (inr (inr (inr (inl (one_status 6 status e)))))
 status_of_source source.IsStuck status e = absurd cc
-
--- each end of a session has one of its statuses
-status_of_end_of_session : (end : Ending) → IsSessionStatus (status_of_ending end)
-status_of_end_of_session Over = inl refl
-status_of_end_of_session (BadCommand number) = inr (inr refl)
-status_of_end_of_session (EndsInFile number) = inr (inr refl)
-status_of_end_of_session (TooLarge number) = inr (inr refl)
-
-status_of_session : (input : List ℕ) (status : ℕ) (output note left : List ℕ) → DueToSession input status output note left → IsSessionStatus status
-status_of_session input _ _ _ _ (to_end replies end left whole) = status_of_end_of_session end
-status_of_session input _ _ _ _ (to_read replies left cut) = inr (inl refl)
 
 -- what is due is a finding
 pub finding_of_due : (r : Request) (status : ℕ) (output note left : List ℕ) → Due r status output note left → Finding r status

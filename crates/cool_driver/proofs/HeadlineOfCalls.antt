@@ -15,10 +15,10 @@ use Rattle.cool_driver.specs.Compiled.{IsImageFor}
 use Rattle.cool_driver.specs.Execution.{segments_within, run_of, ComesTo, left_by, status_of}
 use Rattle.cool_driver.specs.Calls.{Request, IsRead, Got, Call, DidNothing, Told}
 use Rattle.cool_driver.specs.Headline.{Headline}
-use Rattle.cool_driver.specs.Ends.{Due, Writing, FailedOutput, FailedNote, FailedDebugged, RanShort, DebuggedShort}
-use Rattle.cool_driver.specs.Sessions.{SessionShort}
-use Rattle.cool_driver.specs.Ends.Due.{checked, built, refused, executed, unread_input, debugged, unread_debugged, misscripted, unscripted, evaluated, unread_source, unfit, misread, summed, conversed, usage, too_many, missing, unread, too_large}
-use Rattle.cool_driver.specs.Ends.Writing.{by_build, by_big, by_image, by_eval, by_last_line, by_session}
+use Rattle.cool_driver.specs.Before.{Due, Writing, FailedOutput, FailedNote, FailedDebugged, RanShort, DebuggedShort}
+use Rattle.cool_driver.specs.commands.Session.{SessionShort}
+use Rattle.cool_driver.specs.Before.Due.{checked, built, refused, executed, unread_input, debugged, unread_debugged, misscripted, unscripted, evaluated, unread_source, unfit, misread, summed, conversed, usage, too_many, missing, unread, too_large}
+use Rattle.cool_driver.specs.Before.Writing.{by_build, by_big, by_image, by_eval, by_last_line, by_session}
 use Rattle.cool_driver.specs.declared.command_line.Command.TheVariants.{Check, Build, Run, Eval}
 use Rattle.cool_driver.proofs.EvaluationsOfCalls.{no_eval}
 use Rattle.cool_driver.proofs.Findings.{no_file_fault, missing_fault, large_fault}

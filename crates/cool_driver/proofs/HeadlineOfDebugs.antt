@@ -24,10 +24,10 @@ use Rattle.cool_driver.specs.Execution.{segments_within, run_of, left_by, status
 use Rattle.cool_driver.specs.Notes.{script_note}
 use Rattle.cool_driver.specs.Calls.{IsRead, IsScriptRead, Got, Call, DidNothing, Told}
 use Rattle.cool_driver.specs.Headline.{StopsWriting, StopsBetween, Headline, StopsShort}
-use Rattle.cool_driver.specs.Ends.{Due, FailedOutput, FailedNote, FailedDebugged, RanShort, DebuggedShort, EndsDebugged}
-use Rattle.cool_driver.specs.Sessions.{SessionShort}
-use Rattle.cool_driver.specs.Ends.Writing.{by_build, by_big, by_image, by_eval, by_last_line, by_session}
-use Rattle.cool_driver.specs.Ends.{Writing, DebuggedPart}
+use Rattle.cool_driver.specs.Before.{Due, FailedOutput, FailedNote, FailedDebugged, RanShort, DebuggedShort, EndsDebugged}
+use Rattle.cool_driver.specs.commands.Session.{SessionShort}
+use Rattle.cool_driver.specs.Before.Writing.{by_build, by_big, by_image, by_eval, by_last_line, by_session}
+use Rattle.cool_driver.specs.Before.{Writing, DebuggedPart}
 use Rattle.cool_driver.specs.declared.command_line.Command.TheVariants.{Build, Eval, Debug}
 use Rattle.cool_driver.proofs.DebugsOfCalls.{DueToDebug, no_run, image_same, debug_due}
 use Rattle.cool_driver.proofs.DebugsOfCalls.DueToDebug.{of_end, of_read, of_fault}

@@ -17,8 +17,8 @@ use Rattle.cool_driver.specs.Execution.{IsAssembled, IsImageOf, IsRunnable, IsTe
 use Rattle.cool_words.specs.Plans.{IsBounded}
 use Rattle.cool_words.specs.declared.plan.RunLimits.{RunLimits}
 use Rattle.cool_driver.specs.Calls.{Request, IsRead, Told}
-use Rattle.cool_driver.specs.Ends.{IsRunOf}
-use Rattle.cool_driver.specs.Ends.IsRunOf.{of_file, of_program}
+use Rattle.cool_driver.specs.Before.{IsRunOf}
+use Rattle.cool_driver.specs.Before.IsRunOf.{of_file, of_program}
 use Rattle.cool_driver.specs.declared.command_line.Command.{Command}
 use Rattle.cool_driver.specs.declared.command_line.Command.TheVariants.{Run, Exec}
 use Rattle.cool_driver.proofs.ReadTwice.{same_plan, same_run, same_exec, no_run_exec, same_read, same_file}

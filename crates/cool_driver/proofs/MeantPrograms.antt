@@ -20,10 +20,10 @@ use Rattle.cool_simulation.proofs.theorem.AcceptedPrograms.{images_mean}
 use Rattle.cool_simulation.proofs.theorem.PrintedPrograms.{programs_read}
 use Rattle.mips_text.specs.Printing.{printed}
 use Rattle.cool_words.specs.Plans.{IsBounded, usual_limits, words_of}
-use Rattle.cool_driver.specs.Big.{big_names, AccordsWithSource}
+use Rattle.cool_driver.specs.commands.Big.{big_names, AccordsWithSource}
 use Rattle.cool_driver.specs.Compiled.{compiled_program, IsImageFor}
 use Rattle.cool_driver.specs.Contents.{texts}
-use Rattle.cool_driver.specs.Ends.{IsCompiled}
+use Rattle.cool_driver.specs.Before.{IsCompiled}
 use Rattle.cool_driver.specs.Execution.{is_text_file}
 use Rattle.cool_driver.specs.Tasks.{AreSources}
 use Rattle.cool_driver.proofs.Accords.{image_accords}
@@ -32,7 +32,7 @@ use Rattle.cool_driver.proofs.NamesAreTexts.{named_texts}
 use Rattle.cool_driver.proofs.Plans.{short_names}
 
 -- the text of a program begins with a label, not with the byte of an image
-text_of_lines : (p : List Class) (names : List (List ℕ)) → is_text_file (printed (program_lines p names)) ≡ true
+pub text_of_lines : (p : List Class) (names : List (List ℕ)) → is_text_file (printed (program_lines p names)) ≡ true
 unfolding routine_lines
 text_of_lines p names = refl
 

@@ -10,8 +10,8 @@ use Rattle.cool_driver.specs.CommandLine.{plan_of}
 use Rattle.cool_driver.specs.Execution.{IsTextFault, is_text_file}
 use Rattle.cool_driver.specs.Notes.{asm_note}
 use Rattle.cool_driver.specs.Calls.{Request, IsRead, Told}
-use Rattle.cool_driver.specs.Ends.{Due}
-use Rattle.cool_driver.specs.Ends.Due.{checked, built, refused, executed, unread_input, debugged, unread_debugged, misscripted, unscripted, evaluated, unread_source, unfit, misread, summed, conversed, usage, too_many, missing, unread, too_large}
+use Rattle.cool_driver.specs.Before.{Due}
+use Rattle.cool_driver.specs.Before.Due.{checked, built, refused, executed, unread_input, debugged, unread_debugged, misscripted, unscripted, evaluated, unread_source, unfit, misread, summed, conversed, usage, too_many, missing, unread, too_large}
 use Rattle.cool_driver.specs.declared.command_line.Command.TheVariants.{Check, Build, Eval, Exec}
 use Rattle.cool_driver.proofs.Findings.{no_file_fault, missing_fault, large_fault}
 use Rattle.cool_driver.proofs.ImagesOfCalls.{fault_or_runs, run_of_file}

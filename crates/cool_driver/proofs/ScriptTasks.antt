@@ -31,18 +31,19 @@ use Rattle.cool_driver.specs.Contents.{texts}
 use Rattle.cool_driver.specs.Debugging.{commands_for}
 use Rattle.cool_driver.specs.Notes.{missing_note, unread_note, too_large_note, too_many_note}
 use Rattle.cool_driver.specs.Calls.{Request, IsRead, AreHeld, IsScriptRead, MayRefuse}
-use Rattle.cool_driver.specs.Ends.{Due, IsDebugged}
-use Rattle.cool_driver.specs.Ends.IsUnreadScript.{missing_script, unread_script, large_script}
-use Rattle.cool_driver.specs.Ends.Due.{refused, misscripted, unscripted}
+use Rattle.cool_driver.specs.Before.{Due, IsDebugged}
+use Rattle.cool_driver.specs.Before.IsUnreadScript.{missing_script, unread_script, large_script}
+use Rattle.cool_driver.specs.Before.Due.{refused, misscripted, unscripted}
 use Rattle.cool_driver.specs.Reading.{IsCause, IsStopAt}
 use Rattle.cool_driver.specs.Tasks.{AreSources, AreLinesOf, fault_note, IsTaskOfScript, IsTaskOfDebug, IsLine, IsUnreadLine, IsDue, IsDebugTask}
 use Rattle.cool_driver.specs.declared.command_line.Command.{Command}
 use Rattle.cool_driver.specs.declared.command_line.Command.TheVariants as command
 use Rattle.cool_driver.specs.declared.status.Status.TheVariants as statuses
 use Rattle.cool_driver.specs.declared.task.Task.{Task}
-use Rattle.cool_driver.specs.declared.task.Task.TheVariants.{Tell, Write, Execute, Debug, Evaluate, Converse}
+use Rattle.cool_driver.specs.declared.task.Task.TheVariants.{Tell, Execute, Debug}
 use Rattle.cool_driver.proofs.DueTasks.{many_due, stop_due}
-use Rattle.cool_driver.proofs.NoteLines.{are_lines, line_due, some_lines}
+use Rattle.cool_driver.proofs.LinesOfNotes.{are_lines, some_lines}
+use Rattle.cool_driver.proofs.NoteLines.{line_due}
 use Rattle.cool_driver.proofs.ScriptsOfCalls.{debug_plan, debug_script, has_script}
 
 -- The script
@@ -117,26 +118,14 @@ stop_debugged files before after limits script bytes names name fault task held 
     stop_due r (command.Debug limits) names name fault task (debug_plan words script names limits asked)
     (has_script r script bytes (script_read r limits script bytes names asked held small)) few s h
 
--- files that were read are sources
-pub sources_read : (names : List (String Global)) (contents files : List (Vec ℕ)) → contents ≡ files → list_all is_file_name (words_of names) ≡ true
-    → 0 < length names → length names ≤ MOST_FILES → length (words_of names) ≡ length (texts files) → AllByRecursion AreBytes (texts files)
-    → total (texts files) ≤ MOST_SOURCE_BYTES → AreSources names contents
-sources_read names contents files same named some few each bytes small =
-    let as_many : length names ≡ length files = omega (arith, each, length-map names string_bytes, length-map files (λ (file : Vec ℕ). file.items)) in
-    subst (AreSources names) (sym same)
-    (record { each = as_many; named = named; some = some; bytes = bytes; few = omega (arith, as_many, few); small = small })
-
 -- for files with faults
 refused_due : (r : Request) (asked : Command) (names contents : List (List ℕ)) (faults : List Fault) (task : Task) → IsRead r asked names contents
     → MayRefuse asked → IsRefused contents faults → AreLinesOf names faults task → IsDue r task
 refused_due r asked names contents faults (Tell status lines) read may is h =
     rw (h.0, ap concat h.1)
     (refused asked names contents faults read may is, are_lines lines.items _ h.1 (some_lines names faults), λ e. omega (arith, e))
-refused_due r asked names contents faults (Write made) read may is h = absurd h
 refused_due r asked names contents faults (Execute within image) read may is h = absurd h
 refused_due r asked names contents faults (Debug within image commands) read may is h = absurd h
-refused_due r asked names contents faults Converse read may is h = absurd h
-refused_due r asked names contents faults (Evaluate steps p files) read may is h = absurd h
 
 -- The program
 
@@ -146,10 +135,7 @@ program_due : (r : Request) (limits : RunLimits) (script bytes : List ℕ) (name
     → IsDue r task
 program_due r limits script bytes names p (Tell status lines) bounded is means (twelve, are, (fault, wrong, note)) =
     rw (twelve, note) (misscripted limits names p script bytes fault is wrong, are, λ e. omega (arith, e))
-program_due r limits script bytes names p (Write made) bounded is means h = absurd h
 program_due r limits script bytes names p (Execute within image) bounded is means h = absurd h
-program_due r limits script bytes names p (Evaluate steps q files) bounded is means h = absurd h
-program_due r limits script bytes names p Converse bounded is means h = absurd h
 program_due r limits script bytes names p (Debug within image commands) bounded is means (same, image_is, says, fits) =
     rw same (
       bounded,

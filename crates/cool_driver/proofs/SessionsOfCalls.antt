@@ -2,11 +2,7 @@
 use Rattle.std.proofs.Common.{◌≡◌, ℕ, ◌⊎◌, inl, inr, false, List, [], Some, refl, sym, ◌∙◌, ap, subst, arith}
 use Rattle.std.specs.List.{concat}
 use Rattle.cool_session.specs.declared.ending.Ending.{Ending}
-use Rattle.cool_session.proofs.OneExchange.{one_exchange}
-use Rattle.cool_session.specs.Exchanges as exchange
 use Rattle.cool_session.specs.Exchanges.{Exchange, Unread, Unwritten}
-use Rattle.cool_session.specs.Exchanges.Begins.{a_line}
-use Rattle.cool_session.specs.Held.{nothing_held}
 use Rattle.cool_words.specs.Plans.Asked.{session}
 use Rattle.cool_words.specs.declared.plan.RunLimits.{RunLimits}
 use Rattle.cool_classes.specs.Chains.{Class}
@@ -15,18 +11,19 @@ use Rattle.spim_debug.specs.declared.script.DebugCommand.{DebugCommand}
 use Rattle.cool_driver.specs.CommandLine.{asked_for, plan_of, TakesNoInput}
 use Rattle.cool_driver.specs.Notes.{ending_note}
 use Rattle.cool_driver.specs.Calls.{Request, Got, GotPart, Call, DidNothing}
-use Rattle.cool_driver.specs.Ends.{Due, Writing, IsRunOf, IsDebugOf, IsEvaluationOf, FailedOutput, FailedNote, FailedDebugged, RanShort, DebuggedShort}
-use Rattle.cool_driver.specs.Ends.Due.{checked, built, refused, executed, unread_input, debugged, unread_debugged, misscripted, unscripted, evaluated, unread_source, unfit, misread, summed, conversed, usage, too_many, missing, unread, too_large}
-use Rattle.cool_driver.specs.Ends.Writing.{by_build, by_big, by_image, by_eval, by_last_line, by_session}
-use Rattle.cool_driver.specs.Sessions.{IsSession, DueToSession, SessionShort, SessionEnds, EndsAsSession, status_of_ending}
-use Rattle.cool_driver.specs.Sessions.DueToSession.{to_end, to_read}
-use Rattle.cool_driver.specs.Sessions.SessionEnds.{ended, unread as cut_short, unwritten, unnoted, short as ran_short}
+use Rattle.cool_driver.specs.Before.{Due, Writing, IsRunOf, IsDebugOf, IsEvaluationOf, FailedOutput, FailedNote, FailedDebugged, RanShort, DebuggedShort}
+use Rattle.cool_driver.specs.Before.Due.{checked, built, refused, executed, unread_input, debugged, unread_debugged, misscripted, unscripted, evaluated, unread_source, unfit, misread, summed, conversed, usage, too_many, missing, unread, too_large}
+use Rattle.cool_driver.specs.Before.Writing.{by_build, by_big, by_image, by_eval, by_last_line, by_session}
+use Rattle.cool_driver.specs.commands.Session.{IsSession, DueToSession, SessionShort, SessionComes, EndsAsSession, status_of_ending}
+use Rattle.cool_driver.specs.commands.Session.DueToSession.{to_end, to_read}
+use Rattle.cool_driver.specs.commands.Session.SessionComes.{ended, unread as cut_short, unwritten, unnoted, short as ran_short}
 use Rattle.cool_driver.specs.declared.command_line.Command.{Command}
 use Rattle.cool_driver.proofs.ImagesOfCalls.{read_for_run}
 use Rattle.cool_driver.proofs.Plans.{no_files_for_session}
 use Rattle.cool_driver.proofs.ReadTwice.{no_plan_and_plan}
 use Rattle.cool_driver.proofs.ScriptsOfCalls.{debug_plan}
 use Rattle.cool_driver.proofs.StatusesOfFindings.{big_or_session, nothing_or_session}
+use Rattle.cool_driver.proofs.rooms.Sessions.{ends_due, exactly_due, unbegun}
 
 -- where a session is asked for, no command about files is
 no_files : (given : List (List ℕ)) {command : Command} {names : List (List ℕ)} → asked_for given ≡ Some session
@@ -77,33 +74,12 @@ session_due r _ _ _ _ (unread command name contents u rose) asked = absurd (no_f
 session_due r _ _ _ _ (too_large command name contents u long) asked = absurd (no_files r.words asked u.plan)
 
 -- what was due was written
-ends_due : (c : Call) (status : ℕ) (output note left : List ℕ) → DueToSession c.request.input status output note left → left ≡ c.left
-    → Got c.out output
-    → Got c.notes note → SessionEnds c status
-ends_due c _ _ _ _ (to_end replies end left whole) same out notes =
-    ended replies end (subst (Exchange c.request.input replies end) same whole) out notes
-ends_due c _ _ _ _ (to_read replies left part) same out notes = cut_short replies (subst (Unread c.request.input replies) same part) out notes
-
 pub session_written : (c : Call) (status : ℕ) (output note : List ℕ) → Due c.request status output note c.left → Got c.out output → Got c.notes note
-    → asked_for c.request.words ≡ Some session → SessionEnds c status
+    → asked_for c.request.words ≡ Some session → SessionComes c status
 session_written c status output note due out notes asked =
     ends_due c status output note c.left (session_due c.request status output note c.left due asked) refl out notes
 
 -- and it is what the one session gives that the input is
-exactly_due : (c : Call) (status : ℕ) (output note left : List ℕ) → DueToSession c.request.input status output note left → left ≡ c.left
-    → Got c.out output
-    → Got c.notes note → (replies : List (List ℕ)) (end : Ending) (rest : List ℕ) → Exchange c.request.input replies end rest
-    → (status ≡ 7) ⊎ EndsAsSession c status replies end rest
-exactly_due c _ _ _ _ (to_end replies' end' left whole) same out notes replies end rest is =
-    let (lines, how, leaves) = one_exchange c.request.input replies' replies end' end left rest whole is in
-    inr (
-      ap status_of_ending how,
-      subst (λ (rs : List (List ℕ)). Got c.out (concat rs)) lines out,
-      subst (λ (e : Ending). Got c.notes (ending_note e)) how notes,
-      sym same ∙ leaves,
-    )
-exactly_due c _ _ _ _ (to_read replies' left part) same out notes replies end rest is = inl refl
-
 pub written_exactly : (c : Call) (status : ℕ) (output note : List ℕ) → Due c.request status output note c.left → Got c.out output → Got c.notes note
     → asked_for c.request.words ≡ Some session → (replies : List (List ℕ)) (end : Ending) (left : List ℕ) → Exchange c.request.input replies end left
     → (status ≡ 7) ⊎ EndsAsSession c status replies end left
@@ -113,7 +89,7 @@ written_exactly c status output note due out notes asked replies end left is =
 -- a write of the output failed
 failed_reply : (c : Call) (bytes written left : List ℕ) → Writing c.request bytes written left → left ≡ c.left
     → asked_for c.request.words ≡ Some session
-    → GotPart c.out bytes written → Got c.notes [] → SessionEnds c 8
+    → GotPart c.out bytes written → Got c.notes [] → SessionComes c 8
 failed_reply c _ _ _ (by_build form names contents p read is) same asked part notes = absurd (no_files c.request.words asked read.plan)
 failed_reply c _ _ _ (by_big n line asks calm is) same asked part notes = absurd (big_or_session _ n asked asks)
 failed_reply c _ _ _ (by_image limits image at printed is comes prints) same asked part notes =
@@ -126,20 +102,15 @@ failed_reply c _ _ _ (by_last_line steps names p before is last) same asked part
     absurd (no_files c.request.words asked is.read.plan)
 
 -- a write failed
-pub session_failed : (c : Call) → FailedOutput c ⊎ FailedNote c ⊎ FailedDebugged c → asked_for c.request.words ≡ Some session → SessionEnds c 8
+pub session_failed : (c : Call) → FailedOutput c ⊎ FailedNote c ⊎ FailedDebugged c → asked_for c.request.words ≡ Some session → SessionComes c 8
 session_failed c (inl (bytes, written, writing, part, notes)) asked = failed_reply c bytes written c.left writing refl asked part notes
 session_failed c (inr (inl (due, output, note, is, out, part))) asked =
     unnoted due output note (session_due c.request due output note c.left is asked) out part
 session_failed c (inr (inr (part, how))) asked = absurd (no_files c.request.words asked part.is.debugged.read.plan)
 
--- a session of which nothing was taken
-unbegun : (input left : List ℕ) → input ≡ left → Unread input [] left
-unbegun input left same =
-    record { count = 0; held = nothing_held; rest = input; did = exchange.none; begins = a_line [] same (omega arith) refl }
-
 -- memory ran out
 pub session_short : (c : Call) → asked_for c.request.words ≡ Some session → DidNothing c ⊎ RanShort c ⊎ DebuggedShort c ⊎ SessionShort c
-    → SessionEnds c 9
+    → SessionComes c 9
 session_short c asked (inl (out, notes, left, input)) = ran_short (record {
   asked = asked;
   went = inl (inl ([], unbegun c.request.input c.left (sym left), out.0));

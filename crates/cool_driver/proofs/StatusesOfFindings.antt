@@ -14,15 +14,15 @@ use Rattle.cool_emit.specs.Programs.{program_lines}
 use Rattle.cool_words.specs.Plans.{Asked}
 use Rattle.cool_words.specs.Plans.Asked.{big, session}
 use Rattle.spim_debug.specs.declared.script.TheConstants.{MOST_SCRIPT_BYTES}
-use Rattle.cool_driver.specs.Big.{IsBigLine}
+use Rattle.cool_driver.specs.commands.Big.{IsBigLine}
 use Rattle.cool_driver.specs.CommandLine.{asked_for, plan_of, script_of, most_bytes}
 use Rattle.cool_driver.specs.Compiled.{compiled_program}
 use Rattle.cool_driver.specs.Execution.{IsRunnable, IsTextFault, is_text_file, run_of, status_of}
 use Rattle.cool_words.specs.declared.plan.RunLimits.{RunLimits}
 use Rattle.cool_driver.specs.Calls.{Request, IsRead, IsScriptRead, AreHeld, Told}
-use Rattle.cool_driver.specs.Ends.{Due, IsUnreadScript}
-use Rattle.cool_driver.specs.Ends.IsUnreadScript.{missing_script, unread_script, large_script}
-use Rattle.cool_driver.specs.Ends.Due.{checked, built, refused, executed, unread_input, debugged, unread_debugged, misscripted, unscripted, evaluated, unread_source, unfit, misread, summed, conversed, usage, too_many, missing, unread, too_large}
+use Rattle.cool_driver.specs.Before.{Due, IsUnreadScript}
+use Rattle.cool_driver.specs.Before.IsUnreadScript.{missing_script, unread_script, large_script}
+use Rattle.cool_driver.specs.Before.Due.{checked, built, refused, executed, unread_input, debugged, unread_debugged, misscripted, unscripted, evaluated, unread_source, unfit, misread, summed, conversed, usage, too_many, missing, unread, too_large}
 use Rattle.cool_driver.specs.declared.command_line.Command.{Command}
 use Rattle.cool_driver.specs.declared.command_line.Command.TheVariants.{Run, Exec}
 use Rattle.cool_driver.proofs.HeldFiles.{held_same, none_missing}

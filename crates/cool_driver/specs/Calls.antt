@@ -7,6 +7,7 @@ use Rattle.cool_ports.specs.ShelfFiles.{FileMap, MayHold}
 use Rattle.cool_ports.specs.SinkBytes.{appended, GotPrefix}
 use Rattle.spim_debug.specs.declared.script.TheConstants.{MOST_SCRIPT_BYTES}
 use Rattle.cool_driver.specs.CommandLine.{plan_of, script_of, most_bytes}
+use Rattle.cool_driver.specs.Statuses.{WRITE_FAULT, OUT_OF_MEMORY}
 use Rattle.cool_driver.specs.declared.command_line.Command.{Command}
 use Rattle.cool_driver.specs.declared.command_line.Command.TheVariants.{Check, Build, Run, Eval, Exec, Debug}
 
@@ -18,6 +19,20 @@ pub record Request : Type 0 where
   pub faults_before : ℕ
   pub faults_after : ℕ
   pub input : List ℕ
+
+-- What a shelf tells, and its count of faults, before a call and after it.
+pub record ShelfUse : Type 0 where
+  pub files : Option FileMap
+  pub faults_before : ℕ
+  pub faults_after : ℕ
+
+-- how a shelf fared from one state to another, by what it tells and its count of faults
+abbrev pub shelf_use : {S : Type 0} → (S → Option FileMap) → (S → ℕ) → S → S → ShelfUse
+shelf_use files faults before after = record { files = files before; faults_before = faults before; faults_after = faults after }
+
+-- how the shelf of a request fared
+abbrev pub shelf_of : Request → ShelfUse
+shelf_of r = record { files = r.files; faults_before = r.faults_before; faults_after = r.faults_after }
 
 -- the files of these names have these bytes, as far as the shelf tells
 abbrev pub AreHeld : Option FileMap → List (List ℕ) → List (List ℕ) → Type 0
@@ -118,3 +133,32 @@ Told r files = (r.files ≡ Some files) × (r.faults_before < last_count) × (r.
 -- so it is, unless a write failed or memory ran out
 abbrev pub Unless : ℕ → Type 0 → Type 0
 Unless status fact = status ≢ 8 → status ≢ 9 → fact
+
+-- what a call was asked by words, over a shelf and an input
+abbrev pub request_of : List (List ℕ) → ShelfUse → List ℕ → Request
+request_of words shelf input = record {
+  words = words;
+  files = shelf.files;
+  faults_before = shelf.faults_before;
+  faults_after = shelf.faults_after;
+  input = input;
+}
+
+-- a call that takes nothing of its input
+abbrev pub untaking : List (List ℕ) → ShelfUse → List ℕ → ℕ → SinkUse → SinkUse → Call
+untaking words shelf input faults out notes = record {
+  request = request_of words shelf input;
+  out = out;
+  notes = notes;
+  left = input;
+  input_before = faults;
+  input_after = faults;
+}
+
+-- the shelf tells these files, and no fault of it can have come
+abbrev pub HasTold : ShelfUse → FileMap → Type 0
+HasTold shelf files = (shelf.files ≡ Some files) × (shelf.faults_before < last_count) × (shelf.faults_after ≡ shelf.faults_before)
+
+-- so it is, unless a write failed or memory ran out
+abbrev pub UnlessCutShort : ℕ → Type 0 → Type 0
+UnlessCutShort status fact = status ≢ WRITE_FAULT → status ≢ OUT_OF_MEMORY → fact

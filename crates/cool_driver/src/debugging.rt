@@ -4,7 +4,7 @@ ghost use Rattle.std.specs.Prelude.{◌≡◌, List, ℕ, Bool, false};
 ghost use Rattle.cool_ports.specs.Answers.{Leaves};
 ghost use Rattle.cool_ports.specs.Taking.{Took};
 ghost use Rattle.cool_driver.specs.Calls.{Request, sink_use};
-ghost use Rattle.cool_driver.specs.Ends.{IsDebugOf, Ends};
+ghost use Rattle.cool_driver.specs.Before.{IsDebugOf, Ends};
 ghost use Rattle.cool_words.specs.Plans.{IsBounded};
 ghost use Rattle.spim_debug.specs.Debugging.{IsScriptFor};
 ghost use Rattle.cool_driver.specs.Tasks.{code_of};

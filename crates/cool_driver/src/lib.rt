@@ -15,30 +15,37 @@ ghost use Rattle.cool_driver.specs.Ends.{Ends};
 ghost use Rattle.cool_driver.specs.Limits.{AreLimits};
 ghost use Rattle.cool_words.specs.Plans.Asked.{session};
 
-mod big;
 mod command_line;
+mod commands;
 mod debugging;
-mod evaluation;
+mod doing;
 mod execution;
 mod growing_sink;
+mod laws;
 mod notes;
 mod reading;
+mod refusal;
 mod script;
-mod session;
+mod sources;
 mod status;
 mod task;
 mod writing;
 
+use command_line::{Command, Form};
+use commands::big::sum_up;
+use commands::build::build_files;
+use commands::check::check_files;
+use commands::eval::evaluate_files;
+use commands::session::hold_session;
 use cool_ports::{Failed, Shelf, Sink, Source};
-use debugging::debug_image;
-use evaluation::evaluate_program;
-use execution::execute;
-use notes::{BAD_COMMAND_LINE, tell_lines};
-use session::hold_session;
+use cool_words::{Plan, WordsError, read_words};
+use doing::do_task;
+pub use laws::law_ends_as_before;
+use notes::{BAD_COMMAND_LINE, tell};
+use script::find_debug_task;
 pub use status::Status;
-use std::alloc::{AllocError, Global};
-use task::{Task, find_task};
-use writing::write_pieces;
+use std::alloc::Global;
+use task::{find_exec_task, find_file_task};
 
 /// The most bytes of a file for `exec`: those of the greatest image.
 pub const MOST_IMAGE_BYTES: u64 = 532_676_628;
@@ -87,18 +94,48 @@ pub fn cool<F: Shelf, I: Source, O: Sink, E: Sink>(
       input_after = I.faults input.new;
     }) result }
 {
-    let status = match find_task(alloc, words, files) {
-        Err(AllocError) => Status::Memory,
-        Ok(Task::Tell(status, lines)) => tell_lines(notes, status, &lines),
-        Ok(Task::Write(bytes)) => write_pieces(out, &bytes),
-        Ok(Task::Execute(limits, image)) => execute(alloc, limits, &image, input, out, notes),
-        Ok(Task::Debug(limits, image, script)) => {
-            debug_image(alloc, limits, &image, &script, input, out, notes)
+    let status = match read_words(alloc, words) {
+        Ok(Plan::Check { files: names }) => check_files(alloc, &names, files, notes),
+        Ok(Plan::Asm { files: names }) => {
+            build_files(alloc, Form::Text, &names, files, out, notes)
         }
-        Ok(Task::Evaluate(steps, program, names)) => {
-            evaluate_program(alloc, steps, &program, &names, input, out, notes)
+        Ok(Plan::Build { files: names }) => {
+            build_files(alloc, Form::Image, &names, files, out, notes)
         }
-        Ok(Task::Converse) => hold_session(alloc, input, out, notes),
+        Ok(
+            Plan::Run {
+                files: names,
+                limits,
+                fold,
+            },
+        ) => {
+            let task = find_file_task(alloc, Command::Run { limits, fold }, &names, files);
+            do_task(alloc, task, input, out, notes)
+        }
+        Ok(
+            Plan::Eval {
+                files: names,
+                steps,
+            },
+        ) => evaluate_files(alloc, steps, &names, files, input, out, notes),
+        Ok(Plan::Exec { file, limits }) => {
+            let task = find_exec_task(alloc, limits, file, files);
+            do_task(alloc, task, input, out, notes)
+        }
+        Ok(
+            Plan::Debug {
+                script,
+                files: names,
+                limits,
+            },
+        ) => {
+            let task = find_debug_task(alloc, limits, script.as_str(), &names, files);
+            do_task(alloc, task, input, out, notes)
+        }
+        Ok(Plan::Big { n }) => sum_up(alloc, n, out),
+        Ok(Plan::Session) => hold_session(alloc, input, out, notes),
+        Err(WordsError::Usage) => tell(notes, Status::Usage, BAD_COMMAND_LINE),
+        Err(WordsError::Memory) => Status::Memory,
     };
     status.code()
 }

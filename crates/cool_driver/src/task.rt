@@ -1,39 +1,35 @@
 //! What is left to do once the words and the files were read.
 
-ghost use Rattle.std.specs.Prelude.{◌≡◌, ◌≢◌, ◌+◌, ◌<◌, ◌≤◌, ◌^◌, ◌++◌, length, IfOk, List, ℕ, Option, Some, None, true, false, string_bytes};
+ghost use Rattle.std.specs.Prelude.{◌≡◌, ◌<◌, ◌≤◌, ◌∷◌, [], ℕ, List, length, IfOk, true, false, string_bytes};
 ghost use Rattle.std.specs.List.{concat, list_all, AllByRecursion};
-ghost use Rattle.cool_words.specs.Plans.{is_file_name};
+ghost use Rattle.cool_words.specs.Plans.{IsBounded, is_file_name};
 ghost use Rattle.cool_driver.specs.CommandLine.{words_of};
 ghost use Rattle.cool_driver.specs.Contents.{texts};
 ghost use Rattle.cool_syntax.specs.declared.TheConstants.{MOST_FILES, MOST_SOURCE_BYTES};
 ghost use Rattle.cool_driver.specs.declared.TheConstants.{MOST_IMAGE_BYTES};
-ghost use Rattle.cool_driver.specs.Notes.{usage_note};
 ghost use Rattle.cool_driver.specs.Execution.{is_text_file};
 ghost use Rattle.cool_rules.specs.Fits.{Fits};
 ghost use Rattle.cool_runtime.specs.Contents.{AreBytes};
 ghost use Rattle.cool_faults.specs.Files.{total};
 ghost use Rattle.cool_driver.specs.Compiled.{compiled_program};
-ghost use Rattle.cool_driver.specs.Ends.{built_bytes};
 ghost use Rattle.cool_faults.specs.Verdicts.{place_of};
 ghost use Rattle.cool_driver.specs.CommandLine.{is_number_of_files, most_bytes};
-ghost use Rattle.cool_driver.specs.Tasks.{AreSources, AssemblesText, IsLine, AreLinesOf, IsTaskOf, IsTaskOfFile, IsTaskOfChecked, IsTaskOfBuilt, IsTaskOfRun, IsTaskOfEval, IsDue, IsFileTask, IsUnreadLine, HasLimits, TakesNoScript};
+ghost use Rattle.cool_driver.specs.Tasks.{AreSources, AssemblesText, IsLine, AreLinesOf, IsTaskOf, IsTaskOfFile, IsTaskOfRun, IsFileTask, IsUnreadLine, HasLimits, GoesByTask};
 
-use crate::big::big_line;
-use crate::command_line::{Command, Form};
-use crate::notes::{BAD_COMMAND_LINE, TOO_MANY_FILES, asm_note, file_note, image_note};
+use crate::command_line::Command;
+use crate::notes::{TOO_MANY_FILES, asm_note, file_note, image_note};
 use crate::reading::{ReadError, read_files};
-use crate::script::find_debug_task;
 use crate::status::Status;
-use cool_emit::{build, lines};
+use cool_emit::build;
 use cool_faults::{Fault, Verdict, accept, fault_text};
 use cool_ports::{Shelf, ShelfFault};
 use cool_rules::TypedProgram;
 use cool_syntax::MOST_FILES;
-use cool_words::{Plan, RunLimits, WordsError, read_words};
+use cool_words::RunLimits;
 use mips_asm::assemble;
-use mips_image::{CHECKED_VERSION, read_image, write_image};
+use mips_image::read_image;
 use mips_isa::{AsmError, Image};
-use mips_text::{print_asm, read_asm};
+use mips_text::read_asm;
 use spim_debug::DebugCommand;
 use std::alloc::{AllocError, Global};
 
@@ -45,78 +41,27 @@ const IMAGE_START: u8 = 127;
 pub enum Task {
     /// To write these lines as notes, and end with this status.
     Tell(Status, Vec<Vec<u8>>),
-    /// To write these bytes, which are assembly or an image, to the output.
-    Write(Vec<u8>),
     /// To run this image over the input within these limits.
     Execute(RunLimits, Image),
     /// To run this image over the input within these limits under the debugger, which does what these commands say.
     Debug(RunLimits, Image, Vec<DebugCommand>),
-    /// To evaluate this program over the input with so many steps. Its files have these names.
-    Evaluate(u64, TypedProgram, Vec<String>),
-    /// To do what the commands in the input say.
-    Converse,
 }
 
-/// What is left to do for a command line. `Err` comes only for want of memory.
-pub fn find_task<F: Shelf>(
+/// What is left to do for the file of this name, which is to be run within limits. `Err` comes only for want of memory.
+pub fn find_exec_task<F: Shelf>(
     alloc: Global,
-    words: &[String],
+    limits: RunLimits,
+    file: String,
     files: &mut F,
 ) -> Result<Task, AllocError>
+    requires name { is_file_name (string_bytes file) ≡ true }
+    requires limits { IsBounded limits }
     ensures kept { F.files files.new ≡ F.files files.old }
     ensures count { F.faults files.old ≤ F.faults files.new }
-    ensures due { (input : List ℕ) → IfOk result (λ task. IsDue (record {
-      words = words_of words.now;
-      files = F.files files.old;
-      faults_before = F.faults files.old;
-      faults_after = F.faults files.new;
-      input = input;
-    }) task) }
+    ensures due { IfOk result (IsFileTask (F.files files.old) (F.faults files.old) (F.faults files.new) (Command.Exec limits) (string_bytes file ∷ [])) }
 {
-    match read_words(alloc, words) {
-        Ok(Plan::Check { files: names }) => find_file_task(alloc, Command::Check, &names, files),
-        Ok(Plan::Asm { files: names }) => {
-            find_file_task(alloc, Command::Build(Form::Text), &names, files)
-        }
-        Ok(Plan::Build { files: names }) => {
-            find_file_task(alloc, Command::Build(Form::Image), &names, files)
-        }
-        Ok(
-            Plan::Run {
-                files: names,
-                limits,
-                fold,
-            },
-        ) => { find_file_task(alloc, Command::Run { limits, fold }, &names, files) }
-        Ok(
-            Plan::Eval {
-                files: names,
-                steps,
-            },
-        ) => { find_file_task(alloc, Command::Eval(steps), &names, files) }
-        Ok(Plan::Exec { file, limits }) => {
-            let names = vec![in alloc; file]?;
-            find_file_task(alloc, Command::Exec(limits), &names, files)
-        }
-        Ok(
-            Plan::Debug {
-                script,
-                files: names,
-                limits,
-            },
-        ) => find_debug_task(alloc, limits, script.as_str(), &names, files),
-        Ok(Plan::Big { n }) => Ok(Task::Write(big_line(alloc, n)?.into_bytes())),
-        Ok(Plan::Session) => Ok(Task::Converse),
-        Err(WordsError::Usage) => tell_usage(alloc),
-        Err(WordsError::Memory) => Err(AllocError),
-    }
-}
-
-/// To write that the words are no command line. `Err` comes only for want of memory.
-fn tell_usage(alloc: Global) -> Result<Task, AllocError>
-    ensures { IfOk result (IsLine Status.Usage usage_note) }
-{
-    tell_line(alloc, Status::Usage, BAD_COMMAND_LINE)
+    let names = vec![in alloc; file]?;
+    find_file_task(alloc, Command::Exec(limits), &names, files)
 }
 
 /// To write this one line. `Err` comes only for want of memory.
@@ -129,7 +74,7 @@ pub fn tell_line(alloc: Global, status: Status, line: &[u8]) -> Result<Task, All
 }
 
 /// What is left to do for files of these names, by a command without a script. `Err` comes only for want of memory.
-fn find_file_task<F: Shelf>(
+pub fn find_file_task<F: Shelf>(
     alloc: Global,
     command: Command,
     names: &[String],
@@ -138,7 +83,7 @@ fn find_file_task<F: Shelf>(
     requires number { is_number_of_files command (length names.now) ≡ true }
     requires names { list_all is_file_name (words_of names.now) ≡ true }
     requires limits { HasLimits command }
-    requires plain { TakesNoScript command }
+    requires plain { GoesByTask command }
     ensures kept { F.files files.new ≡ F.files files.old }
     ensures count { F.faults files.old ≤ F.faults files.new }
     ensures due { IfOk result (IsFileTask (F.files files.old) (F.faults files.old) (F.faults files.new) command (words_of names.now)) }
@@ -174,62 +119,13 @@ fn find_content_task(
     requires bytes { AllByRecursion AreBytes (texts contents.now) }
     requires few { length contents.now ≤ MOST_FILES }
     requires small { total (texts contents.now) ≤ most_bytes command }
-    requires plain { TakesNoScript command }
+    requires plain { GoesByTask command }
     ensures { IfOk result (IsTaskOf command (words_of names.now) (texts contents.now)) }
 {
     match command {
-        Command::Check => check_files(alloc, names, contents),
-        Command::Build(form) => build_files(alloc, form, names, contents),
         Command::Run { limits, fold } => compile_files(alloc, limits, fold, names, contents),
-        Command::Eval(steps) => evaluate_files(alloc, steps, names, contents),
-        Command::Debug(_) => unreachable!(),
+        Command::Check | Command::Build(_) | Command::Eval(_) | Command::Debug(_) => unreachable!(),
         Command::Exec(limits) => load(alloc, limits, names[0].as_str(), &contents[0]),
-    }
-}
-
-/// What is left to do to check files of these names that have these bytes.
-fn check_files(alloc: Global, names: &[String], contents: &[Vec<u8>]) -> Result<Task, AllocError>
-    requires sources { AreSources names.now contents.now }
-    ensures { IfOk result (IsTaskOfChecked (words_of names.now) (texts contents.now)) }
-{
-    match accept(alloc, contents)? {
-        Verdict::Accepted(_) => Ok(Task::Tell(Status::Done, Vec::new(alloc))),
-        Verdict::Refused(faults) => refuse(alloc, names, faults.as_slice()),
-    }
-}
-
-/// What is left to do to write the program of files of these names that have these bytes, in a form.
-fn build_files(
-    alloc: Global,
-    form: Form,
-    names: &[String],
-    contents: &[Vec<u8>],
-) -> Result<Task, AllocError>
-    requires sources { AreSources names.now contents.now }
-    ensures { IfOk result (IsTaskOfBuilt form (words_of names.now) (texts contents.now)) }
-{
-    match accept(alloc, contents)? {
-        Verdict::Accepted(program) => {
-            Ok(Task::Write(written_program(alloc, form, &program, names)?))
-        }
-        Verdict::Refused(faults) => refuse(alloc, names, faults.as_slice()),
-    }
-}
-
-/// The bytes of a program whose files have these names, in a form. `Err` comes only for want of memory.
-fn written_program(
-    alloc: Global,
-    form: Form,
-    program: &TypedProgram,
-    names: &[String],
-) -> Result<Vec<u8>, AllocError>
-    requires fits { Fits program.now (length names.now) }
-    requires names { list_all is_file_name (words_of names.now) ≡ true }
-    ensures { IfOk result (λ bytes. bytes.items ≡ built_bytes form program.now (words_of names.now)) }
-{
-    match form {
-        Form::Text => print_asm(alloc, &lines(alloc, program, names)?),
-        Form::Image => write_image(alloc, &build(alloc, program, names)?, CHECKED_VERSION),
     }
 }
 
@@ -279,33 +175,6 @@ fn compiled_program(
     } else {
         Ok(program)
     }
-}
-
-/// What is left to do to evaluate files of these names that have these bytes, with so many steps.
-fn evaluate_files(
-    alloc: Global,
-    steps: u64,
-    names: &[String],
-    contents: &[Vec<u8>],
-) -> Result<Task, AllocError>
-    requires sources { AreSources names.now contents.now }
-    ensures { IfOk result (IsTaskOfEval steps (words_of names.now) (texts contents.now)) }
-{
-    match accept(alloc, contents)? {
-        Verdict::Accepted(program) => Ok(Task::Evaluate(steps, program, copy_names(alloc, names)?)),
-        Verdict::Refused(faults) => refuse(alloc, names, faults.as_slice()),
-    }
-}
-
-/// The names, each in memory of its own. `Err` comes only for want of memory.
-fn copy_names(alloc: Global, names: &[String]) -> Result<Vec<String>, AllocError>
-    ensures { IfOk result (λ copies. words_of copies.items ≡ words_of names.now) }
-{
-    let mut copies = Vec::new(alloc);
-    for name in names {
-        copies.push(String::from_str(alloc, name.as_str())?)?;
-    }
-    Ok(copies)
 }
 
 /// What is left to do to execute a file of this name that has these bytes.

@@ -1,121 +1,172 @@
-use Rattle.std.proofs.Common.{false, [], refl, sym}
-use Rattle.cool_ports.proofs.GettingBytes.{appended-nil}
+use Rattle.std.proofs.Common.{◌≡◌, List, ℕ, Some, None, [], ◌∷◌, refl, sym, ap, ◌∙◌, false, subst}
+use Rattle.std.specs.Prelude.{Err, String, string_bytes}
+use Rattle.std.specs.Global.{Global}
 use Rattle.cool_ports.proofs.InputsInParts.{took_nothing, leaves_same}
-use Rattle.cool_driver.proofs.EndsOfDue.{ends_without_memory}
-use Rattle.cool_driver.proofs.EndsOfTasks.{note_ends, written_ends}
-use Rattle.cool_driver.proofs.DebugsOfCalls.{debug_takes_input}
-use Rattle.cool_driver.proofs.EvaluationsOfCalls.{evaluation_takes_input}
-use Rattle.cool_driver.proofs.ImagesOfCalls.{run_takes_input}
-use Rattle.cool_driver.proofs.SessionsOfCalls.{session_takes_input, no_run_in_session, no_debug_in_session, no_evaluation_in_session}
-use Rattle.cool_driver.proofs.EndsOfSessions.{read_fault_of_seven}
+use Rattle.cool_words.specs.Plans.Asked.{check, asm, build, run, eval, exec, debug, big, session}
+use Rattle.cool_driver.specs.CommandLine.{words_of}
+use Rattle.cool_driver.specs.declared.command_line.Command.TheVariants.{Run, Eval, Exec}
+use Rattle.cool_driver.specs.declared.command_line.Form.TheVariants.{Text, Image}
+use Rattle.cool_driver.proofs.DevicesOfCalls.{got_nothing}
+use Rattle.cool_driver.proofs.DueTasks.{for_ok}
+use Rattle.cool_driver.proofs.EndsByCommand.{ends_by, ends_so_far, usage_ends, short_ends, safe_of_due, takes, takes_eval}
+use Rattle.cool_driver.proofs.Plans.{asked_is, plan_is}
+use Rattle.cool_driver.proofs.rooms.Sessions.{read_fault_of_seven}
 use Rattle.cool_driver.proofs.cool.Goals as goal
-use Rattle.cool_driver.proofs.cool.Goals.{in-Err, in-Ok-Tell, in-Ok-Write, in-Ok-Execute, in-Ok-Debug, in-Ok-Evaluate, in-Ok-Converse}
+use Rattle.cool_driver.proofs.cool.Goals.{in-Ok-Check, in-Ok-Asm, in-Ok-Build, in-Ok-Run, in-Ok-Eval, in-Ok-Exec, in-Ok-Debug, in-Ok-Big, in-Ok-Session, in-Err-Usage, in-Err-Memory}
 
--- no line is empty
-pub tell_lines-status-requires : goal.tell_lines-status-requires
-tell_lines-status-requires g c =
-    let due = rw c.in-Ok-Tell.field-0-is at (c.in-Ok-Tell.ensures.due []) in
-    rw c.deref.ensures.value due.1
+-- what is left to do is safe to do
+pub do_task-status-requires : goal.do_task-status-requires
+do_task-status-requires g c =
+    let words = words_of c.args.words.now in
+    let asked = rw c.in-Ok-Run.field-0-is at c.in-Ok-Run.ensures.plan in
+    let plan = plan_is words _ asked ∙ ap (λ names. Some (Run c.in-Ok-Run.limits c.in-Ok-Run.fold, words_of names)) (sym c.deref-in-Ok-Run.ensures.value) in
+    for_ok _ _ c.find_file_task-task.result (λ task h. safe_of_due _ task (h words [] plan)) c.find_file_task-task.ensures.due
 
--- the limits of a run are in bounds
-pub execute-status-requires : goal.execute-status-requires
-execute-status-requires g c =
-    let due = rw c.in-Ok-Execute.field-0-is at (c.in-Ok-Execute.ensures.due []) in
-    due.0
+pub do_task-status-requires-in-Ok-Exec : goal.do_task-status-requires-in-Ok-Exec
+do_task-status-requires-in-Ok-Exec g c =
+    let words = words_of c.args.words.now in
+    let plan = plan_is words _ (rw c.in-Ok-Exec.field-0-is at c.in-Ok-Exec.ensures.plan) in
+    for_ok _ _ c.find_exec_task-task.result (λ task h. safe_of_due _ task (h words [] plan)) c.find_exec_task-task.ensures.due
 
--- and what a script says is meant for the image
-pub debug_image-status-requires : goal.debug_image-status-requires
-debug_image-status-requires g c =
-    let due = rw (c.in-Ok-Debug.field-0-is, ← c.deref-in-Ok-Debug.ensures.value) at (c.in-Ok-Debug.ensures.due []) in
-    record { bounded = due.0; script = due.1 }
-
-pub returns-clause-input : goal.returns-clause-input
-returns-clause-input g c none =
-    elim c.match-find_task.branch [
-      | in-Err w ↦ w.input-is
-      | in-Ok-Tell w ↦ w.input-is
-      | in-Ok-Write w ↦ w.input-is
-      | in-Ok-Execute w ↦
-          let due = rw w.in-Ok-Execute.field-0-is at (w.in-Ok-Execute.ensures.due []) in
-          absurd (run_takes_input _ _ _ due.1 none)
-      | in-Ok-Debug w ↦
-          let due = rw w.in-Ok-Debug.field-0-is at (w.in-Ok-Debug.ensures.due []) in
-          absurd (debug_takes_input _ _ _ _ due.2 none)
-      | in-Ok-Evaluate w ↦
-          let due = rw w.in-Ok-Evaluate.field-0-is at (w.in-Ok-Evaluate.ensures.due []) in
-          absurd (evaluation_takes_input _ _ _ _ due none)
-      | in-Ok-Converse w ↦
-          let due = rw w.in-Ok-Converse.field-0-is at (w.in-Ok-Converse.ensures.due []) in
-          absurd (session_takes_input _ due none)
-    ]
-
-pub returns-clause-ends : goal.returns-clause-ends
-returns-clause-ends g c given rest leaves =
-    elim c.match-find_task.branch [
-      | in-Err w ↦
-          let here = rw w.input-is at leaves in
-          rw (c.code.ensures, w.status-is, w.out-is, w.notes-is, w.input-is) (ends_without_memory _ c.find_task.ensures.count (sym (appended-nil _), refl) (sym (appended-nil _), refl) (leaves_same _ given rest here) refl)
-      | in-Ok-Tell w ↦
-          let here = rw w.input-is at leaves in
-          let due = rw w.in-Ok-Tell.field-0-is at (w.in-Ok-Tell.ensures.due given) in
-          let told = rw w.deref.ensures.value at w.tell_lines-status.ensures in
-          rw (c.code.ensures, w.status-is, w.out-is, w.notes-is, w.input-is) (note_ends _ _ _ _ due.0 due.2 (sym (appended-nil _), refl) (record { left = leaves_same _ given rest here; calm = refl }) told)
-      | in-Ok-Write w ↦
-          let here = rw w.input-is at leaves in
-          let due = rw w.in-Ok-Write.field-0-is at (w.in-Ok-Write.ensures.due given) in
-          let wrote = rw w.deref-in-Ok-Write.ensures.value at w.write_pieces-status.ensures in
-          rw (c.code.ensures, w.status-is, w.out-is, w.notes-is, w.input-is)
-          (written_ends _ _ _ due.0 due.1 (sym (appended-nil _), refl) (record { left = leaves_same _ given rest here; calm = refl }) wrote)
-      | in-Ok-Execute w ↦
-          let here = rw w.input-is at leaves in
-          let due = rw w.in-Ok-Execute.field-0-is at (w.in-Ok-Execute.ensures.due given) in
-          rw (c.code.ensures, w.status-is, w.out-is, w.notes-is, w.input-is) (w.execute-status.ensures.ends _ rest due.1 here)
-      | in-Ok-Debug w ↦
-          let here = rw w.input-is at leaves in
-          let due = rw (w.in-Ok-Debug.field-0-is, ← w.deref-in-Ok-Debug.ensures.value) at (w.in-Ok-Debug.ensures.due given) in
-          rw (c.code.ensures, w.status-is, w.out-is, w.notes-is, w.input-is) (w.debug_image-status.ensures.ends _ rest due.2 here)
-      | in-Ok-Evaluate w ↦
-          let here = rw w.input-is at leaves in
-          let due = rw (w.in-Ok-Evaluate.field-0-is, ← w.deref-in-Ok-Evaluate.ensures.value) at (w.in-Ok-Evaluate.ensures.due given) in
-          rw (c.code.ensures, w.status-is, w.out-is, w.notes-is, w.input-is) (w.evaluate_program-status.ensures.ends _ rest due here)
-      | in-Ok-Converse w ↦
-          let here = rw w.input-is at leaves in
-          let due = rw w.in-Ok-Converse.field-0-is at (w.in-Ok-Converse.ensures.due given) in
-          rw (c.code.ensures, w.status-is, w.out-is, w.notes-is, w.input-is) (w.hold_session-status.ensures.ends _ rest due here)
-    ]
+pub do_task-status-requires-in-Ok-Debug : goal.do_task-status-requires-in-Ok-Debug
+do_task-status-requires-in-Ok-Debug g c =
+    let words = words_of c.args.words.now in
+    let plan = c.in-Ok-Debug in
+    let asked = asked_is words ∙ (rw plan.field-0-is at plan.ensures.plan) in
+    let names = ap (λ (files : List (String Global)). Some (debug (string_bytes plan.script) (words_of files) plan.limits)) (sym c.deref-in-Ok-Debug.ensures.value) in
+    let script = ap (λ (name : List ℕ). Some (debug name (words_of c.deref-in-Ok-Debug.result.now) plan.limits)) (sym c.as_str.ensures.value) in
+    for_ok _ _ c.find_debug_task-task.result (λ task h. safe_of_due _ task (h words [] (asked ∙ names ∙ script))) c.find_debug_task-task.ensures.due
 
 pub returns-clause-taken : goal.returns-clause-taken
 returns-clause-taken g c =
-    elim c.match-find_task.branch [
-      | in-Err w ↦ rw w.input-is (false, took_nothing _ _ _)
-      | in-Ok-Tell w ↦ rw w.input-is (false, took_nothing _ _ _)
-      | in-Ok-Write w ↦ rw w.input-is (false, took_nothing _ _ _)
-      | in-Ok-Execute w ↦ rw w.input-is w.execute-status.ensures.taken
-      | in-Ok-Debug w ↦ rw w.input-is w.debug_image-status.ensures.taken
-      | in-Ok-Evaluate w ↦ rw w.input-is w.evaluate_program-status.ensures.taken
-      | in-Ok-Converse w ↦ rw w.input-is w.hold_session-status.ensures.taken
+    elim c.match-read_words.branch [
+      | in-Ok-Check w ↦ rw w.input-is (false, took_nothing _ _ _)
+      | in-Ok-Asm w ↦ rw w.input-is (false, took_nothing _ _ _)
+      | in-Ok-Build w ↦ rw w.input-is (false, took_nothing _ _ _)
+      | in-Ok-Run w ↦ rw w.input-is w.do_task-status.ensures.taken
+      | in-Ok-Eval w ↦ rw w.input-is w.evaluate_files-status.ensures.taken
+      | in-Ok-Exec w ↦ rw w.input-is w.do_task-status-in-Ok-Exec.ensures.taken
+      | in-Ok-Debug w ↦ rw w.input-is w.do_task-status-in-Ok-Debug.ensures.taken
+      | in-Ok-Big w ↦ rw w.input-is (false, took_nothing _ _ _)
+      | in-Ok-Session w ↦ rw w.input-is w.hold_session-status.ensures.taken
+      | in-Err-Usage w ↦ rw w.input-is (false, took_nothing _ _ _)
+      | in-Err-Memory w ↦ rw w.input-is (false, took_nothing _ _ _)
+    ]
+
+pub returns-clause-input : goal.returns-clause-input
+returns-clause-input g c none =
+    let words = words_of c.args.words.now in
+    elim c.match-read_words.branch [
+      | in-Ok-Check w ↦ w.input-is
+      | in-Ok-Asm w ↦ w.input-is
+      | in-Ok-Build w ↦ w.input-is
+      | in-Ok-Run w ↦
+          let asked = rw w.in-Ok-Run.field-0-is at w.in-Ok-Run.ensures.plan in
+          let plan = plan_is words _ asked ∙ ap (λ names. Some (Run w.in-Ok-Run.limits w.in-Ok-Run.fold, words_of names)) (sym w.deref-in-Ok-Run.ensures.value) in
+          w.input-is ∙ w.do_task-status.ensures.input _ (for_ok _ _ w.find_file_task-task.result (λ task h. h words [] plan) w.find_file_task-task.ensures.due) none
+      | in-Ok-Eval w ↦ absurd (takes_eval words _ w.in-Ok-Eval.steps (asked_is words ∙ (rw w.in-Ok-Eval.field-0-is at w.in-Ok-Eval.ensures.plan)) none)
+      | in-Ok-Exec w ↦
+          let plan = plan_is words _ (rw w.in-Ok-Exec.field-0-is at w.in-Ok-Exec.ensures.plan) in
+          w.input-is ∙ w.do_task-status-in-Ok-Exec.ensures.input _ (for_ok _ _ w.find_exec_task-task.result (λ task h. h words [] plan) w.find_exec_task-task.ensures.due) none
+      | in-Ok-Debug w ↦
+          let plan = w.in-Ok-Debug in
+          let asked = asked_is words ∙ (rw plan.field-0-is at plan.ensures.plan) in
+          let names = ap (λ (files : List (String Global)). Some (debug (string_bytes plan.script) (words_of files) plan.limits)) (sym w.deref-in-Ok-Debug.ensures.value) in
+          let script = ap (λ (name : List ℕ). Some (debug name (words_of w.deref-in-Ok-Debug.result.now) plan.limits)) (sym w.as_str.ensures.value) in
+          w.input-is ∙ w.do_task-status-in-Ok-Debug.ensures.input _ (for_ok _ _ w.find_debug_task-task.result (λ task h. h words [] (asked ∙ names ∙ script)) w.find_debug_task-task.ensures.due) none
+      | in-Ok-Big w ↦ w.input-is
+      | in-Ok-Session w ↦ absurd (takes words (asked_is words ∙ (rw w.in-Ok-Session.field-0-is at w.in-Ok-Session.ensures.plan)) none)
+      | in-Err-Usage w ↦ w.input-is
+      | in-Err-Memory w ↦ w.input-is
     ]
 
 -- where a read cut a session short, the end was not answered
 pub returns-clause-unended : goal.returns-clause-unended
-returns-clause-unended g c asked seven =
-    elim c.match-find_task.branch [
-      | in-Err w ↦ rw w.input-is refl
-      | in-Ok-Tell w ↦ rw w.input-is refl
-      | in-Ok-Write w ↦ rw w.input-is refl
-      | in-Ok-Execute w ↦
-          let due = rw w.in-Ok-Execute.field-0-is at (w.in-Ok-Execute.ensures.due []) in
-          absurd (no_run_in_session _ _ _ due.1 asked)
-      | in-Ok-Debug w ↦
-          let due = rw w.in-Ok-Debug.field-0-is at (w.in-Ok-Debug.ensures.due []) in
-          absurd (no_debug_in_session _ _ _ _ due.2 asked)
-      | in-Ok-Evaluate w ↦
-          let due = rw w.in-Ok-Evaluate.field-0-is at (w.in-Ok-Evaluate.ensures.due []) in
-          absurd (no_evaluation_in_session _ _ _ _ due asked)
-      | in-Ok-Converse w ↦
+returns-clause-unended g c asks seven =
+    let words = words_of c.args.words.now in
+    elim c.match-read_words.branch [
+      | in-Ok-Check w ↦ rw w.input-is refl
+      | in-Ok-Asm w ↦ rw w.input-is refl
+      | in-Ok-Build w ↦ rw w.input-is refl
+      | in-Ok-Run w ↦ absurd (let both = sym (asked_is words ∙ (rw w.in-Ok-Run.field-0-is at w.in-Ok-Run.ensures.plan)) ∙ asks in cc)
+      | in-Ok-Eval w ↦ absurd (let both = sym (asked_is words ∙ (rw w.in-Ok-Eval.field-0-is at w.in-Ok-Eval.ensures.plan)) ∙ asks in cc)
+      | in-Ok-Exec w ↦ absurd (let both = sym (asked_is words ∙ (rw w.in-Ok-Exec.field-0-is at w.in-Ok-Exec.ensures.plan)) ∙ asks in cc)
+      | in-Ok-Debug w ↦ absurd (let both = sym (asked_is words ∙ (rw w.in-Ok-Debug.field-0-is at w.in-Ok-Debug.ensures.plan)) ∙ asks in cc)
+      | in-Ok-Big w ↦ rw w.input-is refl
+      | in-Ok-Session w ↦
           let status = rw (c.code.ensures, w.status-is) at seven in
           rw w.input-is (w.hold_session-status.ensures.unended (read_fault_of_seven _ status))
+      | in-Err-Usage w ↦ rw w.input-is refl
+      | in-Err-Memory w ↦ rw w.input-is refl
     ]
 
-pub returns-clause-limits : goal.returns-clause-limits
-returns-clause-limits g c = record { image_bytes = refl; script_bytes = refl; big_output = refl; name_bytes = refl; built_names = refl }
+pub returns-clause-ends : goal.returns-clause-ends
+returns-clause-ends g c given rest leaves =
+    let words = words_of c.args.words.now in
+    elim c.match-read_words.branch [
+      | in-Ok-Check w ↦
+          let here = rw w.input-is at leaves in
+          let asked = asked_is words ∙ (rw w.in-Ok-Check.field-0-is at w.in-Ok-Check.ensures.plan) ∙ ap (λ (names : List (String Global)). Some (check (words_of names))) (sym w.deref.ensures.value) in
+          let goes = w.check_files-status.ensures.ends words given (g.I.Source.faults c.args.input.now) _ (got_nothing _ _) in
+          rw (c.code.ensures, w.status-is, w.files-is, w.out-is, w.notes-is, w.input-is, leaves_same _ given rest here)
+          (ends_by _ _ (Some (check (words_of w.deref.result.now))) asked goes.devices goes.ends (λ e. absurd (goes.asked e)))
+      | in-Ok-Asm w ↦
+          let here = rw w.input-is at leaves in
+          let asked = asked_is words ∙ (rw w.in-Ok-Asm.field-0-is at w.in-Ok-Asm.ensures.plan) ∙ ap (λ (names : List (String Global)). Some (asm (words_of names))) (sym w.deref-in-Ok-Asm.ensures.value) in
+          let goes = w.build_files-status.ensures.ends words given (g.I.Source.faults c.args.input.now) in
+          rw (c.code.ensures, w.status-is, w.files-is, w.out-is, w.notes-is, w.input-is, leaves_same _ given rest here)
+          (ends_by _ _ (Some (asm (words_of w.deref-in-Ok-Asm.result.now))) asked goes.devices goes.ends (λ e. absurd (goes.asked e)))
+      | in-Ok-Build w ↦
+          let here = rw w.input-is at leaves in
+          let asked = asked_is words ∙ (rw w.in-Ok-Build.field-0-is at w.in-Ok-Build.ensures.plan) ∙ ap (λ (names : List (String Global)). Some (build (words_of names))) (sym w.deref-in-Ok-Build.ensures.value) in
+          let goes = w.build_files-status-in-Ok-Build.ensures.ends words given (g.I.Source.faults c.args.input.now) in
+          rw (c.code.ensures, w.status-is, w.files-is, w.out-is, w.notes-is, w.input-is, leaves_same _ given rest here)
+          (ends_by _ _ (Some (build (words_of w.deref-in-Ok-Build.result.now))) asked goes.devices goes.ends (λ e. absurd (goes.asked e)))
+      | in-Ok-Run w ↦
+          let here = rw w.input-is at leaves in
+          let asks = rw w.in-Ok-Run.field-0-is at w.in-Ok-Run.ensures.plan in
+          let plan = plan_is words _ asks ∙ ap (λ names. Some (Run w.in-Ok-Run.limits w.in-Ok-Run.fold, words_of names)) (sym w.deref-in-Ok-Run.ensures.value) in
+          let ends = w.do_task-status.ensures.ends _ rest (for_ok _ _ w.find_file_task-task.result (λ task h. h words given plan) w.find_file_task-task.ensures.due) w.find_file_task-task.ensures.count here in
+          rw (c.code.ensures, w.status-is, w.files-is, w.out-is, w.notes-is, w.input-is) (ends_so_far _ _ (Some (run _ w.in-Ok-Run.limits w.in-Ok-Run.fold)) (asked_is words ∙ asks) ends ends)
+      | in-Ok-Eval w ↦
+          let here = rw w.input-is at leaves in
+          let asked = asked_is words ∙ (rw w.in-Ok-Eval.field-0-is at w.in-Ok-Eval.ensures.plan) ∙ ap (λ (names : List (String Global)). Some (eval (words_of names) w.in-Ok-Eval.steps)) (sym w.deref-in-Ok-Eval.ensures.value) in
+          let goes = w.evaluate_files-status.ensures.ends words given rest here in
+          rw (c.code.ensures, w.status-is, w.files-is, w.out-is, w.notes-is, w.input-is)
+          (ends_by _ _ (Some (eval (words_of w.deref-in-Ok-Eval.result.now) w.in-Ok-Eval.steps)) asked goes.devices goes.ends (λ e. absurd (goes.asked e)))
+      | in-Ok-Exec w ↦
+          let here = rw w.input-is at leaves in
+          let asks = rw w.in-Ok-Exec.field-0-is at w.in-Ok-Exec.ensures.plan in
+          let plan = plan_is words _ asks in
+          let ends = w.do_task-status-in-Ok-Exec.ensures.ends _ rest (for_ok _ _ w.find_exec_task-task.result (λ task h. h words given plan) w.find_exec_task-task.ensures.due) w.find_exec_task-task.ensures.count here in
+          rw (c.code.ensures, w.status-is, w.files-is, w.out-is, w.notes-is, w.input-is) (ends_so_far _ _ (Some (exec _ w.in-Ok-Exec.limits)) (asked_is words ∙ asks) ends ends)
+      | in-Ok-Debug w ↦
+          let here = rw w.input-is at leaves in
+          let plan = w.in-Ok-Debug in
+          let asked = asked_is words ∙ (rw plan.field-0-is at plan.ensures.plan) in
+          let names = ap (λ (files : List (String Global)). Some (debug (string_bytes plan.script) (words_of files) plan.limits)) (sym w.deref-in-Ok-Debug.ensures.value) in
+          let script = ap (λ (name : List ℕ). Some (debug name (words_of w.deref-in-Ok-Debug.result.now) plan.limits)) (sym w.as_str.ensures.value) in
+          let ends = w.do_task-status-in-Ok-Debug.ensures.ends _ rest (for_ok _ _ w.find_debug_task-task.result (λ task h. h words given (asked ∙ names ∙ script)) w.find_debug_task-task.ensures.due) w.find_debug_task-task.ensures.count here in
+          rw (c.code.ensures, w.status-is, w.files-is, w.out-is, w.notes-is, w.input-is) (ends_so_far _ _ (Some (debug _ _ plan.limits)) asked ends ends)
+      | in-Ok-Big w ↦
+          let here = rw w.input-is at leaves in
+          let asked = asked_is words ∙ (rw w.in-Ok-Big.field-0-is at w.in-Ok-Big.ensures.plan) in
+          let goes = w.sum_up-status.ensures words _ given (g.I.Source.faults c.args.input.now) _ refl (got_nothing _ _) in
+          rw (c.code.ensures, w.status-is, w.files-is, w.out-is, w.notes-is, w.input-is, leaves_same _ given rest here)
+          (ends_by _ _ (Some (big w.in-Ok-Big.n)) asked goes.devices goes.ends (λ e. absurd (goes.asked e)))
+      | in-Ok-Session w ↦
+          let here = rw w.input-is at leaves in
+          let asked = asked_is words ∙ (rw w.in-Ok-Session.field-0-is at w.in-Ok-Session.ensures.plan) in
+          let goes = w.hold_session-status.ensures.ends _ rest (record { asked = asked; calm = refl }) here in
+          rw (c.code.ensures, w.status-is, w.files-is, w.out-is, w.notes-is, w.input-is)
+          (ends_by _ _ (Some session) asked goes.devices goes.ends (λ e. absurd (goes.asked e)))
+      | in-Err-Usage w ↦
+          let here = rw w.input-is at leaves in
+          let none = asked_is words ∙ c.read_words.ensures.usage (w.in-Err-Usage.is ∙ ap Err w.in-Err-Usage.field-0-is) in
+          rw (c.code.ensures, w.status-is, w.files-is, w.out-is, w.notes-is, w.input-is, leaves_same _ given rest here)
+          (usage_ends _ w.tell-status.result none refl refl refl (got_nothing _ _) w.tell-status.ensures)
+      | in-Err-Memory w ↦
+          let here = rw w.input-is at leaves in
+          rw (c.code.ensures, w.status-is, w.files-is, w.out-is, w.notes-is, w.input-is, leaves_same _ given rest here)
+          (short_ends _ refl (got_nothing _ _, got_nothing _ _, refl, refl))
+    ]

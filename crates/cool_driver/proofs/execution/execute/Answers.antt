@@ -2,7 +2,8 @@ use Rattle.std.proofs.Common.{arith, false, [], refl, ap}
 use Rattle.cool_ports.proofs.InputsInParts.{took_nothing, leaves_same}
 use Rattle.cool_driver.proofs.EndsOfDue.{ends_without_memory}
 use Rattle.cool_driver.proofs.ImagesOfCalls.{read_for_run}
-use Rattle.cool_driver.proofs.EndsOfRuns.{run_ends, taken_by, got_nothing}
+use Rattle.cool_driver.proofs.EndsOfRuns.{run_ends, taken_by}
+use Rattle.cool_driver.proofs.DevicesOfCalls.{got_nothing}
 use Rattle.cool_driver.proofs.RunsWithinLimits.{ran_within}
 use Rattle.cool_driver.proofs.execution.execute.Goals as goal
 

@@ -6,7 +6,7 @@ use Rattle.cool_faults.specs.Verdicts.{IsAccepted, IsRefused}
 use Rattle.cool_driver.specs.CommandLine.{words_of}
 use Rattle.cool_driver.specs.Contents.{texts}
 use Rattle.cool_driver.specs.Tasks.{AreLinesOf}
-use Rattle.cool_driver.proofs.NoteLines.{have_names}
+use Rattle.cool_driver.proofs.LinesOfNotes.{have_names}
 use Rattle.cool_driver.proofs.MeantPrograms.{sources_meant}
 use Rattle.cool_driver.proofs.DueTasks.{for_ok}
 use Rattle.cool_driver.proofs.script.debug_files.Goals as goal

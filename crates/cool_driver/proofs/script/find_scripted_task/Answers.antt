@@ -10,7 +10,8 @@ use Rattle.cool_driver.specs.Reading.{IsStopAt}
 use Rattle.cool_driver.specs.Tasks.{IsTaskOfDebug}
 use Rattle.cool_driver.proofs.DueTasks.{for_ok}
 use Rattle.cool_driver.proofs.HeldFiles.{held_length}
-use Rattle.cool_driver.proofs.ScriptTasks.{debug_task, sources_read, stop_debugged}
+use Rattle.cool_driver.proofs.ScriptTasks.{debug_task, stop_debugged}
+use Rattle.cool_driver.proofs.SourcesOfCalls.{sources_read}
 use Rattle.cool_driver.proofs.script.find_scripted_task.Goals as goal
 
 -- the files are sources

@@ -8,7 +8,8 @@ use Rattle.cool_faults.specs.Verdicts.{IsAccepted, IsRefused}
 use Rattle.cool_driver.specs.CommandLine.{words_of}
 use Rattle.cool_driver.specs.Contents.{texts}
 use Rattle.cool_driver.specs.Tasks.{AreLinesOf}
-use Rattle.cool_driver.proofs.NoteLines.{have_names, run_lines}
+use Rattle.cool_driver.proofs.LinesOfNotes.{have_names}
+use Rattle.cool_driver.proofs.NoteLines.{run_lines}
 use Rattle.mips_isa.specs.Assembly.{image_of}
 use Rattle.cool_driver.proofs.MeantPrograms.{sources_fit, sources_imaged}
 use Rattle.cool_driver.proofs.Plans.{short_names}

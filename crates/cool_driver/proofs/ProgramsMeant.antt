@@ -1,0 +1,57 @@
+-- What the program of a command's files is compiled to means it.
+use Rattle.std.proofs.Common.{◌≡◌, ℕ, true, List, length, refl, sym, ◌∙◌, subst}
+use Rattle.std.specs.Prelude.{String, string_bytes}
+use Rattle.std.specs.List.{list_all}
+use Rattle.std.specs.Global.{Global}
+use Rattle.std.proofs.lemmas.List.{length-map}
+use Rattle.cool_classes.specs.Chains.{Class}
+use Rattle.cool_emit.specs.Programs.{IsBuildable, program_text, program_data, program_lines}
+use Rattle.cool_emit.proofs.ProgramsAreSound.{programs_sound}
+use Rattle.cool_emit.proofs.SoundLinesAssemble.{no_fault}
+use Rattle.cool_rules.specs.Fits.{Fits}
+use Rattle.cool_simulation.specs.Accord.{Means}
+use Rattle.cool_simulation.specs.Theorem.{AreFileNames}
+use Rattle.cool_simulation.proofs.theorem.AcceptedPrograms.{images_mean}
+use Rattle.cool_simulation.proofs.theorem.PrintedPrograms.{programs_read}
+use Rattle.cool_words.specs.Plans.{is_file_name, words_of}
+use Rattle.mips_isa.specs.Assembly.{image_of}
+use Rattle.cool_driver.specs.Calls.{ShelfUse}
+use Rattle.cool_driver.specs.Sources.{IsProgram}
+use Rattle.cool_driver.specs.commands.Build.{IsCompiled}
+use Rattle.cool_driver.proofs.HeldFiles.{held_length}
+use Rattle.cool_driver.proofs.MeantPrograms.{text_of_lines}
+use Rattle.cool_driver.proofs.NamesAreTexts.{named_texts}
+use Rattle.cool_driver.proofs.Plans.{short_names}
+
+module _ (names : List (String Global)) (shelf : ShelfUse) (p : List Class) where
+  -- it fits so many files as there are names
+  pub program_fits : IsProgram shelf (words_of names) p → Fits p (length names)
+  program_fits is =
+      subst (Fits p) (sym (held_length shelf.files (words_of names) is.contents is.read.held) ∙ length-map names string_bytes) is.accepted.fits
+
+  module _ (named : list_all is_file_name (words_of names) ≡ true) (is : IsProgram shelf (words_of names) p) where
+    each : length (words_of names) ≡ length is.contents
+    each = held_length shelf.files (words_of names) is.contents is.read.held
+
+    are_names : AreFileNames (words_of names)
+    are_names = (named_texts names named, short_names (words_of names) named)
+
+    -- the image of its lines means it
+    pub program_meant : Means (image_of (program_lines p (words_of names))) p (words_of names)
+    program_meant = images_mean is.contents (words_of names) p is.bytes are_names each is.accepted
+
+    -- and the text of its lines stands for it
+    pub program_compiled : IsCompiled p (words_of names)
+    program_compiled =
+        let b : IsBuildable p (words_of names) =
+        record { fits = subst (Fits p) (sym each) is.accepted.fits; typed = is.accepted.typed; names = are_names.1 } in
+        record {
+          means = program_meant;
+          assembled = record {
+            text = text_of_lines p (words_of names);
+            lines = program_lines p (words_of names);
+            reads = programs_read is.contents (words_of names) p are_names each is.accepted;
+            no_fault = no_fault (program_text p (words_of names)) (program_data p (words_of names)) (programs_sound p (words_of names) b);
+            image_is = refl;
+          };
+        }

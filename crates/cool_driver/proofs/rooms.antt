@@ -1,0 +1,6 @@
+-- The lemmas of one command each; no file of one command needs one of another.
+pub mod Checks
+pub mod Evaluations
+pub mod Builds
+pub mod Bigs
+pub mod Sessions

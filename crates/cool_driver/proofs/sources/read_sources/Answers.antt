@@ -1,0 +1,39 @@
+use Rattle.std.proofs.Common.{◌≤◌, ◌<◌, ℕ, List, length, refl, arith}
+use Rattle.std.specs.Prelude.{string_bytes}
+use Rattle.std.proofs.lemmas.List.{length-map}
+use Rattle.cool_syntax.specs.declared.TheConstants.{MOST_FILES}
+use Rattle.cool_words.specs.Plans.{words_of}
+use Rattle.cool_driver.specs.Calls.{shelf_use}
+use Rattle.cool_driver.specs.Notes.{too_many_note}
+use Rattle.cool_driver.specs.Sources.{IsDueUnread}
+use Rattle.cool_driver.specs.Sources.AreUnread.{too_many}
+use Rattle.cool_driver.specs.declared.status.Status.TheVariants as statuses
+use Rattle.cool_driver.proofs.RefusalsTold.{line_told, stop_told}
+use Rattle.cool_driver.proofs.sources.read_sources.Goals as goal
+
+-- there are too many files
+pub returns-then-names-gt-MOST_FILES-clause-refused : goal.returns-then-names-gt-MOST_FILES-clause-refused
+returns-then-names-gt-MOST_FILES-clause-refused g c =
+    let many : MOST_FILES < length (words_of c.args.names.now) = omega (arith, length-map c.args.names.now string_bytes, c.if-names-gt-MOST_FILES.true) in
+    line_told (IsDueUnread (shelf_use g.F.Shelf.files g.F.Shelf.faults c.args.files.now c.args.files.now) c.args.most (words_of c.args.names.now)) statuses.FileFault too_many_note c.refuse_by_line.result (omega arith) (refl, too_many many refl) c.refuse_by_line.ensures
+
+-- the files were read
+pub returns-in-Ok-clause-read : goal.returns-in-Ok-clause-read
+returns-in-Ok-clause-read g c =
+    let read = c.in-Ok.ensures in
+    record {
+      few = omega (arith, length-map c.args.names.now string_bytes, c.if-names-gt-MOST_FILES.false);
+      held = read.held;
+      within = read.within;
+      calm = read.calm;
+    }
+
+-- a file was refused
+pub returns-in-Err-Refused-clause-refused : goal.returns-in-Err-Refused-clause-refused
+returns-in-Err-Refused-clause-refused g c =
+    let names = words_of c.args.names.now in
+    let few : length names ≤ MOST_FILES = omega (arith, length-map c.args.names.now string_bytes, c.if-names-gt-MOST_FILES.false) in
+    let refused = c.in-Err-Refused in
+    let stop = rw refused.field-0-is at refused.ensures.stop in
+    stop_told (shelf_use g.F.Shelf.files g.F.Shelf.faults c.args.files.now c.read_files.new.files) c.args.most names refused.name.now refused.fault
+    c.refuse_unread.result few stop c.refuse_unread.ensures

@@ -1,0 +1,44 @@
+-- Why a command goes no further: the lines that are told of it, and the status.
+use Rattle.std.specs.Prelude.{◌≡◌, ℕ, ◌<◌, List, [], ◌∷◌, map}
+use Rattle.cool_faults.specs.declared.fault.Fault.{Fault}
+use Rattle.cool_faults.specs.Texts.{fault_line}
+use Rattle.cool_faults.specs.Verdicts.{IsRefused}
+use Rattle.cool_driver.specs.Calls.{SinkUse, Got}
+use Rattle.cool_driver.specs.Contents.{texts}
+use Rattle.cool_driver.specs.Notes.{refused_note}
+use Rattle.cool_driver.specs.Statuses.{REFUSED, code_of}
+use Rattle.cool_driver.specs.Telling.{AreLines, note_of, Noted}
+use Rattle.cool_driver.specs.declared.refusal.Refusal.{Refusal}
+use Rattle.cool_driver.specs.declared.refusal.Refusal.TheVariants.{Told, Memory}
+use Rattle.cool_driver.specs.declared.status.Status.{Status}
+use Rattle.cool_driver.specs.declared.status.Status.TheVariants as statuses
+
+-- it is such a status and such a note, if memory did not run out for it
+abbrev pub IsTold : (ℕ → List ℕ → Type 0) → Refusal → Type 0
+IsTold Due (Told status lines) = AreLines lines.items × Due (code_of status) (note_of lines.items)
+IsTold Due Memory = Unit {0}
+
+-- it is this one line
+abbrev pub IsLine : Status → List ℕ → Refusal → Type 0
+IsLine status line (Told told lines) = (told ≡ status) × (texts lines.items ≡ line ∷ [])
+IsLine status line Memory = Unit {0}
+
+-- it is a line for each fault of files of these names
+abbrev pub AreLinesOf : List (List ℕ) → List Fault → Refusal → Type 0
+AreLinesOf names faults (Told status lines) = (code_of status ≡ REFUSED) × (texts lines.items ≡ map (fault_line names) faults)
+AreLinesOf names faults Memory = Unit {0}
+
+-- files of these bytes are refused with this status and this note
+abbrev pub IsDueToFaults : List (List ℕ) → List (List ℕ) → ℕ → List ℕ → Type 0
+IsDueToFaults names contents status note =
+    (faults : List Fault) × IsRefused contents faults × (status ≡ REFUSED) × (note ≡ refused_note names faults)
+
+-- the lines of a refusal are no empty ones
+abbrev pub HasLines : Refusal → Type 0
+HasLines (Told status lines) = AreLines lines.items
+HasLines Memory = Unit {0}
+
+-- It was told, and its status answered, or a write failed.
+abbrev pub RefusalNoted : SinkUse → Refusal → Status → Type 0
+RefusalNoted s (Told status lines) answered = Noted s (note_of lines.items) status answered
+RefusalNoted s Memory answered = (answered ≡ statuses.Memory) × Got s []

@@ -1,0 +1,87 @@
+-- The files of a command: that they were read, that they are a program, or why not.
+use Rattle.std.specs.Prelude.{◌≡◌, ◌≢◌, ℕ, ◌-◌, ◌<◌, ◌≤◌, true, List, [], ◌∷◌, ◌++◌, length, Contains, Some, None, String}
+use Rattle.std.specs.List.{list_all, AllByRecursion}
+use Rattle.std.specs.Global.{Global, Vec}
+use Rattle.cool_syntax.specs.declared.TheConstants.{MOST_FILES, MOST_SOURCE_BYTES}
+use Rattle.cool_classes.specs.Chains.{Class}
+use Rattle.cool_faults.specs.declared.fault.Fault.{Fault}
+use Rattle.cool_faults.specs.Files.{total}
+use Rattle.cool_faults.specs.Verdicts.{IsAccepted, IsFaultList, IsRefused}
+use Rattle.cool_ports.specs.Counts.{Rose}
+use Rattle.cool_ports.specs.ShelfFiles.{FileMap, IsMissing, IsLonger}
+use Rattle.cool_runtime.specs.Contents.{AreBytes}
+use Rattle.cool_words.specs.Plans.{is_file_name, words_of}
+use Rattle.cool_driver.specs.Contents.{texts}
+use Rattle.cool_driver.specs.Calls.{AreHeld, Call, Got, ShelfUse, shelf_of, HasTold, UnlessCutShort}
+use Rattle.cool_driver.specs.Notes.{refused_note, missing_note, unread_note, too_many_note, too_large_note}
+use Rattle.cool_driver.specs.Statuses.{REFUSED, FILE_FAULT}
+
+-- The sources of a program: a file's name and bytes for each, one file at least, and neither too many nor too large.
+pub record AreSources (names : List (String Global)) (contents : List (Vec ℕ)) : Type 0 where
+  pub each : length names ≡ length contents
+  pub named : list_all is_file_name (words_of names) ≡ true
+  pub some : 0 < length names
+  pub bytes : AllByRecursion AreBytes (texts contents)
+  pub few : length contents ≤ MOST_FILES
+  pub small : total (texts contents) ≤ MOST_SOURCE_BYTES
+
+-- The files of these names have these bytes, as far as the shelf tells, and are not too many, and have not more bytes than this; and no fault of
+-- the shelf came.
+pub record AreRead (shelf : ShelfUse) (most : ℕ) (names contents : List (List ℕ)) : Type 0 where
+  pub few : length names ≤ MOST_FILES
+  pub held : AreHeld shelf.files names contents
+  pub within : total contents ≤ most
+  pub calm : shelf.faults_after ≡ shelf.faults_before
+
+-- The files before the one of this name have these bytes, as far as the shelf tells, and not more than this.
+pub record AreReadUpTo (shelf : ShelfUse) (most : ℕ) (names : List (List ℕ)) (name : List ℕ) (contents : List (List ℕ)) : Type 0 where
+  pub front : List (List ℕ)
+  pub rest : List (List ℕ)
+  pub stands : names ≡ front ++ name ∷ rest
+  pub few : length names ≤ MOST_FILES
+  pub held : AreHeld shelf.files front contents
+  pub within : total contents ≤ most
+
+-- Why the files of these names, which may have so many bytes, were not read, and the note of it.
+pub data AreUnread (shelf : ShelfUse) (most : ℕ) (names : List (List ℕ)) : List ℕ → Type 0 where
+  too_many : MOST_FILES < length names → shelf.faults_after ≡ shelf.faults_before → AreUnread shelf most names too_many_note
+  missing : (name : List ℕ) (contents : List (List ℕ)) → AreReadUpTo shelf most names name contents
+      → IsMissing shelf.files name shelf.faults_before shelf.faults_after → AreUnread shelf most names (missing_note name)
+  unread : (name : List ℕ) (contents : List (List ℕ)) → AreReadUpTo shelf most names name contents
+      → Rose shelf.faults_before shelf.faults_after → AreUnread shelf most names (unread_note name)
+  too_large : (name : List ℕ) (contents : List (List ℕ)) → AreReadUpTo shelf most names name contents
+      → IsLonger shelf.files name (most - total contents) shelf.faults_before shelf.faults_after → AreUnread shelf most names too_large_note
+
+-- the same as what is due: the status and the note
+abbrev pub IsDueUnread : ShelfUse → ℕ → List (List ℕ) → ℕ → List ℕ → Type 0
+IsDueUnread shelf most names status note = (status ≡ FILE_FAULT) × AreUnread shelf most names note
+
+-- The files of these names are this program.
+pub record IsProgram (shelf : ShelfUse) (names : List (List ℕ)) (p : List Class) : Type 0 where
+  pub contents : List (List ℕ)
+  pub read : AreRead shelf MOST_SOURCE_BYTES names contents
+  pub bytes : AllByRecursion AreBytes contents
+  pub accepted : IsAccepted contents p
+
+-- Why the files of these names are no program: the status and the note.
+pub data IsNoProgram (shelf : ShelfUse) (names : List (List ℕ)) : ℕ → List ℕ → Type 0 where
+  -- they were not read
+  not_read : (note : List ℕ) → AreUnread shelf MOST_SOURCE_BYTES names note → IsNoProgram shelf names FILE_FAULT note
+  -- they have faults, and there is a line for each
+  faulty : (contents : List (List ℕ)) (faults : List Fault) → AreRead shelf MOST_SOURCE_BYTES names contents → IsRefused contents faults
+      → IsNoProgram shelf names REFUSED (refused_note names faults)
+
+-- Status 10 comes where there are too many files, and where the shelf tells that one is missing, or that all have more bytes than this.
+pub record FilesExactly (names : List (List ℕ)) (most : ℕ) (c : Call) (status : ℕ) : Type 0 where
+  pub too_many_exactly : MOST_FILES < length names → UnlessCutShort status (status ≡ FILE_FAULT)
+  pub missing_exactly : (files : FileMap) (name : List ℕ) → HasTold (shelf_of c.request) files → Contains names name → files name ≡ None
+      → UnlessCutShort status (status ≡ FILE_FAULT)
+  pub too_large_exactly : (files : FileMap) (contents : List (List ℕ)) → HasTold (shelf_of c.request) files → AreHeld (Some files) names contents
+      → most < total contents → UnlessCutShort status (status ≡ FILE_FAULT)
+
+-- And status 1 where they were read and their fault list is not empty, with a line for each fault of it.
+pub record SourcesExactly (names : List (List ℕ)) (c : Call) (status : ℕ) : Type 0 where
+  pub files : FilesExactly names MOST_SOURCE_BYTES c status
+  pub refused_exactly : (files : FileMap) (contents : List (List ℕ)) (faults : List Fault) → HasTold (shelf_of c.request) files
+      → AreRead (shelf_of c.request) MOST_SOURCE_BYTES names contents → IsFaultList contents faults → faults ≢ []
+      → UnlessCutShort status ((status ≡ REFUSED) × Got c.notes (refused_note names faults))

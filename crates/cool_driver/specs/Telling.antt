@@ -1,0 +1,33 @@
+-- How notes are told: the lines of a note, the note of a file that was not read, and that bytes were written.
+use Rattle.std.specs.Prelude.{◌≡◌, ℕ, ◌<◌, ◌⊎◌, List, [], Option, Some, None, length}
+use Rattle.std.specs.List.{concat, AllByRecursion}
+use Rattle.std.specs.Global.{Vec}
+use Rattle.cool_ports.specs.declared.shelf.ShelfFault.{ShelfFault}
+use Rattle.cool_ports.specs.declared.shelf.ShelfFault.TheVariants as faults
+use Rattle.cool_driver.specs.Calls.{SinkUse, Got, GotPart}
+use Rattle.cool_driver.specs.Contents.{texts}
+use Rattle.cool_driver.specs.Notes.{missing_note, unread_note, too_large_note}
+use Rattle.cool_driver.specs.declared.status.Status.{Status}
+use Rattle.cool_driver.specs.declared.status.Status.TheVariants as statuses
+
+-- lines of a note, none of them empty, and the note that they are
+abbrev pub AreLines : List (Vec ℕ) → Type 0
+AreLines lines = AllByRecursion (λ line. 0 < length line.items) lines
+
+abbrev pub note_of : List (Vec ℕ) → List ℕ
+note_of lines = concat (texts lines)
+
+-- the note of a file or a script that was not read
+abbrev pub fault_note : List ℕ → ShelfFault → Option (List ℕ)
+fault_note name faults.Missing = Some (missing_note name)
+fault_note name faults.Failed = Some (unread_note name)
+fault_note name faults.TooLarge = Some too_large_note
+fault_note name faults.Memory = None
+
+-- Bytes were written, a note or an image, and this status answered, or the write failed.
+abbrev pub Noted : SinkUse → List ℕ → Status → Status → Type 0
+Noted s bytes status answered = ((answered ≡ status) × Got s bytes) ⊎ ((answered ≡ statuses.WriteFault) × GotPart s [] bytes)
+
+-- The same, unless memory ran out before anything was written.
+abbrev pub NotedIfMade : SinkUse → List ℕ → Status → Status → Type 0
+NotedIfMade s bytes status answered = Noted s bytes status answered ⊎ ((answered ≡ statuses.Memory) × Got s [])

@@ -1,0 +1,7 @@
+-- What each command promises, a file each.
+pub mod Usage
+pub mod Check
+pub mod Build
+pub mod Eval
+pub mod Big
+pub mod Session

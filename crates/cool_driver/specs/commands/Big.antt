@@ -1,0 +1,74 @@
+-- What `big` writes: how the large program of a number comes out, compiled and run within the usual limits over no input.
+use Rattle.std.specs.Prelude.{◌≡◌, ℕ, ◌+◌, ◌<◌, ◌≤◌, List, [], ◌∷◌, ◌++◌, length, codes, decimal, refl}
+use Rattle.std.specs.Fmt.{digits}
+use Rattle.cool_big.specs.BigPrograms.{big_text}
+use Rattle.cool_classes.specs.Chains.{Class}
+use Rattle.cool_faults.specs.declared.fault.Fault.{Fault}
+use Rattle.cool_faults.specs.Verdicts.{IsAccepted, IsRefused}
+use Rattle.mips_isa.specs.Assembly.{image_of}
+use Rattle.mips_isa.specs.Calls.{Outcome}
+use Rattle.cool_emit.specs.Programs.{program_lines}
+use Rattle.cool_meaning.specs.SourceRun as source
+use Rattle.cool_simulation.specs.Accord.{Accord}
+use Rattle.cool_words.specs.Plans.{usual_limits}
+use Rattle.cool_driver.specs.Calls.{Request, Call, Got, UnlessCutShort}
+use Rattle.cool_driver.specs.Comes.{Comes}
+use Rattle.cool_driver.specs.Statuses.{DONE}
+use Rattle.cool_driver.specs.Execution.{run_of, left_by, status_of}
+use Rattle.cool_driver.specs.Headline.{limits_of}
+use Rattle.cool_driver.specs.declared.TheConstants.{MOST_BIG_OUTPUT}
+
+-- its one file, and the file's name
+abbrev pub big_files : ℕ → List (List ℕ)
+big_files n = big_text n ∷ []
+
+abbrev pub big_names : List (List ℕ)
+big_names = codes "big.cl" ∷ []
+
+-- the run of a program over no input
+abbrev pub big_run : List Class → Outcome
+big_run p = run_of usual_limits (image_of (program_lines p big_names)) []
+
+-- its status, its output and what it left of no input accord with the runs of the source within the usual limits
+abbrev pub AccordsWithSource : List Class → Type 0
+AccordsWithSource p =
+    Accord (source.run p big_names []) (limits_of usual_limits) (status_of (big_run p)) (left_by (big_run p)).output (left_by (big_run p)).input
+
+-- How a run comes out: the number of bytes of its output, and its status. Where they are more than are counted, the status is 8.
+pub data RunsTo (o : Outcome) : ℕ → ℕ → Type 0 where
+  counted : length (left_by o).output ≤ MOST_BIG_OUTPUT → RunsTo o (length (left_by o).output) (status_of o)
+  too_long : MOST_BIG_OUTPUT < length (left_by o).output → RunsTo o MOST_BIG_OUTPUT 8
+
+-- How files of these bytes come out: status 1 without output where they are refused, and else as their program's run does, in accord with
+-- the runs of the source.
+pub data ComesOut (contents : List (List ℕ)) (output status : ℕ) : Type 0 where
+  refused : (faults : List Fault) → IsRefused contents faults → output ≡ 0 → status ≡ 1 → ComesOut contents output status
+  ran : (p : List Class) → IsAccepted contents p → AccordsWithSource p → RunsTo (big_run p) output status → ComesOut contents output status
+
+-- the line for a program of so many bytes and classes
+abbrev pub summary : ℕ → ℕ → ℕ → ℕ → ℕ → List ℕ
+summary n source classes output status =
+    codes "big " ++ (decimal n ++ (codes ": " ++ (decimal source ++ (codes " source bytes, " ++ (decimal classes ++ (codes " classes, "
+    ++ (decimal output ++ (codes " output bytes, status " ++ (decimal status ++ codes "\n")))))))))
+
+-- the line of a number
+abbrev pub IsBigLine : ℕ → List ℕ → Type 0
+IsBigLine n line =
+    (output : ℕ) × (status : ℕ) × ComesOut (big_files n) output status × (line ≡ summary n (length (big_text n)) (n + 2) output status)
+
+-- a worked example
+line_for_one : summary 1 305 3 40 0 ≡ codes "big 1: 305 source bytes, 3 classes, 40 output bytes, status 0\n"
+unfolding digits
+line_for_one = refl
+
+-- What is due to `big` with this number: its line.
+pub data DueToBig (n : ℕ) (r : Request) : ℕ → List ℕ → List ℕ → List ℕ → Type 0 where
+  summed : (line : List ℕ) → IsBigLine n line → r.faults_after ≡ r.faults_before → DueToBig n r DONE line [] r.input
+
+pub data PiecesOfBig (n : ℕ) (r : Request) : List ℕ → List ℕ → List ℕ → Type 0 where
+  of_line : (line : List ℕ) → IsBigLine n line → r.faults_after ≡ r.faults_before → PiecesOfBig n r [] line r.input
+
+-- How a call of `big` with this number ends.
+pub record BigEnds (n : ℕ) (c : Call) (status : ℕ) : Type 0 where
+  pub comes : Comes (DueToBig n c.request) (PiecesOfBig n c.request) c status
+  pub summed_exactly : UnlessCutShort status ((status ≡ DONE) × (line : List ℕ) × IsBigLine n line × Got c.out line)

@@ -1,0 +1,13 @@
+-- What is due where the words ask for nothing: the note of it.
+use Rattle.std.specs.Prelude.{◌≡◌, ℕ, List, []}
+use Rattle.cool_driver.specs.Calls.{Request, Call, UnlessCutShort}
+use Rattle.cool_driver.specs.Comes.{Comes, NoPieces}
+use Rattle.cool_driver.specs.Notes.{usage_note}
+use Rattle.cool_driver.specs.Statuses.{USAGE}
+
+pub data DueToUsage (r : Request) : ℕ → List ℕ → List ℕ → List ℕ → Type 0 where
+  usage : r.faults_after ≡ r.faults_before → DueToUsage r USAGE [] usage_note r.input
+
+pub record UsageEnds (c : Call) (status : ℕ) : Type 0 where
+  pub comes : Comes (DueToUsage c.request) NoPieces c status
+  pub usage_exactly : UnlessCutShort status (status ≡ USAGE)

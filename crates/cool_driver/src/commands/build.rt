@@ -1,0 +1,84 @@
+//! The commands `asm` and `build`: the lines or the image of a program, written to the output.
+
+ghost use Rattle.std.specs.Prelude.{◌≡◌, ◌<◌, ◌≤◌, ℕ, List, [], length, IfErr, IfOk, true};
+ghost use Rattle.std.specs.List.{list_all};
+ghost use Rattle.cool_rules.specs.Fits.{Fits};
+ghost use Rattle.cool_words.specs.Plans.{is_file_name, words_of};
+ghost use Rattle.cool_driver.specs.Calls.{Got, SinkUse, shelf_use, sink_use, untaking};
+ghost use Rattle.cool_driver.specs.Ends.{Goes};
+ghost use Rattle.cool_driver.specs.Refusals.{IsTold};
+ghost use Rattle.cool_driver.specs.Sources.{IsNoProgram};
+ghost use Rattle.cool_driver.specs.Statuses.{code_of};
+ghost use Rattle.cool_driver.specs.commands.Build.{BuildEnds, IsBuilt, built_bytes};
+
+use crate::command_line::Form;
+use crate::refusal::{Refusal, tell_refusal};
+use crate::sources::read_program;
+use crate::status::Status;
+use crate::writing::write_pieces;
+use cool_emit::{build, lines};
+use cool_ports::{Shelf, Sink};
+use cool_rules::TypedProgram;
+use mips_image::{CHECKED_VERSION, write_image};
+use mips_text::print_asm;
+use std::alloc::Global;
+
+/// Writes the program that the files of these names are, in a form, or their faults.
+pub fn build_files<F: Shelf, O: Sink, E: Sink>(
+    alloc: Global,
+    form: Form,
+    names: &[String],
+    files: &mut F,
+    out: &mut O,
+    notes: &mut E,
+) -> Status
+    requires some { 0 < length names.now }
+    requires names { list_all is_file_name (words_of names.now) ≡ true }
+    ensures kept { F.files files.new ≡ F.files files.old }
+    ensures ends { (words : List (List ℕ)) (input : List ℕ) (faults : ℕ)
+        → Goes (BuildEnds form (words_of names.now)) (untaking words (shelf_use F.files F.faults files.old files.new) input faults
+        (sink_use O.held O.faults out.old out.new) (sink_use E.held E.faults notes.old notes.new)) (code_of result) }
+{
+    match make_bytes(alloc, form, names, files) {
+        Ok(bytes) => write_pieces(out, &bytes),
+        Err(refusal) => tell_refusal(notes, &refusal),
+    }
+}
+
+/// The bytes of the program that the files of these names are, in a form, or why they are none.
+fn make_bytes<F: Shelf>(
+    alloc: Global,
+    form: Form,
+    names: &[String],
+    files: &mut F,
+) -> Result<Vec<u8>, Refusal>
+    requires some { 0 < length names.now }
+    requires names { list_all is_file_name (words_of names.now) ≡ true }
+    ensures kept { F.files files.new ≡ F.files files.old }
+    ensures count { F.faults files.old ≤ F.faults files.new }
+    ensures built { IfOk result (λ bytes. IsBuilt form (words_of names.now) (shelf_use F.files F.faults files.old files.new) bytes.items) }
+    ensures refused { IfErr result (IsTold (IsNoProgram (shelf_use F.files F.faults files.old files.new) (words_of names.now))) }
+{
+    match read_program(alloc, names, files) {
+        Ok(program) => write_program(alloc, form, &program, names),
+        Err(refusal) => Err(refusal),
+    }
+}
+
+/// The bytes of a program whose files have these names, in a form. `Err` comes only for want of memory.
+fn write_program(
+    alloc: Global,
+    form: Form,
+    program: &TypedProgram,
+    names: &[String],
+) -> Result<Vec<u8>, Refusal>
+    requires fits { Fits program.now (length names.now) }
+    requires names { list_all is_file_name (words_of names.now) ≡ true }
+    ensures bytes { IfOk result (λ bytes. bytes.items ≡ built_bytes form program.now (words_of names.now)) }
+    ensures memory { IfErr result (λ refusal. refusal ≡ Refusal.Memory) }
+{
+    match form {
+        Form::Text => Ok(print_asm(alloc, &lines(alloc, program, names)?)?),
+        Form::Image => { Ok(write_image(alloc, &build(alloc, program, names)?, CHECKED_VERSION)?) }
+    }
+}
