@@ -1,22 +1,35 @@
 -- How a call ends by its command is how it ends by one statement over all commands.
-use Rattle.std.proofs.Common.{◌≡◌, ◌≢◌, ℕ, ◌-◌, ◌<◌, ◌≤◌, ◌⊎◌, Bool, true, false, inl, inr, List, [], ◌∷◌, ◌++◌, length, Some, None, refl, sym, ◌∙◌, ap, subst, arith}
+use Rattle.std.proofs.Common.{◌≡◌, ◌≢◌, ℕ, ◌-◌, ◌<◌, ◌≤◌, ◌⊎◌, Bool, true, false, inl, inr, List, [], ◌∷◌, ◌++◌, length, Some, None, refl, sym, ◌∙◌, ap, subst, append_assoc, arith}
 use Rattle.std.specs.Prelude.{Option, option_and_then, ◌==◌}
 use Rattle.std.specs.List.{concat}
 use Rattle.cool_syntax.specs.declared.TheConstants.{MOST_FILES, MOST_SOURCE_BYTES}
-use Rattle.cool_words.specs.Plans.{Asked}
+use Rattle.cool_words.specs.Plans.{Asked, IsBounded}
+use Rattle.cool_words.specs.declared.plan.RunLimits.{RunLimits}
 use Rattle.cool_words.specs.Plans.Asked.{check, asm, build, run, eval, exec, debug, big, session}
 use Rattle.cool_classes.specs.Chains.{Class}
 use Rattle.cool_faults.specs.Files.{total}
 use Rattle.cool_ports.specs.ShelfFiles.{IsLonger}
+use Rattle.cool_ports.specs.SinkBytes.{appended, GotPrefix}
+use Rattle.cool_ports.proofs.GettingBytes.{appended-nil, appended-appended}
+use Rattle.mips_isa.specs.ImageBounds.{ImageParts}
+use Rattle.spim_debug.specs.Moves.{beginning}
+use Rattle.spim_debug.specs.Notes.{all_notes}
+use Rattle.spim_debug.specs.declared.debugger.DebugEnd.TheVariants as end
+use Rattle.spim_debug.specs.declared.script.DebugCommand.{DebugCommand}
+use Rattle.spim_machine.specs.declared.halt.Halt.TheVariants as halts
 use Rattle.cool_driver.specs.Before as before
-use Rattle.cool_driver.specs.Before.{Due, Writing, IsEvaluationOf}
-use Rattle.cool_driver.specs.Before.Due.{built as due_built, checked as due_checked, conversed as due_conversed, evaluated as due_evaluated, missing as due_missing, refused as due_refused, summed as due_summed, too_large as due_too_large, too_many as due_too_many, unread as due_unread, unread_source as due_unread_source, usage as due_usage}
+use Rattle.cool_driver.specs.Before.{Due, Writing, IsEvaluationOf, IsDebugged, IsDebugOf, IsUnreadScript, DebuggedPart, FailedDebugged}
+use Rattle.cool_driver.specs.Before.IsUnreadScript.{missing_script, unread_script, large_script}
+use Rattle.cool_driver.specs.Before.Due.{built as due_built, checked as due_checked, conversed as due_conversed, debugged as due_debugged, evaluated as due_evaluated, missing as due_missing, misscripted as due_misscripted, refused as due_refused, summed as due_summed, too_large as due_too_large, too_many as due_too_many, unread as due_unread, unread_debugged as due_unread_debugged, unscripted as due_unscripted, unread_source as due_unread_source, usage as due_usage}
 use Rattle.cool_driver.specs.Before.Writing.{by_build, by_big, by_eval, by_last_line, by_session}
 use Rattle.cool_driver.specs.CommandLine.{asked_for, files_asked, script_asked, plan_of, most_bytes}
-use Rattle.cool_driver.specs.Calls.{Request, Call, Got, IsRead, IsReadUpTo, HasScript, MayRefuse, shelf_of}
+use Rattle.cool_driver.specs.Calls.{Request, Call, Got, IsRead, IsReadUpTo, IsScriptRead, HasScript, MayRefuse, shelf_of}
 use Rattle.cool_driver.specs.Comes.{Dues, Pieces, Comes, NoPieces}
 use Rattle.cool_driver.specs.Comes.Comes.{written, unwritten, unnoted, short}
+use Rattle.cool_driver.specs.Debugging.{debuggee_within, debug_notes}
 use Rattle.cool_driver.specs.Devices.{Devices}
+use Rattle.cool_driver.specs.Execution.{run_of, left_by, status_of, note_of}
+use Rattle.cool_driver.specs.Headline.{StopsWriting}
 use Rattle.cool_driver.specs.Ends.{EndsBy, Ends}
 use Rattle.cool_driver.specs.Notes.{ending_note, read_fault_note}
 use Rattle.cool_driver.specs.Sources.{AreRead, AreReadUpTo, IsProgram, IsNoProgram}
@@ -27,6 +40,13 @@ use Rattle.cool_driver.specs.commands.Big.DueToBig.{summed}
 use Rattle.cool_driver.specs.commands.Big.PiecesOfBig.{of_line}
 use Rattle.cool_driver.specs.commands.Check.{DueToCheck}
 use Rattle.cool_driver.specs.commands.Check.DueToCheck.{accepted, refused}
+use Rattle.cool_driver.specs.commands.Debug.{ScriptIsRead, ScriptIsUnread, IsDebuggee, DueToUndebugged, Stopped, Finished, Debugs, DebugComes}
+use Rattle.cool_driver.specs.commands.Debug.DebugComes.{refused as comes_undebugged, debugs}
+use Rattle.cool_driver.specs.commands.Debug.Debugs.{written as debug_written, unnoted as debug_unnoted, unwritten as debug_unwritten, unnoted_command, short as debug_short, cut_short as debug_cut_short}
+use Rattle.cool_driver.specs.commands.Debug.DueToUndebugged.{undebugged}
+use Rattle.cool_driver.specs.commands.Debug.Finished.{debugged as finished_debug, unread_debugged as unread_debug}
+use Rattle.cool_driver.specs.commands.Debug.IsNoDebuggee.{too_many as debug_too_many, unscripted, refused as not_debugged, misscripted}
+use Rattle.cool_driver.specs.commands.Debug.ScriptIsUnread.{missing as no_script_there, unread as script_unread, too_large as script_too_large}
 use Rattle.cool_driver.specs.commands.Session.{IsSession, DueToSession, SessionComes, status_of_ending}
 use Rattle.cool_driver.specs.commands.Session.DueToSession.{to_end, to_read}
 use Rattle.cool_driver.specs.commands.Session.SessionComes.{ended, unread as cut_short, unwritten as session_unwritten, unnoted as session_unnoted, short as ran_short}
@@ -39,11 +59,13 @@ use Rattle.cool_driver.specs.commands.Eval.{DueToEval, PiecesOfEval, CutShort}
 use Rattle.cool_driver.specs.commands.Eval.DueToEval.{evaluated, unread as source_unread, refused as not_evaluated}
 use Rattle.cool_driver.specs.commands.Eval.PiecesOfEval.{of_call, of_last_line}
 use Rattle.cool_driver.specs.declared.command_line.Command.{Command}
-use Rattle.cool_driver.specs.declared.command_line.Command.TheVariants.{Check, Build, Eval}
+use Rattle.cool_driver.specs.declared.command_line.Command.TheVariants.{Check, Build, Eval, Debug}
 use Rattle.cool_driver.specs.declared.command_line.Form.{Form}
 use Rattle.cool_driver.specs.declared.command_line.Form.TheVariants.{Text, Image}
 use Rattle.cool_driver.proofs.EndsOfDue.{ends_written, ends_write_fault, ends_short}
 use Rattle.cool_driver.proofs.Findings.{finding_of_due, finding_below}
+use Rattle.cool_driver.proofs.ScriptsOfCalls.{debug_plan, debug_script, has_script}
+use Rattle.cool_driver.proofs.rooms.Debuggings.{fails_alone, notes_are}
 
 -- an input that did not fail, where neither 7 nor 8 was answered: the two cases of the test
 calm_at : (status before after : ℕ) → before ≤ after → (before < after → (status ≡ 7) ⊎ (status ≡ 8)) → status ≢ 7 → status ≢ 8
@@ -179,6 +201,160 @@ module _ (c : Call) (names : List (List ℕ)) (steps : ℕ) (is : asked_for c.re
       (ends_short c devices.no_less.files s.out_calm s.notes.1 s.input_calm
       (inr (inl (steps, names, s.p, evaluation_before s.p s.is, s.stopped, s.out_calm, s.notes, s.input_calm))))
 
+-- `debug`
+
+-- a prefix of what comes behind some bytes
+prefix_behind : (before after : Option (List ℕ)) (front note : List ℕ) → GotPrefix (appended before front) note after
+    → GotPrefix (appended before []) (front ++ note) after
+prefix_behind before after front note (rest, upto) = (
+  rest,
+  record {
+    front = front ++ upto.front;
+    cut = ap (λ (xs : List ℕ). front ++ xs) upto.cut ∙ sym (append_assoc front upto.front rest);
+    got = upto.got ∙ (appended-appended before front upto.front ∙ ap (λ (held : Option (List ℕ)). appended held (front ++ upto.front)) (sym (appended-nil before)));
+  },
+)
+
+-- of two told lists that are one
+some_same : (a b : List ℕ) → Some a ≡ Some b → a ≡ b
+some_same a b e = cc
+
+unscripted_before : (r : Request) (script note : List ℕ) → ScriptIsUnread (shelf_of r) script note → IsUnreadScript r script note
+unscripted_before r script _ (no_script_there gone) = missing_script gone
+unscripted_before r script _ (script_unread rose) = unread_script rose
+unscripted_before r script _ (script_too_large long) = large_script long
+
+module _ (c : Call) (script : List ℕ) (names : List (List ℕ)) (limits : RunLimits) (is : asked_for c.request.words ≡ Some (debug script names limits)) where
+  plan_before : plan_of c.request.words ≡ Some (Debug limits, names)
+  plan_before = debug_plan c.request.words script names limits is
+
+  script_before : (bytes : List ℕ) → ScriptIsRead (shelf_of c.request) script bytes → IsScriptRead c.request script bytes
+  script_before bytes h = record { asked = debug_script c.request.words script names limits is; held = h.held; within = h.within }
+
+  scripted : (bytes : List ℕ) → ScriptIsRead (shelf_of c.request) script bytes → HasScript c.request
+  scripted bytes h = has_script c.request script bytes (script_before bytes h)
+
+  debugged_before : (bytes : List ℕ) (p : List Class) → ScriptIsRead (shelf_of c.request) script bytes → IsProgram (shelf_of c.request) names p
+      → IsDebugged c.request limits names p script bytes
+  debugged_before bytes p s h = record {
+    contents = h.contents;
+    read = read_before c.request (Debug limits) names plan_before (scripted bytes s) tt refl h.contents h.read;
+    accepted = h.accepted;
+    script_read = script_before bytes s;
+  }
+
+  debuggee_before : (image : ImageParts) (commands : List DebugCommand) → IsBounded limits → IsDebuggee script names (shelf_of c.request) image commands
+      → IsDebugOf c.request limits image commands
+  debuggee_before image commands bounded h = record {
+    names = names;
+    p = h.p;
+    script = script;
+    bytes = h.bytes;
+    debugged = debugged_before h.bytes h.p h.read h.is;
+    image_is = h.image_is;
+    means = h.means;
+    bounded = bounded;
+    says = h.says;
+  }
+
+  undebugged_before : (status : ℕ) (output note left : List ℕ) → DueToUndebugged script names c.request status output note left
+      → Due c.request status output note left
+  undebugged_before _ _ _ _ (undebugged _ _ (debug_too_many many calm)) = due_too_many (Debug limits) names plan_before many calm
+  undebugged_before _ _ _ _ (undebugged _ _ (unscripted note few why)) =
+      due_unscripted limits names script note is few (unscripted_before c.request script note why)
+  undebugged_before _ _ _ _ (undebugged _ _ (not_debugged bytes status note s why)) =
+      refused_before c.request (Debug limits) names plan_before (scripted bytes s) tt refl status note why
+  undebugged_before _ _ _ _ (undebugged _ _ (misscripted bytes p fault s h says)) =
+      due_misscripted limits names p script bytes fault (debugged_before bytes p s h) says
+
+  module _ (image : ImageParts) (commands : List DebugCommand) (found : IsDebugOf c.request limits image commands) where
+    -- What is due for a run, whose notes are told in other words.
+    record Row (status : ℕ) (notes note : List ℕ) : Type 0 where
+      output : List ℕ
+      front : List ℕ
+      row : Due c.request status output (front ++ note) c.left
+      out : Got c.out output
+      same : appended c.notes.held_before notes ≡ appended c.notes.held_before front
+
+    row_of : (status : ℕ) (notes note : List ℕ) → Finished limits image commands c status notes note → Row status notes note
+    row_of _ _ _ (finished_debug out left) =
+        let o = run_of limits image c.request.input in
+        record {
+          output = (left_by o).output;
+          front = debug_notes limits image commands c.request.input;
+          row = subst (λ (l : List ℕ). Due c.request (status_of o) (left_by o).output (debug_notes limits image commands c.request.input ++ note_of o) l) (sym left)
+              (due_debugged limits image commands found);
+          out = out;
+          same = refl;
+        }
+    row_of _ _ _ (unread_debug notes h) =
+        let (at, comes, (fails, machine)) = h.debugged.0.ran in
+        let off = h.debugged.2 in
+        record {
+          output = at.output;
+          front = debug_notes limits image off.front c.request.input;
+          row = due_unread_debugged limits image off.front off.rest at at.output c.left (subst (IsDebugOf c.request limits image) off.script_is found) comes
+              (fails_alone _ at _ _ _ fails);
+          out = (fails.held_is, h.counted.0.1);
+          same = off.noted_is ∙ ap (appended c.notes.held_before) (notes_are limits image off.front c.request.input);
+        }
+
+    -- what was debugged until the notes were as they are now
+    abbrev part_of : GotPrefix c.notes.held_before (concat (all_notes (debuggee_within limits image c.request.input) commands beginning)) c.notes.held_after → DebuggedPart c
+    part_of noted = record {
+      limits = limits;
+      image = image;
+      commands = commands;
+      is = found;
+      noted = subst (λ (due : List ℕ). GotPrefix c.notes.held_before due c.notes.held_after) (notes_are limits image commands c.request.input) noted;
+    }
+
+    write_before : Stopped limits image commands c (end.Halt halts.WriteFault) c.notes → FailedDebugged c
+    write_before h =
+        let (at, comes, (fails, machine)) = h.debugged.0.ran in
+        let off = h.debugged.2 in
+        let stops : StopsWriting c limits image = record {
+          at = at;
+          bytes = fails.bytes;
+          comes = comes;
+          prints = fails.prints;
+          wrote = (fails.held_is, h.counted.0.1);
+          leaves = some_same c.left at.input fails.left_is;
+        } in
+        let front = off.noted_is ∙ ap (appended c.notes.held_before) (notes_are limits image off.front c.request.input) in
+        (part_of h.debugged.1, inl (stops, (off.front, off.rest, off.script_is, (front, h.counted.1))))
+
+    debugs_before : (status : ℕ) → Devices c status → Debugs limits image commands c status → before.Ends c status
+    debugs_before status devices (debug_written _ notes note f got) =
+        let r = row_of status notes note f in
+        whole_before c status r.output (r.front ++ note) devices r.row r.out (
+          got.0 ∙ (sym (appended-appended c.notes.held_before notes note) ∙ (ap (λ (held : Option (List ℕ)). appended held note) r.same
+              ∙ appended-appended c.notes.held_before r.front note)),
+          got.1,
+        )
+    debugs_before _ devices (debug_unnoted status notes note f part) =
+        let r = row_of status notes note f in
+        let got = subst (λ (held : Option (List ℕ)). GotPrefix held note c.notes.held_after) r.same part.0 in
+        ends_write_fault c (inr part.1)
+        (inr (inl (status, r.output, r.front ++ note, r.row, r.out, (prefix_behind c.notes.held_before c.notes.held_after r.front note got, part.1))))
+        devices.no_less.input
+    debugs_before _ devices (debug_unwritten h) = ends_write_fault c (inl h.counted.0.1) (inr (inr (write_before h))) devices.no_less.input
+    debugs_before _ devices (unnoted_command h) =
+        let part = part_of h.debugged.1 in
+        ends_write_fault c (inr h.counted.2)
+        (inr (inr (part, inr (record { stands = h.debugged.0; input_calm = h.counted.0; out_calm = h.counted.1 }, h.counted.2)))) devices.no_less.input
+    debugs_before _ devices (debug_short nothing) = ends_short c devices.no_less.files nothing.0.1 nothing.1.1 nothing.3 (inl nothing)
+    debugs_before _ devices (debug_cut_short h) =
+        let part = part_of h.debugged.1 in
+        ends_short c devices.no_less.files h.counted.1 h.counted.2 h.counted.0
+        (inr (inr (inl (part, record { stands = h.debugged.0; input_calm = h.counted.0; out_calm = h.counted.1 }, h.counted.2))))
+
+  debug_before : (status : ℕ) → Devices c status → DebugComes script names limits c status → before.Ends c status
+  debug_before status devices (comes_undebugged comes) =
+      comes_before (DueToUndebugged script names c.request) NoPieces c status undebugged_before (no_pieces c.request) devices comes
+  debug_before status devices (debugs image commands h bounded goes) =
+      debugs_before image commands (debuggee_before image commands bounded h) status devices goes
+
 -- `big`
 
 big_before : (r : Request) (n : ℕ) → asked_for r.words ≡ Some (big n) → (status : ℕ) (output note left : List ℕ)
@@ -231,7 +407,7 @@ by_command c status (Some (build names)) is devices h =
 by_command c status (Some (run names limits fold)) is devices h = h
 by_command c status (Some (eval names steps)) is devices h = eval_before c names steps is status devices h.comes
 by_command c status (Some (exec name limits)) is devices h = h
-by_command c status (Some (debug script names limits)) is devices h = h
+by_command c status (Some (debug script names limits)) is devices h = debug_before c script names limits is status devices h.comes
 by_command c status (Some (big n)) is devices h =
     comes_before (DueToBig n c.request) (PiecesOfBig n c.request) c status (big_before c.request n is) (big_pieces c.request n is) devices h.comes
 by_command c status (Some session) is devices h =

@@ -32,14 +32,18 @@ comes_refused due pieces c P (Told status lines) answered row out left input tol
 comes_refused due pieces c P Memory answered row out left input told noted =
     subst (λ (s : Status). Comes due pieces c (code_of s)) (sym noted.0) (short (out, noted.1, left, input))
 
--- the status of a refusal
-pub refused_status : (r : Request) (names : List (List ℕ)) (status : ℕ) (note : List ℕ) → IsNoProgram (shelf_of r) names status note
-    → IsStatus r status × (status ≢ 2) × (status ≢ 7)
-refused_status r names _ _ (not_read note why) = (
+-- the status of files that are not to be had
+pub file_status : (r : Request) → IsStatus r 10 × ◌≢◌ {A = ℕ} 10 2 × ◌≢◌ {A = ℕ} 10 7
+file_status r = (
   record { below = omega arith; not_cut = λ e. omega (arith, e); not_short = λ e. omega (arith, e); shelf_fault = λ _. refl },
   λ e. omega (arith, e),
   λ e. omega (arith, e),
 )
+
+-- the status of a refusal
+pub refused_status : (r : Request) (names : List (List ℕ)) (status : ℕ) (note : List ℕ) → IsNoProgram (shelf_of r) names status note
+    → IsStatus r status × (status ≢ 2) × (status ≢ 7)
+refused_status r names _ _ (not_read note why) = file_status r
 refused_status r names _ _ (faulty contents faults read is) = (
   record {
     below = omega arith;
@@ -71,21 +75,30 @@ comes_map due other pieces others c _ rows parts (unnoted status output note is 
     unnoted status output note (rows status output note c.left is) out part
 comes_map due other pieces others c _ rows parts (short nothing) = short nothing
 
+-- what is due where such a status and such a note are told, and nothing else is done
+abbrev pub DueToTold : (ℕ → List ℕ → Type 0) → Request → Dues
+DueToTold P r status output note left = (output ≡ []) × (left ≡ r.input) × P status note
+
+-- so a call goes that told them, where that says which statuses there are
+pub told_goes : (P : ℕ → List ℕ → Type 0) (c : Call) (refusal : Refusal) (answered : Status)
+    → ((status : ℕ) (note : List ℕ) → P status note → IsStatus c.request status × (status ≢ 2) × (status ≢ 7))
+    → c.request.faults_before ≤ c.request.faults_after → c.left ≡ c.request.input → c.input_after ≡ c.input_before → Got c.out []
+    → IsTold P refusal → RefusalNoted c.notes refusal answered → Goes (Comes (DueToTold P c.request) NoPieces) c (code_of answered)
+told_goes P c refusal answered known shelf left input out told noted =
+    let due = DueToTold P c.request in
+    let comes = comes_refused due NoPieces c P refusal answered (λ status note why. (refl, left, why)) out left input told noted in
+    record {
+      devices = devices_untaking due NoPieces c (code_of answered) (λ s output note l h. let is = known s note h.2 in (is.0, is.2)) shelf input comes;
+      ends = comes;
+      asked = no_status 2 due NoPieces c (code_of answered) (λ e. omega (arith, e)) (λ e. omega (arith, e)) (λ s output note l h. (known s note h.2).1) comes;
+    }
+
 -- what is due where files are no program
 abbrev pub DueToRefusal : List (List ℕ) → Request → Dues
-DueToRefusal names r status output note left = (output ≡ []) × (left ≡ r.input) × IsNoProgram (shelf_of r) names status note
+DueToRefusal names r = DueToTold (IsNoProgram (shelf_of r) names) r
 
 -- so a call goes that refused its files
 pub refusal_goes : (names : List (List ℕ)) (c : Call) (refusal : Refusal) (answered : Status) → c.request.faults_before ≤ c.request.faults_after
     → c.left ≡ c.request.input → c.input_after ≡ c.input_before → Got c.out [] → IsTold (IsNoProgram (shelf_of c.request) names) refusal
     → RefusalNoted c.notes refusal answered → Goes (Comes (DueToRefusal names c.request) NoPieces) c (code_of answered)
-refusal_goes names c refusal answered shelf left input out told noted =
-    let due = DueToRefusal names c.request in
-    let comes = comes_refused due NoPieces c (IsNoProgram (shelf_of c.request) names) refusal answered (λ status note why. (refl, left, why)) out left input told noted in
-    record {
-      devices = devices_untaking due NoPieces c (code_of answered)
-          (λ s output note l h. let known = refused_status c.request names s note h.2 in (known.0, known.2)) shelf input comes;
-      ends = comes;
-      asked = no_status 2 due NoPieces c (code_of answered) (λ e. omega (arith, e)) (λ e. omega (arith, e))
-          (λ s output note l h. (refused_status c.request names s note h.2).1) comes;
-    }
+refusal_goes names c refusal answered = told_goes (IsNoProgram (shelf_of c.request) names) c refusal answered (refused_status c.request names)

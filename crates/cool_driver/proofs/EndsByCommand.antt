@@ -2,6 +2,7 @@
 use Rattle.std.proofs.Common.{◌≡◌, ◌≢◌, ℕ, ◌≤◌, List, [], false, inl, inr, Some, None, refl, sym, ◌∙◌, ap, subst, arith}
 use Rattle.std.specs.Prelude.{Option, option_and_then}
 use Rattle.cool_words.specs.Plans.{Asked}
+use Rattle.cool_words.specs.declared.plan.RunLimits.{RunLimits}
 use Rattle.cool_words.specs.Plans.Asked.{check, asm, build, run, eval, exec, debug, big, session}
 use Rattle.cool_driver.specs.Before as before
 use Rattle.cool_driver.specs.CommandLine.{asked_for, files_asked, TakesNoInput}
@@ -16,6 +17,7 @@ use Rattle.cool_driver.specs.Tasks.{IsDue, IsSafe}
 use Rattle.cool_driver.specs.Telling.{Noted}
 use Rattle.cool_driver.specs.declared.task.Task.{Task}
 use Rattle.cool_driver.specs.declared.task.Task.TheVariants.{Tell, Execute, Debug}
+use Rattle.cool_driver.specs.commands.Debug.DebugComes.{refused as comes_undebugged}
 use Rattle.cool_driver.specs.commands.Usage.{DueToUsage, UsageEnds}
 use Rattle.cool_driver.specs.commands.Usage.DueToUsage.{usage}
 use Rattle.cool_driver.specs.declared.status.Status.{Status}
@@ -27,6 +29,7 @@ use Rattle.cool_driver.proofs.SourcesOfCalls.{comes_so}
 use Rattle.cool_driver.proofs.rooms.Bigs.{big_goes}
 use Rattle.cool_driver.proofs.rooms.Builds.{build_goes}
 use Rattle.cool_driver.proofs.rooms.Checks.{check_goes}
+use Rattle.cool_driver.proofs.rooms.Debuggings.{debug_ends}
 use Rattle.cool_driver.proofs.rooms.Evaluations.{eval_ends}
 use Rattle.cool_driver.specs.declared.command_line.Form.TheVariants.{Text, Image}
 use Rattle.cool_driver.proofs.rooms.Sessions.{begun_short}
@@ -104,7 +107,9 @@ by_short c (Some (run names limits fold)) is calm nothing h = ends_so_far c 9 (S
 by_short c (Some (eval names steps)) is calm nothing h =
     ends_by c 9 (Some (eval names steps)) is (devices_before c 9 h) (eval_ends names steps c 9 (inl (short nothing))) (λ e. absurd (omega (arith, e)))
 by_short c (Some (exec name limits)) is calm nothing h = ends_so_far c 9 (Some (exec name limits)) is h h
-by_short c (Some (debug script names limits)) is calm nothing h = ends_so_far c 9 (Some (debug script names limits)) is h h
+by_short c (Some (debug script names limits)) is calm nothing h =
+    ends_by c 9 (Some (debug script names limits)) is (devices_before c 9 h) (debug_ends script names limits c 9 (comes_undebugged (short nothing)))
+    (λ e. absurd (omega (arith, e)))
 by_short c (Some (big n)) is calm nothing h =
     let g = big_goes n c 9 (omega (arith, calm)) nothing.3 (short nothing) in
     ends_by c 9 (Some (big n)) is g.devices g.ends (λ e. absurd (omega (arith, e)))
@@ -132,3 +137,8 @@ takes given is none = (none [] (record { heap_kib = 0; stack_kib = 0; steps = 0 
 pub takes_eval : (given names : List (List ℕ)) (steps : ℕ) → asked_for given ≡ Some (eval names steps) → TakesNoInput given → ⊥
 takes_eval given names steps is none =
     (none names (record { heap_kib = 0; stack_kib = 0; steps = 0 }) false steps).2 (ap (option_and_then files_asked) is)
+
+-- and so do words that ask to debug
+pub takes_debug : (given : List (List ℕ)) (script : List ℕ) (names : List (List ℕ)) (limits : RunLimits)
+    → asked_for given ≡ Some (debug script names limits) → TakesNoInput given → ⊥
+takes_debug given script names limits is none = (none names limits false 0).3 (ap (option_and_then files_asked) is)

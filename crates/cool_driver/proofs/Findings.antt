@@ -151,7 +151,7 @@ exit_status false false true = inr (inr (inr (inl refl)))
 exit_status false false false = inr (inl refl)
 
 -- so has each end of a run
-end_status : (end : Outcome) → IsOneOf (status_of end)
+pub end_status : (end : Outcome) → IsOneOf (status_of end)
 end_status (Running s) = inr (inr (inr (inr (inl refl))))
 end_status (Exited code s) = exit_status (code == 0) (code == 4) (code == 5)
 end_status (Trapped trap s) = inr (inr (inr (inr (inr (inr refl)))))

@@ -14,7 +14,6 @@ pub mod ReadingNames
 pub mod NoteLines
 pub mod Plans
 pub mod DueTasks
-pub mod ScriptTasks
 pub mod Findings
 pub mod StatusesOfFindings
 pub mod AnsweredFaults

@@ -9,6 +9,8 @@ use Rattle.cool_faults.specs.Texts.{fault_words, fault_line}
 use Rattle.cool_faults.specs.Verdicts.{place_of, IsRefused}
 use Rattle.cool_syntax.specs.TokenFacts.{IsPlaced}
 use Rattle.cool_driver.specs.Contents.{texts}
+use Rattle.spim_debug.specs.declared.script.ScriptFault.{ScriptFault}
+use Rattle.cool_driver.specs.Notes.{script_words, script_note}
 use Rattle.cool_driver.specs.Telling.{AreLines, note_of}
 
 -- the line of a fault is not empty
@@ -42,3 +44,8 @@ all_below files names (fault ∷ faults) same h = (omega (arith, h.0.0, same), a
 -- the faults of files that have names stand in such files
 pub have_names : (names : ℕ) (contents : List (List ℕ)) (faults : List Fault) → IsRefused contents faults → 0 < names → length contents ≡ names → AllByRecursion (λ f. (place_of f).file < names) faults
 have_names names contents faults is some same = all_below (length contents) names faults same (is.places (omega arith))
+
+-- the note of a script with a fault is not empty
+pub some_misscripted : (name : List ℕ) (fault : ScriptFault) → 0 < length (script_note name fault)
+some_misscripted name fault =
+    omega (arith, length-append name (codes ":" ++ (decimal fault.line ++ (codes ": " ++ (script_words fault.kind ++ codes "\n")))))

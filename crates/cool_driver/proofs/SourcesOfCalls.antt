@@ -9,6 +9,7 @@ use Rattle.cool_classes.specs.Chains.{Class}
 use Rattle.cool_faults.specs.declared.fault.Fault.{Fault}
 use Rattle.cool_faults.specs.Files.{total}
 use Rattle.cool_faults.specs.Verdicts.{IsAccepted, IsFaultList, IsRefused}
+use Rattle.cool_faults.proofs.AcceptedFiles.{accepted_list}
 use Rattle.cool_faults.proofs.OneVerdict.{never_both_verdicts, one_list, one_program}
 use Rattle.cool_ports.specs.Counts.{Rose}
 use Rattle.cool_ports.specs.ShelfFiles.{FileMap, IsMissing, IsLonger}
@@ -123,7 +124,7 @@ module _ (shelf : ShelfUse) (files : FileMap) (told : HasTold shelf files) (name
   pub program_faultless : (p : List Class) (faults : List Fault) → IsProgram shelf names p → IsFaultList contents faults → faults ≡ []
   program_faultless p faults is list =
       let same = same_contents shelf files told MOST_SOURCE_BYTES names contents read is.contents is.read in
-      one_list contents faults [] list (subst (λ (cs : List (List ℕ)). IsFaultList cs []) (sym same) is.accepted.list)
+      one_list contents faults [] list (subst (λ (cs : List (List ℕ)). IsFaultList cs []) (sym same) (accepted_list is.contents p is.accepted))
 
   -- and what is none has just its fault list
   pub refused_with : (faults : List Fault) (status : ℕ) (note : List ℕ) → IsNoProgram shelf names status note → IsFaultList contents faults
@@ -150,7 +151,7 @@ abbrev pub IsVerdictOn : ShelfUse → List (List ℕ) → ℕ → List ℕ → T
 IsVerdictOn shelf names status note = ((p : List Class) × IsProgram shelf names p) ⊎ IsNoProgram shelf names status note
 
 -- files that were read for a verdict
-read_for : (shelf : ShelfUse) (names : List (List ℕ)) (status : ℕ) (note : List ℕ) → IsVerdictOn shelf names status note
+pub read_for : (shelf : ShelfUse) (names : List (List ℕ)) (status : ℕ) (note : List ℕ) → IsVerdictOn shelf names status note
     → ((contents : List (List ℕ)) × AreRead shelf MOST_SOURCE_BYTES names contents) ⊎ (status ≡ FILE_FAULT)
 read_for shelf names status note (inl (p, is)) = inl (is.contents, is.read)
 read_for shelf names _ _ (inr (not_read note why)) = inr refl
@@ -166,30 +167,39 @@ faults_so shelf files names contents faults status note told read list some (inr
     let so = refused_with shelf files told names contents read faults status note refused list in
     (so.1, so.2)
 
--- So a command whose dues come of files that were read, or have status 10, is exact about them.
+-- So a call is exact about its files where they were read, or status 10 comes.
+pub files_told : (names : List (List ℕ)) (most : ℕ) (c : Call) (status : ℕ)
+    → UnlessCutShort status (((contents : List (List ℕ)) × AreRead (shelf_of c.request) most names contents) ⊎ (status ≡ FILE_FAULT))
+    → FilesExactly names most c status
+files_told names most c status read =
+    record {
+      too_many_exactly = λ many. unread_if (λ contents h. let few = h.few in omega (arith, few, many));
+      missing_exactly = λ files name told named gone.
+          unread_if (λ contents h. none_missing files names contents name (are_held (shelf_of c.request) files told most names contents h) named gone);
+      too_large_exactly = λ files large told held more.
+          unread_if (λ contents h.
+          let same = held_same files names contents large (are_held (shelf_of c.request) files told most names contents h) held in
+          let within = h.within in
+          omega (arith, within, more, ap total same));
+    }
+  where
+    by : ((contents : List (List ℕ)) → AreRead (shelf_of c.request) most names contents → ⊥)
+        → ((contents : List (List ℕ)) × AreRead (shelf_of c.request) most names contents) ⊎ (status ≡ FILE_FAULT) → status ≡ FILE_FAULT
+    by none (inl (contents, h)) = absurd (none contents h)
+    by none (inr e) = e
+
+    unread_if : ((contents : List (List ℕ)) → AreRead (shelf_of c.request) most names contents → ⊥) → UnlessCutShort status (status ≡ FILE_FAULT)
+    unread_if none = λ eight nine. by none (read eight nine)
+
+-- And so is a command whose dues come of files that were read, or have status 10.
 pub files_exactly : (due : Dues) (pieces : Pieces) (names : List (List ℕ)) (most : ℕ) (c : Call) (status : ℕ)
     → ((status : ℕ) (output note left : List ℕ) → due status output note left
     → ((contents : List (List ℕ)) × AreRead (shelf_of c.request) most names contents) ⊎ (status ≡ FILE_FAULT))
     → Comes due pieces c status → FilesExactly names most c status
 files_exactly due pieces names most c status read comes =
-    let shelf = shelf_of c.request in
-    let unread_if : (((contents : List (List ℕ)) → AreRead shelf most names contents → ⊥) → UnlessCutShort status (status ≡ FILE_FAULT)) =
-    λ none. comes_so due pieces c status (λ s. s ≡ FILE_FAULT) comes (λ s output note is out notes. by none s (read s output note c.left is)) in
-    record {
-      too_many_exactly = λ many. unread_if (λ contents h. let few = h.few in omega (arith, few, many));
-      missing_exactly = λ files name told named gone.
-          unread_if (λ contents h. none_missing files names contents name (are_held shelf files told most names contents h) named gone);
-      too_large_exactly = λ files large told held more.
-          unread_if (λ contents h.
-          let same = held_same files names contents large (are_held shelf files told most names contents h) held in
-          let within = h.within in
-          omega (arith, within, more, ap total same));
-    }
-  where
-    by : ((contents : List (List ℕ)) → AreRead (shelf_of c.request) most names contents → ⊥) → (s : ℕ)
-        → ((contents : List (List ℕ)) × AreRead (shelf_of c.request) most names contents) ⊎ (s ≡ FILE_FAULT) → s ≡ FILE_FAULT
-    by none s (inl (contents, h)) = absurd (none contents h)
-    by none s (inr e) = e
+    files_told names most c status
+    (comes_so due pieces c status (λ s. ((contents : List (List ℕ)) × AreRead (shelf_of c.request) most names contents) ⊎ (s ≡ FILE_FAULT)) comes
+    (λ s output note is out notes. read s output note c.left is))
 
 -- And so is one whose dues come of a verdict on its files.
 pub sources_exactly : (due : Dues) (pieces : Pieces) (names : List (List ℕ)) (c : Call) (status : ℕ)

@@ -3,4 +3,5 @@ pub mod Checks
 pub mod Evaluations
 pub mod Builds
 pub mod Bigs
+pub mod Debuggings
 pub mod Sessions

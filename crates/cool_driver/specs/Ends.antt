@@ -12,6 +12,7 @@ use Rattle.cool_driver.specs.commands.Check.{CheckEnds}
 use Rattle.cool_driver.specs.commands.Build.{BuildEnds}
 use Rattle.cool_driver.specs.commands.Eval.{EvalEnds}
 use Rattle.cool_driver.specs.commands.Big.{BigEnds}
+use Rattle.cool_driver.specs.commands.Debug.{DebugEnds}
 use Rattle.cool_driver.specs.declared.command_line.Form.TheVariants.{Text, Image}
 use Rattle.cool_driver.specs.commands.Session.{SessionEnds}
 
@@ -24,7 +25,7 @@ EndsBy (Some (build names)) c status = BuildEnds Image names c status
 EndsBy (Some (run names limits fold)) c status = before.Ends c status
 EndsBy (Some (eval names steps)) c status = EvalEnds names steps c status
 EndsBy (Some (exec name limits)) c status = before.Ends c status
-EndsBy (Some (debug script names limits)) c status = before.Ends c status
+EndsBy (Some (debug script names limits)) c status = DebugEnds script names limits c status
 EndsBy (Some (big n)) c status = BigEnds n c status
 EndsBy (Some session) c status = SessionEnds c status
 

@@ -26,16 +26,15 @@ use Rattle.cool_runtime.specs.Contents.{AreBytes}
 use Rattle.cool_simulation.specs.Accord.{Means}
 use Rattle.spim_debug.specs.Debugging.{IsScriptFor}
 use Rattle.spim_debug.specs.declared.script.ScriptFault.{ScriptFault}
-use Rattle.spim_machine.specs.declared.halt.Halt.{Halt}
 use Rattle.cool_words.specs.Plans.Asked.{debug}
 use Rattle.cool_words.specs.declared.plan.RunLimits.{RunLimits}
 use Rattle.cool_words.specs.Plans.{IsBounded, is_file_name}
 use Rattle.cool_driver.specs.CommandLine.{words_of, asked_for, plan_of}
 pub use Rattle.cool_driver.specs.Statuses.{code_of}
 pub use Rattle.cool_driver.specs.Sources.{AreSources}
-pub use Rattle.cool_driver.specs.Telling.{AreLines, note_of, fault_note, Noted, NotedIfMade}
+pub use Rattle.cool_driver.specs.Telling.{AreLines, note_of, fault_note, Noted, NotedIfMade, HaltNoted}
 use Rattle.cool_driver.specs.Notes.{refused_note, missing_note, unread_note, too_large_note, image_note, asm_note, script_note}
-use Rattle.cool_driver.specs.Execution.{IsRunnable, IsTextFault, is_text_file, status_of_halt, note_of_halt}
+use Rattle.cool_driver.specs.Execution.{IsRunnable, IsTextFault, is_text_file}
 use Rattle.cool_driver.specs.Compiled.{IsImageFor}
 use Rattle.cool_driver.specs.Debugging.{commands_for}
 use Rattle.cool_driver.specs.Calls.{Request, SinkUse, Got, GotPart}
@@ -154,12 +153,6 @@ abbrev pub IsDebugTask : Option FileMap → ℕ → ℕ → RunLimits → List �
 IsDebugTask files before after limits script names task =
     (words : List (List ℕ)) (input : List ℕ) → asked_for words ≡ Some (debug script names limits)
     → IsDue (record { words = words; files = files; faults_before = before; faults_after = after; input = input }) task
-
--- How a machine halted was noted, and its status answered, or the write of the note failed.
-abbrev pub HaltNoted : SinkUse → Halt → Status → Type 0
-HaltNoted s halt answered =
-    ((code_of answered ≡ status_of_halt halt) × Got s (note_of_halt halt))
-    ⊎ ((answered ≡ statuses.WriteFault) × (note_of_halt halt ≢ []) × GotPart s [] (note_of_halt halt))
 
 -- what it takes to do a task: no line is empty, and limits and scripts are in their bounds
 abbrev pub IsSafe : Task → Type 0

@@ -1,12 +1,15 @@
--- How notes are told: the lines of a note, the note of a file that was not read, and that bytes were written.
-use Rattle.std.specs.Prelude.{◌≡◌, ℕ, ◌<◌, ◌⊎◌, List, [], Option, Some, None, length}
+-- How notes are told: the lines of a note, the note of a file that was not read, that bytes were written, and how a machine halted.
+use Rattle.std.specs.Prelude.{◌≡◌, ◌≢◌, ℕ, ◌<◌, ◌⊎◌, List, [], Option, Some, None, length}
 use Rattle.std.specs.List.{concat, AllByRecursion}
 use Rattle.std.specs.Global.{Vec}
 use Rattle.cool_ports.specs.declared.shelf.ShelfFault.{ShelfFault}
 use Rattle.cool_ports.specs.declared.shelf.ShelfFault.TheVariants as faults
+use Rattle.spim_machine.specs.declared.halt.Halt.{Halt}
 use Rattle.cool_driver.specs.Calls.{SinkUse, Got, GotPart}
 use Rattle.cool_driver.specs.Contents.{texts}
+use Rattle.cool_driver.specs.Execution.{status_of_halt, note_of_halt}
 use Rattle.cool_driver.specs.Notes.{missing_note, unread_note, too_large_note}
+use Rattle.cool_driver.specs.Statuses.{code_of}
 use Rattle.cool_driver.specs.declared.status.Status.{Status}
 use Rattle.cool_driver.specs.declared.status.Status.TheVariants as statuses
 
@@ -31,3 +34,9 @@ Noted s bytes status answered = ((answered ≡ status) × Got s bytes) ⊎ ((ans
 -- The same, unless memory ran out before anything was written.
 abbrev pub NotedIfMade : SinkUse → List ℕ → Status → Status → Type 0
 NotedIfMade s bytes status answered = Noted s bytes status answered ⊎ ((answered ≡ statuses.Memory) × Got s [])
+
+-- How a machine halted was noted, and its status answered, or the write of the note failed.
+abbrev pub HaltNoted : SinkUse → Halt → Status → Type 0
+HaltNoted s halt answered =
+    ((code_of answered ≡ status_of_halt halt) × Got s (note_of_halt halt))
+    ⊎ ((answered ≡ statuses.WriteFault) × (note_of_halt halt ≢ []) × GotPart s [] (note_of_halt halt))

@@ -4,4 +4,5 @@ pub mod Check
 pub mod Build
 pub mod Eval
 pub mod Big
+pub mod Debug
 pub mod Session

@@ -3,5 +3,6 @@
 pub mod big;
 pub mod build;
 pub mod check;
+pub mod debug;
 pub mod eval;
 pub mod session;

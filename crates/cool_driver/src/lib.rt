@@ -25,7 +25,6 @@ mod laws;
 mod notes;
 mod reading;
 mod refusal;
-mod script;
 mod sources;
 mod status;
 mod task;
@@ -35,6 +34,7 @@ use command_line::{Command, Form};
 use commands::big::sum_up;
 use commands::build::build_files;
 use commands::check::check_files;
+use commands::debug::debug_files;
 use commands::eval::evaluate_files;
 use commands::session::hold_session;
 use cool_ports::{Failed, Shelf, Sink, Source};
@@ -42,7 +42,6 @@ use cool_words::{Plan, WordsError, read_words};
 use doing::do_task;
 pub use laws::law_ends_as_before;
 use notes::{BAD_COMMAND_LINE, tell};
-use script::find_debug_task;
 pub use status::Status;
 use std::alloc::Global;
 use task::{find_exec_task, find_file_task};
@@ -129,8 +128,16 @@ pub fn cool<F: Shelf, I: Source, O: Sink, E: Sink>(
                 limits,
             },
         ) => {
-            let task = find_debug_task(alloc, limits, script.as_str(), &names, files);
-            do_task(alloc, task, input, out, notes)
+            debug_files(
+                alloc,
+                limits,
+                script.as_str(),
+                &names,
+                files,
+                input,
+                out,
+                notes,
+            )
         }
         Ok(Plan::Big { n }) => sum_up(alloc, n, out),
         Ok(Plan::Session) => hold_session(alloc, input, out, notes),

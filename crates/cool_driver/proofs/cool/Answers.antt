@@ -8,7 +8,7 @@ use Rattle.cool_driver.specs.declared.command_line.Command.TheVariants.{Run, Eva
 use Rattle.cool_driver.specs.declared.command_line.Form.TheVariants.{Text, Image}
 use Rattle.cool_driver.proofs.DevicesOfCalls.{got_nothing}
 use Rattle.cool_driver.proofs.DueTasks.{for_ok}
-use Rattle.cool_driver.proofs.EndsByCommand.{ends_by, ends_so_far, usage_ends, short_ends, safe_of_due, takes, takes_eval}
+use Rattle.cool_driver.proofs.EndsByCommand.{ends_by, ends_so_far, usage_ends, short_ends, safe_of_due, takes, takes_debug, takes_eval}
 use Rattle.cool_driver.proofs.Plans.{asked_is, plan_is}
 use Rattle.cool_driver.proofs.rooms.Sessions.{read_fault_of_seven}
 use Rattle.cool_driver.proofs.cool.Goals as goal
@@ -28,15 +28,6 @@ do_task-status-requires-in-Ok-Exec g c =
     let plan = plan_is words _ (rw c.in-Ok-Exec.field-0-is at c.in-Ok-Exec.ensures.plan) in
     for_ok _ _ c.find_exec_task-task.result (λ task h. safe_of_due _ task (h words [] plan)) c.find_exec_task-task.ensures.due
 
-pub do_task-status-requires-in-Ok-Debug : goal.do_task-status-requires-in-Ok-Debug
-do_task-status-requires-in-Ok-Debug g c =
-    let words = words_of c.args.words.now in
-    let plan = c.in-Ok-Debug in
-    let asked = asked_is words ∙ (rw plan.field-0-is at plan.ensures.plan) in
-    let names = ap (λ (files : List (String Global)). Some (debug (string_bytes plan.script) (words_of files) plan.limits)) (sym c.deref-in-Ok-Debug.ensures.value) in
-    let script = ap (λ (name : List ℕ). Some (debug name (words_of c.deref-in-Ok-Debug.result.now) plan.limits)) (sym c.as_str.ensures.value) in
-    for_ok _ _ c.find_debug_task-task.result (λ task h. safe_of_due _ task (h words [] (asked ∙ names ∙ script))) c.find_debug_task-task.ensures.due
-
 pub returns-clause-taken : goal.returns-clause-taken
 returns-clause-taken g c =
     elim c.match-read_words.branch [
@@ -46,7 +37,7 @@ returns-clause-taken g c =
       | in-Ok-Run w ↦ rw w.input-is w.do_task-status.ensures.taken
       | in-Ok-Eval w ↦ rw w.input-is w.evaluate_files-status.ensures.taken
       | in-Ok-Exec w ↦ rw w.input-is w.do_task-status-in-Ok-Exec.ensures.taken
-      | in-Ok-Debug w ↦ rw w.input-is w.do_task-status-in-Ok-Debug.ensures.taken
+      | in-Ok-Debug w ↦ rw w.input-is w.debug_files-status.ensures.taken
       | in-Ok-Big w ↦ rw w.input-is (false, took_nothing _ _ _)
       | in-Ok-Session w ↦ rw w.input-is w.hold_session-status.ensures.taken
       | in-Err-Usage w ↦ rw w.input-is (false, took_nothing _ _ _)
@@ -70,10 +61,7 @@ returns-clause-input g c none =
           w.input-is ∙ w.do_task-status-in-Ok-Exec.ensures.input _ (for_ok _ _ w.find_exec_task-task.result (λ task h. h words [] plan) w.find_exec_task-task.ensures.due) none
       | in-Ok-Debug w ↦
           let plan = w.in-Ok-Debug in
-          let asked = asked_is words ∙ (rw plan.field-0-is at plan.ensures.plan) in
-          let names = ap (λ (files : List (String Global)). Some (debug (string_bytes plan.script) (words_of files) plan.limits)) (sym w.deref-in-Ok-Debug.ensures.value) in
-          let script = ap (λ (name : List ℕ). Some (debug name (words_of w.deref-in-Ok-Debug.result.now) plan.limits)) (sym w.as_str.ensures.value) in
-          w.input-is ∙ w.do_task-status-in-Ok-Debug.ensures.input _ (for_ok _ _ w.find_debug_task-task.result (λ task h. h words [] (asked ∙ names ∙ script)) w.find_debug_task-task.ensures.due) none
+          absurd (takes_debug words (string_bytes plan.script) _ plan.limits (asked_is words ∙ (rw plan.field-0-is at plan.ensures.plan)) none)
       | in-Ok-Big w ↦ w.input-is
       | in-Ok-Session w ↦ absurd (takes words (asked_is words ∙ (rw w.in-Ok-Session.field-0-is at w.in-Ok-Session.ensures.plan)) none)
       | in-Err-Usage w ↦ w.input-is
@@ -146,8 +134,10 @@ returns-clause-ends g c given rest leaves =
           let asked = asked_is words ∙ (rw plan.field-0-is at plan.ensures.plan) in
           let names = ap (λ (files : List (String Global)). Some (debug (string_bytes plan.script) (words_of files) plan.limits)) (sym w.deref-in-Ok-Debug.ensures.value) in
           let script = ap (λ (name : List ℕ). Some (debug name (words_of w.deref-in-Ok-Debug.result.now) plan.limits)) (sym w.as_str.ensures.value) in
-          let ends = w.do_task-status-in-Ok-Debug.ensures.ends _ rest (for_ok _ _ w.find_debug_task-task.result (λ task h. h words given (asked ∙ names ∙ script)) w.find_debug_task-task.ensures.due) w.find_debug_task-task.ensures.count here in
-          rw (c.code.ensures, w.status-is, w.files-is, w.out-is, w.notes-is, w.input-is) (ends_so_far _ _ (Some (debug _ _ plan.limits)) asked ends ends)
+          let goes = w.debug_files-status.ensures.ends words given rest here in
+          rw (c.code.ensures, w.status-is, w.files-is, w.out-is, w.notes-is, w.input-is)
+          (ends_by _ _ (Some (debug w.as_str.result.now (words_of w.deref-in-Ok-Debug.result.now) plan.limits)) (asked ∙ names ∙ script) goes.devices goes.ends
+          (λ e. absurd (goes.asked e)))
       | in-Ok-Big w ↦
           let here = rw w.input-is at leaves in
           let asked = asked_is words ∙ (rw w.in-Ok-Big.field-0-is at w.in-Ok-Big.ensures.plan) in

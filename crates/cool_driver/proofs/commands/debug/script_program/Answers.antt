@@ -1,4 +1,4 @@
-use Rattle.std.proofs.Common.{◌∙◌, length, refl, ap, sym, subst, arith}
+use Rattle.std.proofs.Common.{◌∙◌, length, ap, sym, subst, arith}
 use Rattle.std.proofs.lemmas.List.{length-map}
 use Rattle.mips_isa.specs.Assembly.{fault_of, image_of}
 use Rattle.mips_isa.specs.ImageBounds.{ImageParts}
@@ -7,10 +7,8 @@ use Rattle.cool_emit.proofs.SoundLinesAssemble.{few_lines, in_range, no_fault}
 use Rattle.spim_debug.specs.Debugging.{IsScriptFor}
 use Rattle.cool_driver.specs.CommandLine.{words_of}
 use Rattle.cool_driver.proofs.Plans.{short_names}
-use Rattle.cool_driver.proofs.DueTasks.{for_ok}
-use Rattle.cool_driver.proofs.NoteLines.{script_line}
-use Rattle.cool_driver.proofs.ScriptTasks.{says_commands, says_fault}
-use Rattle.cool_driver.proofs.script.debug_program.Goals as goal
+use Rattle.cool_driver.proofs.rooms.Debuggings.{misscripted_line, says_commands, says_fault}
+use Rattle.cool_driver.proofs.commands.debug.script_program.Goals as goal
 
 -- the names are short
 pub lines-requires-clause-names : goal.lines-requires-clause-names
@@ -50,26 +48,31 @@ assemble_lines-requires-clause-no_fault c =
     ap fault_of (ap lines_of c.deref-in-Ok.ensures.value ∙ c.in_ok-lines.ensures.lines) ∙ no_fault _ _ c.lines.ensures.sound
 
 -- the script says commands
-pub returns-in-Ok : goal.returns-in-Ok
-returns-in-Ok c =
-    let commands = c.in-Ok.commands.items in
+pub returns-in-Ok-clause-image : goal.returns-in-Ok-clause-image
+returns-in-Ok-clause-image c =
+    let again = ap lines_of c.deref-in-Ok.ensures.value ∙ c.in_ok-lines.ensures.lines in
+    c.in_ok-assemble_lines-in-Ok.ensures ∙ ap image_of again
+
+pub returns-in-Ok-clause-says : goal.returns-in-Ok-clause-says
+returns-in-Ok-clause-says c =
+    let same = ap lines_of c.deref.ensures.value ∙ c.in_ok-lines.ensures.lines in
+    says_commands (lines_of c.deref.result.now) c.args.program.now (words_of c.args.names.now) c.args.bytes.now c.in-Ok.commands.items same c.in-Ok.ensures.exact
+
+pub returns-in-Ok-clause-script : goal.returns-in-Ok-clause-script
+returns-in-Ok-clause-script c =
     let same = ap lines_of c.deref.ensures.value ∙ c.in_ok-lines.ensures.lines in
     let again = ap lines_of c.deref-in-Ok.ensures.value ∙ c.in_ok-lines.ensures.lines in
     let image = c.in_ok-assemble_lines-in-Ok.ensures ∙ ap image_of again in
-    let fits = subst (λ (i : ImageParts). IsScriptFor i.text commands) (ap image_of same ∙ sym image) c.in-Ok.ensures.for_text in
-    let names = words_of c.args.names.now in
-    let says = says_commands (lines_of c.deref.result.now) c.args.program.now names c.args.bytes.now commands same c.in-Ok.ensures.exact in
-    (refl, image, says, fits)
+    subst (λ (i : ImageParts). IsScriptFor i.text c.in-Ok.commands.items) (ap image_of same ∙ sym image) c.in-Ok.ensures.for_text
 
 -- it has a fault
-pub returns-in-Err-Fault : goal.returns-in-Err-Fault
-returns-in-Err-Fault c =
+pub returns-in-Err-Fault-clause-refused : goal.returns-in-Err-Fault-clause-refused
+returns-in-Err-Fault-clause-refused c =
     let fault = c.in-Err-Fault.fault in
     let names = words_of c.args.names.now in
     let same = ap lines_of c.deref.ensures.value ∙ c.in_ok-lines.ensures.lines in
     let exact = rw c.in-Err-Fault.field-0-is at c.in-Err-Fault.ensures.exact in
     let wrong = says_fault (lines_of c.deref.result.now) c.args.program.now names c.args.bytes.now fault same exact in
-    let note = c.as_bytes.ensures.value ∙ (rw c.in-Err-Fault.field-0-is at c.in_ok-note-in-Err-Fault.ensures) in
-    for_ok _ _ c.tell_line.result
-    (λ task h. script_line c.args.limits c.args.script.now c.args.bytes.now names c.args.program.now fault c.as_bytes.result.now task wrong note h)
-    c.tell_line.ensures
+    let note = c.as_bytes.ensures.value ∙ c.in_ok-note-in-Err-Fault.ensures in
+    misscripted_line c.args.script.now c.args.bytes.now names c.args.program.now fault c.as_bytes.result.now c.refuse_by_line.result wrong note
+    c.refuse_by_line.ensures

@@ -1,0 +1,164 @@
+-- What `debug` promises: the run of the image for the program that its files are, within the limits, with the notes that its script asks for, and
+-- else why there is none.
+use Rattle.std.specs.Prelude.{◌≡◌, ◌≢◌, ℕ, ◌<◌, ◌≤◌, ◌⊎◌, List, [], ◌++◌, length, Some, None, Ok, Err}
+use Rattle.cool_syntax.specs.declared.TheConstants.{MOST_FILES, MOST_SOURCE_BYTES}
+use Rattle.cool_classes.specs.Chains.{Class}
+use Rattle.cool_emit.specs.Programs.{program_lines}
+use Rattle.cool_faults.specs.declared.fault.Fault.{Fault}
+use Rattle.cool_faults.specs.Verdicts.{IsAccepted, IsFaultList}
+use Rattle.cool_ports.specs.Counts.{Rose}
+use Rattle.cool_ports.specs.ShelfFiles.{FileMap, MayHold, IsMissing, IsLonger}
+use Rattle.cool_ports.specs.SinkBytes.{appended}
+use Rattle.cool_runtime.specs.Contents.{AreBytes}
+use Rattle.cool_simulation.specs.Accord.{Means}
+use Rattle.mips_isa.specs.Assembly.{image_of}
+use Rattle.mips_isa.specs.ImageBounds.{ImageParts}
+use Rattle.spim_debug.specs.Debugging.{Debugged, CountedBy}
+use Rattle.spim_debug.specs.declared.debugger.DebugEnd.{DebugEnd}
+use Rattle.spim_debug.specs.declared.debugger.DebugEnd.TheVariants as end
+use Rattle.spim_debug.specs.declared.script.DebugCommand.{DebugCommand}
+use Rattle.spim_debug.specs.declared.script.ScriptFault.{ScriptFault}
+use Rattle.spim_debug.specs.declared.script.TheConstants.{MOST_SCRIPT_BYTES}
+use Rattle.spim_machine.specs.declared.halt.Halt.TheVariants as halt
+use Rattle.cool_words.specs.Plans.{IsBounded}
+use Rattle.cool_words.specs.declared.plan.RunLimits.{RunLimits}
+use Rattle.cool_driver.specs.Calls.{Request, Call, SinkUse, Got, GotPart, ShelfUse, shelf_of, HasTold, UnlessCutShort, DidNothing}
+use Rattle.cool_driver.specs.Comes.{Comes, NoPieces}
+use Rattle.cool_driver.specs.Debugging.{commands_for, debuggee_within, debug_notes}
+use Rattle.cool_driver.specs.Execution.{run_of, left_by, status_of, note_of}
+use Rattle.cool_driver.specs.Headline.{Headline, IsPartOfSource}
+use Rattle.cool_driver.specs.Notes.{missing_note, unread_note, too_many_note, too_large_note, refused_note, read_fault_note, script_note}
+use Rattle.cool_driver.specs.Sources.{AreRead, IsProgram, IsNoProgram, FilesExactly}
+use Rattle.cool_driver.specs.Statuses.{REFUSED, READ_FAULT, WRITE_FAULT, OUT_OF_MEMORY, FILE_FAULT, UNFIT}
+
+-- The script of this name has these bytes, as far as the shelf tells, and is not too large.
+pub record ScriptIsRead (shelf : ShelfUse) (script bytes : List ℕ) : Type 0 where
+  pub held : MayHold shelf.files script bytes
+  pub within : length bytes ≤ MOST_SCRIPT_BYTES
+
+-- Why the script of this name was not read, and the note of it.
+pub data ScriptIsUnread (shelf : ShelfUse) (script : List ℕ) : List ℕ → Type 0 where
+  missing : IsMissing shelf.files script shelf.faults_before shelf.faults_after → ScriptIsUnread shelf script (missing_note script)
+  unread : Rose shelf.faults_before shelf.faults_after → ScriptIsUnread shelf script (unread_note script)
+  too_large : IsLonger shelf.files script MOST_SCRIPT_BYTES shelf.faults_before shelf.faults_after → ScriptIsUnread shelf script too_large_note
+
+-- the same as what is due: the status and the note
+abbrev pub IsDueUnscripted : ShelfUse → List ℕ → ℕ → List ℕ → Type 0
+IsDueUnscripted shelf script status note = (status ≡ FILE_FAULT) × ScriptIsUnread shelf script note
+
+-- what is due for a program whose files have these names, where the script of this name and these bytes has a fault
+abbrev pub IsDueToScript : List ℕ → List ℕ → List (List ℕ) → List Class → ℕ → List ℕ → Type 0
+IsDueToScript script bytes names p status note =
+    (fault : ScriptFault) × (commands_for p names bytes ≡ Err fault) × (status ≡ UNFIT) × (note ≡ script_note script fault)
+
+-- Why nothing is debugged for this script and the files of these names: the status and the note.
+pub data IsNoDebuggee (script : List ℕ) (names : List (List ℕ)) (shelf : ShelfUse) : ℕ → List ℕ → Type 0 where
+  too_many : MOST_FILES < length names → shelf.faults_after ≡ shelf.faults_before → IsNoDebuggee script names shelf FILE_FAULT too_many_note
+  -- there are not too many files, and the script was not read
+  unscripted : (note : List ℕ) → length names ≤ MOST_FILES → ScriptIsUnread shelf script note → IsNoDebuggee script names shelf FILE_FAULT note
+  -- it was read, and the files are no program
+  refused : (bytes : List ℕ) (status : ℕ) (note : List ℕ) → ScriptIsRead shelf script bytes → IsNoProgram shelf names status note
+      → IsNoDebuggee script names shelf status note
+  -- they are one, for which the script has a fault
+  misscripted : (bytes : List ℕ) (p : List Class) (fault : ScriptFault) → ScriptIsRead shelf script bytes → IsProgram shelf names p
+      → commands_for p names bytes ≡ Err fault → IsNoDebuggee script names shelf UNFIT (script_note script fault)
+
+-- The image that is debugged for them, that of the lines of the program that the files are, which means it; and the commands that the script says
+-- for the program.
+pub record IsDebuggee (script : List ℕ) (names : List (List ℕ)) (shelf : ShelfUse) (image : ImageParts) (commands : List DebugCommand) : Type 0 where
+  pub bytes : List ℕ
+  pub read : ScriptIsRead shelf script bytes
+  pub p : List Class
+  pub is : IsProgram shelf names p
+  pub says : commands_for p names bytes ≡ Ok commands
+  pub image_is : image ≡ image_of (program_lines p names)
+  pub means : Means image p names
+
+-- what is due where nothing is debugged: no output, and no input is taken
+pub data DueToUndebugged (script : List ℕ) (names : List (List ℕ)) (r : Request) : ℕ → List ℕ → List ℕ → List ℕ → Type 0 where
+  undebugged : (status : ℕ) (note : List ℕ) → IsNoDebuggee script names (shelf_of r) status note
+      → DueToUndebugged script names r status [] note r.input
+
+-- The debugger stopped so in a call, when the notes had fared so: where the run of the image stands, which notes of which commands came, and
+-- which device failed, if one did.
+pub record Stopped (limits : RunLimits) (image : ImageParts) (commands : List DebugCommand) (c : Call) (how : DebugEnd) (notes : SinkUse) : Type 0 where
+  pub debugged : Debugged (debuggee_within limits image c.request.input) commands how c.out.held_before (Some c.left) c.out.held_after
+      notes.held_before notes.held_after
+  pub counted : CountedBy how c.input_before c.input_after c.out.faults_before c.out.faults_after notes.faults_before notes.faults_after
+
+-- when just these notes had come
+abbrev pub with_notes : SinkUse → List ℕ → SinkUse
+with_notes s notes = record s { held_after = appended s.held_before notes; faults_after = s.faults_before }
+
+-- No write failed in a call, and memory sufficed, until the note of the end was due: the status, the notes of the commands, and that note.
+pub data Finished (limits : RunLimits) (image : ImageParts) (commands : List DebugCommand) (c : Call) : ℕ → List ℕ → List ℕ → Type 0 where
+  -- the run of the image ended: its output came, and what it leaves of the input is left; the notes are those of all commands
+  debugged : Got c.out (left_by (run_of limits image c.request.input)).output → c.left ≡ (left_by (run_of limits image c.request.input)).input
+      → Finished limits image commands c (status_of (run_of limits image c.request.input)) (debug_notes limits image commands c.request.input)
+      (note_of (run_of limits image c.request.input))
+  -- it came to a call that failed to read: the notes are those of the commands before the one that was begun
+  unread_debugged : (notes : List ℕ) → Stopped limits image commands c (end.Halt halt.ReadFault) (with_notes c.notes notes)
+      → Finished limits image commands c READ_FAULT notes read_fault_note
+
+-- How a call goes that debugs an image, by the status.
+pub data Debugs (limits : RunLimits) (image : ImageParts) (commands : List DebugCommand) (c : Call) : ℕ → Type 0 where
+  -- what is due was written, and nothing else
+  written : (status : ℕ) (notes note : List ℕ) → Finished limits image commands c status notes note → Got c.notes (notes ++ note)
+      → Debugs limits image commands c status
+  -- status 8: the write of the note of the end failed: all notes before it came, and of it a prefix
+  unnoted : (status : ℕ) (notes note : List ℕ) → Finished limits image commands c status notes note → GotPart c.notes notes note
+      → Debugs limits image commands c WRITE_FAULT
+  -- status 8: a write of the output failed: just the notes of the commands before the one that was begun came
+  unwritten : Stopped limits image commands c (end.Halt halt.WriteFault) c.notes → Debugs limits image commands c WRITE_FAULT
+  -- status 8: the write of a note of a command failed: the notes of the commands before it came, and of its own a prefix; the run stands where
+  -- that command leaves it
+  unnoted_command : Stopped limits image commands c end.NoteFault c.notes → Debugs limits image commands c WRITE_FAULT
+  -- status 9: memory ran out before anything was written or taken
+  short : DidNothing c → Debugs limits image commands c OUT_OF_MEMORY
+  -- status 9: it ran out in a command, and as much came as where its note fails, or before the first command
+  cut_short : Stopped limits image commands c end.Memory c.notes → Debugs limits image commands c OUT_OF_MEMORY
+
+-- How a call of `debug` goes: nothing is debugged, or an image for the program and the script.
+pub data DebugComes (script : List ℕ) (names : List (List ℕ)) (limits : RunLimits) (c : Call) (status : ℕ) : Type 0 where
+  refused : Comes (DueToUndebugged script names c.request) NoPieces c status → DebugComes script names limits c status
+  debugs : (image : ImageParts) (commands : List DebugCommand) → IsDebuggee script names (shelf_of c.request) image commands → IsBounded limits
+      → Debugs limits image commands c status → DebugComes script names limits c status
+
+-- How a call of `debug` for a program stops short: a note of a command failed, status 8, or memory ran out, status 9, after some instructions of the
+-- run of an image that means the program.
+pub record StopsShort (c : Call) (status : ℕ) (limits : RunLimits) (names : List (List ℕ)) (p : List Class) (commands : List DebugCommand) : Type 0 where
+  pub image : ImageParts
+  pub means : Means image p names
+  pub stops : ((status ≡ WRITE_FAULT) × Stopped limits image commands c end.NoteFault c.notes)
+      ⊎ ((status ≡ OUT_OF_MEMORY) × Stopped limits image commands c end.Memory c.notes)
+  pub part : IsPartOfSource c limits names p
+
+-- How a call of `debug` with a script and files of these names, within limits, ends.
+pub record DebugEnds (script : List ℕ) (names : List (List ℕ)) (limits : RunLimits) (c : Call) (status : ℕ) : Type 0 where
+  pub comes : DebugComes script names limits c status
+  -- where the files were read and are accepted, and the script was read and has no fault, it goes as the run of the image of the program under
+  -- the debugger, whatever the status
+  pub debugged_exactly : (files : FileMap) (contents : List (List ℕ)) (p : List Class) (bytes : List ℕ) (commands : List DebugCommand)
+      → HasTold (shelf_of c.request) files → AreRead (shelf_of c.request) MOST_SOURCE_BYTES names contents → IsAccepted contents p
+      → ScriptIsRead (shelf_of c.request) script bytes → commands_for p names bytes ≡ Ok commands
+      → Debugs limits (image_of (program_lines p names)) commands c status
+  -- where it has a fault, status 12 comes, and the note tells that
+  pub misscripted_exactly : (files : FileMap) (contents : List (List ℕ)) (p : List Class) (bytes : List ℕ) (fault : ScriptFault)
+      → HasTold (shelf_of c.request) files → AreRead (shelf_of c.request) MOST_SOURCE_BYTES names contents → IsAccepted contents p
+      → ScriptIsRead (shelf_of c.request) script bytes → commands_for p names bytes ≡ Err fault
+      → UnlessCutShort status ((status ≡ UNFIT) × Got c.notes (script_note script fault))
+  -- where it has none, it goes as `run`, unless it stops short, or memory ran out before anything was written or taken
+  pub debugged_headline : (files : FileMap) (contents : List (List ℕ)) (p : List Class) (bytes : List ℕ) (commands : List DebugCommand)
+      → HasTold (shelf_of c.request) files → AreRead (shelf_of c.request) MOST_SOURCE_BYTES names contents → IsAccepted contents p
+      → ScriptIsRead (shelf_of c.request) script bytes → commands_for p names bytes ≡ Ok commands → AreBytes c.request.input
+      → Headline c status limits names p ⊎ StopsShort c status limits names p commands ⊎ ((status ≡ OUT_OF_MEMORY) × DidNothing c)
+  -- status 10 comes where the script is missing or too large, and where files are
+  pub script_missing_exactly : (files : FileMap) → HasTold (shelf_of c.request) files → files script ≡ None
+      → UnlessCutShort status (status ≡ FILE_FAULT)
+  pub script_too_large_exactly : (files : FileMap) (bytes : List ℕ) → HasTold (shelf_of c.request) files → files script ≡ Some bytes
+      → MOST_SCRIPT_BYTES < length bytes → UnlessCutShort status (status ≡ FILE_FAULT)
+  pub files : FilesExactly names MOST_SOURCE_BYTES c status
+  -- status 1 comes where the script and the files were read and the fault list is not empty, with a line for each fault of it
+  pub refused_exactly : (files : FileMap) (contents : List (List ℕ)) (bytes : List ℕ) (faults : List Fault) → HasTold (shelf_of c.request) files
+      → AreRead (shelf_of c.request) MOST_SOURCE_BYTES names contents → ScriptIsRead (shelf_of c.request) script bytes
+      → IsFaultList contents faults → faults ≢ [] → UnlessCutShort status ((status ≡ REFUSED) × Got c.notes (refused_note names faults))
