@@ -6,22 +6,23 @@ use Rattle.cool_syntax.specs.declared.TheConstants.{MOST_FILES, MOST_SOURCE_BYTE
 use Rattle.cool_words.specs.Plans.{Asked, IsBounded}
 use Rattle.cool_words.specs.declared.plan.RunLimits.{RunLimits}
 use Rattle.cool_words.specs.Plans.Asked.{check, asm, build, run, eval, exec, debug, big, session}
+use Rattle.mips_isa.specs.ImageBounds.{ImageParts}
 use Rattle.cool_classes.specs.Chains.{Class}
 use Rattle.cool_faults.specs.Files.{total}
 use Rattle.cool_ports.specs.ShelfFiles.{IsLonger}
 use Rattle.cool_ports.specs.SinkBytes.{appended, GotPrefix}
 use Rattle.cool_ports.proofs.GettingBytes.{appended-nil, appended-appended}
-use Rattle.mips_isa.specs.ImageBounds.{ImageParts}
 use Rattle.spim_debug.specs.Moves.{beginning}
 use Rattle.spim_debug.specs.Notes.{all_notes}
 use Rattle.spim_debug.specs.declared.debugger.DebugEnd.TheVariants as end
 use Rattle.spim_debug.specs.declared.script.DebugCommand.{DebugCommand}
 use Rattle.spim_machine.specs.declared.halt.Halt.TheVariants as halts
 use Rattle.cool_driver.specs.Before as before
-use Rattle.cool_driver.specs.Before.{Due, Writing, IsEvaluationOf, IsDebugged, IsDebugOf, IsUnreadScript, DebuggedPart, FailedDebugged}
+use Rattle.cool_driver.specs.Before.{Due, Writing, IsEvaluationOf, IsDebugged, IsDebugOf, IsRunOf, IsUnreadScript, DebuggedPart, FailedDebugged}
+use Rattle.cool_driver.specs.Before.IsRunOf.{of_file, of_program}
 use Rattle.cool_driver.specs.Before.IsUnreadScript.{missing_script, unread_script, large_script}
-use Rattle.cool_driver.specs.Before.Due.{built as due_built, checked as due_checked, conversed as due_conversed, debugged as due_debugged, evaluated as due_evaluated, missing as due_missing, misscripted as due_misscripted, refused as due_refused, summed as due_summed, too_large as due_too_large, too_many as due_too_many, unread as due_unread, unread_debugged as due_unread_debugged, unscripted as due_unscripted, unread_source as due_unread_source, usage as due_usage}
-use Rattle.cool_driver.specs.Before.Writing.{by_build, by_big, by_eval, by_last_line, by_session}
+use Rattle.cool_driver.specs.Before.Due.{built as due_built, checked as due_checked, conversed as due_conversed, debugged as due_debugged, evaluated as due_evaluated, executed as due_executed, misread as due_misread, missing as due_missing, misscripted as due_misscripted, refused as due_refused, summed as due_summed, too_large as due_too_large, too_many as due_too_many, unfit as due_unfit, unread as due_unread, unread_debugged as due_unread_debugged, unread_input as due_unread_input, unscripted as due_unscripted, unread_source as due_unread_source, usage as due_usage}
+use Rattle.cool_driver.specs.Before.Writing.{by_build, by_big, by_image, by_eval, by_last_line, by_session}
 use Rattle.cool_driver.specs.CommandLine.{asked_for, files_asked, script_asked, plan_of, most_bytes}
 use Rattle.cool_driver.specs.Calls.{Request, Call, Got, IsRead, IsReadUpTo, IsScriptRead, HasScript, MayRefuse, shelf_of}
 use Rattle.cool_driver.specs.Comes.{Dues, Pieces, Comes, NoPieces}
@@ -32,7 +33,10 @@ use Rattle.cool_driver.specs.Execution.{run_of, left_by, status_of, note_of}
 use Rattle.cool_driver.specs.Headline.{StopsWriting}
 use Rattle.cool_driver.specs.Ends.{EndsBy, Ends}
 use Rattle.cool_driver.specs.Notes.{ending_note, read_fault_note}
-use Rattle.cool_driver.specs.Sources.{AreRead, AreReadUpTo, IsProgram, IsNoProgram}
+use Rattle.cool_driver.specs.Runs.{DueToRun, PiecesOfRun}
+use Rattle.cool_driver.specs.Runs.DueToRun.{ended as ran_to_end, unread as ran_unread}
+use Rattle.cool_driver.specs.Runs.PiecesOfRun.{of_call as of_run_call}
+use Rattle.cool_driver.specs.Sources.{AreRead, AreReadUpTo, AreUnread, IsProgram, IsNoProgram}
 use Rattle.cool_driver.specs.Sources.AreUnread.{too_many, missing, unread, too_large}
 use Rattle.cool_driver.specs.Sources.IsNoProgram.{not_read, faulty}
 use Rattle.cool_driver.specs.commands.Big.{DueToBig, PiecesOfBig}
@@ -47,6 +51,14 @@ use Rattle.cool_driver.specs.commands.Debug.DueToUndebugged.{undebugged}
 use Rattle.cool_driver.specs.commands.Debug.Finished.{debugged as finished_debug, unread_debugged as unread_debug}
 use Rattle.cool_driver.specs.commands.Debug.IsNoDebuggee.{too_many as debug_too_many, unscripted, refused as not_debugged, misscripted}
 use Rattle.cool_driver.specs.commands.Debug.ScriptIsUnread.{missing as no_script_there, unread as script_unread, too_large as script_too_large}
+use Rattle.cool_driver.specs.commands.Exec.{FileIsRead, IsLoaded, DueToExec, PiecesOfExec}
+use Rattle.cool_driver.specs.commands.Exec.DueToExec.{ran as file_ran, refused as not_executed}
+use Rattle.cool_driver.specs.commands.Exec.IsNoImage.{not_read as unread_file, unfit, misread}
+use Rattle.cool_driver.specs.commands.Exec.PiecesOfExec.{of_run as of_file_run}
+use Rattle.cool_driver.specs.commands.Run.{IsRunFor, DueToRunning, PiecesOfRunning}
+use Rattle.cool_driver.specs.commands.Run.DueToRunning.{ran, refused as not_run}
+use Rattle.cool_driver.specs.commands.Run.PiecesOfRunning.{of_run}
+use Rattle.cool_driver.specs.declared.TheConstants.{MOST_IMAGE_BYTES}
 use Rattle.cool_driver.specs.commands.Session.{IsSession, DueToSession, SessionComes, status_of_ending}
 use Rattle.cool_driver.specs.commands.Session.DueToSession.{to_end, to_read}
 use Rattle.cool_driver.specs.commands.Session.SessionComes.{ended, unread as cut_short, unwritten as session_unwritten, unnoted as session_unnoted, short as ran_short}
@@ -59,13 +71,14 @@ use Rattle.cool_driver.specs.commands.Eval.{DueToEval, PiecesOfEval, CutShort}
 use Rattle.cool_driver.specs.commands.Eval.DueToEval.{evaluated, unread as source_unread, refused as not_evaluated}
 use Rattle.cool_driver.specs.commands.Eval.PiecesOfEval.{of_call, of_last_line}
 use Rattle.cool_driver.specs.declared.command_line.Command.{Command}
-use Rattle.cool_driver.specs.declared.command_line.Command.TheVariants.{Check, Build, Eval, Debug}
+use Rattle.cool_driver.specs.declared.command_line.Command.TheVariants.{Check, Build, Run, Eval, Exec, Debug}
 use Rattle.cool_driver.specs.declared.command_line.Form.{Form}
 use Rattle.cool_driver.specs.declared.command_line.Form.TheVariants.{Text, Image}
 use Rattle.cool_driver.proofs.EndsOfDue.{ends_written, ends_write_fault, ends_short}
 use Rattle.cool_driver.proofs.Findings.{finding_of_due, finding_below}
+use Rattle.cool_driver.proofs.ComesOfRuns.{fails_alone, some_same}
 use Rattle.cool_driver.proofs.ScriptsOfCalls.{debug_plan, debug_script, has_script}
-use Rattle.cool_driver.proofs.rooms.Debuggings.{fails_alone, notes_are}
+use Rattle.cool_driver.proofs.rooms.Debuggings.{notes_are}
 
 -- an input that did not fail, where neither 7 nor 8 was answered: the two cases of the test
 calm_at : (status before after : ℕ) → before ≤ after → (before < after → (status ≡ 7) ⊎ (status ≡ 8)) → status ≢ 7 → status ≢ 8
@@ -115,36 +128,53 @@ no_script r asked is nothing other script =
     cc
 
 module _ (r : Request) (command : Command) (names : List (List ℕ)) (plan : plan_of r.words ≡ Some (command, names)) (script : HasScript r)
-    (may : MayRefuse command) (most : most_bytes command ≡ MOST_SOURCE_BYTES) where
-  read_before : (contents : List (List ℕ)) → AreRead (shelf_of r) MOST_SOURCE_BYTES names contents → IsRead r command names contents
-  read_before contents h = record {
+    (most : ℕ) (is : most_bytes command ≡ most) where
+  files_before : (contents : List (List ℕ)) → AreRead (shelf_of r) most names contents → IsRead r command names contents
+  files_before contents h = record {
     plan = plan;
     few = h.few;
     held = h.held;
-    within = subst (λ (n : ℕ). total contents ≤ n) (sym most) h.within;
+    within = subst (λ (n : ℕ). total contents ≤ n) (sym is) h.within;
     script = script;
     calm = h.calm;
   }
 
-  up_to_before : (name : List ℕ) (contents : List (List ℕ)) → AreReadUpTo (shelf_of r) MOST_SOURCE_BYTES names name contents
-      → IsReadUpTo r command name contents
+  up_to_before : (name : List ℕ) (contents : List (List ℕ)) → AreReadUpTo (shelf_of r) most names name contents → IsReadUpTo r command name contents
   up_to_before name contents h = record {
     front = h.front;
     rest = h.rest;
     plan = plan ∙ ap (λ (ns : List (List ℕ)). Some (command, ns)) h.stands;
     few = subst (λ (ns : List (List ℕ)). length ns ≤ MOST_FILES) h.stands h.few;
     held = h.held;
-    within = subst (λ (n : ℕ). total contents ≤ n) (sym most) h.within;
+    within = subst (λ (n : ℕ). total contents ≤ n) (sym is) h.within;
     script = script;
   }
 
+  unread_before : (note : List ℕ) → AreUnread (shelf_of r) most names note → Due r 10 [] note r.input
+  unread_before _ (too_many many calm) = due_too_many command names plan many calm
+  unread_before _ (missing name contents u gone) = due_missing command name contents (up_to_before name contents u) gone
+  unread_before _ (unread name contents u rose) = due_unread command name contents (up_to_before name contents u) rose
+  unread_before _ (too_large name contents u long) = due_too_large command name contents (up_to_before name contents u)
+      (subst (λ (n : ℕ). IsLonger r.files name (n - total contents) r.faults_before r.faults_after) (sym is) long)
+
+module _ (r : Request) (command : Command) (names : List (List ℕ)) (plan : plan_of r.words ≡ Some (command, names)) (script : HasScript r)
+    (may : MayRefuse command) (most : most_bytes command ≡ MOST_SOURCE_BYTES) where
+  read_before : (contents : List (List ℕ)) → AreRead (shelf_of r) MOST_SOURCE_BYTES names contents → IsRead r command names contents
+  read_before = files_before r command names plan script MOST_SOURCE_BYTES most
+
   refused_before : (status : ℕ) (note : List ℕ) → IsNoProgram (shelf_of r) names status note → Due r status [] note r.input
-  refused_before _ _ (not_read _ (too_many many calm)) = due_too_many command names plan many calm
-  refused_before _ _ (not_read _ (missing name contents u gone)) = due_missing command name contents (up_to_before name contents u) gone
-  refused_before _ _ (not_read _ (unread name contents u rose)) = due_unread command name contents (up_to_before name contents u) rose
-  refused_before _ _ (not_read _ (too_large name contents u long)) = due_too_large command name contents (up_to_before name contents u)
-      (subst (λ (n : ℕ). IsLonger r.files name (n - total contents) r.faults_before r.faults_after) (sym most) long)
+  refused_before _ _ (not_read note why) = unread_before r command names plan script MOST_SOURCE_BYTES most note why
   refused_before _ _ (faulty contents faults read wrong) = due_refused command names contents faults (read_before contents read) may wrong
+
+-- An image that runs
+
+module _ (r : Request) (limits : RunLimits) (image : ImageParts) (is : IsRunOf r limits image) where
+  run_before : (status : ℕ) (output note left : List ℕ) → DueToRun limits image r.input status output note left → Due r status output note left
+  run_before _ _ _ _ ran_to_end = due_executed limits image is
+  run_before _ _ _ _ (ran_unread at output left comes fails) = due_unread_input limits image at output left is comes fails
+
+  run_pieces : (bytes piece left : List ℕ) → PiecesOfRun limits image r.input bytes piece left → Writing r bytes piece left
+  run_pieces _ _ _ (of_run_call at printed comes prints) = by_image limits image at printed is comes prints
 
 -- `check`
 
@@ -165,6 +195,52 @@ module _ (r : Request) (form : Form) (names : List (List ℕ)) (plan : plan_of r
 
   build_pieces : (bytes piece left : List ℕ) → PiecesOfBuild form names r bytes piece left → Writing r bytes piece left
   build_pieces _ _ _ (of_program p h) = by_build form names h.contents p (read_before r (Build form) names plan script tt refl h.contents h.read) h.accepted
+
+-- `run`
+
+module _ (r : Request) (names : List (List ℕ)) (limits : RunLimits) (fold : Bool) (is : asked_for r.words ≡ Some (run names limits fold)) where
+  running_plan : plan_of r.words ≡ Some (Run limits fold, names)
+  running_plan = ap (option_and_then files_asked) is
+
+  running_script : HasScript r
+  running_script = no_script r (Some (run names limits fold)) is refl
+
+  running_is : (image : ImageParts) → IsRunFor names limits fold r image → IsRunOf r limits image
+  running_is image f =
+      of_program fold names f.is.contents f.p (read_before r (Run limits fold) names running_plan running_script tt refl f.is.contents f.is.read)
+      f.is.accepted f.for f.bounded
+
+  running_before : (status : ℕ) (output note left : List ℕ) → DueToRunning names limits fold r status output note left → Due r status output note left
+  running_before _ _ _ _ (ran image status output note left for row) = run_before r limits image (running_is image for) status output note left row
+  running_before _ _ _ _ (not_run status note why) = refused_before r (Run limits fold) names running_plan running_script tt refl status note why
+
+  running_pieces : (bytes piece left : List ℕ) → PiecesOfRunning names limits fold r bytes piece left → Writing r bytes piece left
+  running_pieces _ _ _ (of_run image bytes piece left for row) = run_pieces r limits image (running_is image for) bytes piece left row
+
+-- `exec`
+
+module _ (r : Request) (name : List ℕ) (limits : RunLimits) (is : asked_for r.words ≡ Some (exec name limits)) where
+  exec_plan : plan_of r.words ≡ Some (Exec limits, name ∷ [])
+  exec_plan = ap (option_and_then files_asked) is
+
+  exec_script : HasScript r
+  exec_script = no_script r (Some (exec name limits)) is refl
+
+  exec_read : (bytes : List ℕ) → FileIsRead (shelf_of r) name bytes → IsRead r (Exec limits) (name ∷ []) (bytes ∷ [])
+  exec_read bytes = files_before r (Exec limits) (name ∷ []) exec_plan exec_script MOST_IMAGE_BYTES refl (bytes ∷ [])
+
+  exec_is : (image : ImageParts) → IsLoaded (shelf_of r) name image → IsRunOf r limits image
+  exec_is image f = of_file name f.bytes (exec_read f.bytes f.read) f.runs
+
+  exec_before : (status : ℕ) (output note left : List ℕ) → DueToExec name limits r status output note left → Due r status output note left
+  exec_before _ _ _ _ (file_ran image status output note left is row) = run_before r limits image (exec_is image is) status output note left row
+  exec_before _ _ _ _ (not_executed _ _ (unread_file note why)) =
+      unread_before r (Exec limits) (name ∷ []) exec_plan exec_script MOST_IMAGE_BYTES refl note why
+  exec_before _ _ _ _ (not_executed _ _ (unfit bytes fault read binary wrong)) = due_unfit limits name bytes fault (exec_read bytes read) binary wrong
+  exec_before _ _ _ _ (not_executed _ _ (misread bytes fault read text wrong)) = due_misread limits name bytes fault (exec_read bytes read) text wrong
+
+  exec_pieces : (bytes piece left : List ℕ) → PiecesOfExec name limits r bytes piece left → Writing r bytes piece left
+  exec_pieces _ _ _ (of_file_run image bytes piece left is row) = run_pieces r limits image (exec_is image is) bytes piece left row
 
 -- `eval`
 
@@ -214,10 +290,6 @@ prefix_behind before after front note (rest, upto) = (
     got = upto.got ∙ (appended-appended before front upto.front ∙ ap (λ (held : Option (List ℕ)). appended held (front ++ upto.front)) (sym (appended-nil before)));
   },
 )
-
--- of two told lists that are one
-some_same : (a b : List ℕ) → Some a ≡ Some b → a ≡ b
-some_same a b e = cc
 
 unscripted_before : (r : Request) (script note : List ℕ) → ScriptIsUnread (shelf_of r) script note → IsUnreadScript r script note
 unscripted_before r script _ (no_script_there gone) = missing_script gone
@@ -404,9 +476,13 @@ by_command c status (Some (build names)) is devices h =
     let script = no_script c.request (Some (build names)) is refl in
     comes_before (DueToBuild Image names c.request) (PiecesOfBuild Image names c.request) c status (build_before c.request Image names plan script)
     (build_pieces c.request Image names plan script) devices h.comes
-by_command c status (Some (run names limits fold)) is devices h = h
+by_command c status (Some (run names limits fold)) is devices h =
+    comes_before (DueToRunning names limits fold c.request) (PiecesOfRunning names limits fold c.request) c status
+    (running_before c.request names limits fold is) (running_pieces c.request names limits fold is) devices h.comes
 by_command c status (Some (eval names steps)) is devices h = eval_before c names steps is status devices h.comes
-by_command c status (Some (exec name limits)) is devices h = h
+by_command c status (Some (exec name limits)) is devices h =
+    comes_before (DueToExec name limits c.request) (PiecesOfExec name limits c.request) c status (exec_before c.request name limits is)
+    (exec_pieces c.request name limits is) devices h.comes
 by_command c status (Some (debug script names limits)) is devices h = debug_before c script names limits is status devices h.comes
 by_command c status (Some (big n)) is devices h =
     comes_before (DueToBig n c.request) (PiecesOfBig n c.request) c status (big_before c.request n is) (big_pieces c.request n is) devices h.comes

@@ -7,7 +7,7 @@ use Rattle.mips_isa.specs.declared.asm_fault.AsmError.{AsmError}
 use Rattle.mips_isa.specs.declared.asm_fault.AsmError.TheVariants.{Memory, Fault}
 use Rattle.mips_text.specs.Reading.{Reads}
 use Rattle.mips_text.specs.Answers.{TextReadsAs}
-use Rattle.cool_driver.specs.Tasks.{AssemblesText}
+use Rattle.cool_driver.specs.commands.Exec.{AssemblesText}
 
 -- a text is assembled as its lines are
 pub text_assembled : (bytes : List ℕ) (lines : List Line) (r : Result ImageParts AsmError) → Reads bytes lines → Assembles lines r → AssemblesText bytes r

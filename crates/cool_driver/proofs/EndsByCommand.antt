@@ -1,5 +1,5 @@
 -- How a call ends by the command that is asked for.
-use Rattle.std.proofs.Common.{◌≡◌, ◌≢◌, ℕ, ◌≤◌, List, [], false, inl, inr, Some, None, refl, sym, ◌∙◌, ap, subst, arith}
+use Rattle.std.proofs.Common.{◌≡◌, ◌≢◌, ℕ, ◌≤◌, Bool, List, [], ◌∷◌, false, inl, inr, Some, None, refl, sym, ◌∙◌, ap, subst, arith}
 use Rattle.std.specs.Prelude.{Option, option_and_then}
 use Rattle.cool_words.specs.Plans.{Asked}
 use Rattle.cool_words.specs.declared.plan.RunLimits.{RunLimits}
@@ -13,10 +13,7 @@ use Rattle.cool_driver.specs.Devices.{Devices}
 use Rattle.cool_driver.specs.Ends.{EndsBy, Ends, Goes}
 use Rattle.cool_driver.specs.Notes.{usage_note}
 use Rattle.cool_driver.specs.Statuses.{code_of}
-use Rattle.cool_driver.specs.Tasks.{IsDue, IsSafe}
 use Rattle.cool_driver.specs.Telling.{Noted}
-use Rattle.cool_driver.specs.declared.task.Task.{Task}
-use Rattle.cool_driver.specs.declared.task.Task.TheVariants.{Tell, Execute, Debug}
 use Rattle.cool_driver.specs.commands.Debug.DebugComes.{refused as comes_undebugged}
 use Rattle.cool_driver.specs.commands.Usage.{DueToUsage, UsageEnds}
 use Rattle.cool_driver.specs.commands.Usage.DueToUsage.{usage}
@@ -31,6 +28,8 @@ use Rattle.cool_driver.proofs.rooms.Builds.{build_goes}
 use Rattle.cool_driver.proofs.rooms.Checks.{check_goes}
 use Rattle.cool_driver.proofs.rooms.Debuggings.{debug_ends}
 use Rattle.cool_driver.proofs.rooms.Evaluations.{eval_ends}
+use Rattle.cool_driver.proofs.rooms.Executions.{exec_ends}
+use Rattle.cool_driver.proofs.rooms.Runnings.{running_ends}
 use Rattle.cool_driver.specs.declared.command_line.Form.TheVariants.{Text, Image}
 use Rattle.cool_driver.proofs.rooms.Sessions.{begun_short}
 
@@ -55,12 +54,6 @@ devices_before c status h = record {
   input_fault = h.input_fault;
   shelf_fault = h.shelf_fault;
 }
-
--- and how it ends
-pub ends_so_far : (c : Call) (status : ℕ) (asked : Option Asked) → asked_for c.request.words ≡ asked → before.Ends c status → EndsBy asked c status
-    → Ends c status
-ends_so_far c status asked is h ends =
-    ends_by c status asked is (devices_before c status h) ends (λ e. sym is ∙ h.usage_only e)
 
 -- Words that ask for nothing
 
@@ -103,10 +96,12 @@ by_short c (Some (asm names)) is calm nothing h =
 by_short c (Some (build names)) is calm nothing h =
     let g = build_goes Image names c 9 (omega (arith, calm)) nothing.3 (short nothing) in
     ends_by c 9 (Some (build names)) is g.devices g.ends (λ e. absurd (omega (arith, e)))
-by_short c (Some (run names limits fold)) is calm nothing h = ends_so_far c 9 (Some (run names limits fold)) is h h
+by_short c (Some (run names limits fold)) is calm nothing h =
+    ends_by c 9 (Some (run names limits fold)) is (devices_before c 9 h) (running_ends names limits fold c 9 (short nothing)) (λ e. absurd (omega (arith, e)))
 by_short c (Some (eval names steps)) is calm nothing h =
     ends_by c 9 (Some (eval names steps)) is (devices_before c 9 h) (eval_ends names steps c 9 (inl (short nothing))) (λ e. absurd (omega (arith, e)))
-by_short c (Some (exec name limits)) is calm nothing h = ends_so_far c 9 (Some (exec name limits)) is h h
+by_short c (Some (exec name limits)) is calm nothing h =
+    ends_by c 9 (Some (exec name limits)) is (devices_before c 9 h) (exec_ends name limits c 9 (short nothing)) (λ e. absurd (omega (arith, e)))
 by_short c (Some (debug script names limits)) is calm nothing h =
     ends_by c 9 (Some (debug script names limits)) is (devices_before c 9 h) (debug_ends script names limits c 9 (comes_undebugged (short nothing)))
     (λ e. absurd (omega (arith, e)))
@@ -122,16 +117,18 @@ short_ends c calm nothing =
     by_short c (asked_for c.request.words) refl calm nothing
     (ends_without_memory c (omega (arith, calm)) nothing.0 nothing.1 nothing.2 nothing.3)
 
--- What is left to do for a command that is not moved yet
-
-pub safe_of_due : (r : Request) (task : Task) → IsDue r task → IsSafe task
-safe_of_due r (Tell status lines) h = h.1
-safe_of_due r (Execute limits image) h = h.0
-safe_of_due r (Debug limits image commands) h = (h.0, h.1)
+-- What asks to take of the input
 
 -- words that ask for a session ask to take of the input
 pub takes : (given : List (List ℕ)) → asked_for given ≡ Some session → TakesNoInput given → ⊥
 takes given is none = (none [] (record { heap_kib = 0; stack_kib = 0; steps = 0 }) false 0).4 is
+
+-- and so do words that ask to run or to execute
+pub takes_run : (given names : List (List ℕ)) (limits : RunLimits) (fold : Bool) → asked_for given ≡ Some (run names limits fold) → TakesNoInput given → ⊥
+takes_run given names limits fold is none = (none names limits fold 0).1 (ap (option_and_then files_asked) is)
+
+pub takes_exec : (given : List (List ℕ)) (name : List ℕ) (limits : RunLimits) → asked_for given ≡ Some (exec name limits) → TakesNoInput given → ⊥
+takes_exec given name limits is none = (none (name ∷ []) limits false 0).0 (ap (option_and_then files_asked) is)
 
 -- and so do words that ask to evaluate
 pub takes_eval : (given names : List (List ℕ)) (steps : ℕ) → asked_for given ≡ Some (eval names steps) → TakesNoInput given → ⊥

@@ -4,8 +4,6 @@ use Rattle.std.specs.Prelude.{Some}
 use Rattle.cool_ports.specs.ShelfFiles.{FileMap}
 use Rattle.cool_words.specs.declared.plan.RunLimits.{RunLimits}
 use Rattle.mips_isa.specs.declared.asm_fault.AsmFault.{AsmFault}
-use Rattle.mips_isa.specs.Assembly.{fault_of}
-use Rattle.mips_text.proofs.OneReading.{never_both, one_first_fault, one_reading}
 use Rattle.cool_driver.specs.CommandLine.{plan_of}
 use Rattle.cool_driver.specs.Execution.{IsTextFault, is_text_file}
 use Rattle.cool_driver.specs.Notes.{asm_note}
@@ -14,19 +12,11 @@ use Rattle.cool_driver.specs.Before.{Due}
 use Rattle.cool_driver.specs.Before.Due.{checked, built, refused, executed, unread_input, debugged, unread_debugged, misscripted, unscripted, evaluated, unread_source, unfit, misread, summed, conversed, usage, too_many, missing, unread, too_large}
 use Rattle.cool_driver.specs.declared.command_line.Command.TheVariants.{Check, Build, Eval, Exec}
 use Rattle.cool_driver.proofs.Findings.{no_file_fault, missing_fault, large_fault}
-use Rattle.cool_driver.proofs.ImagesOfCalls.{fault_or_runs, run_of_file}
+use Rattle.cool_driver.proofs.ImagesOfCalls.{run_of_file}
+use Rattle.cool_driver.proofs.RunnableFiles.{fault_or_runs, one_text_fault}
 use Rattle.cool_driver.proofs.Plans.{no_files_for_big, no_files_for_nothing, no_files_for_session}
 use Rattle.cool_driver.proofs.ReadTwice.{may_refuse, no_debug, no_plan_and_plan, runs_nothing, same_file, same_plan}
 use Rattle.cool_driver.proofs.ScriptsOfCalls.{debug_plan}
-
--- a text has one fault
-one_text_fault : (bytes : List ℕ) (a b : AsmFault) → IsTextFault bytes a → IsTextFault bytes b → a ≡ b
-one_text_fault bytes a b (inl h) (inl g) = one_first_fault bytes a b h g
-one_text_fault bytes a b (inl h) (inr g) = absurd (never_both bytes g.0 a g.1 h)
-one_text_fault bytes a b (inr h) (inl g) = absurd (never_both bytes h.0 b h.1 g)
-one_text_fault bytes a b (inr h) (inr g) =
-    let some : Some a ≡ Some b = sym h.2 ∙ (ap fault_of (one_reading bytes h.0 g.0 h.1 g.1) ∙ g.2) in
-    cc
 
 one_name : (a b : List ℕ) → a ∷ [] ≡ b ∷ [] → a ≡ b
 one_name a b e = cc

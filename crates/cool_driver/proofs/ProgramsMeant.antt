@@ -1,5 +1,5 @@
 -- What the program of a command's files is compiled to means it.
-use Rattle.std.proofs.Common.{◌≡◌, ℕ, true, List, length, refl, sym, ◌∙◌, subst}
+use Rattle.std.proofs.Common.{◌≡◌, ℕ, Bool, true, false, List, length, refl, sym, ◌∙◌, subst}
 use Rattle.std.specs.Prelude.{String, string_bytes}
 use Rattle.std.specs.List.{list_all}
 use Rattle.std.specs.Global.{Global}
@@ -15,9 +15,12 @@ use Rattle.cool_simulation.proofs.theorem.AcceptedPrograms.{images_mean}
 use Rattle.cool_simulation.proofs.theorem.PrintedPrograms.{programs_read}
 use Rattle.cool_words.specs.Plans.{is_file_name, words_of}
 use Rattle.mips_isa.specs.Assembly.{image_of}
+use Rattle.mips_isa.specs.ImageBounds.{ImageParts}
 use Rattle.cool_driver.specs.Calls.{ShelfUse}
+use Rattle.cool_driver.specs.Compiled.{compiled_program, IsImageFor}
 use Rattle.cool_driver.specs.Sources.{IsProgram}
 use Rattle.cool_driver.specs.commands.Build.{IsCompiled}
+use Rattle.cool_driver.proofs.FoldedImages.{folded_means, means_source}
 use Rattle.cool_driver.proofs.HeldFiles.{held_length}
 use Rattle.cool_driver.proofs.MeantPrograms.{text_of_lines}
 use Rattle.cool_driver.proofs.NamesAreTexts.{named_texts}
@@ -55,3 +58,16 @@ module _ (names : List (String Global)) (shelf : ShelfUse) (p : List Class) wher
             image_is = refl;
           };
         }
+
+    -- the image of the program that is compiled for it, folded or not, is one for it
+    pub program_imaged : (fold : Bool) (image : ImageParts) → Fits (compiled_program fold p) (length names)
+        → image ≡ image_of (program_lines (compiled_program fold p) (words_of names)) → IsImageFor fold p (words_of names) image
+    program_imaged false image fits made =
+        let means = subst (λ (i : ImageParts). Means i p (words_of names)) (sym made) program_meant in
+        record { image_is = made; means_compiled = means; means = means }
+    program_imaged true image fits made =
+        let fits_words = subst (Fits (compiled_program true p)) (sym (length-map names string_bytes)) fits in
+        let means : Means image (compiled_program true p) (words_of names) =
+        subst (λ (i : ImageParts). Means i (compiled_program true p) (words_of names)) (sym made)
+        (folded_means is.contents (words_of names) p is.bytes are_names is.accepted fits_words) in
+        record { image_is = made; means_compiled = means; means = means_source image p (words_of names) is.accepted.typed means }

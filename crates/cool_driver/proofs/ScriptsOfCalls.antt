@@ -7,7 +7,6 @@ use Rattle.cool_words.specs.Plans.{Asked}
 use Rattle.cool_words.specs.Plans.Asked.{check, asm, build, run, eval, exec, debug, big, session}
 use Rattle.cool_driver.specs.CommandLine.{asked_for, files_asked, script_asked, plan_of, script_of}
 use Rattle.cool_driver.specs.Calls.{Request, IsScriptRead, HasScript, Told}
-use Rattle.cool_driver.specs.Tasks.{GoesByTask}
 use Rattle.cool_driver.specs.declared.command_line.Command.{Command}
 use Rattle.cool_driver.specs.declared.command_line.Command.TheVariants.{Debug}
 use Rattle.cool_driver.proofs.ReadTwice.{same_plan}
@@ -37,25 +36,6 @@ asks_for_files (Some session) script p q = cc
 
 pub script_has_plan : (given : List (List ℕ)) (script : List ℕ) → script_of given ≡ Some script → plan_of given ≡ None → ⊥
 script_has_plan given script p q = asks_for_files (asked_for given) script p q
-
--- who asks for a command without a script asks for no script
-asks_for_none : (asked : Option Asked) (command : Command) (names : List (List ℕ)) (script : List ℕ) → GoesByTask command
-    → option_and_then files_asked asked ≡ Some (command, names) → option_and_then script_asked asked ≡ Some script → ⊥
-asks_for_none None command names script plain p q = cc
-asks_for_none (Some (check files)) command names script plain p q = cc
-asks_for_none (Some (asm files)) command names script plain p q = cc
-asks_for_none (Some (build files)) command names script plain p q = cc
-asks_for_none (Some (run files limits fold)) command names script plain p q = cc
-asks_for_none (Some (eval files steps)) command names script plain p q = cc
-asks_for_none (Some (exec name limits)) command names script plain p q = cc
-asks_for_none (Some (debug other files limits)) command names script plain p q =
-    subst GoesByTask (same_plan (Some (Debug limits, files)) command (Debug limits) names files p (λ i. Some (Debug limits, files))).0 plain
-asks_for_none (Some (big n)) command names script plain p q = cc
-asks_for_none (Some session) command names script plain p q = cc
-
-pub plain_script : (r : Request) (command : Command) (names : List (List ℕ)) → GoesByTask command → plan_of r.words ≡ Some (command, names)
-    → HasScript r
-plain_script r command names plain plan script asked = absurd (asks_for_none (asked_for r.words) command names script plain plan asked)
 
 -- one script is asked for
 one_script : (asked : Option (List ℕ)) (a b : List ℕ) → asked ≡ Some a → asked ≡ Some b → a ≡ b

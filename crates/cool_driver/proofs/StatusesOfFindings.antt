@@ -29,7 +29,8 @@ use Rattle.cool_driver.proofs.HeldFiles.{held_same, none_missing}
 use Rattle.cool_driver.proofs.Plans.{same_number, no_files_for_big, no_files_for_nothing}
 use Rattle.cool_driver.proofs.ReadTwice.{same_plan, no_run_exec, no_debug, runs_nothing, no_plan_and_plan, files_read, same_read, same_file, may_refuse}
 use Rattle.cool_driver.proofs.ScriptsOfCalls.{debug_plan, script_has_plan, script_there}
-use Rattle.cool_driver.proofs.ImagesOfCalls.{fault_or_runs, one_runnable, unfit_or_runs, read_for_run, run_of_file, run_of_program}
+use Rattle.cool_driver.proofs.ImagesOfCalls.{read_for_run, run_of_file, run_of_program}
+use Rattle.cool_driver.proofs.RunnableFiles.{fault_or_runs, one_runnable, unfit_or_runs}
 use Rattle.cool_driver.proofs.Findings.{Finding, run_status, not_of_run, no_file_fault}
 use Rattle.cool_driver.proofs.Findings.Finding.{accepted, faulty, image, no_image, bad_text, debugging, bad_script, no_plan, no_file}
 

@@ -2,6 +2,8 @@
 pub mod Checks
 pub mod Evaluations
 pub mod Builds
+pub mod Runnings
+pub mod Executions
 pub mod Bigs
 pub mod Debuggings
 pub mod Sessions

@@ -2,7 +2,6 @@
 use Rattle.std.specs.Prelude.{◌≡◌, ℕ, Option, Some, None}
 use Rattle.cool_words.specs.Plans.{Asked}
 use Rattle.cool_words.specs.Plans.Asked.{check, asm, build, run, eval, exec, debug, big, session}
-use Rattle.cool_driver.specs.Before as before
 use Rattle.cool_driver.specs.CommandLine.{asked_for}
 use Rattle.cool_driver.specs.Calls.{Call}
 use Rattle.cool_driver.specs.Devices.{Devices}
@@ -10,7 +9,9 @@ use Rattle.cool_driver.specs.Statuses.{USAGE}
 use Rattle.cool_driver.specs.commands.Usage.{UsageEnds}
 use Rattle.cool_driver.specs.commands.Check.{CheckEnds}
 use Rattle.cool_driver.specs.commands.Build.{BuildEnds}
+use Rattle.cool_driver.specs.commands.Run.{RunEnds}
 use Rattle.cool_driver.specs.commands.Eval.{EvalEnds}
+use Rattle.cool_driver.specs.commands.Exec.{ExecEnds}
 use Rattle.cool_driver.specs.commands.Big.{BigEnds}
 use Rattle.cool_driver.specs.commands.Debug.{DebugEnds}
 use Rattle.cool_driver.specs.declared.command_line.Form.TheVariants.{Text, Image}
@@ -22,9 +23,9 @@ EndsBy None c status = UsageEnds c status
 EndsBy (Some (check names)) c status = CheckEnds names c status
 EndsBy (Some (asm names)) c status = BuildEnds Text names c status
 EndsBy (Some (build names)) c status = BuildEnds Image names c status
-EndsBy (Some (run names limits fold)) c status = before.Ends c status
+EndsBy (Some (run names limits fold)) c status = RunEnds names limits fold c status
 EndsBy (Some (eval names steps)) c status = EvalEnds names steps c status
-EndsBy (Some (exec name limits)) c status = before.Ends c status
+EndsBy (Some (exec name limits)) c status = ExecEnds name limits c status
 EndsBy (Some (debug script names limits)) c status = DebugEnds script names limits c status
 EndsBy (Some (big n)) c status = BigEnds n c status
 EndsBy (Some session) c status = SessionEnds c status

@@ -10,6 +10,7 @@ pub mod Debugging
 pub mod Compiled
 pub mod Calls
 pub mod Comes
+pub mod Runs
 pub mod Telling
 pub mod Devices
 pub mod Sources
@@ -18,4 +19,3 @@ pub mod Headline
 pub mod commands
 pub mod Before
 pub mod Ends
-pub mod Tasks

@@ -5,4 +5,6 @@ pub mod build;
 pub mod check;
 pub mod debug;
 pub mod eval;
+pub mod exec;
+pub mod run;
 pub mod session;

@@ -4,11 +4,14 @@ ghost use Rattle.std.specs.Prelude.{◌≡◌, List, ℕ, Bool, false};
 ghost use Rattle.cool_ports.specs.Answers.{Leaves};
 ghost use Rattle.cool_ports.specs.Taking.{Took};
 ghost use Rattle.cool_driver.specs.Calls.{Request, sink_use};
-ghost use Rattle.cool_driver.specs.Before.{IsRunOf, Ends};
+ghost use Rattle.cool_driver.specs.Comes.{Comes};
+ghost use Rattle.cool_driver.specs.Ends.{Goes};
 ghost use Rattle.cool_driver.specs.Execution.{heap_of, stack_of};
 ghost use Rattle.cool_words.specs.Plans.{IsBounded};
 ghost use Rattle.spim_memory.specs.Memory.{IsLimits};
-ghost use Rattle.cool_driver.specs.Tasks.{code_of, HaltNoted};
+ghost use Rattle.cool_driver.specs.Runs.{DueToRun, PiecesOfRun};
+ghost use Rattle.cool_driver.specs.Statuses.{code_of};
+ghost use Rattle.cool_driver.specs.Telling.{HaltNoted};
 
 use crate::notes::{HEAP_LIMIT, READ_FAULT, STACK_LIMIT, STEP_LIMIT, tell, trap_note};
 use crate::status::Status;
@@ -43,14 +46,15 @@ pub fn execute<I: Source, O: Sink, E: Sink>(
 ) -> Status
     requires { IsBounded limits }
     ensures taken { (ended : Bool) × Took false ended (I.past input.old) (I.past input.new) (I.left input.old) (I.left input.new) }
-    ensures ends { (r : Request) (rest : List ℕ) → IsRunOf r limits image.now → Leaves (I.past input.old) (I.past input.new) r.input rest → Ends (record {
-      request = r;
-      out = sink_use O.held O.faults out.old out.new;
-      notes = sink_use E.held E.faults notes.old notes.new;
-      left = rest;
-      input_before = I.faults input.old;
-      input_after = I.faults input.new;
-    }) (code_of result) }
+    ensures ends { (r : Request) (rest : List ℕ) → r.faults_after ≡ r.faults_before → Leaves (I.past input.old) (I.past input.new) r.input rest
+        → Goes (Comes (DueToRun limits image.now r.input) (PiecesOfRun limits image.now r.input)) (record {
+          request = r;
+          out = sink_use O.held O.faults out.old out.new;
+          notes = sink_use E.held E.faults notes.old notes.new;
+          left = rest;
+          input_before = I.faults input.old;
+          input_after = I.faults input.new;
+        }) (code_of result) }
 {
     let Ok(mut machine) = Machine::load(alloc, image, machine_limits(limits)) else {
         return Status::Memory;

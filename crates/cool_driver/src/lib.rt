@@ -17,8 +17,6 @@ ghost use Rattle.cool_words.specs.Plans.Asked.{session};
 
 mod command_line;
 mod commands;
-mod debugging;
-mod doing;
 mod execution;
 mod growing_sink;
 mod laws;
@@ -27,24 +25,23 @@ mod reading;
 mod refusal;
 mod sources;
 mod status;
-mod task;
 mod writing;
 
-use command_line::{Command, Form};
+use command_line::Form;
 use commands::big::sum_up;
 use commands::build::build_files;
 use commands::check::check_files;
 use commands::debug::debug_files;
 use commands::eval::evaluate_files;
+use commands::exec::execute_file;
+use commands::run::run_files;
 use commands::session::hold_session;
 use cool_ports::{Failed, Shelf, Sink, Source};
 use cool_words::{Plan, WordsError, read_words};
-use doing::do_task;
 pub use laws::law_ends_as_before;
 use notes::{BAD_COMMAND_LINE, tell};
 pub use status::Status;
 use std::alloc::Global;
-use task::{find_exec_task, find_file_task};
 
 /// The most bytes of a file for `exec`: those of the greatest image.
 pub const MOST_IMAGE_BYTES: u64 = 532_676_628;
@@ -107,10 +104,7 @@ pub fn cool<F: Shelf, I: Source, O: Sink, E: Sink>(
                 limits,
                 fold,
             },
-        ) => {
-            let task = find_file_task(alloc, Command::Run { limits, fold }, &names, files);
-            do_task(alloc, task, input, out, notes)
-        }
+        ) => { run_files(alloc, limits, fold, &names, files, input, out, notes) }
         Ok(
             Plan::Eval {
                 files: names,
@@ -118,8 +112,7 @@ pub fn cool<F: Shelf, I: Source, O: Sink, E: Sink>(
             },
         ) => evaluate_files(alloc, steps, &names, files, input, out, notes),
         Ok(Plan::Exec { file, limits }) => {
-            let task = find_exec_task(alloc, limits, file, files);
-            do_task(alloc, task, input, out, notes)
+            execute_file(alloc, limits, file, files, input, out, notes)
         }
         Ok(
             Plan::Debug {

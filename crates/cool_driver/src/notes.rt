@@ -3,7 +3,7 @@
 ghost use Rattle.std.specs.Prelude.{◌≡◌, ◌≢◌, ◌+◌, ◌<◌, ◌≤◌, ◌++◌, length, IfOk, Some, string_bytes};
 ghost use Rattle.cool_driver.specs.Calls.{sink_use};
 ghost use Rattle.cool_driver.specs.Notes.{asm_note, asm_words, image_note, script_note, script_words, command_note, trap_words, trap_note};
-ghost use Rattle.cool_driver.specs.Tasks.{AreLines, Noted, fault_note, note_of};
+ghost use Rattle.cool_driver.specs.Telling.{AreLines, Noted, fault_note, note_of};
 
 use crate::status::Status;
 use arrayvec::ArrayString;

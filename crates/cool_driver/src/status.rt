@@ -2,7 +2,7 @@
 
 ghost use Rattle.std.specs.Prelude.{◌≡◌};
 ghost use Rattle.cool_driver.specs.Execution.{status_of_halt};
-ghost use Rattle.cool_driver.specs.Tasks.{code_of};
+ghost use Rattle.cool_driver.specs.Statuses.{code_of};
 
 use spim_machine::Halt;
 

@@ -1,7 +1,7 @@
 //! Writes an image to the output, in pieces.
 
 ghost use Rattle.cool_driver.specs.Calls.{sink_use};
-ghost use Rattle.cool_driver.specs.Tasks.{Noted};
+ghost use Rattle.cool_driver.specs.Telling.{Noted};
 
 use crate::status::Status;
 use cool_ports::{Failed, Sink, put_pieces};

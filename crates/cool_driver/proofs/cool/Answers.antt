@@ -4,29 +4,13 @@ use Rattle.std.specs.Global.{Global}
 use Rattle.cool_ports.proofs.InputsInParts.{took_nothing, leaves_same}
 use Rattle.cool_words.specs.Plans.Asked.{check, asm, build, run, eval, exec, debug, big, session}
 use Rattle.cool_driver.specs.CommandLine.{words_of}
-use Rattle.cool_driver.specs.declared.command_line.Command.TheVariants.{Run, Eval, Exec}
 use Rattle.cool_driver.specs.declared.command_line.Form.TheVariants.{Text, Image}
 use Rattle.cool_driver.proofs.DevicesOfCalls.{got_nothing}
-use Rattle.cool_driver.proofs.DueTasks.{for_ok}
-use Rattle.cool_driver.proofs.EndsByCommand.{ends_by, ends_so_far, usage_ends, short_ends, safe_of_due, takes, takes_debug, takes_eval}
-use Rattle.cool_driver.proofs.Plans.{asked_is, plan_is}
+use Rattle.cool_driver.proofs.EndsByCommand.{ends_by, usage_ends, short_ends, takes, takes_debug, takes_eval, takes_exec, takes_run}
+use Rattle.cool_driver.proofs.Plans.{asked_is}
 use Rattle.cool_driver.proofs.rooms.Sessions.{read_fault_of_seven}
 use Rattle.cool_driver.proofs.cool.Goals as goal
 use Rattle.cool_driver.proofs.cool.Goals.{in-Ok-Check, in-Ok-Asm, in-Ok-Build, in-Ok-Run, in-Ok-Eval, in-Ok-Exec, in-Ok-Debug, in-Ok-Big, in-Ok-Session, in-Err-Usage, in-Err-Memory}
-
--- what is left to do is safe to do
-pub do_task-status-requires : goal.do_task-status-requires
-do_task-status-requires g c =
-    let words = words_of c.args.words.now in
-    let asked = rw c.in-Ok-Run.field-0-is at c.in-Ok-Run.ensures.plan in
-    let plan = plan_is words _ asked ∙ ap (λ names. Some (Run c.in-Ok-Run.limits c.in-Ok-Run.fold, words_of names)) (sym c.deref-in-Ok-Run.ensures.value) in
-    for_ok _ _ c.find_file_task-task.result (λ task h. safe_of_due _ task (h words [] plan)) c.find_file_task-task.ensures.due
-
-pub do_task-status-requires-in-Ok-Exec : goal.do_task-status-requires-in-Ok-Exec
-do_task-status-requires-in-Ok-Exec g c =
-    let words = words_of c.args.words.now in
-    let plan = plan_is words _ (rw c.in-Ok-Exec.field-0-is at c.in-Ok-Exec.ensures.plan) in
-    for_ok _ _ c.find_exec_task-task.result (λ task h. safe_of_due _ task (h words [] plan)) c.find_exec_task-task.ensures.due
 
 pub returns-clause-taken : goal.returns-clause-taken
 returns-clause-taken g c =
@@ -34,9 +18,9 @@ returns-clause-taken g c =
       | in-Ok-Check w ↦ rw w.input-is (false, took_nothing _ _ _)
       | in-Ok-Asm w ↦ rw w.input-is (false, took_nothing _ _ _)
       | in-Ok-Build w ↦ rw w.input-is (false, took_nothing _ _ _)
-      | in-Ok-Run w ↦ rw w.input-is w.do_task-status.ensures.taken
+      | in-Ok-Run w ↦ rw w.input-is w.run_files-status.ensures.taken
       | in-Ok-Eval w ↦ rw w.input-is w.evaluate_files-status.ensures.taken
-      | in-Ok-Exec w ↦ rw w.input-is w.do_task-status-in-Ok-Exec.ensures.taken
+      | in-Ok-Exec w ↦ rw w.input-is w.execute_file-status.ensures.taken
       | in-Ok-Debug w ↦ rw w.input-is w.debug_files-status.ensures.taken
       | in-Ok-Big w ↦ rw w.input-is (false, took_nothing _ _ _)
       | in-Ok-Session w ↦ rw w.input-is w.hold_session-status.ensures.taken
@@ -51,14 +35,9 @@ returns-clause-input g c none =
       | in-Ok-Check w ↦ w.input-is
       | in-Ok-Asm w ↦ w.input-is
       | in-Ok-Build w ↦ w.input-is
-      | in-Ok-Run w ↦
-          let asked = rw w.in-Ok-Run.field-0-is at w.in-Ok-Run.ensures.plan in
-          let plan = plan_is words _ asked ∙ ap (λ names. Some (Run w.in-Ok-Run.limits w.in-Ok-Run.fold, words_of names)) (sym w.deref-in-Ok-Run.ensures.value) in
-          w.input-is ∙ w.do_task-status.ensures.input _ (for_ok _ _ w.find_file_task-task.result (λ task h. h words [] plan) w.find_file_task-task.ensures.due) none
+      | in-Ok-Run w ↦ absurd (takes_run words _ w.in-Ok-Run.limits w.in-Ok-Run.fold (asked_is words ∙ (rw w.in-Ok-Run.field-0-is at w.in-Ok-Run.ensures.plan)) none)
       | in-Ok-Eval w ↦ absurd (takes_eval words _ w.in-Ok-Eval.steps (asked_is words ∙ (rw w.in-Ok-Eval.field-0-is at w.in-Ok-Eval.ensures.plan)) none)
-      | in-Ok-Exec w ↦
-          let plan = plan_is words _ (rw w.in-Ok-Exec.field-0-is at w.in-Ok-Exec.ensures.plan) in
-          w.input-is ∙ w.do_task-status-in-Ok-Exec.ensures.input _ (for_ok _ _ w.find_exec_task-task.result (λ task h. h words [] plan) w.find_exec_task-task.ensures.due) none
+      | in-Ok-Exec w ↦ absurd (takes_exec words _ w.in-Ok-Exec.limits (asked_is words ∙ (rw w.in-Ok-Exec.field-0-is at w.in-Ok-Exec.ensures.plan)) none)
       | in-Ok-Debug w ↦
           let plan = w.in-Ok-Debug in
           absurd (takes_debug words (string_bytes plan.script) _ plan.limits (asked_is words ∙ (rw plan.field-0-is at plan.ensures.plan)) none)
@@ -112,10 +91,10 @@ returns-clause-ends g c given rest leaves =
           (ends_by _ _ (Some (build (words_of w.deref-in-Ok-Build.result.now))) asked goes.devices goes.ends (λ e. absurd (goes.asked e)))
       | in-Ok-Run w ↦
           let here = rw w.input-is at leaves in
-          let asks = rw w.in-Ok-Run.field-0-is at w.in-Ok-Run.ensures.plan in
-          let plan = plan_is words _ asks ∙ ap (λ names. Some (Run w.in-Ok-Run.limits w.in-Ok-Run.fold, words_of names)) (sym w.deref-in-Ok-Run.ensures.value) in
-          let ends = w.do_task-status.ensures.ends _ rest (for_ok _ _ w.find_file_task-task.result (λ task h. h words given plan) w.find_file_task-task.ensures.due) w.find_file_task-task.ensures.count here in
-          rw (c.code.ensures, w.status-is, w.files-is, w.out-is, w.notes-is, w.input-is) (ends_so_far _ _ (Some (run _ w.in-Ok-Run.limits w.in-Ok-Run.fold)) (asked_is words ∙ asks) ends ends)
+          let asked = asked_is words ∙ (rw w.in-Ok-Run.field-0-is at w.in-Ok-Run.ensures.plan) ∙ ap (λ (names : List (String Global)). Some (run (words_of names) w.in-Ok-Run.limits w.in-Ok-Run.fold)) (sym w.deref-in-Ok-Run.ensures.value) in
+          let goes = w.run_files-status.ensures.ends words given rest here in
+          rw (c.code.ensures, w.status-is, w.files-is, w.out-is, w.notes-is, w.input-is)
+          (ends_by _ _ (Some (run (words_of w.deref-in-Ok-Run.result.now) w.in-Ok-Run.limits w.in-Ok-Run.fold)) asked goes.devices goes.ends (λ e. absurd (goes.asked e)))
       | in-Ok-Eval w ↦
           let here = rw w.input-is at leaves in
           let asked = asked_is words ∙ (rw w.in-Ok-Eval.field-0-is at w.in-Ok-Eval.ensures.plan) ∙ ap (λ (names : List (String Global)). Some (eval (words_of names) w.in-Ok-Eval.steps)) (sym w.deref-in-Ok-Eval.ensures.value) in
@@ -124,10 +103,10 @@ returns-clause-ends g c given rest leaves =
           (ends_by _ _ (Some (eval (words_of w.deref-in-Ok-Eval.result.now) w.in-Ok-Eval.steps)) asked goes.devices goes.ends (λ e. absurd (goes.asked e)))
       | in-Ok-Exec w ↦
           let here = rw w.input-is at leaves in
-          let asks = rw w.in-Ok-Exec.field-0-is at w.in-Ok-Exec.ensures.plan in
-          let plan = plan_is words _ asks in
-          let ends = w.do_task-status-in-Ok-Exec.ensures.ends _ rest (for_ok _ _ w.find_exec_task-task.result (λ task h. h words given plan) w.find_exec_task-task.ensures.due) w.find_exec_task-task.ensures.count here in
-          rw (c.code.ensures, w.status-is, w.files-is, w.out-is, w.notes-is, w.input-is) (ends_so_far _ _ (Some (exec _ w.in-Ok-Exec.limits)) (asked_is words ∙ asks) ends ends)
+          let asked = asked_is words ∙ (rw w.in-Ok-Exec.field-0-is at w.in-Ok-Exec.ensures.plan) in
+          let goes = w.execute_file-status.ensures.ends words given rest here in
+          rw (c.code.ensures, w.status-is, w.files-is, w.out-is, w.notes-is, w.input-is)
+          (ends_by _ _ (Some (exec (string_bytes w.in-Ok-Exec.file) w.in-Ok-Exec.limits)) asked goes.devices goes.ends (λ e. absurd (goes.asked e)))
       | in-Ok-Debug w ↦
           let here = rw w.input-is at leaves in
           let plan = w.in-Ok-Debug in

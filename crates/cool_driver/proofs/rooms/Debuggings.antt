@@ -1,5 +1,5 @@
 -- How a call of `debug` ends.
-use Rattle.std.proofs.Common.{◌≡◌, ◌≢◌, ◌∙◌, ℕ, ◌<◌, ◌≤◌, ◌⊎◌, Bool, true, false, cond, List, [], ◌++◌, length, inl, inr, Some, None, refl, sym, ap, subst, arith}
+use Rattle.std.proofs.Common.{◌≡◌, ◌≢◌, ◌∙◌, ℕ, ◌<◌, ◌≤◌, ◌⊎◌, List, [], ◌++◌, length, inl, inr, Some, None, refl, sym, ap, subst, arith}
 use Rattle.std.specs.Prelude.{Option, Result, Ok, Err, IfOk, IfErr, ◌==◌}
 use Rattle.std.specs.List.{concat}
 use Rattle.cool_classes.specs.Chains.{Class}
@@ -21,7 +21,7 @@ use Rattle.cool_words.specs.Plans.{IsBounded}
 use Rattle.cool_words.specs.declared.plan.RunLimits.{RunLimits}
 use Rattle.mips_asm.specs.TextLabels.{text_label}
 use Rattle.mips_isa.specs.Assembly.{image_of}
-use Rattle.mips_isa.specs.Calls.{Outcome, Running, Exited, Trapped, State}
+use Rattle.mips_isa.specs.Calls.{Outcome, Running, Exited, Trapped}
 use Rattle.mips_isa.specs.ImageBounds.{ImageParts}
 use Rattle.mips_isa.specs.Lines.{Line}
 use Rattle.mips_isa.specs.Run.{start, run}
@@ -35,7 +35,6 @@ use Rattle.spim_debug.specs.declared.debugger.DebugEnd.TheVariants as end
 use Rattle.spim_debug.specs.declared.script.DebugCommand.{DebugCommand}
 use Rattle.spim_debug.specs.declared.script.ScriptFault.{ScriptFault}
 use Rattle.spim_debug.specs.declared.script.TheConstants.{MOST_SCRIPT_BYTES}
-use Rattle.spim_machine.specs.Ends.{FailsReading}
 use Rattle.spim_machine.specs.Machine.{MachineParts, IsIn}
 use Rattle.spim_machine.specs.declared.halt.Halt.{Halt}
 use Rattle.spim_machine.specs.declared.halt.Halt.TheVariants as halts
@@ -64,6 +63,7 @@ use Rattle.cool_driver.specs.declared.refusal.Refusal.{Refusal}
 use Rattle.cool_driver.specs.declared.status.Status.{Status}
 use Rattle.cool_driver.specs.declared.status.Status.TheVariants as statuses
 use Rattle.cool_driver.proofs.ComesOfRefusals.{DueToTold, comes_map, file_status, refused_status}
+use Rattle.cool_driver.proofs.ComesOfRuns.{fails_alone, good_status, no_seven, some_same}
 use Rattle.cool_driver.proofs.DevicesOfCalls.{IsStatus, devices_written, devices_cut, devices_short, input_no_less}
 use Rattle.cool_driver.proofs.Findings.{IsOneOf, end_status}
 use Rattle.cool_driver.proofs.HeadlineOfRuns.{MeantRun, MeantWrite, ComesOut, headline_came, headline_noteless, headline_stopped, part_at}
@@ -188,22 +188,6 @@ pub notes_are : (limits : RunLimits) (image : ImageParts) (commands : List Debug
 unfolding debug_notes
 notes_are limits image commands input = refl
 
--- no exit has status 7
-no_seven : (zero_is four_is five_is : Bool) → ◌≢◌ {A = ℕ} (cond zero_is 0 (cond four_is 4 (cond five_is 5 3))) 7
-no_seven true four_is five_is e = omega (arith, e)
-no_seven false true five_is e = omega (arith, e)
-no_seven false false true e = omega (arith, e)
-no_seven false false false e = omega (arith, e)
-
--- a sink that held nothing holds just what it got
-got_alone : (bytes : List ℕ) → Some bytes ≡ appended (Some []) bytes
-unfolding appended
-got_alone bytes = refl
-
--- of two told lists that are one
-some_same : (a b : List ℕ) → Some a ≡ Some b → a ≡ b
-some_same a b e = cc
-
 module _ (limits : RunLimits) (image : ImageParts) (commands : List DebugCommand) (c : Call) (shelf : c.request.faults_after ≡ c.request.faults_before) where
   -- how a call of it goes
   abbrev pub Runs : ℕ → Type 0
@@ -221,20 +205,12 @@ module _ (limits : RunLimits) (image : ImageParts) (commands : List DebugCommand
     calm : status ≢ 7 → c.input_after ≡ c.input_before
     rose : status ≡ 7 → Rose c.input_before c.input_after
 
-  good_status : (status : ℕ) → IsOneOf status → IsStatus c.request status
-  good_status status known = record {
-    below = omega (arith, known);
-    not_cut = λ e. omega (arith, known, e);
-    not_short = λ e. omega (arith, known, e);
-    shelf_fault = λ more. absurd (omega (arith, shelf, more));
-  }
-
   -- it was written
   written_goes : (status : ℕ) (notes note : List ℕ) → IsFinished status notes note → Got c.notes (notes ++ note) → Runs status
   written_goes status notes note f got =
       let known = f.known in
       record {
-        devices = devices_written c status (good_status status known) (omega (arith, shelf)) f.out got.1 f.calm f.rose;
+        devices = devices_written c status (good_status c.request status shelf known) (omega (arith, shelf)) f.out got.1 f.calm f.rose;
         ends = written status notes note f.is got;
         asked = λ e. omega (arith, known, e);
       }
@@ -386,19 +362,6 @@ module _ (limits : RunLimits) (image : ImageParts) (commands : List DebugCommand
       })
 
 -- By the runs of the source
-
--- with another sink the same read fails
-pub fails_alone : (does : List ℕ → Outcome) (s : State) (first left held : Option (List ℕ)) → FailsReading does s first left held
-    → FailsReading does s (Some []) left (Some s.output)
-fails_alone does s first left held fails = record {
-  not_ended = fails.not_ended;
-  front = fails.front;
-  rest = fails.rest;
-  cut = fails.cut;
-  asks = fails.asks;
-  left_is = fails.left_is;
-  held_is = got_alone s.output;
-}
 
 -- how a call of `debug` ends, where the script has no fault
 abbrev DebugHeadline : Call → ℕ → RunLimits → List (List ℕ) → List Class → List DebugCommand → Type 0

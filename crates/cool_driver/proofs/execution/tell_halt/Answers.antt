@@ -5,7 +5,8 @@ use Rattle.cool_driver.specs.declared.status.Status.{Status}
 use Rattle.cool_driver.specs.declared.status.Status.TheVariants as statuses
 use Rattle.cool_driver.specs.Calls.{SinkUse, Got, GotPart}
 use Rattle.cool_driver.specs.Execution.{exit_status, exit_note, status_of_halt, note_of_halt}
-use Rattle.cool_driver.specs.Tasks.{code_of, Noted, HaltNoted}
+use Rattle.cool_driver.specs.Statuses.{code_of}
+use Rattle.cool_driver.specs.Telling.{Noted, HaltNoted}
 use Rattle.cool_driver.proofs.DevicesOfCalls.{got_nothing}
 use Rattle.cool_driver.proofs.execution.tell_halt.Goals as goal
 

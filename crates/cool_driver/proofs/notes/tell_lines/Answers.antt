@@ -4,8 +4,8 @@ use Rattle.std.specs.Result.{is_err}
 use Rattle.cool_ports.specs.Counts.{Rose}
 use Rattle.cool_ports.specs.SinkBytes.{appended, GotPrefix}
 use Rattle.cool_ports.proofs.GettingBytes.{appended-nil, got_none, got_more, got_prefix}
-use Rattle.cool_driver.specs.Tasks.{note_of}
-use Rattle.cool_driver.proofs.NoteLines.{note_at}
+use Rattle.cool_driver.specs.Telling.{note_of}
+use Rattle.cool_driver.proofs.LinesOfNotes.{note_at}
 use Rattle.cool_driver.proofs.notes.tell_lines.Goals as goal
 
 -- what is known of an answer that is an error, and of one that is none

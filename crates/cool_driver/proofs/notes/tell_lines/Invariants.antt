@@ -1,6 +1,6 @@
 use Rattle.std.proofs.Common.{◌≡◌, drop}
 use Rattle.cool_ports.specs.SinkBytes.{GotUpTo}
-use Rattle.cool_driver.specs.Tasks.{note_of}
+use Rattle.cool_driver.specs.Telling.{note_of}
 use Rattle.cool_driver.proofs.notes.tell_lines.Given as goal
 
 -- the lines so far came, and no fault

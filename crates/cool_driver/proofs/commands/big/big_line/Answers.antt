@@ -4,8 +4,8 @@ use Rattle.cool_runtime.specs.Contents.{AreBytes}
 use Rattle.cool_big.specs.BigPrograms.{big_text}
 use Rattle.cool_driver.specs.commands.Big.{big_files, ComesOut, summary}
 use Rattle.cool_driver.specs.Contents.{texts}
-use Rattle.cool_driver.specs.Tasks.{code_of}
-use Rattle.cool_driver.proofs.DueTasks.{for_ok}
+use Rattle.cool_driver.specs.Statuses.{code_of}
+use Rattle.cool_driver.proofs.Results.{for_ok}
 use Rattle.cool_driver.proofs.commands.big.big_line.Goals as goal
 
 -- the line has what the program and its run are

@@ -10,8 +10,8 @@ use Rattle.cool_driver.specs.commands.Big.{big_names, RunsTo}
 use Rattle.cool_driver.specs.commands.Big.ComesOut.{refused, ran}
 use Rattle.cool_driver.specs.Execution.{run_of}
 use Rattle.cool_driver.specs.Contents.{texts}
-use Rattle.cool_driver.specs.Tasks.{code_of}
-use Rattle.cool_driver.proofs.DueTasks.{for_ok}
+use Rattle.cool_driver.specs.Statuses.{code_of}
+use Rattle.cool_driver.proofs.Results.{for_ok}
 use Rattle.cool_driver.proofs.MeantPrograms.{big_accords}
 use Rattle.cool_driver.proofs.commands.big.run_files.Goals as goal
 

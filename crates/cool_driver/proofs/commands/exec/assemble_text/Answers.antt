@@ -1,7 +1,7 @@
 use Rattle.std.specs.Global.{Global}
 use Rattle.mips_isa.specs.Lines.{lines_of}
 use Rattle.cool_driver.proofs.AssembledTexts.{text_assembled, text_misread}
-use Rattle.cool_driver.proofs.task.assemble_text.Goals as goal
+use Rattle.cool_driver.proofs.commands.exec.assemble_text.Goals as goal
 
 -- the lines are assembled
 pub returns-in-Ok : goal.returns-in-Ok

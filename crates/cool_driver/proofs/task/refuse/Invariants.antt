@@ -1,9 +1,0 @@
-use Rattle.std.proofs.Common.{◌≡◌, map, take}
-use Rattle.cool_faults.specs.Texts.{fault_line}
-use Rattle.cool_driver.specs.CommandLine.{words_of}
-use Rattle.cool_driver.specs.Contents.{texts}
-use Rattle.cool_driver.proofs.task.refuse.Given as goal
-
--- there is a line for each fault so far
-abbrev pub invariant-loop-fault : goal.invariant-loop-fault
-invariant-loop-fault l = texts l.lines.items ≡ map (fault_line (words_of l.names)) (take l.fault-index l.faults)

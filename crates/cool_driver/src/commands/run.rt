@@ -1,0 +1,98 @@
+//! The command `run`: a program, compiled and run.
+
+ghost use Rattle.std.specs.Prelude.{◌≡◌, ◌<◌, ◌≤◌, ℕ, List, Bool, false, length, IfErr, IfOk, true};
+ghost use Rattle.std.specs.List.{list_all};
+ghost use Rattle.cool_ports.specs.Answers.{Leaves};
+ghost use Rattle.cool_ports.specs.Taking.{Took};
+ghost use Rattle.cool_rules.specs.Fits.{Fits};
+ghost use Rattle.cool_words.specs.Plans.{IsBounded, is_file_name, words_of};
+ghost use Rattle.cool_driver.specs.Calls.{request_of, shelf_use, sink_use};
+ghost use Rattle.cool_driver.specs.Compiled.{compiled_program};
+ghost use Rattle.cool_driver.specs.Ends.{Goes};
+ghost use Rattle.cool_driver.specs.Refusals.{IsTold};
+ghost use Rattle.cool_driver.specs.Sources.{IsNoProgram};
+ghost use Rattle.cool_driver.specs.Statuses.{code_of};
+ghost use Rattle.cool_driver.specs.commands.Run.{IsCompiledTo, RunEnds};
+
+use crate::execution::execute;
+use crate::refusal::{Refusal, tell_refusal};
+use crate::sources::read_program;
+use crate::status::Status;
+use cool_emit::build;
+use cool_ports::{Shelf, Sink, Source};
+use cool_rules::TypedProgram;
+use cool_words::RunLimits;
+use mips_isa::Image;
+use std::alloc::{AllocError, Global};
+
+/// Compiles the program that the files of these names are, or with `fold` the folded program, and runs that within limits, or writes
+/// their faults.
+pub fn run_files<F: Shelf, I: Source, O: Sink, E: Sink>(
+    alloc: Global,
+    limits: RunLimits,
+    fold: bool,
+    names: &[String],
+    files: &mut F,
+    input: &mut I,
+    out: &mut O,
+    notes: &mut E,
+) -> Status
+    requires some { 0 < length names.now }
+    requires names { list_all is_file_name (words_of names.now) ≡ true }
+    requires limits { IsBounded limits }
+    ensures kept { F.files files.new ≡ F.files files.old }
+    ensures taken { (ended : Bool) × Took false ended (I.past input.old) (I.past input.new) (I.left input.old) (I.left input.new) }
+    ensures ends { (words : List (List ℕ)) (given rest : List ℕ) → Leaves (I.past input.old) (I.past input.new) given rest
+        → Goes (RunEnds (words_of names.now) limits fold) (record {
+          request = request_of words (shelf_use F.files F.faults files.old files.new) given;
+          out = sink_use O.held O.faults out.old out.new;
+          notes = sink_use E.held E.faults notes.old notes.new;
+          left = rest;
+          input_before = I.faults input.old;
+          input_after = I.faults input.new;
+        }) (code_of result) }
+{
+    match compile_files(alloc, fold, names, files) {
+        Ok(image) => execute(alloc, limits, &image, input, out, notes),
+        Err(refusal) => tell_refusal(notes, &refusal),
+    }
+}
+
+/// The image for the program that the files of these names are, with `fold` that of the folded program, or why they are none.
+fn compile_files<F: Shelf>(
+    alloc: Global,
+    fold: bool,
+    names: &[String],
+    files: &mut F,
+) -> Result<Image, Refusal>
+    requires some { 0 < length names.now }
+    requires names { list_all is_file_name (words_of names.now) ≡ true }
+    ensures kept { F.files files.new ≡ F.files files.old }
+    ensures count { F.faults files.old ≤ F.faults files.new }
+    ensures image { IfOk result (IsCompiledTo fold (words_of names.now) (shelf_use F.files F.faults files.old files.new)) }
+    ensures refused { IfErr result (IsTold (IsNoProgram (shelf_use F.files F.faults files.old files.new) (words_of names.now))) }
+{
+    match read_program(alloc, names, files) {
+        Ok(program) => {
+            let compiled = compiled_program(alloc, fold, program)?;
+            Ok(build(alloc, &compiled, names)?)
+        }
+        Err(refusal) => Err(refusal),
+    }
+}
+
+/// The program that is compiled: with `fold` the folded one. `Err` comes only for want of memory.
+fn compiled_program(
+    alloc: Global,
+    fold: bool,
+    program: TypedProgram,
+) -> Result<TypedProgram, AllocError>
+    ensures program { IfOk result (λ compiled. compiled ≡ compiled_program fold program) }
+    ensures fits { (count : ℕ) → Fits program count → IfOk result (λ compiled. Fits compiled count) }
+{
+    if fold {
+        cool_opt::fold(alloc, program)
+    } else {
+        Ok(program)
+    }
+}
