@@ -1,5 +1,5 @@
 -- The files of names are read one after another, until one is refused.
-use Rattle.std.proofs.Common.{◌≡◌, ◌≢◌, ℕ, suc, ◌+◌, ◌-◌, ◌<◌, List, [], ◌∷◌, ◌++◌, length, get_or, take, drop, refl, sym, ◌∙◌, ap, subst, take-append-drop, arith}
+use Rattle.std.proofs.Common.{◌≡◌, ◌≢◌, ℕ, suc, ◌+◌, ◌-◌, ◌<◌, List, [], ◌∷◌, ◌++◌, length, get_or, take, drop, refl, sym, ◌∙◌, ap, subst, append_assoc, take-append-drop, arith}
 use Rattle.std.specs.Prelude.{Option, string_bytes, String}
 use Rattle.std.specs.List.{AllByRecursion}
 use Rattle.std.specs.Global.{Global, Vec}
@@ -12,7 +12,7 @@ use Rattle.cool_faults.specs.Files.{total}
 use Rattle.cool_runtime.specs.Contents.{AreBytes}
 use Rattle.cool_driver.specs.CommandLine.{words_of}
 use Rattle.cool_driver.specs.Calls.{AreHeld}
-use Rattle.cool_driver.specs.Reading.{IsCause, IsStopAt}
+use Rattle.cool_driver.specs.Reading.{IsCause, IsStopAt, AskedUpTo, AskedFront}
 use Rattle.cool_driver.specs.Contents.{texts}
 use Rattle.cool_driver.proofs.HeldFiles.{held_more, total-push}
 
@@ -82,3 +82,29 @@ stop_at told now before now_before after names i name given contents most left f
           (subst (λ (b : ℕ). IsCause now b after given (most - total (texts contents)) fault) calm
           (subst (λ (m : ℕ). IsCause now now_before after given m fault) most_left cause));
     }
+
+-- a name more was asked for
+pub asked_turn : (names : List (String Global)) (i : ℕ) (name : String Global) (given : List ℕ) (before middle after : List (List ℕ)) → i < length names → name ≡ get_or names i name → given ≡ string_bytes name
+    → middle ≡ before ++ words_of (take i names) → after ≡ middle ++ given ∷ [] → after ≡ before ++ words_of (take (i + 1) names)
+asked_turn names i name given before middle after h is called so_far asked =
+    asked ∙ ap (λ (xs : List (List ℕ)). xs ++ given ∷ []) so_far ∙ append_assoc before (words_of (take i names)) (given ∷ [])
+    ∙ ap (λ (n : List ℕ). before ++ (words_of (take i names) ++ n ∷ [])) called ∙ ap (λ (xs : List (List ℕ)). before ++ xs) (sym (names_more names i name h is))
+
+-- the shelf was asked for the names up to one that it refused
+pub asked_up_to : (names : List (String Global)) (i : ℕ) (name : String Global) (given : List ℕ) (before middle after : List (List ℕ)) → i < length names → name ≡ get_or names i name → given ≡ string_bytes name
+    → middle ≡ before ++ words_of (take i names) → after ≡ middle ++ given ∷ [] → AskedUpTo (words_of names) given before after
+asked_up_to names i name given before middle after h is called so_far asked = record {
+  front = words_of (take i names);
+  rest = words_of (drop (i + 1) names);
+  stands = names_cut names i name h is ∙ ap (λ (n : List ℕ). words_of (take i names) ++ n ∷ words_of (drop (i + 1) names)) (sym called);
+  asked = asked ∙ ap (λ (xs : List (List ℕ)). xs ++ given ∷ []) so_far ∙ append_assoc before (words_of (take i names)) (given ∷ []);
+}
+
+-- so it was where memory ran out behind a name
+pub asked_front : (names before after : List (List ℕ)) (name : List ℕ) → AskedUpTo names name before after → AskedFront names before after
+asked_front names before after name h = record {
+  front = h.front ++ name ∷ [];
+  rest = h.rest;
+  stands = h.stands ∙ sym (append_assoc h.front (name ∷ []) h.rest);
+  asked = h.asked;
+}

@@ -1,10 +1,10 @@
 //! A sink in memory that grows.
 
-ghost use Rattle.std.specs.Prelude.{◌≡◌, ℕ, ◌<◌, [], List, length, OnOk, OnErr, Option, Some};
+ghost use Rattle.std.specs.Prelude.{◌≡◌, ℕ, ◌<◌, [], ◌∷◌, ◌++◌, List, length, OnOk, OnErr, Option, Some};
 ghost use Rattle.cool_ports.specs.Counts.{GoesOn, Rose};
 ghost use Rattle.cool_ports.specs.SinkBytes.{appended, GotPrefix};
 
-use cool_ports::{Failed, Sink};
+use cool_ports::{Failed, Log, Sink};
 use std::alloc::{AllocError, Global};
 
 /// A sink that keeps its bytes in memory, and takes more of it where they need more. So it fails only for want of memory.
@@ -12,6 +12,7 @@ use std::alloc::{AllocError, Global};
 pub struct GrowingSink {
     bytes: Vec<u8>,
     faults: u64,
+    puts: Log,
 }
 
 impl GrowingSink {
@@ -19,10 +20,12 @@ impl GrowingSink {
     pub fn new(alloc: Global) -> GrowingSink
         ensures empty { result.bytes.items ≡ [] }
         ensures calm { result.faults ≡ 0 }
+        ensures puts { result.puts.entries ≡ [] }
     {
         GrowingSink {
             bytes: Vec::new(alloc),
             faults: 0,
+            puts: Log::new(),
         }
     }
 
@@ -39,17 +42,21 @@ impl Sink for GrowingSink {
 
     ghost held = { λ sink. Some sink.bytes.items };
 
+    ghost puts = { λ sink. sink.puts.entries };
+
     /// `Failed` comes only for want of memory; then nothing is put.
     #[tactic(auto, unfolding(cool_ports::specs::SinkBytes::appended))]
     fn put(&mut self, bytes: &[u8]) -> Result<(), Failed>
         requires { 0 < length bytes.now }
         ensures put { OnOk result (Some self.new.bytes.items ≡ appended (Some self.old.bytes.items) bytes.now) }
+        ensures puts { self.new.puts.entries ≡ self.old.puts.entries ++ bytes.now ∷ [] }
         ensures no_fault { OnOk result (self.new.faults ≡ self.old.faults) }
         ensures failed { OnErr result (Rose self.old.faults self.new.faults) }
         ensures prefix { OnErr result (GotPrefix (Some self.old.bytes.items) bytes.now (Some self.new.bytes.items)) }
         ensures count { GoesOn self.old.faults self.new.faults }
     {
         let faults = self.faults;
+        self.puts = self.puts.with(bytes);
         match self.bytes.extend_from_slice(bytes) {
             Ok(()) => Ok(()),
             Err(AllocError) => {

@@ -1,12 +1,12 @@
 //! Reading the files of a command.
 
-ghost use Rattle.std.specs.Prelude.{◌≡◌, ◌<◌, ◌≤◌, ◌^◌, length, IfOk, IfErr, OnOk};
+ghost use Rattle.std.specs.Prelude.{◌≡◌, ◌<◌, ◌≤◌, ◌^◌, ◌++◌, length, IfOk, IfErr, OnOk};
 ghost use Rattle.std.specs.List.{AllByRecursion};
 ghost use Rattle.cool_faults.specs.Files.{total};
 ghost use Rattle.cool_runtime.specs.Contents.{AreBytes};
 ghost use Rattle.cool_driver.specs.CommandLine.{words_of};
 ghost use Rattle.cool_driver.specs.Calls.{AreHeld};
-ghost use Rattle.cool_driver.specs.Reading.{IsStop};
+ghost use Rattle.cool_driver.specs.Reading.{AskedFor, IsStop};
 ghost use Rattle.cool_driver.specs.Contents.{texts};
 
 use cool_ports::{Shelf, ShelfFault};
@@ -57,6 +57,8 @@ pub fn read_files<'a, F: Shelf>(
     ensures calm { OnOk result (F.faults files.new ≡ F.faults files.old) }
     ensures kept { F.files files.new ≡ F.files files.old }
     ensures count { F.faults files.old ≤ F.faults files.new }
+    ensures asked { OnOk result (F.asked files.new ≡ F.asked files.old ++ words_of names.now) }
+    ensures asked_for { IfErr result (λ error. AskedFor (words_of names.now) error (F.asked files.old) (F.asked files.new)) }
     ensures stop { IfErr result (IsStop (F.files files.old) (F.faults files.old) (F.faults files.new) (words_of names.now) most) }
 {
     let mut contents = Vec::new(alloc);

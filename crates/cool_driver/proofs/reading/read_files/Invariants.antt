@@ -1,4 +1,4 @@
-use Rattle.std.proofs.Common.{◌≡◌, ◌+◌, take}
+use Rattle.std.proofs.Common.{◌≡◌, ◌+◌, ◌++◌, take}
 use Rattle.std.specs.List.{AllByRecursion}
 use Rattle.cool_faults.specs.Files.{total}
 use Rattle.cool_runtime.specs.Contents.{AreBytes}
@@ -14,5 +14,6 @@ invariant-loop-index g l = record {
   bytes : AllByRecursion AreBytes (texts l.contents.items);
   rest : total (texts l.contents.items) + l.left ≡ l.most;
   calm : g.F.Shelf.faults l.files ≡ g.F.Shelf.faults l.fn.files;
+  asked : g.F.Shelf.asked l.files ≡ g.F.Shelf.asked l.fn.files ++ words_of (take l.index l.names);
   kept : g.F.Shelf.files l.files ≡ g.F.Shelf.files l.fn.files;
 }
