@@ -3,7 +3,6 @@ use Rattle.std.proofs.Common.{◌≡◌, ◌≢◌, ◌∙◌, ◌≤◌, ◌⊎
 use Rattle.std.specs.Prelude.{Option, Some, ◌==◌}
 use Rattle.cool_ports.specs.Counts.{Rose}
 use Rattle.cool_ports.specs.Answers.{Past}
-use Rattle.cool_ports.specs.SinkBytes.{appended}
 use Rattle.cool_ports.specs.Taking.{Took}
 use Rattle.mips_isa.specs.ImageBounds.{ImageParts}
 use Rattle.mips_isa.specs.Calls.{State, Outcome, Running, Exited, Trapped}
@@ -27,8 +26,8 @@ use Rattle.cool_driver.specs.Statuses.{code_of}
 use Rattle.cool_driver.specs.Telling.{HaltNoted}
 use Rattle.cool_driver.specs.declared.status.Status.{Status}
 use Rattle.cool_driver.specs.declared.status.Status.TheVariants as statuses
-use Rattle.cool_driver.proofs.DevicesOfCalls.{IsStatus, devices_written, devices_cut, devices_short, input_no_less}
-use Rattle.cool_driver.proofs.Findings.{IsOneOf, end_status}
+use Rattle.cool_driver.proofs.DevicesOfCalls.{devices_written, devices_cut, devices_short, got_alone, input_no_less}
+use Rattle.cool_driver.proofs.StatusesOfRuns.{IsOneOf, end_status, good_status, no_seven}
 use Rattle.cool_driver.proofs.RunsWithinLimits.{run_of-is}
 
 -- a machine that was loaded has not met the end of the input
@@ -43,35 +42,15 @@ due_status : (limits : RunLimits) (image : ImageParts) (input : List ℕ) (statu
 due_status limits image input _ _ _ _ ended = end_status (run_of limits image input)
 due_status limits image input _ _ _ _ (unread at output left comes fails) = inr (inr (inr (inr (inr (inl refl)))))
 
-pub good_status : (r : Request) (status : ℕ) → r.faults_after ≡ r.faults_before → IsOneOf status → IsStatus r status
-good_status r status calm known = record {
-  below = omega (arith, known);
-  not_cut = λ e. omega (arith, known, e);
-  not_short = λ e. omega (arith, known, e);
-  shelf_fault = λ more. absurd (omega (arith, calm, more));
-}
-
 pub run_not_short : (limits : RunLimits) (image : ImageParts) (input : List ℕ) (status : ℕ) (output note left : List ℕ)
     → DueToRun limits image input status output note left → status ≢ 9
 run_not_short limits image input status output note left row e =
     let known = due_status limits image input status output note left row in
     omega (arith, known, e)
 
--- no exit has status 7
-pub no_seven : (zero_is four_is five_is : Bool) → ◌≢◌ {A = ℕ} (cond zero_is 0 (cond four_is 4 (cond five_is 5 3))) 7
-no_seven true four_is five_is e = omega (arith, e)
-no_seven false true five_is e = omega (arith, e)
-no_seven false false true e = omega (arith, e)
-no_seven false false false e = omega (arith, e)
-
 -- of two told lists that are one
 pub some_same : (a b : List ℕ) → Some a ≡ Some b → a ≡ b
 some_same a b e = cc
-
--- a sink that held nothing holds just what it got
-got_alone : (bytes : List ℕ) → Some bytes ≡ appended (Some []) bytes
-unfolding appended
-got_alone bytes = refl
 
 -- with another sink the same read fails
 pub fails_alone : (does : List ℕ → Outcome) (s : State) (first left held : Option (List ℕ)) → FailsReading does s first left held

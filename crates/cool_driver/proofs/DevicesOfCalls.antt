@@ -1,7 +1,8 @@
 -- What holds of the devices of a call: where what is due was written, where a write failed, and where memory ran out.
 use Rattle.std.proofs.Common.{◌≡◌, ◌≢◌, ℕ, ◌<◌, ◌≤◌, ◌⊎◌, Bool, true, false, inl, inr, List, [], refl, sym, arith}
-use Rattle.std.specs.Prelude.{Option, ◌==◌}
+use Rattle.std.specs.Prelude.{Option, Some, ◌==◌}
 use Rattle.cool_ports.specs.Counts.{Rose}
+use Rattle.cool_ports.specs.SinkBytes.{appended}
 use Rattle.cool_ports.proofs.GettingBytes.{appended-nil}
 use Rattle.cool_driver.specs.Calls.{Request, Call, Got, NoLess}
 use Rattle.cool_driver.specs.Comes.{Dues, Pieces, Comes}
@@ -111,3 +112,8 @@ no_status n due pieces c _ cut less rows (short nothing) = λ e. less (sym e)
 pub got_nothing : (held : Option (List ℕ)) (faults : ℕ)
     → Got (record { held_before = held; held_after = held; faults_before = faults; faults_after = faults }) []
 got_nothing held faults = (sym (appended-nil held), refl)
+
+-- a sink that held nothing holds just what it got
+pub got_alone : (bytes : List ℕ) → Some bytes ≡ appended (Some []) bytes
+unfolding appended
+got_alone bytes = refl

@@ -1,7 +1,7 @@
--- What the program of a command's files is compiled to means it.
-use Rattle.std.proofs.Common.{◌≡◌, ℕ, Bool, true, false, List, length, refl, sym, ◌∙◌, subst}
+-- What the program of a command's files is compiled to means it, folded or not; and so does what the program of `big` is compiled to.
+use Rattle.std.proofs.Common.{◌≡◌, ℕ, Bool, true, false, List, length, refl, sym, ◌∙◌, subst, [], arith}
 use Rattle.std.specs.Prelude.{String, string_bytes}
-use Rattle.std.specs.List.{list_all}
+use Rattle.std.specs.List.{list_all, AllByRecursion}
 use Rattle.std.specs.Global.{Global}
 use Rattle.std.proofs.lemmas.List.{length-map}
 use Rattle.cool_classes.specs.Chains.{Class}
@@ -13,7 +13,7 @@ use Rattle.cool_simulation.specs.Accord.{Means}
 use Rattle.cool_simulation.specs.Theorem.{AreFileNames}
 use Rattle.cool_simulation.proofs.theorem.AcceptedPrograms.{images_mean}
 use Rattle.cool_simulation.proofs.theorem.PrintedPrograms.{programs_read}
-use Rattle.cool_words.specs.Plans.{is_file_name, words_of}
+use Rattle.cool_words.specs.Plans.{is_file_name, words_of, IsBounded, usual_limits}
 use Rattle.mips_isa.specs.Assembly.{image_of}
 use Rattle.mips_isa.specs.ImageBounds.{ImageParts}
 use Rattle.cool_driver.specs.Calls.{ShelfUse}
@@ -22,9 +22,20 @@ use Rattle.cool_driver.specs.Sources.{IsProgram}
 use Rattle.cool_driver.specs.commands.Build.{IsCompiled}
 use Rattle.cool_driver.proofs.FoldedImages.{folded_means, means_source}
 use Rattle.cool_driver.proofs.HeldFiles.{held_length}
-use Rattle.cool_driver.proofs.MeantPrograms.{text_of_lines}
 use Rattle.cool_driver.proofs.NamesAreTexts.{named_texts}
 use Rattle.cool_driver.proofs.Plans.{short_names}
+use Rattle.cool_faults.specs.Verdicts.{IsAccepted}
+use Rattle.cool_runtime.specs.Contents.{AreBytes}
+use Rattle.cool_runtime.specs.RoutineLines.{routine_lines}
+use Rattle.mips_text.specs.Printing.{printed}
+use Rattle.cool_driver.specs.commands.Big.{big_names, AccordsWithSource}
+use Rattle.cool_driver.specs.Execution.{is_text_file}
+use Rattle.cool_driver.proofs.Accords.{image_accords}
+
+-- the text of a program begins with a label, not with the byte of an image
+pub text_of_lines : (p : List Class) (names : List (List ℕ)) → is_text_file (printed (program_lines p names)) ≡ true
+unfolding routine_lines
+text_of_lines p names = refl
 
 module _ (names : List (String Global)) (shelf : ShelfUse) (p : List Class) where
   -- it fits so many files as there are names
@@ -71,3 +82,18 @@ module _ (names : List (String Global)) (shelf : ShelfUse) (p : List Class) wher
         subst (λ (i : ImageParts). Means i (compiled_program true p) (words_of names)) (sym made)
         (folded_means is.contents (words_of names) p is.bytes are_names is.accepted fits_words) in
         record { image_is = made; means_compiled = means; means = means_source image p (words_of names) is.accepted.typed means }
+
+-- the limits and the name of `big`
+usual_bounded : IsBounded usual_limits
+usual_bounded = record { heap = (omega arith, omega arith); stack = (omega arith, omega arith); steps = (omega arith, omega arith) }
+
+big_named : AreFileNames big_names
+big_named = (
+  (((omega arith, omega arith), ((omega arith, omega arith), ((omega arith, omega arith), ((omega arith, omega arith), ((omega arith, omega arith), ((omega arith, omega arith), tt)))))), tt),
+  (omega arith, tt),
+)
+
+-- of the one file of `big`, and so its run accords with the runs of the source
+pub big_accords : (contents : List (List ℕ)) (p : List Class) → AllByRecursion AreBytes contents → length contents ≡ 1 → IsAccepted contents p → AccordsWithSource p
+big_accords contents p bytes one is =
+    image_accords usual_limits (image_of (program_lines p big_names)) p big_names [] (images_mean contents big_names p bytes big_named (sym one) is) tt usual_bounded

@@ -10,9 +10,9 @@ use Rattle.cool_ports.specs.declared.shelf.ShelfFault.{ShelfFault}
 use Rattle.cool_ports.specs.declared.shelf.ShelfFault.TheVariants as faults
 use Rattle.cool_faults.specs.Files.{total}
 use Rattle.cool_runtime.specs.Contents.{AreBytes}
-use Rattle.cool_driver.specs.CommandLine.{words_of}
+use Rattle.cool_words.specs.Plans.{words_of}
 use Rattle.cool_driver.specs.Calls.{AreHeld}
-use Rattle.cool_driver.specs.Reading.{IsCause, IsStopAt, AskedUpTo, AskedFront}
+use Rattle.cool_driver.specs.Sources.{IsCause, IsStopAt, AskedUpTo, AskedFront}
 use Rattle.cool_driver.specs.Contents.{texts}
 use Rattle.cool_driver.proofs.HeldFiles.{held_more, total-push}
 

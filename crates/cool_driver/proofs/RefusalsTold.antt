@@ -9,7 +9,7 @@ use Rattle.cool_ports.specs.declared.shelf.ShelfFault.TheVariants as faults
 use Rattle.cool_syntax.specs.declared.TheConstants.{MOST_FILES}
 use Rattle.cool_driver.specs.Calls.{ShelfUse}
 use Rattle.cool_driver.specs.Notes.{missing_note, unread_note, too_large_note}
-use Rattle.cool_driver.specs.Reading.{IsStopAt}
+use Rattle.cool_driver.specs.Sources.{IsStopAt}
 use Rattle.cool_driver.specs.Refusals.{IsTold, IsLine, AreLinesOf, IsDueToFaults, HasLines}
 use Rattle.cool_driver.specs.Sources.{AreReadUpTo, IsDueUnread}
 use Rattle.cool_driver.specs.Sources.AreUnread.{missing, unread, too_large}

@@ -14,7 +14,7 @@ use Rattle.cool_driver.specs.commands.Eval.{EvalEnds}
 use Rattle.cool_driver.specs.commands.Exec.{ExecEnds}
 use Rattle.cool_driver.specs.commands.Big.{BigEnds}
 use Rattle.cool_driver.specs.commands.Debug.{DebugEnds}
-use Rattle.cool_driver.specs.declared.command_line.Form.TheVariants.{Text, Image}
+use Rattle.cool_driver.specs.declared.commands.build.Form.TheVariants.{Text, Image}
 use Rattle.cool_driver.specs.commands.Session.{SessionEnds}
 
 -- what is promised for what the words ask for

@@ -2,12 +2,13 @@
 use Rattle.std.specs.Prelude.{ℕ, List, [], Option, Some, None}
 use Rattle.cool_meaning.specs.SourceRun.{End, Done, Failed, GoesOn, IsStuck}
 use Rattle.cool_driver.specs.Notes.{step_limit_note}
+use Rattle.cool_driver.specs.Statuses.{DONE, FAILED, STEP_LIMIT}
 
 -- the status of a run that ended so, or goes on after its last step; to one that is stuck no status belongs
 abbrev pub status_of_end : End → Option ℕ
-status_of_end Done = Some 0
-status_of_end (Failed error) = Some 3
-status_of_end GoesOn = Some 6
+status_of_end Done = Some DONE
+status_of_end (Failed error) = Some FAILED
+status_of_end GoesOn = Some STEP_LIMIT
 status_of_end IsStuck = None
 
 abbrev pub note_of_end : End → List ℕ

@@ -13,6 +13,7 @@ use Rattle.spim_machine.specs.Ends.{ComesToCall}
 use Rattle.spim_machine.specs.declared.halt.Halt.{Halt}
 use Rattle.spim_machine.specs.declared.halt.Halt.TheVariants.{Exit, Trap, StepLimit, ReadFault, WriteFault}
 use Rattle.cool_words.specs.declared.plan.RunLimits.{RunLimits}
+use Rattle.cool_driver.specs.Statuses.{DONE, FAILED, HEAP_LIMIT, STACK_LIMIT, STEP_LIMIT, READ_FAULT, WRITE_FAULT, TRAPPED}
 use Rattle.cool_driver.specs.Notes.{heap_limit_note, stack_limit_note, step_limit_note, read_fault_note, trap_note}
 
 -- The bytes are those of this image, in version 1 or 2.
@@ -70,22 +71,22 @@ left_by (Running s) = s
 left_by (Exited code s) = s
 left_by (Trapped trap s) = s
 
--- 0, 4 and 5 are exit codes of their own, every other one is 3
+-- 0, 4 and 5 are exit codes of their own, and every other one is a failure
 abbrev pub exit_status : ℕ → ℕ
-exit_status code = if code == 0 then 0 else (if code == 4 then 4 else (if code == 5 then 5 else 3))
+exit_status code = if code == 0 then DONE else (if code == 4 then HEAP_LIMIT else (if code == 5 then STACK_LIMIT else FAILED))
 
 abbrev pub status_of : Outcome → ℕ
-status_of (Running s) = 6
+status_of (Running s) = STEP_LIMIT
 status_of (Exited code s) = exit_status code
-status_of (Trapped trap s) = 11
+status_of (Trapped trap s) = TRAPPED
 
 -- the same for how a machine halted, where a read or a write may have failed
 abbrev pub status_of_halt : Halt → ℕ
 status_of_halt (Exit code) = exit_status code
-status_of_halt (Trap trap) = 11
-status_of_halt StepLimit = 6
-status_of_halt ReadFault = 7
-status_of_halt WriteFault = 8
+status_of_halt (Trap trap) = TRAPPED
+status_of_halt StepLimit = STEP_LIMIT
+status_of_halt ReadFault = READ_FAULT
+status_of_halt WriteFault = WRITE_FAULT
 
 -- the note of an exit, and of a run's end
 abbrev pub exit_note : ℕ → List ℕ

@@ -8,10 +8,9 @@ use Rattle.cool_simulation.specs.Accord.{Limits, Accord, Means}
 use Rattle.cool_words.specs.declared.plan.RunLimits.{RunLimits}
 use Rattle.mips_isa.specs.ImageBounds.{ImageParts}
 use Rattle.mips_isa.specs.Calls.{State, call, print}
-use Rattle.spim_debug.specs.Debugging.{StandsEarlier}
 use Rattle.spim_machine.specs.Ends.{FailsReading, call_with}
 use Rattle.cool_driver.specs.Calls.{Call, Got, GotPart}
-use Rattle.cool_driver.specs.Debugging.{debuggee_within}
+use Rattle.cool_driver.specs.Statuses.{READ_FAULT, WRITE_FAULT}
 use Rattle.cool_driver.specs.Execution.{heap_of, stack_of, segments_within, run_of, ComesTo, left_by, status_of}
 
 -- the limits of a run, in bytes and instructions
@@ -40,13 +39,6 @@ pub record StopsWriting (c : Call) (limits : RunLimits) (image : ImageParts) : T
   pub wrote : GotPart c.out at.output bytes
   pub leaves : c.left ≡ at.input
 
--- The run was left after some of its instructions: the output up to there came, what was left there of the input is left, and no read and no
--- write of the output failed.
-pub record StopsBetween (c : Call) (limits : RunLimits) (image : ImageParts) : Type 0 where
-  pub stands : StandsEarlier (debuggee_within limits image c.request.input) c.out.held_before (Some c.left) c.out.held_after
-  pub input_calm : c.input_after ≡ c.input_before
-  pub out_calm : c.out.faults_after ≡ c.out.faults_before
-
 -- what the call wrote and left accords with the runs of the source
 abbrev pub AccordsWith : (ℕ → source.Run) → Call → ℕ → RunLimits → Type 0
 AccordsWith runs c status limits = (output : List ℕ) × Got c.out output × Accord runs (limits_of limits) status output c.left
@@ -62,21 +54,12 @@ pub record Headline (c : Call) (status : ℕ) (limits : RunLimits) (names : List
   pub image : ImageParts
   pub means : Means image p names
   -- where no read and no write failed, the call ended as its run, and in accord with the runs of the source
-  pub ended : status ≢ 7 → status ≢ 8 → EndsAsImage c status limits image
-  pub accords : status ≢ 7 → status ≢ 8 → AccordsWith (source.run p names c.request.input) c status limits
+  pub ended : status ≢ READ_FAULT → status ≢ WRITE_FAULT → EndsAsImage c status limits image
+  pub accords : status ≢ READ_FAULT → status ≢ WRITE_FAULT → AccordsWith (source.run p names c.request.input) c status limits
   -- status 7: a read of its run failed
-  pub unread : status ≡ 7 → StopsReading c limits image
+  pub unread : status ≡ READ_FAULT → StopsReading c limits image
   -- status 8: a write of its run failed, or that of the note, and then all else is as it would have been
-  pub unwritten : status ≡ 8
+  pub unwritten : status ≡ WRITE_FAULT
       → StopsWriting c limits image ⊎ (StopsReading c limits image ⊎ ((due : ℕ) × EndsAsImage c due limits image × AccordsWith (source.run p names c.request.input) c due limits))
   -- whatever failed, what came and was taken is a part of what the run of the source with a step more than instructions writes and takes
-  pub part : IsPartOfSource c limits names p
-
--- How a call of `debug` for a program stops short: a note of the debugger failed, status 8, or memory ran out, status 9, after some instructions
--- of the run of an image that means the program.
-pub record StopsShort (c : Call) (status : ℕ) (limits : RunLimits) (names : List (List ℕ)) (p : List Class) : Type 0 where
-  pub statuses : (status ≡ 8) ⊎ (status ≡ 9)
-  pub image : ImageParts
-  pub means : Means image p names
-  pub stops : StopsBetween c limits image
   pub part : IsPartOfSource c limits names p

@@ -1,5 +1,4 @@
 pub mod Contents
-pub mod Reading
 pub mod Limits
 pub mod CommandLine
 pub mod Statuses
@@ -17,5 +16,4 @@ pub mod Sources
 pub mod Refusals
 pub mod Headline
 pub mod commands
-pub mod Before
 pub mod Ends

@@ -13,13 +13,12 @@ ghost use Rattle.cool_driver.specs.CommandLine.{words_of, asked_for, TakesNoInpu
 ghost use Rattle.cool_driver.specs.Notes.{usage_note};
 ghost use Rattle.cool_driver.specs.Ends.{Ends};
 ghost use Rattle.cool_driver.specs.Limits.{AreLimits};
+ghost use Rattle.cool_driver.specs.Statuses.{READ_FAULT};
 ghost use Rattle.cool_words.specs.Plans.Asked.{session};
 
-mod command_line;
 mod commands;
 mod execution;
 mod growing_sink;
-mod laws;
 mod notes;
 mod reading;
 mod refusal;
@@ -27,9 +26,8 @@ mod sources;
 mod status;
 mod writing;
 
-use command_line::Form;
 use commands::big::sum_up;
-use commands::build::build_files;
+use commands::build::{Form, build_files};
 use commands::check::check_files;
 use commands::debug::debug_files;
 use commands::eval::evaluate_files;
@@ -38,7 +36,6 @@ use commands::run::run_files;
 use commands::session::hold_session;
 use cool_ports::{Failed, Shelf, Sink, Source};
 use cool_words::{Plan, WordsError, read_words};
-pub use laws::law_ends_as_before;
 use notes::{BAD_COMMAND_LINE, tell};
 pub use status::Status;
 use std::alloc::Global;
@@ -71,7 +68,7 @@ pub fn cool<F: Shelf, I: Source, O: Sink, E: Sink>(
     ensures taken { (ended : Bool) × Took false ended (I.past input.old) (I.past input.new) (I.left input.old) (I.left input.new) }
 
     // Where a read cuts a session short, the source had not answered its end.
-    ensures unended { asked_for (words_of words.now) ≡ Some session → result ≡ 7 → (I.past input.new).ends ≡ (I.past input.old).ends }
+    ensures unended { asked_for (words_of words.now) ≡ Some session → result ≡ READ_FAULT → (I.past input.new).ends ≡ (I.past input.old).ends }
 
     // How it ends, by its status, for any input that begins with what it took, and is no more than that where the end was
     // answered.

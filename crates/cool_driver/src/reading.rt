@@ -4,9 +4,9 @@ ghost use Rattle.std.specs.Prelude.{◌≡◌, ◌<◌, ◌≤◌, ◌^◌, ◌+
 ghost use Rattle.std.specs.List.{AllByRecursion};
 ghost use Rattle.cool_faults.specs.Files.{total};
 ghost use Rattle.cool_runtime.specs.Contents.{AreBytes};
-ghost use Rattle.cool_driver.specs.CommandLine.{words_of};
+ghost use Rattle.cool_words.specs.Plans.{words_of};
 ghost use Rattle.cool_driver.specs.Calls.{AreHeld};
-ghost use Rattle.cool_driver.specs.Reading.{AskedFor, IsStop};
+ghost use Rattle.cool_driver.specs.Sources.{AskedFor, IsStop};
 ghost use Rattle.cool_driver.specs.Contents.{texts};
 
 use cool_ports::{Shelf, ShelfFault};

@@ -2,11 +2,12 @@ use Rattle.std.proofs.Common.{◌≡◌, List, ℕ, Some, None, [], ◌∷◌, r
 use Rattle.std.specs.Prelude.{Err, String, string_bytes}
 use Rattle.std.specs.Global.{Global}
 use Rattle.cool_ports.proofs.InputsInParts.{took_nothing, leaves_same}
+use Rattle.cool_words.specs.declared.plan.RunLimits.{RunLimits}
 use Rattle.cool_words.specs.Plans.Asked.{check, asm, build, run, eval, exec, debug, big, session}
 use Rattle.cool_driver.specs.CommandLine.{words_of}
-use Rattle.cool_driver.specs.declared.command_line.Form.TheVariants.{Text, Image}
+use Rattle.cool_driver.specs.declared.commands.build.Form.TheVariants.{Text, Image}
 use Rattle.cool_driver.proofs.DevicesOfCalls.{got_nothing}
-use Rattle.cool_driver.proofs.EndsByCommand.{ends_by, usage_ends, short_ends, takes, takes_debug, takes_eval, takes_exec, takes_run}
+use Rattle.cool_driver.proofs.EndsByCommand.{ends_by, usage_ends, short_ends}
 use Rattle.cool_driver.proofs.Plans.{asked_is}
 use Rattle.cool_driver.proofs.rooms.Sessions.{read_fault_of_seven}
 use Rattle.cool_driver.proofs.cool.Goals as goal
@@ -28,6 +29,10 @@ returns-clause-taken g c =
       | in-Err-Memory w ↦ rw w.input-is (false, took_nothing _ _ _)
     ]
 
+-- some limits, of words that ask for none
+no_limits : RunLimits
+no_limits = record { heap_kib = 0; stack_kib = 0; steps = 0 }
+
 pub returns-clause-input : goal.returns-clause-input
 returns-clause-input g c none =
     let words = words_of c.args.words.now in
@@ -35,14 +40,14 @@ returns-clause-input g c none =
       | in-Ok-Check w ↦ w.input-is
       | in-Ok-Asm w ↦ w.input-is
       | in-Ok-Build w ↦ w.input-is
-      | in-Ok-Run w ↦ absurd (takes_run words _ w.in-Ok-Run.limits w.in-Ok-Run.fold (asked_is words ∙ (rw w.in-Ok-Run.field-0-is at w.in-Ok-Run.ensures.plan)) none)
-      | in-Ok-Eval w ↦ absurd (takes_eval words _ w.in-Ok-Eval.steps (asked_is words ∙ (rw w.in-Ok-Eval.field-0-is at w.in-Ok-Eval.ensures.plan)) none)
-      | in-Ok-Exec w ↦ absurd (takes_exec words _ w.in-Ok-Exec.limits (asked_is words ∙ (rw w.in-Ok-Exec.field-0-is at w.in-Ok-Exec.ensures.plan)) none)
+      | in-Ok-Run w ↦ absurd ((none [] _ w.in-Ok-Run.limits w.in-Ok-Run.fold 0).0 (asked_is words ∙ (rw w.in-Ok-Run.field-0-is at w.in-Ok-Run.ensures.plan)))
+      | in-Ok-Eval w ↦ absurd ((none [] _ no_limits false w.in-Ok-Eval.steps).1 (asked_is words ∙ (rw w.in-Ok-Eval.field-0-is at w.in-Ok-Eval.ensures.plan)))
+      | in-Ok-Exec w ↦ absurd ((none _ [] w.in-Ok-Exec.limits false 0).2 (asked_is words ∙ (rw w.in-Ok-Exec.field-0-is at w.in-Ok-Exec.ensures.plan)))
       | in-Ok-Debug w ↦
           let plan = w.in-Ok-Debug in
-          absurd (takes_debug words (string_bytes plan.script) _ plan.limits (asked_is words ∙ (rw plan.field-0-is at plan.ensures.plan)) none)
+          absurd ((none (string_bytes plan.script) _ plan.limits false 0).3 (asked_is words ∙ (rw plan.field-0-is at plan.ensures.plan)))
       | in-Ok-Big w ↦ w.input-is
-      | in-Ok-Session w ↦ absurd (takes words (asked_is words ∙ (rw w.in-Ok-Session.field-0-is at w.in-Ok-Session.ensures.plan)) none)
+      | in-Ok-Session w ↦ absurd ((none [] [] no_limits false 0).4 (asked_is words ∙ (rw w.in-Ok-Session.field-0-is at w.in-Ok-Session.ensures.plan)))
       | in-Err-Usage w ↦ w.input-is
       | in-Err-Memory w ↦ w.input-is
     ]
@@ -126,7 +131,7 @@ returns-clause-ends g c given rest leaves =
       | in-Ok-Session w ↦
           let here = rw w.input-is at leaves in
           let asked = asked_is words ∙ (rw w.in-Ok-Session.field-0-is at w.in-Ok-Session.ensures.plan) in
-          let goes = w.hold_session-status.ensures.ends _ rest (record { asked = asked; calm = refl }) here in
+          let goes = w.hold_session-status.ensures.ends _ rest refl here in
           rw (c.code.ensures, w.status-is, w.files-is, w.out-is, w.notes-is, w.input-is)
           (ends_by _ _ (Some session) asked goes.devices goes.ends (λ e. absurd (goes.asked e)))
       | in-Err-Usage w ↦

@@ -16,7 +16,7 @@ use Rattle.cool_driver.specs.Telling.{Noted}
 use Rattle.cool_driver.specs.commands.Build.{IsCompiled, IsBuilt, built_bytes, DueToBuild, PiecesOfBuild, BuildEnds}
 use Rattle.cool_driver.specs.commands.Build.DueToBuild.{built, refused}
 use Rattle.cool_driver.specs.commands.Build.PiecesOfBuild.{of_program}
-use Rattle.cool_driver.specs.declared.command_line.Form.{Form}
+use Rattle.cool_driver.specs.declared.commands.build.Form.{Form}
 use Rattle.cool_driver.specs.declared.status.Status.{Status}
 use Rattle.cool_driver.specs.declared.status.Status.TheVariants as statuses
 use Rattle.cool_driver.proofs.ComesOfRefusals.{refused_status, calm_status}

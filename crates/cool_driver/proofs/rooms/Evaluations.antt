@@ -30,7 +30,7 @@ use Rattle.cool_driver.specs.commands.Eval.PiecesOfEval.{of_call, of_last_line}
 use Rattle.cool_driver.specs.declared.status.Status.{Status}
 use Rattle.cool_driver.specs.declared.status.Status.TheVariants as statuses
 use Rattle.cool_driver.proofs.ComesOfRefusals.{DueToRefusal, comes_map, refused_status}
-use Rattle.cool_driver.proofs.DevicesOfCalls.{IsStatus, devices_written, devices_cut, devices_short, input_no_less}
+use Rattle.cool_driver.proofs.DevicesOfCalls.{devices_cut, devices_short, devices_written, got_alone, input_no_less, IsStatus}
 use Rattle.cool_driver.proofs.SourcesOfCalls.{IsVerdictOn, comes_so, same_program, no_refusal, sources_exactly}
 
 -- what is due comes of a verdict on the files
@@ -100,11 +100,6 @@ stopped_here run steps s output left h got = record {
   put = got.0 ∙ ap (appended s.held_before) (output_is output (run h.spent).output h.put);
   input = h.input;
 }
-
--- a sink that held nothing holds just what it got
-got_alone : (bytes : List ℕ) → Some bytes ≡ appended (Some []) bytes
-unfolding appended
-got_alone bytes = refl
 
 -- with another sink the same read fails
 stopped_alone : (run : ℕ → source.Run) (steps : ℕ) (held : Option (List ℕ)) (left : List ℕ) (held' : Option (List ℕ))

@@ -19,7 +19,7 @@ use Rattle.cool_driver.specs.Devices.{Devices}
 use Rattle.cool_driver.specs.Ends.{Goes}
 use Rattle.cool_driver.specs.Statuses.{code_of}
 use Rattle.cool_driver.specs.Telling.{Noted, NotedIfMade}
-use Rattle.cool_driver.specs.commands.Session.{IsSession, DueToSession, SessionShort, SessionComes, SessionEnds, EndsAsSession, status_of_ending}
+use Rattle.cool_driver.specs.commands.Session.{DueToSession, SessionShort, SessionComes, SessionEnds, EndsAsSession, status_of_ending}
 use Rattle.cool_driver.specs.commands.Session.DueToSession.{to_end, to_read}
 use Rattle.cool_driver.specs.commands.Session.SessionComes.{ended, unread as cut_short, unwritten, unnoted, short as ran_short}
 use Rattle.cool_driver.specs.declared.status.Status.{Status}
@@ -75,12 +75,12 @@ unbegun input left same =
 
 -- The session of a call: how it went, and the counts of faults.
 pub record IsHeld (c : Call) (result : Result Ending Interruption) : Type 0 where
-  pub is : IsSession c.request
+  pub is : c.request.faults_after ≡ c.request.faults_before
   pub comes : Conversed c.request.input result c.left c.out.held_before c.out.held_after
   pub counted : Counted result c.input_before c.input_after c.out.faults_before c.out.faults_after
 
 -- of what the conversation answered
-pub is_held : (c : Call) (result other : Result Ending Interruption) → IsSession c.request
+pub is_held : (c : Call) (result other : Result Ending Interruption) → c.request.faults_after ≡ c.request.faults_before
     → Conversed c.request.input result c.left c.out.held_before c.out.held_after
     → Counted result c.input_before c.input_after c.out.faults_before c.out.faults_after → result ≡ other → IsHeld c other
 is_held c result other is comes counted same =
@@ -88,7 +88,7 @@ is_held c result other is comes counted same =
 
 -- The session of a call is over, and a status and a note are due.
 pub record IsOver (c : Call) (status : ℕ) (note : List ℕ) : Type 0 where
-  pub is : IsSession c.request
+  pub is : c.request.faults_after ≡ c.request.faults_before
   pub output : List ℕ
   pub due : DueToSession c.request.input status output note c.left
   pub out : Got c.out output
@@ -105,19 +105,19 @@ good_status r status calm known = record {
 }
 
 -- what holds of the call, where its session ends as it should, with a status that is no 2
-goes : (c : Call) (status : ℕ) → IsSession c.request → Devices c status → SessionComes c status
+goes : (c : Call) (status : ℕ) → c.request.faults_after ≡ c.request.faults_before → Devices c status → SessionComes c status
     → ((replies : List (List ℕ)) (end : Ending) (left : List ℕ) → Exchange c.request.input replies end left
     → status ≢ 8 → status ≢ 9 → (status ≡ 7) ⊎ EndsAsSession c status replies end left)
     → status ≢ 2 → Goes SessionEnds c status
 goes c status is devices comes exactly asked =
-    record { devices = devices; ends = record { calm = is.calm; session_ends = comes; session_exactly = exactly }; asked = asked }
+    record { devices = devices; ends = record { calm = is; session_ends = comes; session_exactly = exactly }; asked = asked }
 
 -- what is due was written
 told : (c : Call) (status : ℕ) (note : List ℕ) → IsOver c status note → Got c.notes note → Goes SessionEnds c status
 told c status note o got =
     let known = status_of_session c.request.input status o.output note c.left o.due in
     goes c status o.is
-    (let calm = o.is.calm in devices_written c status (good_status c.request status calm known) (omega (arith, calm)) o.out.1 got.1 o.calm o.rose)
+    (let calm = o.is in devices_written c status (good_status c.request status calm known) (omega (arith, calm)) o.out.1 got.1 o.calm o.rose)
     (ends_due c status o.output note c.left o.due refl o.out got)
     (λ replies end left whole _ _. exactly_due c status o.output note c.left o.due refl o.out got replies end left whole)
     (λ e. omega (arith, known, e))
@@ -127,7 +127,7 @@ told_part : (c : Call) (status : ℕ) (note : List ℕ) → IsOver c status note
 told_part c status note o part =
     goes c 8 o.is
     (devices_cut c (record {
-      files = let calm = o.is.calm in omega (arith, calm);
+      files = let calm = o.is in omega (arith, calm);
       input = input_no_less status c.input_before c.input_after o.calm o.rose;
       out = let out = o.out.1 in omega (arith, out);
       notes = part.1.no_less;
@@ -187,7 +187,7 @@ cut_by_write c notes h =
     let (replies, lines, work, got) = h.comes in
     goes c 8 h.is
     (devices_cut c (record {
-      files = let calm = h.is.calm in omega (arith, calm);
+      files = let calm = h.is in omega (arith, calm);
       input = let calm = h.counted.0 in omega (arith, calm);
       out = let rose = h.counted.1 in rose.no_less;
       notes = let calm = notes.1 in omega (arith, calm);
@@ -197,10 +197,10 @@ cut_by_write c notes h =
     (λ e. omega (arith, e))
 
 -- memory ran out
-short_goes : (c : Call) → IsSession c.request → SessionShort c → Goes SessionEnds c 9
+short_goes : (c : Call) → c.request.faults_after ≡ c.request.faults_before → SessionShort c → Goes SessionEnds c 9
 short_goes c is short =
     goes c 9 is
-    (let calm = is.calm in devices_short c (omega (arith, calm)) short.out_calm short.notes.1 short.input_calm)
+    (let calm = is in devices_short c (omega (arith, calm)) short.out_calm short.notes.1 short.input_calm)
     (ran_short short)
     (λ replies end left whole _ other. absurd (other refl))
     (λ e. omega (arith, e))
@@ -208,7 +208,6 @@ short_goes c is short =
 pub cut_by_memory : (c : Call) → Got c.notes [] → IsHeld c (Err Memory) → Goes SessionEnds c 9
 cut_by_memory c notes h =
     short_goes c h.is (record {
-      asked = h.is.asked;
       went = inl h.comes;
       notes = notes;
       out_calm = h.counted.1;
@@ -219,7 +218,6 @@ cut_by_memory c notes h =
 unnoted_end : (c : Call) (end : Ending) → status_of_ending end ≡ 12 → Got c.notes [] → IsHeld c (Ok end) → Goes SessionEnds c 9
 unnoted_end c end twelve notes h =
     short_goes c h.is (record {
-      asked = h.is.asked;
       went = inr (end, twelve, h.comes);
       notes = notes;
       out_calm = h.counted.1;
@@ -258,9 +256,8 @@ not_read_fault s bytes answered (inl (inr failed)) is = let same = sym failed.0 
 not_read_fault s bytes answered (inr short) is = let same = sym short.0 ∙ is in cc
 
 -- memory ran out before it began
-pub begun_short : (c : Call) → IsSession c.request → DidNothing c → Goes SessionEnds c 9
+pub begun_short : (c : Call) → c.request.faults_after ≡ c.request.faults_before → DidNothing c → Goes SessionEnds c 9
 begun_short c is (out, notes, left, input) = short_goes c is (record {
-  asked = is.asked;
   went = inl (inl ([], unbegun c.request.input c.left (sym left), out.0));
   notes = notes;
   out_calm = out.1;

@@ -13,7 +13,7 @@ use Rattle.cool_simulation.specs.Accord.{Accord}
 use Rattle.cool_words.specs.Plans.{usual_limits}
 use Rattle.cool_driver.specs.Calls.{Request, Call, Got, UnlessCutShort}
 use Rattle.cool_driver.specs.Comes.{Comes}
-use Rattle.cool_driver.specs.Statuses.{DONE}
+use Rattle.cool_driver.specs.Statuses.{DONE, REFUSED, WRITE_FAULT}
 use Rattle.cool_driver.specs.Execution.{run_of, left_by, status_of}
 use Rattle.cool_driver.specs.Headline.{limits_of}
 use Rattle.cool_driver.specs.declared.TheConstants.{MOST_BIG_OUTPUT}
@@ -37,12 +37,12 @@ AccordsWithSource p =
 -- How a run comes out: the number of bytes of its output, and its status. Where they are more than are counted, the status is 8.
 pub data RunsTo (o : Outcome) : ℕ → ℕ → Type 0 where
   counted : length (left_by o).output ≤ MOST_BIG_OUTPUT → RunsTo o (length (left_by o).output) (status_of o)
-  too_long : MOST_BIG_OUTPUT < length (left_by o).output → RunsTo o MOST_BIG_OUTPUT 8
+  too_long : MOST_BIG_OUTPUT < length (left_by o).output → RunsTo o MOST_BIG_OUTPUT WRITE_FAULT
 
 -- How files of these bytes come out: status 1 without output where they are refused, and else as their program's run does, in accord with
 -- the runs of the source.
 pub data ComesOut (contents : List (List ℕ)) (output status : ℕ) : Type 0 where
-  refused : (faults : List Fault) → IsRefused contents faults → output ≡ 0 → status ≡ 1 → ComesOut contents output status
+  refused : (faults : List Fault) → IsRefused contents faults → output ≡ 0 → status ≡ REFUSED → ComesOut contents output status
   ran : (p : List Class) → IsAccepted contents p → AccordsWithSource p → RunsTo (big_run p) output status → ComesOut contents output status
 
 -- the line for a program of so many bytes and classes

@@ -15,8 +15,8 @@ use Rattle.cool_driver.specs.Comes.{Comes}
 use Rattle.cool_driver.specs.Execution.{IsAssembled}
 use Rattle.cool_driver.specs.Sources.{AreRead, IsProgram, IsNoProgram, SourcesExactly}
 use Rattle.cool_driver.specs.Statuses.{DONE}
-use Rattle.cool_driver.specs.declared.command_line.Form.{Form}
-use Rattle.cool_driver.specs.declared.command_line.Form.TheVariants.{Text, Image}
+use Rattle.cool_driver.specs.declared.commands.build.Form.{Form}
+use Rattle.cool_driver.specs.declared.commands.build.Form.TheVariants.{Text, Image}
 
 -- what `asm` and `build` write for a program whose files have these names: its lines, and the image of its lines in the version of checked
 -- arithmetic

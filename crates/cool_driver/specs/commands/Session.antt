@@ -1,6 +1,6 @@
 -- What `session` promises: it reads commands from the input and puts their replies to the output, as a session over the input does, and ends
 -- with the status and the note of its end.
-use Rattle.std.specs.Prelude.{◌≡◌, ◌⊎◌, ℕ, List, [], Some, Result, Ok, Err}
+use Rattle.std.specs.Prelude.{◌≡◌, ◌⊎◌, ℕ, List, [], Result, Ok, Err}
 use Rattle.std.specs.List.{concat}
 use Rattle.cool_session.specs.declared.ending.Ending.{Ending}
 use Rattle.cool_session.specs.declared.ending.Ending.TheVariants.{Over, BadCommand, EndsInFile, TooLarge}
@@ -8,23 +8,16 @@ use Rattle.cool_session.specs.declared.ending.Interruption.{Interruption}
 use Rattle.cool_session.specs.declared.ending.Interruption.TheVariants.{Memory}
 use Rattle.cool_session.specs.Conversations.{Conversed}
 use Rattle.cool_session.specs.Exchanges.{Exchange, Unread, Unwritten}
-use Rattle.cool_words.specs.Plans.Asked.{session}
-use Rattle.cool_driver.specs.CommandLine.{asked_for}
 use Rattle.cool_driver.specs.Notes.{ending_note, read_fault_note}
-use Rattle.cool_driver.specs.Calls.{Request, Got, GotPart, Call, UnlessCutShort}
-use Rattle.cool_driver.specs.Statuses.{READ_FAULT}
-
--- The words ask for a session, and the shelf did not fail.
-pub record IsSession (r : Request) : Type 0 where
-  pub asked : asked_for r.words ≡ Some session
-  pub calm : r.faults_after ≡ r.faults_before
+use Rattle.cool_driver.specs.Calls.{Got, GotPart, Call, UnlessCutShort}
+use Rattle.cool_driver.specs.Statuses.{DONE, READ_FAULT, WRITE_FAULT, OUT_OF_MEMORY, UNFIT}
 
 -- the status of an end: 0 at `quit` or at the end of the input before a line's first byte, and 12 at B3, B4 and B5
 abbrev pub status_of_ending : Ending → ℕ
-status_of_ending Over = 0
-status_of_ending (BadCommand number) = 12
-status_of_ending (EndsInFile number) = 12
-status_of_ending (TooLarge number) = 12
+status_of_ending Over = DONE
+status_of_ending (BadCommand number) = UNFIT
+status_of_ending (EndsInFile number) = UNFIT
+status_of_ending (TooLarge number) = UNFIT
 
 -- What is due for a session over an input: the status, the output, the note, and what is left of the input.
 pub data DueToSession (input : List ℕ) : ℕ → List ℕ → List ℕ → List ℕ → Type 0 where
@@ -33,7 +26,7 @@ pub data DueToSession (input : List ℕ) : ℕ → List ℕ → List ℕ → Lis
       → DueToSession input (status_of_ending end) (concat replies) (ending_note end) left
   -- a read cut it short: the replies of all commands that were read to their end before it, where no part of the input that was taken had
   -- ended the session
-  to_read : (replies : List (List ℕ)) (left : List ℕ) → Unread input replies left → DueToSession input 7 (concat replies) read_fault_note left
+  to_read : (replies : List (List ℕ)) (left : List ℕ) → Unread input replies left → DueToSession input READ_FAULT (concat replies) read_fault_note left
 
 -- how the session of a call went, or whether a device that failed or want of memory cut it short
 abbrev pub SessionWent : Call → Result Ending Interruption → Type 0
@@ -41,8 +34,7 @@ SessionWent c how = Conversed c.request.input how c.left c.out.held_before c.out
 
 -- Memory ran out in a session, and no device failed: that cut the session short, or it came to an end with a note, which was not made.
 pub record SessionShort (c : Call) : Type 0 where
-  pub asked : asked_for c.request.words ≡ Some session
-  pub went : SessionWent c (Err Memory) ⊎ ((end : Ending) × (status_of_ending end ≡ 12) × SessionWent c (Ok end))
+  pub went : SessionWent c (Err Memory) ⊎ ((end : Ending) × (status_of_ending end ≡ UNFIT) × SessionWent c (Ok end))
   pub notes : Got c.notes []
   pub out_calm : c.out.faults_after ≡ c.out.faults_before
   pub input_calm : c.input_after ≡ c.input_before
@@ -61,16 +53,16 @@ pub data SessionComes (c : Call) : ℕ → Type 0 where
   -- status 7: a read failed. The replies of all commands that were read to their end before it were put, and nothing else; no part of the input
   -- that was taken had ended the session.
   unread : (replies : List (List ℕ)) → Unread c.request.input replies c.left → Got c.out (concat replies) → Got c.notes read_fault_note
-      → SessionComes c 7
+      → SessionComes c READ_FAULT
   -- status 8: a write of the output failed. The replies of the commands before the last one of which all input was taken were put, and a prefix
   -- of its own.
   unwritten : (replies lines : List (List ℕ)) → Unwritten c.request.input replies lines c.left → GotPart c.out (concat replies) (concat lines)
-      → Got c.notes [] → SessionComes c 8
+      → Got c.notes [] → SessionComes c WRITE_FAULT
   -- status 8: the write of the note failed, and all else is as what is due
   unnoted : (due : ℕ) (output note : List ℕ) → DueToSession c.request.input due output note c.left → Got c.out output → GotPart c.notes [] note
-      → SessionComes c 8
+      → SessionComes c WRITE_FAULT
   -- status 9: memory ran out. The replies of the commands that were done were put, and perhaps a prefix of that of one more.
-  short : SessionShort c → SessionComes c 9
+  short : SessionShort c → SessionComes c OUT_OF_MEMORY
 
 -- How a call of `session` ends.
 pub record SessionEnds (c : Call) (status : ℕ) : Type 0 where

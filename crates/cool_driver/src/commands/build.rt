@@ -11,7 +11,6 @@ ghost use Rattle.cool_driver.specs.Sources.{IsNoProgram};
 ghost use Rattle.cool_driver.specs.Statuses.{code_of};
 ghost use Rattle.cool_driver.specs.commands.Build.{BuildEnds, IsBuilt, built_bytes};
 
-use crate::command_line::Form;
 use crate::refusal::{Refusal, tell_refusal};
 use crate::sources::read_program;
 use crate::status::Status;
@@ -22,6 +21,15 @@ use cool_rules::TypedProgram;
 use mips_image::{CHECKED_VERSION, write_image};
 use mips_text::print_asm;
 use std::alloc::Global;
+
+/// The form in which a compiled program is written.
+#[derive(Clone, Copy, Debug, PartialEq, Eq)]
+pub enum Form {
+    /// Assembly text.
+    Text,
+    /// An image.
+    Image,
+}
 
 /// Writes the program that the files of these names are, in a form, or their faults.
 pub fn build_files<F: Shelf, O: Sink, E: Sink>(

@@ -8,7 +8,7 @@ ghost use Rattle.cool_driver.specs.Ends.{Goes};
 ghost use Rattle.cool_driver.specs.Notes.{command_note};
 ghost use Rattle.cool_driver.specs.Statuses.{code_of};
 ghost use Rattle.cool_driver.specs.Telling.{NotedIfMade};
-ghost use Rattle.cool_driver.specs.commands.Session.{IsSession, SessionEnds};
+ghost use Rattle.cool_driver.specs.commands.Session.{SessionEnds};
 
 use crate::notes::{READ_FAULT, command_note, tell};
 use crate::status::Status;
@@ -34,7 +34,7 @@ pub fn hold_session<I: Source, O: Sink, E: Sink>(
 ) -> Status
     ensures taken { (ended : Bool) × Took false ended (I.past input.old) (I.past input.new) (I.left input.old) (I.left input.new) }
     ensures unended { result ≡ Status.ReadFault → (I.past input.new).ends ≡ (I.past input.old).ends }
-    ensures ends { (r : Request) (rest : List ℕ) → IsSession r → Leaves (I.past input.old) (I.past input.new) r.input rest → Goes SessionEnds (record {
+    ensures ends { (r : Request) (rest : List ℕ) → r.faults_after ≡ r.faults_before → Leaves (I.past input.old) (I.past input.new) r.input rest → Goes SessionEnds (record {
       request = r;
       out = sink_use O.held O.faults out.old out.new;
       notes = sink_use E.held E.faults notes.old notes.new;

@@ -2,7 +2,7 @@ use Rattle.std.proofs.Common.{◌≡◌, ◌+◌, ◌++◌, take}
 use Rattle.std.specs.List.{AllByRecursion}
 use Rattle.cool_faults.specs.Files.{total}
 use Rattle.cool_runtime.specs.Contents.{AreBytes}
-use Rattle.cool_driver.specs.CommandLine.{words_of}
+use Rattle.cool_words.specs.Plans.{words_of}
 use Rattle.cool_driver.specs.Calls.{AreHeld}
 use Rattle.cool_driver.specs.Contents.{texts}
 use Rattle.cool_driver.proofs.reading.read_files.Given as goal

@@ -12,7 +12,7 @@ use Rattle.cool_driver.specs.Execution.{run_of}
 use Rattle.cool_driver.specs.Contents.{texts}
 use Rattle.cool_driver.specs.Statuses.{code_of}
 use Rattle.cool_driver.proofs.Results.{for_ok}
-use Rattle.cool_driver.proofs.MeantPrograms.{big_accords}
+use Rattle.cool_driver.proofs.ProgramsMeant.{big_accords}
 use Rattle.cool_driver.proofs.commands.big.run_files.Goals as goal
 
 -- the program's run comes out so

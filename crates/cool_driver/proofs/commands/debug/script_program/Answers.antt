@@ -5,7 +5,7 @@ use Rattle.mips_isa.specs.ImageBounds.{ImageParts}
 use Rattle.mips_isa.specs.Lines.{line_of, lines_of, AreInRange}
 use Rattle.cool_emit.proofs.SoundLinesAssemble.{few_lines, in_range, no_fault}
 use Rattle.spim_debug.specs.Debugging.{IsScriptFor}
-use Rattle.cool_driver.specs.CommandLine.{words_of}
+use Rattle.cool_words.specs.Plans.{words_of}
 use Rattle.cool_driver.proofs.Plans.{short_names}
 use Rattle.cool_driver.proofs.rooms.Debuggings.{misscripted_line, says_commands, says_fault}
 use Rattle.cool_driver.proofs.commands.debug.script_program.Goals as goal
