@@ -12,7 +12,6 @@ use Rattle.cool_driver.specs.Telling.{note_of, Noted}
 use Rattle.cool_driver.specs.declared.refusal.Refusal.{Refusal}
 use Rattle.cool_driver.specs.declared.refusal.Refusal.TheVariants.{Told, Memory}
 use Rattle.cool_driver.specs.declared.status.Status.{Status}
-use Rattle.cool_driver.specs.declared.status.Status.TheVariants as statuses
 use Rattle.cool_driver.proofs.DevicesOfCalls.{IsStatus, devices_untaking, no_status}
 
 -- a note that is due was written, or that write failed

@@ -1,5 +1,5 @@
 -- How a call goes that ran an image.
-use Rattle.std.proofs.Common.{◌≡◌, ◌≢◌, ◌∙◌, ◌≤◌, ◌⊎◌, inl, inr, refl, sym, ap, subst, ℕ, Bool, true, false, cond, List, [], arith}
+use Rattle.std.proofs.Common.{◌≡◌, ◌≢◌, ◌∙◌, inl, inr, refl, sym, subst, ℕ, Bool, false, List, [], arith}
 use Rattle.std.specs.Prelude.{Option, Some, ◌==◌}
 use Rattle.cool_ports.specs.Counts.{Rose}
 use Rattle.cool_ports.specs.Answers.{Past}
@@ -12,12 +12,10 @@ use Rattle.spim_machine.specs.declared.halt.Halt.TheVariants as halts
 use Rattle.spim_machine.specs.Machine.{MachineParts, IsIn}
 use Rattle.spim_machine.specs.Ends.{Counted, FailsReading, FailsWriting, Ran, call_with}
 use Rattle.cool_words.specs.declared.plan.RunLimits.{RunLimits}
-use Rattle.cool_driver.specs.Notes.{read_fault_note}
 use Rattle.cool_driver.specs.Execution.{segments_within, run_of, ComesTo, left_by, status_of, note_of, status_of_halt, note_of_halt}
-use Rattle.cool_driver.specs.Calls.{Request, Got, GotPart, Call}
+use Rattle.cool_driver.specs.Calls.{Got, GotPart, Call}
 use Rattle.cool_driver.specs.Comes.{Comes}
 use Rattle.cool_driver.specs.Comes.Comes.{written, unwritten, unnoted, short}
-use Rattle.cool_driver.specs.Devices.{Devices}
 use Rattle.cool_driver.specs.Ends.{Goes}
 use Rattle.cool_driver.specs.Runs.{DueToRun, PiecesOfRun}
 use Rattle.cool_driver.specs.Runs.DueToRun.{ended, unread}
@@ -25,7 +23,6 @@ use Rattle.cool_driver.specs.Runs.PiecesOfRun.{of_call}
 use Rattle.cool_driver.specs.Statuses.{code_of}
 use Rattle.cool_driver.specs.Telling.{HaltNoted}
 use Rattle.cool_driver.specs.declared.status.Status.{Status}
-use Rattle.cool_driver.specs.declared.status.Status.TheVariants as statuses
 use Rattle.cool_driver.proofs.DevicesOfCalls.{devices_written, devices_cut, devices_short, got_alone, input_no_less}
 use Rattle.cool_driver.proofs.StatusesOfRuns.{IsOneOf, end_status, good_status, no_seven}
 use Rattle.cool_driver.proofs.RunsWithinLimits.{run_of-is}

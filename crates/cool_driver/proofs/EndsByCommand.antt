@@ -1,5 +1,5 @@
 -- How a call ends by the command that is asked for.
-use Rattle.std.proofs.Common.{◌≡◌, ◌≢◌, ℕ, ◌≤◌, List, [], inl, inr, Some, None, refl, sym, ◌∙◌, ap, subst, arith}
+use Rattle.std.proofs.Common.{◌≡◌, ◌≢◌, ℕ, ◌≤◌, List, [], inl, Some, None, refl, sym, subst, arith}
 use Rattle.std.specs.Prelude.{Option}
 use Rattle.cool_words.specs.Plans.{Asked}
 use Rattle.cool_words.specs.Plans.Asked.{check, asm, build, run, eval, exec, debug, big, session}
@@ -8,12 +8,12 @@ use Rattle.cool_driver.specs.Calls.{Request, Call, Got, DidNothing}
 use Rattle.cool_driver.specs.Comes.{Comes, NoPieces}
 use Rattle.cool_driver.specs.Comes.Comes.{short}
 use Rattle.cool_driver.specs.Devices.{Devices}
-use Rattle.cool_driver.specs.Ends.{EndsBy, Ends, Goes}
+use Rattle.cool_driver.specs.Ends.{EndsBy, Ends}
 use Rattle.cool_driver.specs.Notes.{usage_note}
 use Rattle.cool_driver.specs.Statuses.{code_of}
 use Rattle.cool_driver.specs.Telling.{Noted}
 use Rattle.cool_driver.specs.commands.Debug.DebugComes.{refused as comes_undebugged}
-use Rattle.cool_driver.specs.commands.Usage.{DueToUsage, UsageEnds}
+use Rattle.cool_driver.specs.commands.Usage.{DueToUsage}
 use Rattle.cool_driver.specs.commands.Usage.DueToUsage.{usage}
 use Rattle.cool_driver.specs.declared.status.Status.{Status}
 use Rattle.cool_driver.specs.declared.status.Status.TheVariants as statuses

@@ -1,6 +1,6 @@
 -- The files of a call: they are read once, and either they are one program, or there is one reason why not.
-use Rattle.std.proofs.Common.{◌≡◌, ◌≢◌, ℕ, ◌+◌, ◌-◌, ◌<◌, ◌≤◌, ◌⊎◌, inl, inr, true, List, [], ◌∷◌, ◌++◌, length, Some, None, refl, sym, ◌∙◌, ap, subst, arith}
-use Rattle.std.specs.Prelude.{Option, Result, Ok, Err, IfOk, IfErr, Contains, String, string_bytes}
+use Rattle.std.proofs.Common.{◌≡◌, ◌≢◌, ℕ, ◌+◌, ◌-◌, ◌<◌, ◌≤◌, ◌⊎◌, inl, inr, true, List, [], length, Some, None, refl, sym, ◌∙◌, ap, subst, arith}
+use Rattle.std.specs.Prelude.{Option, Result, Ok, Err, IfOk, IfErr, String, string_bytes}
 use Rattle.std.specs.List.{list_all, AllByRecursion}
 use Rattle.std.specs.Global.{Global, Vec}
 use Rattle.std.proofs.lemmas.List.{length-map}
@@ -11,11 +11,10 @@ use Rattle.cool_faults.specs.Files.{total}
 use Rattle.cool_faults.specs.Verdicts.{IsAccepted, IsFaultList, IsRefused}
 use Rattle.cool_faults.proofs.AcceptedFiles.{accepted_list}
 use Rattle.cool_faults.proofs.OneVerdict.{never_both_verdicts, one_list, one_program}
-use Rattle.cool_ports.specs.Counts.{Rose}
 use Rattle.cool_ports.specs.ShelfFiles.{FileMap, IsMissing, IsLonger}
 use Rattle.cool_runtime.specs.Contents.{AreBytes}
 use Rattle.cool_words.specs.Plans.{is_file_name, words_of}
-use Rattle.cool_driver.specs.Calls.{Call, Got, GotPart, AreHeld, ShelfUse, shelf_of, HasTold, UnlessCutShort}
+use Rattle.cool_driver.specs.Calls.{Call, Got, AreHeld, ShelfUse, shelf_of, HasTold, UnlessCutShort}
 use Rattle.cool_driver.specs.Comes.{Dues, Pieces, Comes}
 use Rattle.cool_driver.specs.Comes.Comes.{written, unwritten, unnoted, short}
 use Rattle.cool_driver.specs.Contents.{texts}

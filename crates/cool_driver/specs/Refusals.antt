@@ -1,5 +1,5 @@
 -- Why a command goes no further: the lines that are told of it, and the status.
-use Rattle.std.specs.Prelude.{◌≡◌, ℕ, ◌<◌, List, [], ◌∷◌, map}
+use Rattle.std.specs.Prelude.{◌≡◌, ℕ, List, [], ◌∷◌, map}
 use Rattle.cool_faults.specs.declared.fault.Fault.{Fault}
 use Rattle.cool_faults.specs.Texts.{fault_line}
 use Rattle.cool_faults.specs.Verdicts.{IsRefused}

@@ -1,11 +1,10 @@
-use Rattle.std.proofs.Common.{◌≡◌, List, ℕ, Some, None, [], ◌∷◌, refl, sym, ap, ◌∙◌, false, subst}
+use Rattle.std.proofs.Common.{List, ℕ, Some, [], refl, sym, ap, ◌∙◌, false}
 use Rattle.std.specs.Prelude.{Err, String, string_bytes}
 use Rattle.std.specs.Global.{Global}
 use Rattle.cool_ports.proofs.InputsInParts.{took_nothing, leaves_same}
 use Rattle.cool_words.specs.declared.plan.RunLimits.{RunLimits}
 use Rattle.cool_words.specs.Plans.Asked.{check, asm, build, run, eval, exec, debug, big, session}
 use Rattle.cool_driver.specs.CommandLine.{words_of}
-use Rattle.cool_driver.specs.declared.commands.build.Form.TheVariants.{Text, Image}
 use Rattle.cool_driver.proofs.DevicesOfCalls.{got_nothing}
 use Rattle.cool_driver.proofs.EndsByCommand.{ends_by, usage_ends, short_ends}
 use Rattle.cool_driver.proofs.Plans.{asked_is}

@@ -1,5 +1,5 @@
 -- How a call of `debug` ends.
-use Rattle.std.proofs.Common.{◌≡◌, ◌≢◌, ◌∙◌, ℕ, ◌<◌, ◌≤◌, ◌⊎◌, Bool, true, false, cond, List, [], ◌++◌, length, inl, inr, Some, None, refl, sym, ap, subst, arith}
+use Rattle.std.proofs.Common.{◌≡◌, ◌≢◌, ◌∙◌, ℕ, ◌<◌, ◌≤◌, ◌⊎◌, List, [], ◌++◌, length, inl, inr, Some, None, refl, sym, ap, subst, arith}
 use Rattle.std.specs.Prelude.{Option, Result, Ok, Err, IfOk, IfErr, ◌==◌}
 use Rattle.std.specs.List.{concat}
 use Rattle.cool_classes.specs.Chains.{Class}
@@ -21,7 +21,7 @@ use Rattle.cool_words.specs.Plans.{IsBounded}
 use Rattle.cool_words.specs.declared.plan.RunLimits.{RunLimits}
 use Rattle.mips_asm.specs.TextLabels.{text_label}
 use Rattle.mips_isa.specs.Assembly.{image_of}
-use Rattle.mips_isa.specs.Calls.{Outcome, Running, Exited, Trapped, State}
+use Rattle.mips_isa.specs.Calls.{Outcome, Running, Exited, Trapped}
 use Rattle.mips_isa.specs.ImageBounds.{ImageParts}
 use Rattle.mips_isa.specs.Lines.{Line}
 use Rattle.mips_isa.specs.Run.{start, run}
@@ -35,24 +35,23 @@ use Rattle.spim_debug.specs.declared.debugger.DebugEnd.TheVariants as end
 use Rattle.spim_debug.specs.declared.script.DebugCommand.{DebugCommand}
 use Rattle.spim_debug.specs.declared.script.ScriptFault.{ScriptFault}
 use Rattle.spim_debug.specs.declared.script.TheConstants.{MOST_SCRIPT_BYTES}
-use Rattle.spim_machine.specs.Ends.{FailsReading}
 use Rattle.spim_machine.specs.Machine.{MachineParts, IsIn}
 use Rattle.spim_machine.specs.declared.halt.Halt.{Halt}
 use Rattle.spim_machine.specs.declared.halt.Halt.TheVariants as halts
-use Rattle.cool_driver.specs.Calls.{Request, Call, SinkUse, Got, GotPart, ShelfUse, shelf_of, HasTold, UnlessCutShort, DidNothing}
+use Rattle.cool_driver.specs.Calls.{Request, Call, Got, GotPart, ShelfUse, shelf_of, HasTold, UnlessCutShort, DidNothing}
 use Rattle.cool_driver.specs.Comes.{Comes, NoPieces}
 use Rattle.cool_driver.specs.Comes.Comes.{written as told_whole, unwritten as told_unwritten, unnoted as told_unnoted, short as told_short}
 use Rattle.cool_driver.specs.Debugging.{commands_for, debuggee_within, debug_notes}
 use Rattle.cool_driver.specs.Ends.{Goes}
 use Rattle.cool_driver.specs.Execution.{heap_of, stack_of, segments_within, run_of, left_by, status_of, note_of, status_of_halt, note_of_halt}
 use Rattle.cool_driver.specs.Headline.{Headline, IsPartOfSource}
-use Rattle.cool_driver.specs.Notes.{missing_note, unread_note, too_large_note, refused_note, read_fault_note, script_note}
+use Rattle.cool_driver.specs.Notes.{missing_note, unread_note, too_large_note, refused_note, script_note}
 use Rattle.cool_driver.specs.Sources.{IsCause}
 use Rattle.cool_driver.specs.Refusals.{IsTold, IsLine}
 use Rattle.cool_driver.specs.Sources.{AreRead, IsProgram, IsNoProgram, FilesExactly}
 use Rattle.cool_driver.specs.Statuses.{code_of, FILE_FAULT}
 use Rattle.cool_driver.specs.Telling.{fault_note, HaltNoted}
-use Rattle.cool_driver.specs.commands.Debug.{ScriptIsRead, ScriptIsUnread, IsDueUnscripted, IsDueToScript, IsNoDebuggee, IsDebuggee, DueToUndebugged, Stopped, with_notes, Finished, Debugs, DebugComes, StopsShort, DebugEnds}
+use Rattle.cool_driver.specs.commands.Debug.{ScriptIsRead, ScriptIsUnread, IsDueUnscripted, IsDueToScript, IsNoDebuggee, IsDebuggee, DueToUndebugged, Stopped, Finished, Debugs, DebugComes, StopsShort, DebugEnds}
 use Rattle.cool_driver.specs.commands.Debug.DebugComes.{refused as comes_undebugged, debugs}
 use Rattle.cool_driver.specs.commands.Debug.Debugs.{written, unnoted, unwritten, unnoted_command, short, cut_short}
 use Rattle.cool_driver.specs.commands.Debug.DueToUndebugged.{undebugged}
@@ -67,7 +66,7 @@ use Rattle.cool_driver.proofs.ComesOfRefusals.{DueToTold, comes_map, file_status
 use Rattle.cool_driver.proofs.ComesOfRuns.{fails_alone, some_same}
 use Rattle.cool_driver.proofs.DevicesOfCalls.{IsStatus, devices_written, devices_cut, devices_short, input_no_less}
 use Rattle.cool_driver.proofs.StatusesOfRuns.{IsOneOf, end_status, good_status, no_seven}
-use Rattle.cool_driver.proofs.HeadlineOfRuns.{MeantRun, MeantWrite, ComesOut, headline_came, headline_noteless, headline_stopped, part_at}
+use Rattle.cool_driver.proofs.HeadlineOfRuns.{MeantRun, ComesOut, headline_came, headline_noteless, headline_stopped, part_at}
 use Rattle.cool_driver.proofs.HeadlineOfRuns.ComesOut.{at_end, at_read}
 use Rattle.cool_driver.proofs.LinesOfNotes.{some_misscripted}
 use Rattle.cool_driver.proofs.RefusalsTold.{line_told, told_so}

@@ -12,7 +12,6 @@ use Rattle.cool_meaning.specs.SourceRun as source
 use Rattle.cool_ports.specs.Counts.{Rose}
 use Rattle.cool_ports.specs.ShelfFiles.{FileMap}
 use Rattle.cool_ports.specs.SinkBytes.{appended, GotPrefix}
-use Rattle.cool_rules.specs.TypedTables.{IsTypedTable}
 use Rattle.cool_syntax.specs.declared.TheConstants.{MOST_SOURCE_BYTES}
 use Rattle.cool_driver.specs.Calls.{Request, Call, SinkUse, Got, GotPart, shelf_of, HasTold, DidNothing}
 use Rattle.cool_driver.specs.Comes.{Comes, NoPieces}
@@ -28,10 +27,9 @@ use Rattle.cool_driver.specs.commands.Eval.{DueToEval, PiecesOfEval, FailsToWrit
 use Rattle.cool_driver.specs.commands.Eval.DueToEval.{evaluated, unread, refused}
 use Rattle.cool_driver.specs.commands.Eval.PiecesOfEval.{of_call, of_last_line}
 use Rattle.cool_driver.specs.declared.status.Status.{Status}
-use Rattle.cool_driver.specs.declared.status.Status.TheVariants as statuses
 use Rattle.cool_driver.proofs.ComesOfRefusals.{DueToRefusal, comes_map, refused_status}
 use Rattle.cool_driver.proofs.DevicesOfCalls.{devices_cut, devices_short, devices_written, got_alone, input_no_less, IsStatus}
-use Rattle.cool_driver.proofs.SourcesOfCalls.{IsVerdictOn, comes_so, same_program, no_refusal, sources_exactly}
+use Rattle.cool_driver.proofs.SourcesOfCalls.{IsVerdictOn, same_program, no_refusal, sources_exactly}
 
 -- what is due comes of a verdict on the files
 verdict_of : (names : List (List ℕ)) (steps : ℕ) (r : Request) (status : ℕ) (output note left : List ℕ) → DueToEval names steps r status output note left

@@ -1,14 +1,12 @@
 -- How a call of `exec` ends.
-use Rattle.std.proofs.Common.{◌≡◌, ◌≢◌, ℕ, ◌<◌, ◌≤◌, ◌⊎◌, true, false, List, [], ◌∷◌, length, get_or, inl, inr, Some, None, refl, sym, ◌∙◌, ap, subst, arith}
-use Rattle.std.specs.Prelude.{Option, Contains, Result, IfOk, IfErr, String}
+use Rattle.std.proofs.Common.{◌≡◌, ◌≢◌, ℕ, ◌≤◌, ◌⊎◌, true, false, List, [], ◌∷◌, get_or, inl, inr, refl, sym, ◌∙◌, ap, subst, arith}
+use Rattle.std.specs.Prelude.{Result, IfOk, IfErr, String}
 use Rattle.std.specs.Global.{Global, Vec}
-use Rattle.cool_faults.specs.Files.{total}
 use Rattle.cool_ports.specs.ShelfFiles.{FileMap}
-use Rattle.cool_syntax.specs.declared.TheConstants.{MOST_FILES}
 use Rattle.cool_words.specs.declared.plan.RunLimits.{RunLimits}
 use Rattle.mips_isa.specs.ImageBounds.{ImageParts}
 use Rattle.mips_isa.specs.declared.asm_fault.AsmFault.{AsmFault}
-use Rattle.cool_driver.specs.Calls.{Request, Call, Got, AreHeld, ShelfUse, shelf_of, HasTold}
+use Rattle.cool_driver.specs.Calls.{Request, Call, Got, ShelfUse, shelf_of, HasTold}
 use Rattle.cool_driver.specs.Comes.{Comes, NoPieces}
 use Rattle.cool_driver.specs.Contents.{texts}
 use Rattle.cool_driver.specs.Ends.{Goes}
@@ -17,7 +15,7 @@ use Rattle.cool_driver.specs.Notes.{asm_note}
 use Rattle.cool_driver.specs.Refusals.{IsTold, RefusalNoted}
 use Rattle.cool_driver.specs.Runs.{DueToRun, PiecesOfRun}
 use Rattle.cool_driver.specs.Runs.DueToRun.{ended, unread}
-use Rattle.cool_driver.specs.Sources.{AreRead, AreUnread, IsDueUnread, FilesExactly}
+use Rattle.cool_driver.specs.Sources.{AreRead, AreUnread, IsDueUnread}
 use Rattle.cool_driver.specs.commands.Exec.{FileIsRead, IsDueToBytes, IsNoImage, IsLoaded, DueToExec, PiecesOfExec, ExecEnds}
 use Rattle.cool_driver.specs.commands.Exec.DueToExec.{ran, refused}
 use Rattle.cool_driver.specs.commands.Exec.IsNoImage.{unfit, misread, not_read}

@@ -1,5 +1,5 @@
 -- How a call of `run` ends.
-use Rattle.std.proofs.Common.{◌≡◌, ◌≢◌, ℕ, ◌≤◌, ◌⊎◌, Bool, List, [], inl, inr, refl, sym, ap, subst, arith}
+use Rattle.std.proofs.Common.{◌≡◌, ◌≢◌, ℕ, ◌⊎◌, Bool, List, inl, inr, refl, ap, subst, arith}
 use Rattle.cool_classes.specs.Chains.{Class}
 use Rattle.cool_emit.specs.Programs.{program_lines}
 use Rattle.cool_faults.specs.Verdicts.{IsAccepted}
@@ -10,12 +10,12 @@ use Rattle.cool_syntax.specs.declared.TheConstants.{MOST_SOURCE_BYTES}
 use Rattle.cool_words.specs.declared.plan.RunLimits.{RunLimits}
 use Rattle.mips_isa.specs.Assembly.{image_of}
 use Rattle.mips_isa.specs.ImageBounds.{ImageParts}
-use Rattle.cool_driver.specs.Calls.{Request, Call, Got, shelf_of, HasTold, DidNothing}
+use Rattle.cool_driver.specs.Calls.{Request, Call, shelf_of, HasTold, DidNothing}
 use Rattle.cool_driver.specs.Comes.{Comes, NoPieces}
 use Rattle.cool_driver.specs.Comes.Comes.{written, unwritten, unnoted, short}
 use Rattle.cool_driver.specs.Compiled.{compiled_program, IsImageFor}
 use Rattle.cool_driver.specs.Ends.{Goes}
-use Rattle.cool_driver.specs.Execution.{run_of, left_by, status_of}
+use Rattle.cool_driver.specs.Execution.{run_of, status_of}
 use Rattle.cool_driver.specs.Headline.{Headline}
 use Rattle.cool_driver.specs.Runs.{DueToRun, PiecesOfRun}
 use Rattle.cool_driver.specs.Runs.DueToRun.{ended, unread}

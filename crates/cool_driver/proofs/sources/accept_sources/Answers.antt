@@ -1,7 +1,7 @@
 use Rattle.std.proofs.Common.{List, length, sym, ◌∙◌, subst}
 use Rattle.std.proofs.lemmas.List.{length-map}
 use Rattle.cool_faults.specs.declared.fault.Fault.{Fault}
-use Rattle.cool_faults.specs.Verdicts.{IsAccepted, IsRefused}
+use Rattle.cool_faults.specs.Verdicts.{IsRefused}
 use Rattle.cool_words.specs.Plans.{words_of}
 use Rattle.cool_driver.specs.Contents.{texts}
 use Rattle.cool_driver.specs.Refusals.{AreLinesOf}

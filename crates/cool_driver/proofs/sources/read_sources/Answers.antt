@@ -1,4 +1,4 @@
-use Rattle.std.proofs.Common.{◌≤◌, ◌<◌, ℕ, List, length, refl, arith}
+use Rattle.std.proofs.Common.{◌≤◌, ◌<◌, length, refl, arith}
 use Rattle.std.specs.Prelude.{string_bytes}
 use Rattle.std.proofs.lemmas.List.{length-map}
 use Rattle.cool_syntax.specs.declared.TheConstants.{MOST_FILES}

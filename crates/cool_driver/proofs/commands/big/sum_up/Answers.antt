@@ -1,7 +1,5 @@
-use Rattle.std.proofs.Common.{[], refl, sym, ◌∙◌, subst, arith}
+use Rattle.std.proofs.Common.{refl, arith}
 use Rattle.cool_driver.specs.Comes.Comes.{short}
-use Rattle.cool_driver.specs.Telling.{Noted}
-use Rattle.cool_driver.specs.declared.status.Status.TheVariants as statuses
 use Rattle.cool_driver.proofs.DevicesOfCalls.{got_nothing}
 use Rattle.cool_driver.proofs.rooms.Bigs.{big_goes, line_comes}
 use Rattle.cool_driver.proofs.commands.big.sum_up.Goals as goal

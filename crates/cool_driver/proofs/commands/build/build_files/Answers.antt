@@ -1,4 +1,4 @@
-use Rattle.std.proofs.Common.{[], refl}
+use Rattle.std.proofs.Common.{refl}
 use Rattle.cool_words.specs.Plans.{words_of}
 use Rattle.cool_driver.specs.Calls.{shelf_use}
 use Rattle.cool_driver.specs.Sources.{IsNoProgram}

@@ -1,6 +1,5 @@
-use Rattle.std.proofs.Common.{◌≡◌, ◌∷◌, [], ℕ, List, ap, ◌∙◌, subst}
-use Rattle.std.specs.Prelude.{String, string_bytes, IfErr}
-use Rattle.std.specs.Global.{Global}
+use Rattle.std.proofs.Common.{ℕ, List, ap, ◌∙◌, subst}
+use Rattle.std.specs.Prelude.{string_bytes, IfErr}
 use Rattle.cool_words.specs.Plans.{words_of}
 use Rattle.cool_driver.specs.Calls.{shelf_use}
 use Rattle.cool_driver.specs.Refusals.{IsTold}

@@ -1,6 +1,6 @@
 use Rattle.std.proofs.Common.{◌∙◌, ap, refl}
 use Rattle.std.specs.Prelude.{Ok, Err}
-use Rattle.cool_session.specs.declared.ending.Ending.TheVariants.{Over, BadCommand, EndsInFile, TooLarge}
+use Rattle.cool_session.specs.declared.ending.Ending.TheVariants.{BadCommand, EndsInFile, TooLarge}
 use Rattle.cool_driver.specs.declared.status.Status.TheVariants as statuses
 use Rattle.cool_driver.proofs.rooms.Sessions.{is_held, came_over, noted_over, noted_end, cut_by_read, cut_by_write, cut_by_memory}
 use Rattle.cool_driver.proofs.DevicesOfCalls.{got_nothing}
