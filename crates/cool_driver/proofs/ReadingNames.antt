@@ -1,5 +1,5 @@
 -- The files of names are read one after another, until one is refused.
-use Rattle.std.proofs.Common.{◌≡◌, ◌≢◌, ℕ, suc, ◌+◌, ◌-◌, ◌<◌, List, [], ◌∷◌, ◌++◌, length, get_or, take, drop, refl, sym, ◌∙◌, ap, subst, append_assoc, take-append-drop, arith}
+use Rattle.std.proofs.Common.{◌≡◌, ◌≢◌, ℕ, suc, ◌+◌, ◌-◌, ◌<◌, List, [], ◌∷◌, ◌++◌, length, get_or, take, drop, refl, sym, ◌∙◌, ap, subst, append_assoc, append-nil, take-append-drop, arith}
 use Rattle.std.specs.Prelude.{Option, string_bytes, String}
 use Rattle.std.specs.List.{AllByRecursion}
 use Rattle.std.specs.Global.{Global, Vec}
@@ -108,3 +108,23 @@ asked_front names before after name h = record {
   stands = h.stands ∙ sym (append_assoc h.front (name ∷ []) h.rest);
   asked = h.asked;
 }
+
+-- none was asked for
+pub asked_none : (names before : List (List ℕ)) → AskedFront names before before
+asked_none names before = record { front = []; rest = names; stands = refl; asked = sym (append-nil before) }
+
+-- all were
+pub asked_whole : (names before after : List (List ℕ)) → after ≡ before ++ names → AskedFront names before after
+asked_whole names before after is = record { front = names; rest = []; stands = sym (append-nil names); asked = is }
+
+-- one was, and then some of the others
+pub asked_then : (name : List ℕ) (names before middle after : List (List ℕ)) → middle ≡ before ++ name ∷ [] → AskedFront names middle after → AskedFront (name ∷ names) before after
+asked_then name names before middle after first h = record {
+  front = name ∷ h.front;
+  rest = h.rest;
+  stands = ap (λ (ns : List (List ℕ)). name ∷ ns) h.stands;
+  asked = h.asked ∙ ap (λ (ns : List (List ℕ)). ns ++ h.front) first ∙ append_assoc before (name ∷ []) h.front;
+}
+
+pub asked_first : (name : List ℕ) (names before after : List (List ℕ)) → after ≡ before ++ name ∷ [] → AskedFront (name ∷ names) before after
+asked_first name names before after first = record { front = name ∷ []; rest = names; stands = refl; asked = first }

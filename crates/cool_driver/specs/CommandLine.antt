@@ -1,14 +1,27 @@
--- What the words of a call ask for, and that this takes nothing of the input.
-use Rattle.std.specs.Prelude.{◌≢◌, ℕ, Bool, List, Option, Some}
+-- What the words of a call ask for, of which files, and that this takes nothing of the input.
+use Rattle.std.specs.Prelude.{◌≢◌, ℕ, Bool, List, [], ◌∷◌, Option, Some, None}
 pub use Rattle.cool_words.specs.Plans.{words_of}
 use Rattle.cool_words.specs.Plans as words
 use Rattle.cool_words.specs.Plans.{Asked}
-use Rattle.cool_words.specs.Plans.Asked.{run, eval, exec, debug, session}
+use Rattle.cool_words.specs.Plans.Asked.{check, asm, build, run, eval, exec, debug, big, session}
 use Rattle.cool_words.specs.declared.plan.RunLimits.{RunLimits}
 
 -- what the words ask for
 unfoldable pub asked_for : List (List ℕ) → Option Asked
 asked_for given = words.plan_of given
+
+-- the names of which the shelf is asked, in order
+abbrev pub names_asked : Option Asked → List (List ℕ)
+names_asked None = []
+names_asked (Some (check names)) = names
+names_asked (Some (asm names)) = names
+names_asked (Some (build names)) = names
+names_asked (Some (run names limits fold)) = names
+names_asked (Some (eval names steps)) = names
+names_asked (Some (exec name limits)) = name ∷ []
+names_asked (Some (debug script names limits)) = script ∷ names
+names_asked (Some (big n)) = []
+names_asked (Some session) = []
 
 -- the words do not ask to take of the input
 abbrev pub TakesNoInput : List (List ℕ) → Type 0

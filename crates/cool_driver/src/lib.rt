@@ -9,10 +9,11 @@ ghost use Rattle.cool_ports.specs.Counts.{Rose};
 ghost use Rattle.cool_ports.specs.SinkBytes.{appended, GotPrefix};
 ghost use Rattle.cool_ports.specs.Taking.{Took};
 ghost use Rattle.cool_driver.specs.Calls.{sink_use};
-ghost use Rattle.cool_driver.specs.CommandLine.{words_of, asked_for, TakesNoInput};
+ghost use Rattle.cool_driver.specs.CommandLine.{words_of, asked_for, names_asked, TakesNoInput};
 ghost use Rattle.cool_driver.specs.Notes.{usage_note};
 ghost use Rattle.cool_driver.specs.Ends.{Ends};
 ghost use Rattle.cool_driver.specs.Limits.{AreLimits};
+ghost use Rattle.cool_driver.specs.Sources.{AskedFront};
 ghost use Rattle.cool_driver.specs.Statuses.{READ_FAULT};
 ghost use Rattle.cool_words.specs.Plans.Asked.{session};
 
@@ -60,6 +61,9 @@ pub fn cool<F: Shelf, I: Source, O: Sink, E: Sink>(
 
     // The shelf keeps its files.
     ensures files { F.files files.new ≡ F.files files.old }
+
+    // It is asked for the files of the command line, in order, each once, up to one that it refuses.
+    ensures asked { AskedFront (names_asked (asked_for (words_of words.now))) (F.asked files.old) (F.asked files.new) }
 
     // Only `run`, `exec`, `debug`, `eval` and `session` take of the input.
     ensures input { TakesNoInput (words_of words.now) → input.new ≡ input.old }

@@ -8,7 +8,7 @@ ghost use Rattle.cool_words.specs.Plans.{is_file_name, words_of};
 ghost use Rattle.cool_driver.specs.Calls.{shelf_use};
 ghost use Rattle.cool_driver.specs.Contents.{texts};
 ghost use Rattle.cool_driver.specs.Refusals.{IsDueToFaults, IsTold};
-ghost use Rattle.cool_driver.specs.Sources.{AreRead, IsDueUnread, IsNoProgram, IsProgram, AreSources};
+ghost use Rattle.cool_driver.specs.Sources.{AskedFront, AreRead, IsDueUnread, IsNoProgram, IsProgram, AreSources};
 
 use crate::notes::TOO_MANY_FILES;
 use crate::reading::{ReadError, read_files};
@@ -29,6 +29,7 @@ pub fn read_program<F: Shelf>(
     requires some { 0 < length names.now }
     requires names { list_all is_file_name (words_of names.now) ≡ true }
     ensures kept { F.files files.new ≡ F.files files.old }
+    ensures asked { AskedFront (words_of names.now) (F.asked files.old) (F.asked files.new) }
     ensures count { F.faults files.old ≤ F.faults files.new }
     ensures program { IfOk result (IsProgram (shelf_use F.files F.faults files.old files.new) (words_of names.now)) }
     ensures refused { IfErr result (IsTold (IsNoProgram (shelf_use F.files F.faults files.old files.new) (words_of names.now))) }
@@ -48,6 +49,7 @@ pub fn read_sources<F: Shelf>(
 ) -> Result<Vec<Vec<u8>>, Refusal>
     requires { most < 2 ^ 40 }
     ensures kept { F.files files.new ≡ F.files files.old }
+    ensures asked { AskedFront (words_of names.now) (F.asked files.old) (F.asked files.new) }
     ensures count { F.faults files.old ≤ F.faults files.new }
     ensures read { IfOk result (λ contents. AreRead (shelf_use F.files F.faults files.old files.new) most (words_of names.now) (texts contents.items)) }
     ensures bytes { IfOk result (λ contents. AllByRecursion AreBytes (texts contents.items)) }

@@ -5,6 +5,7 @@ use Rattle.cool_ports.proofs.InputsInParts.{took_nothing, leaves_same}
 use Rattle.cool_words.specs.declared.plan.RunLimits.{RunLimits}
 use Rattle.cool_words.specs.Plans.Asked.{check, asm, build, run, eval, exec, debug, big, session}
 use Rattle.cool_driver.specs.CommandLine.{words_of}
+use Rattle.cool_driver.proofs.ReadingNames.{asked_none}
 use Rattle.cool_driver.proofs.DevicesOfCalls.{got_nothing}
 use Rattle.cool_driver.proofs.EndsByCommand.{ends_by, usage_ends, short_ends}
 use Rattle.cool_driver.proofs.Plans.{asked_is}
@@ -142,4 +143,39 @@ returns-clause-ends g c given rest leaves =
           let here = rw w.input-is at leaves in
           rw (c.code.ensures, w.status-is, w.files-is, w.out-is, w.notes-is, w.input-is, leaves_same _ given rest here)
           (short_ends _ refl (got_nothing _ _, got_nothing _ _, refl, refl))
+    ]
+
+-- the files of the command line were asked for, up to one that was refused
+pub returns-clause-asked : goal.returns-clause-asked
+returns-clause-asked g c =
+    let words = words_of c.args.words.now in
+    elim c.match-read_words.branch [
+      | in-Ok-Check w ↦
+          let asked = asked_is words ∙ (rw w.in-Ok-Check.field-0-is at w.in-Ok-Check.ensures.plan) ∙ ap (λ (names : List (String Global)). Some (check (words_of names))) (sym w.deref.ensures.value) in
+          rw (w.files-is, asked) w.check_files-status.ensures.asked
+      | in-Ok-Asm w ↦
+          let asked = asked_is words ∙ (rw w.in-Ok-Asm.field-0-is at w.in-Ok-Asm.ensures.plan) ∙ ap (λ (names : List (String Global)). Some (asm (words_of names))) (sym w.deref-in-Ok-Asm.ensures.value) in
+          rw (w.files-is, asked) w.build_files-status.ensures.asked
+      | in-Ok-Build w ↦
+          let asked = asked_is words ∙ (rw w.in-Ok-Build.field-0-is at w.in-Ok-Build.ensures.plan) ∙ ap (λ (names : List (String Global)). Some (build (words_of names))) (sym w.deref-in-Ok-Build.ensures.value) in
+          rw (w.files-is, asked) w.build_files-status-in-Ok-Build.ensures.asked
+      | in-Ok-Run w ↦
+          let asked = asked_is words ∙ (rw w.in-Ok-Run.field-0-is at w.in-Ok-Run.ensures.plan) ∙ ap (λ (names : List (String Global)). Some (run (words_of names) w.in-Ok-Run.limits w.in-Ok-Run.fold)) (sym w.deref-in-Ok-Run.ensures.value) in
+          rw (w.files-is, asked) w.run_files-status.ensures.asked
+      | in-Ok-Eval w ↦
+          let asked = asked_is words ∙ (rw w.in-Ok-Eval.field-0-is at w.in-Ok-Eval.ensures.plan) ∙ ap (λ (names : List (String Global)). Some (eval (words_of names) w.in-Ok-Eval.steps)) (sym w.deref-in-Ok-Eval.ensures.value) in
+          rw (w.files-is, asked) w.evaluate_files-status.ensures.asked
+      | in-Ok-Exec w ↦
+          let asked = asked_is words ∙ (rw w.in-Ok-Exec.field-0-is at w.in-Ok-Exec.ensures.plan) in
+          rw (w.files-is, asked) w.execute_file-status.ensures.asked
+      | in-Ok-Debug w ↦
+          let plan = w.in-Ok-Debug in
+          let asked = asked_is words ∙ (rw plan.field-0-is at plan.ensures.plan) in
+          let names = ap (λ (files : List (String Global)). Some (debug (string_bytes plan.script) (words_of files) plan.limits)) (sym w.deref-in-Ok-Debug.ensures.value) in
+          let script = ap (λ (name : List ℕ). Some (debug name (words_of w.deref-in-Ok-Debug.result.now) plan.limits)) (sym w.as_str.ensures.value) in
+          rw (w.files-is, asked ∙ names ∙ script) w.debug_files-status.ensures.asked
+      | in-Ok-Big w ↦ rw w.files-is (asked_none _ _)
+      | in-Ok-Session w ↦ rw w.files-is (asked_none _ _)
+      | in-Err-Usage w ↦ rw w.files-is (asked_none _ _)
+      | in-Err-Memory w ↦ rw w.files-is (asked_none _ _)
     ]

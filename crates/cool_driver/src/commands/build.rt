@@ -7,7 +7,7 @@ ghost use Rattle.cool_words.specs.Plans.{is_file_name, words_of};
 ghost use Rattle.cool_driver.specs.Calls.{Got, SinkUse, shelf_use, sink_use, untaking};
 ghost use Rattle.cool_driver.specs.Ends.{Goes};
 ghost use Rattle.cool_driver.specs.Refusals.{IsTold};
-ghost use Rattle.cool_driver.specs.Sources.{IsNoProgram};
+ghost use Rattle.cool_driver.specs.Sources.{AskedFront, IsNoProgram};
 ghost use Rattle.cool_driver.specs.Statuses.{code_of};
 ghost use Rattle.cool_driver.specs.commands.Build.{BuildEnds, IsBuilt, built_bytes};
 
@@ -43,6 +43,7 @@ pub fn build_files<F: Shelf, O: Sink, E: Sink>(
     requires some { 0 < length names.now }
     requires names { list_all is_file_name (words_of names.now) ≡ true }
     ensures kept { F.files files.new ≡ F.files files.old }
+    ensures asked { AskedFront (words_of names.now) (F.asked files.old) (F.asked files.new) }
     ensures ends { (words : List (List ℕ)) (input : List ℕ) (faults : ℕ)
         → Goes (BuildEnds form (words_of names.now)) (untaking words (shelf_use F.files F.faults files.old files.new) input faults
         (sink_use O.held O.faults out.old out.new) (sink_use E.held E.faults notes.old notes.new)) (code_of result) }
@@ -63,6 +64,7 @@ fn make_bytes<F: Shelf>(
     requires some { 0 < length names.now }
     requires names { list_all is_file_name (words_of names.now) ≡ true }
     ensures kept { F.files files.new ≡ F.files files.old }
+    ensures asked { AskedFront (words_of names.now) (F.asked files.old) (F.asked files.new) }
     ensures count { F.faults files.old ≤ F.faults files.new }
     ensures built { IfOk result (λ bytes. IsBuilt form (words_of names.now) (shelf_use F.files F.faults files.old files.new) bytes.items) }
     ensures refused { IfErr result (IsTold (IsNoProgram (shelf_use F.files F.faults files.old files.new) (words_of names.now))) }

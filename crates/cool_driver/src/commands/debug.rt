@@ -1,6 +1,6 @@
 //! The command `debug`: a program, compiled and run under the debugger, which does what a script says.
 
-ghost use Rattle.std.specs.Prelude.{◌≡◌, ◌<◌, ◌≤◌, ℕ, List, Bool, false, length, IfErr, IfOk, None, OnOk, Ok, true};
+ghost use Rattle.std.specs.Prelude.{◌≡◌, ◌<◌, ◌≤◌, ℕ, List, Bool, false, length, IfErr, IfOk, None, OnOk, Ok, true, [], ◌∷◌, ◌++◌};
 ghost use Rattle.std.specs.List.{list_all};
 ghost use Rattle.cool_emit.specs.Programs.{program_lines};
 ghost use Rattle.cool_ports.specs.Answers.{Leaves};
@@ -13,6 +13,7 @@ ghost use Rattle.spim_debug.specs.Debugging.{IsScriptFor};
 ghost use Rattle.cool_driver.specs.Calls.{Request, request_of, shelf_use, sink_use};
 ghost use Rattle.cool_driver.specs.Debugging.{commands_for};
 ghost use Rattle.cool_driver.specs.Ends.{Goes};
+ghost use Rattle.cool_driver.specs.Sources.{AskedFront};
 ghost use Rattle.cool_driver.specs.Refusals.{IsTold};
 ghost use Rattle.cool_driver.specs.Statuses.{code_of};
 ghost use Rattle.cool_driver.specs.commands.Debug.{DebugEnds, Debugs, IsDebuggee, IsDueToScript, IsDueUnscripted, IsNoDebuggee, ScriptIsRead};
@@ -55,6 +56,7 @@ pub fn debug_files<F: Shelf, I: Source, O: Sink, E: Sink>(
     requires names { list_all is_file_name (words_of names.now) ≡ true }
     requires limits { IsBounded limits }
     ensures kept { F.files files.new ≡ F.files files.old }
+    ensures asked { AskedFront (script.now ∷ words_of names.now) (F.asked files.old) (F.asked files.new) }
     ensures taken { (ended : Bool) × Took false ended (I.past input.old) (I.past input.new) (I.left input.old) (I.left input.new) }
     ensures ends { (words : List (List ℕ)) (given rest : List ℕ) → Leaves (I.past input.old) (I.past input.new) given rest
         → Goes (DebugEnds script.now (words_of names.now) limits) (record {
@@ -92,6 +94,7 @@ fn read_debuggee<F: Shelf>(
     requires some { 0 < length names.now }
     requires names { list_all is_file_name (words_of names.now) ≡ true }
     ensures kept { F.files files.new ≡ F.files files.old }
+    ensures asked { AskedFront (script.now ∷ words_of names.now) (F.asked files.old) (F.asked files.new) }
     ensures count { F.faults files.old ≤ F.faults files.new }
     ensures debuggee { IfOk result (λ x. IsDebuggee script.now (words_of names.now) (shelf_use F.files F.faults files.old files.new) x.image x.commands.items) }
     ensures script { IfOk result (λ x. IsScriptFor x.image.text x.commands.items) }
@@ -109,6 +112,7 @@ fn read_debuggee<F: Shelf>(
 /// The bytes of the script of this name, or why it was not read.
 fn read_bytes<F: Shelf>(alloc: Global, script: &str, files: &mut F) -> Result<Vec<u8>, Refusal>
     ensures kept { F.files files.new ≡ F.files files.old }
+    ensures asked { F.asked files.new ≡ F.asked files.old ++ script.now ∷ [] }
     ensures count { F.faults files.old ≤ F.faults files.new }
     ensures calm { OnOk result (F.faults files.new ≡ F.faults files.old) }
     ensures read { IfOk result (λ bytes. ScriptIsRead (shelf_use F.files F.faults files.old files.new) script.now bytes.items) }
@@ -135,6 +139,7 @@ fn read_scripted<F: Shelf>(
     requires names { list_all is_file_name (words_of names.now) ≡ true }
     requires read { ScriptIsRead (shelf_use F.files F.faults files.old files.old) script.now bytes.now }
     ensures kept { F.files files.new ≡ F.files files.old }
+    ensures asked { AskedFront (words_of names.now) (F.asked files.old) (F.asked files.new) }
     ensures count { F.faults files.old ≤ F.faults files.new }
     ensures debuggee { IfOk result (λ x. IsDebuggee script.now (words_of names.now) (shelf_use F.files F.faults files.old files.new) x.image x.commands.items) }
     ensures script { IfOk result (λ x. IsScriptFor x.image.text x.commands.items) }

@@ -1,12 +1,13 @@
 //! The command `exec`: an image or a text of assembly, run.
 
-ghost use Rattle.std.specs.Prelude.{◌≡◌, ◌≤◌, ℕ, List, Bool, false, length, IfErr, IfOk, string_bytes, true};
+ghost use Rattle.std.specs.Prelude.{◌≡◌, ◌≤◌, ℕ, List, Bool, false, length, IfErr, IfOk, string_bytes, true, [], ◌∷◌};
 ghost use Rattle.cool_ports.specs.Answers.{Leaves};
 ghost use Rattle.cool_ports.specs.Taking.{Took};
 ghost use Rattle.cool_words.specs.Plans.{IsBounded};
 ghost use Rattle.cool_driver.specs.Calls.{request_of, shelf_use, sink_use};
 ghost use Rattle.cool_driver.specs.Ends.{Goes};
 ghost use Rattle.cool_driver.specs.Execution.{IsRunnable, is_text_file};
+ghost use Rattle.cool_driver.specs.Sources.{AskedFront};
 ghost use Rattle.cool_driver.specs.declared.TheConstants.{MOST_IMAGE_BYTES};
 ghost use Rattle.cool_driver.specs.Refusals.{IsTold};
 ghost use Rattle.cool_driver.specs.Statuses.{code_of};
@@ -41,6 +42,7 @@ pub fn execute_file<F: Shelf, I: Source, O: Sink, E: Sink>(
 ) -> Status
     requires { IsBounded limits }
     ensures kept { F.files files.new ≡ F.files files.old }
+    ensures asked { AskedFront (string_bytes file ∷ []) (F.asked files.old) (F.asked files.new) }
     ensures taken { (ended : Bool) × Took false ended (I.past input.old) (I.past input.new) (I.left input.old) (I.left input.new) }
     ensures ends { (words : List (List ℕ)) (given rest : List ℕ) → Leaves (I.past input.old) (I.past input.new) given rest
         → Goes (ExecEnds (string_bytes file) limits) (record {
@@ -61,6 +63,7 @@ pub fn execute_file<F: Shelf, I: Source, O: Sink, E: Sink>(
 /// The image that the file of this name stands for, or why it stands for none.
 fn load_file<F: Shelf>(alloc: Global, file: String, files: &mut F) -> Result<Image, Refusal>
     ensures kept { F.files files.new ≡ F.files files.old }
+    ensures asked { AskedFront (string_bytes file ∷ []) (F.asked files.old) (F.asked files.new) }
     ensures count { F.faults files.old ≤ F.faults files.new }
     ensures image { IfOk result (IsLoaded (shelf_use F.files F.faults files.old files.new) (string_bytes file)) }
     ensures refused { IfErr result (IsTold (IsNoImage (shelf_use F.files F.faults files.old files.new) (string_bytes file))) }

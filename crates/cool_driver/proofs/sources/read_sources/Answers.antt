@@ -8,6 +8,7 @@ use Rattle.cool_driver.specs.Notes.{too_many_note}
 use Rattle.cool_driver.specs.Sources.{IsDueUnread}
 use Rattle.cool_driver.specs.Sources.AreUnread.{too_many}
 use Rattle.cool_driver.specs.declared.status.Status.TheVariants as statuses
+use Rattle.cool_driver.proofs.ReadingNames.{asked_none, asked_whole, asked_front}
 use Rattle.cool_driver.proofs.RefusalsTold.{line_told, stop_told}
 use Rattle.cool_driver.proofs.sources.read_sources.Goals as goal
 
@@ -37,3 +38,16 @@ returns-in-Err-Refused-clause-refused g c =
     let stop = rw refused.field-0-is at refused.ensures.stop in
     stop_told (shelf_use g.F.Shelf.files g.F.Shelf.faults c.args.files.now c.read_files.new.files) c.args.most names refused.name.now refused.fault
     c.refuse_unread.result few stop c.refuse_unread.ensures
+
+-- what the shelf was asked for
+pub returns-then-names-gt-MOST_FILES-clause-asked : goal.returns-then-names-gt-MOST_FILES-clause-asked
+returns-then-names-gt-MOST_FILES-clause-asked g c = asked_none _ _
+
+pub returns-in-Ok-clause-asked : goal.returns-in-Ok-clause-asked
+returns-in-Ok-clause-asked g c = asked_whole _ _ _ c.in-Ok.ensures.asked
+
+pub returns-in-Err-Refused-clause-asked : goal.returns-in-Err-Refused-clause-asked
+returns-in-Err-Refused-clause-asked g c = asked_front _ _ _ _ (rw c.in-Err-Refused.field-0-is at c.in-Err-Refused.ensures.asked_for)
+
+pub returns-in-Err-Memory-clause-asked : goal.returns-in-Err-Memory-clause-asked
+returns-in-Err-Memory-clause-asked g c = rw c.in-Err-Memory.field-0-is at c.in-Err-Memory.ensures.asked_for

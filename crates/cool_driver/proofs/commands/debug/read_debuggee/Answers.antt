@@ -9,6 +9,7 @@ use Rattle.cool_driver.specs.Refusals.{IsTold}
 use Rattle.cool_driver.specs.commands.Debug.{IsDebuggee, IsNoDebuggee, ScriptIsRead}
 use Rattle.cool_driver.specs.commands.Debug.IsNoDebuggee.{too_many}
 use Rattle.cool_driver.specs.declared.status.Status.TheVariants as statuses
+use Rattle.cool_driver.proofs.ReadingNames.{asked_none, asked_then, asked_first}
 use Rattle.cool_driver.proofs.RefusalsTold.{line_told}
 use Rattle.cool_driver.proofs.rooms.Debuggings.{same_use, unscripted_told}
 use Rattle.cool_driver.proofs.commands.debug.read_debuggee.Goals as goal
@@ -47,3 +48,13 @@ returns-in-Err-clause-refused g c =
     let few : length names ≤ MOST_FILES = omega (arith, length-map c.args.names.now string_bytes, c.if-names-gt-MOST_FILES.false) in
     unscripted_told c.args.script.now names (shelf_use g.F.Shelf.files g.F.Shelf.faults c.args.files.now c.read_bytes.new.files) c.in-Err.refusal few
     c.in-Err.ensures.refused
+
+-- what the shelf was asked for: nothing, the script and some of the files, or the script alone
+pub returns-then-names-gt-MOST_FILES-clause-asked : goal.returns-then-names-gt-MOST_FILES-clause-asked
+returns-then-names-gt-MOST_FILES-clause-asked g c = asked_none _ _
+
+pub returns-in-Ok-clause-asked : goal.returns-in-Ok-clause-asked
+returns-in-Ok-clause-asked g c = asked_then _ _ _ _ _ c.read_bytes.ensures.asked c.read_scripted.ensures.asked
+
+pub returns-in-Err-clause-asked : goal.returns-in-Err-clause-asked
+returns-in-Err-clause-asked g c = asked_first _ _ _ _ c.read_bytes.ensures.asked
