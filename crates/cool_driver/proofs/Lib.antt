@@ -1,25 +1,25 @@
-pub mod AssembledTexts
-pub mod RunnableFiles
-pub mod HeldFiles
-pub mod LinesOfNotes
-pub mod Results
-pub mod RefusalsTold
-pub mod SourcesOfCalls
-pub mod DevicesOfCalls
-pub mod ComesOfRefusals
-pub mod StatusesOfRuns
-pub mod ComesOfRuns
-pub mod rooms
-pub mod ReadingNames
-pub mod Plans
-pub mod EndsByCommand
-pub mod RunsWithinLimits
-pub mod BigRuns
-pub mod LoadingImages
-pub mod Accords
-pub mod NamesAreTexts
-pub mod FoldedTrees
-pub mod FoldedImages
-pub mod ProgramsMeant
-pub mod StoppedRuns
-pub mod HeadlineOfRuns
+mod AssembledTexts
+mod RunnableFiles
+mod HeldFiles
+mod LinesOfNotes
+mod Results
+mod RefusalsTold
+mod SourcesOfCalls
+mod DevicesOfCalls
+mod ComesOfRefusals
+mod StatusesOfRuns
+mod ComesOfRuns
+mod rooms
+mod ReadingNames
+mod Plans
+mod EndsByCommand
+mod RunsWithinLimits
+mod BigRuns
+mod LoadingImages
+mod Accords
+mod NamesAreTexts
+mod FoldedTrees
+mod FoldedImages
+mod ProgramsMeant
+mod StoppedRuns
+mod HeadlineOfRuns
