@@ -1,9 +1,9 @@
 -- The lemmas of one command each; no file of one command needs one of another.
-mod Checks
-mod Evaluations
-mod Builds
-mod Runnings
-mod Executions
-mod Bigs
-mod Debuggings
-mod Sessions
+pub mod Checks
+pub mod Evaluations
+pub mod Builds
+pub mod Runnings
+pub mod Executions
+pub mod Bigs
+pub mod Debuggings
+pub mod Sessions

@@ -1,16 +1,16 @@
 -- The calls of methods and of initializers: frames, names at home, bodies and initial values, and the induction on the steps.
-mod AllCalls
-mod AttributesAtHome
-mod BasicAttributes
-mod BodyScenes
-mod Entries
-mod FeaturesHere
-mod Formals
-mod Frames
-mod InitialParts
-mod InitialValues
-mod Initializers
-mod InitialsSplit
-mod InsideFrames
-mod LeftFrames
-mod Methods
+pub mod AllCalls
+pub mod AttributesAtHome
+pub mod BasicAttributes
+pub mod BodyScenes
+pub mod Entries
+pub mod FeaturesHere
+pub mod Formals
+pub mod Frames
+pub mod InitialParts
+pub mod InitialValues
+pub mod Initializers
+pub mod InitialsSplit
+pub mod InsideFrames
+pub mod LeftFrames
+pub mod Methods

@@ -1,52 +1,52 @@
 -- The forms of expressions: the code of each does what it means, where that of its parts does; and the basic methods.
-mod Arguments
-mod Arithmetic
-mod Assignments
-mod BasicCalls
-mod BasicConsole
-mod BasicCopies
-mod BasicNames
-mod BasicNews
-mod BasicObjects
-mod BasicReading
-mod BasicTexts
-mod Blocks
-mod BranchOrder
-mod CallForms
-mod CallLines
-mod CaseArms
-mod CaseBranches
-mod CaseCorrect
-mod CaseEnds
-mod CaseLines
-mod CaseParts
-mod CaseTaken
-mod Comparisons
-mod Conditionals
-mod Constants
-mod Defaults
-mod Dispatches
-mod Equalities
-mod ExactResults
-mod Forms
-mod Invoking
-mod Lets
-mod Loops
-mod Names
-mod Negatives
-mod NewCodes
-mod NewCorrect
-mod NewLines
-mod NewMeaning
-mod NewRuns
-mod News
-mod Operators
-mod Received
-mod ReceiverHeads
-mod RoutinesDone
-mod Slots
-mod StaticDispatches
-mod StaticTypes
-mod TagTests
-mod Tests
-mod Verdicts
+pub mod Arguments
+pub mod Arithmetic
+pub mod Assignments
+pub mod BasicCalls
+pub mod BasicConsole
+pub mod BasicCopies
+pub mod BasicNames
+pub mod BasicNews
+pub mod BasicObjects
+pub mod BasicReading
+pub mod BasicTexts
+pub mod Blocks
+pub mod BranchOrder
+pub mod CallForms
+pub mod CallLines
+pub mod CaseArms
+pub mod CaseBranches
+pub mod CaseCorrect
+pub mod CaseEnds
+pub mod CaseLines
+pub mod CaseParts
+pub mod CaseTaken
+pub mod Comparisons
+pub mod Conditionals
+pub mod Constants
+pub mod Defaults
+pub mod Dispatches
+pub mod Equalities
+pub mod ExactResults
+pub mod Forms
+pub mod Invoking
+pub mod Lets
+pub mod Loops
+pub mod Names
+pub mod Negatives
+pub mod NewCodes
+pub mod NewCorrect
+pub mod NewLines
+pub mod NewMeaning
+pub mod NewRuns
+pub mod News
+pub mod Operators
+pub mod Received
+pub mod ReceiverHeads
+pub mod RoutinesDone
+pub mod Slots
+pub mod StaticDispatches
+pub mod StaticTypes
+pub mod TagTests
+pub mod Tests
+pub mod Verdicts

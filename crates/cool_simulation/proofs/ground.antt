@@ -1,33 +1,33 @@
 -- The ground of the proof: pictures that stay, parts of runs put together, walks over lines, numbers as words, and errors.
-mod Between
-mod BoundVariables
-mod CallErrors
-mod CallsLater
-mod CodeOfParts
-mod DataHere
-mod EvaluationLater
-mod FirstParts
-mod FlagWalks
-mod Homes
-mod KindsOfValues
-mod LargerMaps
-mod LoadedLocations
-mod MadeObjects
-mod MadePictures
-mod MovedContents
-mod NextParts
-mod ObjectsStay
-mod Operands
-mod OperatorWalks
-mod PartsBehind
-mod PartsOfRuns
-mod PicturesStay
-mod Products
-mod Pushing
-mod Quotients
-mod ReservedParts
-mod ScenesLater
-mod SecondParts
-mod Sums
-mod Walks
-mod WordsOfNumbers
+pub mod Between
+pub mod BoundVariables
+pub mod CallErrors
+pub mod CallsLater
+pub mod CodeOfParts
+pub mod DataHere
+pub mod EvaluationLater
+pub mod FirstParts
+pub mod FlagWalks
+pub mod Homes
+pub mod KindsOfValues
+pub mod LargerMaps
+pub mod LoadedLocations
+pub mod MadeObjects
+pub mod MadePictures
+pub mod MovedContents
+pub mod NextParts
+pub mod ObjectsStay
+pub mod Operands
+pub mod OperatorWalks
+pub mod PartsBehind
+pub mod PartsOfRuns
+pub mod PicturesStay
+pub mod Products
+pub mod Pushing
+pub mod Quotients
+pub mod ReservedParts
+pub mod ScenesLater
+pub mod SecondParts
+pub mod Sums
+pub mod Walks
+pub mod WordsOfNumbers

@@ -3,22 +3,22 @@ pub mod AcceptedPrograms
 pub mod AcceptedTexts
 pub mod AcceptedWritable
 pub mod BytesOfPrograms
-mod BytesOfReadings
-mod BytesOfTokens
-mod EndsAccord
-mod FilledWords
-mod Headline
+pub mod BytesOfReadings
+pub mod BytesOfTokens
+pub mod EndsAccord
+pub mod FilledWords
+pub mod Headline
 pub mod InputShrinks
-mod MainCall
-mod MainLines
-mod MainNames
-mod NamedCode
-mod NamedData
-mod NamesOfFeatures
-mod NamesOfLabels
+pub mod MainCall
+pub mod MainLines
+pub mod MainNames
+pub mod NamedCode
+pub mod NamedData
+pub mod NamesOfFeatures
+pub mod NamesOfLabels
 pub mod PrintedPrograms
-mod RunsAccord
-mod RunsMet
+pub mod RunsAccord
+pub mod RunsMet
 pub mod Simulated
 pub mod TextsOfTrees
-mod WritablePrograms
+pub mod WritablePrograms
