@@ -1,11 +1,15 @@
--- The files of names are read one after another.
-use Rattle.std.proofs.Common.{◌≡◌, ℕ, ◌+◌, ◌<◌, List, [], ◌∷◌, ◌++◌, length, map, get_or, take, sym, ◌∙◌, ap, subst, arith}
+-- The files of names are read one after another, until one is refused.
+use Rattle.std.proofs.Common.{◌≡◌, ◌≢◌, ℕ, ◌+◌, ◌-◌, ◌<◌, inl, inr, List, [], ◌∷◌, ◌++◌, length, map, get_or, take, drop, refl, sym, ◌∙◌, ap, subst, take-append-drop, arith}
 use Rattle.std.specs.Prelude.{Option, string_bytes, String}
+use Rattle.cool_syntax.specs.declared.TheConstants.{MOST_SOURCE_BYTES}
+use Rattle.cool_ports.specs.Counts.{Rose}
+use Rattle.cool_ports.specs.declared.shelf.ShelfFault.{ShelfFault}
+use Rattle.cool_ports.specs.declared.shelf.ShelfFault.TheVariants as faults
 use Rattle.std.specs.Global.{Global, Vec}
-use Rattle.std.proofs.lemmas.List.{map_more, map_push}
-use Rattle.cool_ports.specs.ShelfFiles.{FileMap, MayHold}
+use Rattle.std.proofs.lemmas.List.{at_drop_more, map_more, map_push, map-append}
+use Rattle.cool_ports.specs.ShelfFiles.{FileMap, MayHold, IsMissing, IsLonger}
 use Rattle.cool_faults.specs.Files.{bytes_of, total}
-use Rattle.cool_editor.specs.Ends.{AreHeld}
+use Rattle.cool_editor.specs.Ends.{AreHeld, IsCause, IsStop}
 
 -- one more file is held
 held_more : (told : Option FileMap) (names contents : List (List ℕ)) (name bytes : List ℕ) → AreHeld told names contents → MayHold told name bytes → AreHeld told (names ++ name ∷ []) (contents ++ bytes ∷ [])
@@ -40,3 +44,38 @@ total_turn contents more file pushed =
 pub length_more : {X : Type 0} (xs : List X) (x : X) → length (xs ++ x ∷ []) ≡ length xs + 1
 length_more [] x = omega arith
 length_more (y ∷ xs) x = omega (arith, length_more xs x)
+
+-- a name stands between those before it and those after it
+names_cut : (names : List (String Global)) (i : ℕ) (name : String Global) → i < length names → name ≡ get_or names i name → map string_bytes names ≡ map string_bytes (take i names) ++ string_bytes name ∷ map string_bytes (drop (i + 1) names)
+names_cut names i name h is =
+    ap (map string_bytes) (sym (take-append-drop i names)) ∙ map-append string_bytes (take i names) (drop i names)
+    ∙ ap (λ (ns : List (List ℕ)). map string_bytes (take i names) ++ ns)
+    (at_drop_more (map string_bytes) names i name h ∙ ap (λ (n : String Global). string_bytes n ∷ map string_bytes (drop (i + 1) names)) (sym is))
+
+-- the cause of a refusal
+pub cause_of : (files : Option FileMap) (before after : ℕ) (name : List ℕ) (most : ℕ) (fault : ShelfFault) → (fault ≡ faults.Missing → IsMissing files name before after) → (fault ≡ faults.TooLarge → IsLonger files name most before after)
+    → (fault ≡ faults.Failed → Rose before after) → fault ≢ faults.Memory → IsCause files before after name most
+cause_of files before after name most faults.Missing gone long failed other = inl (gone refl)
+cause_of files before after name most faults.Failed gone long failed other = inr (inr (failed refl))
+cause_of files before after name most faults.TooLarge gone long failed other = inr (inl (long refl))
+cause_of files before after name most faults.Memory gone long failed other = absurd (other refl)
+
+-- a file was refused after those that were read
+pub stop_at : (told now : Option FileMap) (before now_before after : ℕ) (names : List (String Global)) (i : ℕ) (name : String Global) (given : List ℕ) (contents : List (Vec ℕ)) (left : ℕ) → now ≡ told → now_before ≡ before → i < length names
+    → name ≡ get_or names i name → given ≡ string_bytes name → AreHeld told (map string_bytes (take i names)) (bytes_of contents) → total (bytes_of contents) + left ≡ MOST_SOURCE_BYTES → IsCause now now_before after given left
+    → IsStop told before after (map string_bytes names)
+stop_at told now before now_before after names i name given contents left same calm h is called held rest cause =
+    let most_left : left ≡ MOST_SOURCE_BYTES - total (bytes_of contents) = omega arith in
+    record {
+      front = map string_bytes (take i names);
+      name = given;
+      rest = map string_bytes (drop (i + 1) names);
+      contents = bytes_of contents;
+      stands = names_cut names i name h is ∙ ap (λ (n : List ℕ). map string_bytes (take i names) ++ n ∷ map string_bytes (drop (i + 1) names)) (sym called);
+      held = held;
+      within = omega arith;
+      cause =
+          subst (λ (t : Option FileMap). IsCause t before after given (MOST_SOURCE_BYTES - total (bytes_of contents))) same
+          (subst (λ (b : ℕ). IsCause now b after given (MOST_SOURCE_BYTES - total (bytes_of contents))) calm
+          (subst (λ (m : ℕ). IsCause now now_before after given m) most_left cause));
+    }

@@ -1,18 +1,23 @@
--- How a call ends: the lines of the marks of the files are written, or the files are no class table.
-use Rattle.std.specs.Prelude.{◌≡◌, ℕ, List, [], ◌∷◌, Option, Some, None}
+-- How a call ends: the lines of the marks of the files are written, or the files are no class table, or not read, or a write fails.
+use Rattle.std.specs.Prelude.{◌≡◌, ℕ, ◌-◌, ◌<◌, ◌≤◌, ◌⊎◌, List, [], ◌∷◌, ◌++◌, length, codes, Option, Some, None}
 use Rattle.std.specs.Global.{Vec}
+use Rattle.cool_syntax.specs.declared.TheConstants.{MOST_FILES, MOST_SOURCE_BYTES}
 use Rattle.cool_syntax.specs.declared.file_tree.FileTree.{FileTree}
 use Rattle.cool_syntax.specs.Grammar.{Parses}
 use Rattle.cool_lexer.specs.declared.lexer.Lexed.{Lexed}
 use Rattle.cool_classes.specs.Definitions.{definitions}
 use Rattle.cool_faults.specs.declared.fault.Fault.{Fault}
 use Rattle.cool_faults.specs.declared.fault.Untyped.{Untyped}
+use Rattle.cool_faults.specs.Files.{total}
 use Rattle.cool_faults.specs.Untyped.{IsRefusedEarly, IsUntyped}
 use Rattle.cool_names.specs.declared.mark.Mark.{Mark}
 use Rattle.cool_names.specs.Programs.{program_marks}
-use Rattle.cool_ports.specs.ShelfFiles.{FileMap, MayHold}
-use Rattle.cool_ports.specs.SinkBytes.{appended}
+use Rattle.cool_ports.specs.Counts.{Rose}
+use Rattle.cool_ports.specs.ShelfFiles.{FileMap, MayHold, IsMissing, IsLonger}
+use Rattle.cool_ports.specs.SinkBytes.{appended, GotPrefix}
 use Rattle.cool_editor.specs.Lines.{mark_lines}
+use Rattle.cool_editor.specs.declared.status.Status.{Status}
+use Rattle.cool_editor.specs.declared.status.Status.TheVariants.{Done, Refused, Usage, WriteFault, Memory, FileFault}
 
 -- the files of these names have these bytes, as far as the shelf tells
 abbrev pub AreHeld : Option FileMap → List (List ℕ) → List (List ℕ) → Type 0
@@ -64,3 +69,48 @@ pub record IsRefused (files : Option FileMap) (names : List (List ℕ)) : Type 0
   pub contents : List (List ℕ)
   pub held : AreHeld files names contents
   pub none : AreNoTable contents
+
+-- why the shelf refuses the file of this name, which may have so many bytes: it is missing, or longer, or was not read
+abbrev pub IsCause : Option FileMap → ℕ → ℕ → List ℕ → ℕ → Type 0
+IsCause files before after name most = IsMissing files name before after ⊎ (IsLonger files name most before after ⊎ Rose before after)
+
+-- the files in front of one were read, and the shelf refuses that one
+pub record IsStop (files : Option FileMap) (before after : ℕ) (names : List (List ℕ)) : Type 0 where
+  pub front : List (List ℕ)
+  pub name : List ℕ
+  pub rest : List (List ℕ)
+  pub contents : List (List ℕ)
+  pub stands : names ≡ front ++ name ∷ rest
+  pub held : AreHeld files front contents
+  pub within : total contents ≤ MOST_SOURCE_BYTES
+  pub cause : IsCause files before after name (MOST_SOURCE_BYTES - total contents)
+
+-- the files of these names are too many, and none was asked for, or one of them was refused
+abbrev pub AreUnread : Option FileMap → ℕ → ℕ → List (List ℕ) → Type 0
+AreUnread files before after names = ((MOST_FILES < length names) × (after ≡ before)) ⊎ ((length names ≤ MOST_FILES) × IsStop files before after names)
+
+-- why there is no text of the files of these names
+abbrev pub IsUntold : Option FileMap → ℕ → ℕ → List (List ℕ) → Status → Type 0
+IsUntold files before after names Usage = (names ≡ []) × (after ≡ before)
+IsUntold files before after names FileFault = AreUnread files before after names
+IsUntold files before after names Memory = Unit {0}
+IsUntold files before after names Done = ⊥
+IsUntold files before after names Refused = ⊥
+IsUntold files before after names WriteFault = ⊥
+
+-- the note of a call that ends so
+abbrev pub note_of : Status → List ℕ
+note_of Usage = codes "cool_editor: bad command line\n"
+note_of Refused = codes "cool_editor: no class table\n"
+note_of FileFault = codes "cool_editor: files not read\n"
+note_of Done = []
+note_of WriteFault = []
+note_of Memory = []
+
+-- a sink got a prefix of the lines of the marks of the files of these names
+pub record IsCutShort (files : Option FileMap) (names : List (List ℕ)) (before after : Option (List ℕ)) : Type 0 where
+  pub contents : List (List ℕ)
+  pub held : AreHeld files names contents
+  pub marks : List Mark
+  pub are : AreMarks contents marks
+  pub got : GotPrefix before (mark_lines marks) after

@@ -1,9 +1,11 @@
 //! The call: from the words to the lines.
 
-ghost use Rattle.std.specs.Prelude.{◌≡◌, ◌≢◌, ◌≤◌, length, map, string_bytes, IfOk};
+ghost use Rattle.std.specs.Prelude.{◌≡◌, ◌≢◌, ◌<◌, ◌≤◌, ◌⊎◌, [], length, map, string_bytes, IfOk, IfErr, IsErrOf, OnOk};
 ghost use Rattle.cool_syntax.specs.declared.TheConstants.{MOST_FILES, MOST_SOURCE_BYTES};
 ghost use Rattle.cool_faults.specs.Files.{bytes_of, total};
-ghost use Rattle.cool_editor.specs.Ends.{IsListed, IsRefused, IsText, IsTextOf};
+ghost use Rattle.cool_ports.specs.Counts.{Rose};
+ghost use Rattle.cool_ports.specs.SinkBytes.{appended};
+ghost use Rattle.cool_editor.specs.Ends.{AreUnread, IsCutShort, IsListed, IsRefused, IsText, IsTextOf, IsUntold, note_of};
 
 use crate::files::file_marks;
 use crate::line::lines;
@@ -28,8 +30,27 @@ pub fn list_names<F: Shelf, O: Sink, E: Sink>(
     ensures listed { result ≡ Status.Done → IsListed (F.files files.old) (map string_bytes names.now) (O.held out.old) (O.held out.new) }
     // The files are no class table.
     ensures refused { result ≡ Status.Refused → IsRefused (F.files files.old) (map string_bytes names.now) }
+    // There is no name.
+    ensures usage { result ≡ Status.Usage → names.now ≡ [] }
+    ensures no_name { names.now ≡ [] → (result ≡ Status.Usage) ⊎ (result ≡ Status.WriteFault) }
+    // There are too many names, or a file was refused when those in front of it were read.
+    ensures file_fault { result ≡ Status.FileFault → AreUnread (F.files files.old) (F.faults files.old) (F.faults files.new) (map string_bytes names.now) }
+    ensures too_many { MOST_FILES < length names.now → (result ≡ Status.FileFault) ⊎ (result ≡ Status.WriteFault) }
+    // A write of the lines failed, and a prefix of them was written, or one of the note.
+    ensures write_fault { result ≡ Status.WriteFault → (Rose (O.faults out.old) (O.faults out.new) × IsCutShort (F.files files.old) (map string_bytes names.now) (O.held out.old) (O.held out.new)) ⊎ (Rose (E.faults notes.old) (E.faults notes.new) × (O.held out.new ≡ O.held out.old)) }
     // Nothing is written but where a write fails.
     ensures nothing { result ≢ Status.Done → result ≢ Status.WriteFault → O.held out.new ≡ O.held out.old }
+    // Just the note of the status is written.
+    ensures note { result ≢ Status.WriteFault → E.held notes.new ≡ appended (E.held notes.old) (note_of result) }
+    // No failure is passed over.
+    ensures out_fault { O.faults out.old < O.faults out.new → result ≡ Status.WriteFault }
+    ensures notes_fault { E.faults notes.old < E.faults notes.new → result ≡ Status.WriteFault }
+    ensures shelf_fault { F.faults files.old < F.faults files.new → (result ≡ Status.FileFault) ⊎ ((result ≡ Status.WriteFault) ⊎ (result ≡ Status.Memory)) }
+    // No count falls, and the files stay.
+    ensures out_count { O.faults out.old ≤ O.faults out.new }
+    ensures notes_count { E.faults notes.old ≤ E.faults notes.new }
+    ensures shelf_count { F.faults files.old ≤ F.faults files.new }
+    ensures kept { F.files files.new ≡ F.files files.old }
 {
     match names_text(alloc, names, files) {
         Ok(Some(text)) => match put_pieces(out, &text, MOST_PIECE_BYTES) {
@@ -37,9 +58,11 @@ pub fn list_names<F: Shelf, O: Sink, E: Sink>(
             Err(Failed) => Status::WriteFault,
         },
         Ok(None) => tell(notes, Status::Refused, NO_CLASS_TABLE),
-        Err(Status::Usage) => tell(notes, Status::Usage, BAD_COMMAND_LINE),
-        Err(Status::FileFault) => tell(notes, Status::FileFault, FILES_NOT_READ),
-        Err(_) => Status::Memory,
+        Err(status) => match status {
+            Status::Usage => tell(notes, Status::Usage, BAD_COMMAND_LINE),
+            Status::FileFault => tell(notes, Status::FileFault, FILES_NOT_READ),
+            _ => Status::Memory,
+        },
     }
 }
 
@@ -49,7 +72,13 @@ fn names_text<F: Shelf>(
     names: &[String],
     files: &mut F,
 ) -> Result<Option<Vec<u8>>, Status>
-    ensures { IfOk result (IsText (F.files files.old) (map string_bytes names.now)) }
+    ensures text { IfOk result (IsText (F.files files.old) (map string_bytes names.now)) }
+    ensures calm { OnOk result (F.faults files.new ≡ F.faults files.old) }
+    ensures untold { IfErr result (IsUntold (F.files files.old) (F.faults files.old) (F.faults files.new) (map string_bytes names.now)) }
+    ensures no_name { names.now ≡ [] → IsErrOf result Status.Usage }
+    ensures too_many { MOST_FILES < length names.now → IsErrOf result Status.FileFault }
+    ensures kept { F.files files.new ≡ F.files files.old }
+    ensures no_less { F.faults files.old ≤ F.faults files.new }
 {
     if names.is_empty() {
         return Err(Status::Usage);

@@ -1,9 +1,9 @@
 //! Reading the files.
 
-ghost use Rattle.std.specs.Prelude.{◌≡◌, ◌≤◌, ◌⊎◌, length, map, string_bytes, IfOk, IfErr};
+ghost use Rattle.std.specs.Prelude.{◌≡◌, ◌≤◌, ◌⊎◌, length, map, string_bytes, IfOk, IfErr, OnOk};
 ghost use Rattle.cool_syntax.specs.declared.TheConstants.{MOST_SOURCE_BYTES};
 ghost use Rattle.cool_faults.specs.Files.{bytes_of, total};
-ghost use Rattle.cool_editor.specs.Ends.{AreHeld};
+ghost use Rattle.cool_editor.specs.Ends.{AreHeld, IsStop};
 
 use crate::status::Status;
 use cool_ports::{Shelf, ShelfFault};
@@ -20,7 +20,10 @@ pub fn read_files<F: Shelf>(
     ensures held { IfOk result (λ contents. AreHeld (F.files files.old) (map string_bytes names.now) (bytes_of contents.items)) }
     ensures within { IfOk result (λ contents. total (bytes_of contents.items) ≤ MOST_SOURCE_BYTES) }
     ensures each { IfOk result (λ contents. length contents.items ≡ length names.now) }
-    ensures status { IfErr result (λ status. (status ≡ Status.Memory) ⊎ (status ≡ Status.FileFault)) }
+    ensures calm { OnOk result (F.faults files.new ≡ F.faults files.old) }
+    ensures stop { IfErr result (λ status. (status ≡ Status.Memory) ⊎ ((status ≡ Status.FileFault) × IsStop (F.files files.old) (F.faults files.old) (F.faults files.new) (map string_bytes names.now))) }
+    ensures kept { F.files files.new ≡ F.files files.old }
+    ensures no_less { F.faults files.old ≤ F.faults files.new }
 {
     let mut contents = Vec::new(alloc);
     let mut left = MOST_SOURCE_BYTES;
@@ -30,8 +33,10 @@ pub fn read_files<F: Shelf>(
                 left -= bytes.len() as u64;
                 contents.push(bytes)?;
             }
-            Err(ShelfFault::Memory) => return Err(Status::Memory),
-            Err(_) => return Err(Status::FileFault),
+            Err(fault) => match fault {
+                ShelfFault::Memory => return Err(Status::Memory),
+                _ => return Err(Status::FileFault),
+            },
         }
     }
     Ok(contents)

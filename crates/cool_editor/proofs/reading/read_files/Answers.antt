@@ -1,8 +1,30 @@
--- One more file was read.
-use Rattle.std.proofs.Common.{◌∙◌, ap, length, arith}
-use Rattle.cool_editor.proofs.FilesRead.{held_turn, length_more, total_turn}
+-- One more file was read, or one was refused.
+use Rattle.std.proofs.Common.{◌∙◌, ap, inr, length, refl, arith}
+use Rattle.std.specs.Prelude.{Err}
+use Rattle.cool_editor.proofs.FilesRead.{cause_of, held_turn, length_more, stop_at, total_turn}
 use Rattle.cool_editor.proofs.reading.read_files.Goals as goal
 
+-- a file was refused
+pub returns-in_default : goal.returns-in_default
+returns-in_default g c =
+    let so_far = c.loop-index.invariant in
+    let read = c.in-Err.ensures in
+    record {
+      held = tt;
+      within = tt;
+      each = tt;
+      calm = tt;
+      stop = inr (
+        refl,
+        stop_at _ _ _ _ _ c.args.names.now c.loop-index.index c.index-names-index.result c.as_str.result.now c.loop-index.contents.items c.loop-index.left so_far.kept so_far.calm c.loop-index-test.true c.index-names-index.is
+            c.as_str.ensures.value so_far.held so_far.rest
+            (cause_of _ _ _ c.as_str.result.now c.loop-index.left c.in-Err.fault (λ e. read.missing (ap Err e)) (λ e. read.too_large (ap Err e)) (λ e. read.failed (ap Err e)) c.in_default.not-Memory),
+      );
+      kept = c.read.ensures.kept ∙ so_far.kept;
+      no_less = omega (arith, so_far.calm, c.read.ensures.count.no_less);
+    }
+
+-- one more file was read
 pub loop-index-preserved : goal.loop-index-preserved
 loop-index-preserved g c =
     let read = c.in-Ok.ensures in
@@ -13,5 +35,6 @@ loop-index-preserved g c =
           so_far.held read.read pushed;
       rest = omega (arith, total_turn c.loop-index.contents.items c.push.new.self.items c.in-Ok.bytes pushed, so_far.rest, read.within, c.len.ensures);
       each = ap length pushed ∙ length_more c.loop-index.contents.items c.in-Ok.bytes ∙ omega (arith, so_far.each);
+      calm = read.no_fault ∙ so_far.calm;
       kept = c.read.ensures.kept ∙ so_far.kept;
     }

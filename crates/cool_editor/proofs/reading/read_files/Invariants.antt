@@ -1,4 +1,4 @@
--- The files so far were read, and `left` is the rest of the bytes.
+-- The files so far were read, `left` is the rest of the bytes, and no fault came.
 use Rattle.std.proofs.Common.{◌≡◌, ◌+◌, length, map, take}
 use Rattle.std.specs.Prelude.{string_bytes}
 use Rattle.cool_syntax.specs.declared.TheConstants.{MOST_SOURCE_BYTES}
@@ -11,5 +11,6 @@ invariant-loop-index g l = record {
   held : AreHeld (g.F.Shelf.files l.fn.files) (map string_bytes (take l.index l.names)) (bytes_of l.contents.items);
   rest : total (bytes_of l.contents.items) + l.left ≡ MOST_SOURCE_BYTES;
   each : length l.contents.items ≡ l.index;
+  calm : g.F.Shelf.faults l.files ≡ g.F.Shelf.faults l.fn.files;
   kept : g.F.Shelf.files l.files ≡ g.F.Shelf.files l.fn.files;
 }
