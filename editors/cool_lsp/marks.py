@@ -6,7 +6,6 @@ import tempfile
 from collections import namedtuple
 
 from . import program
-from .protocol import log
 
 LINE = re.compile(rb"(\d+):\d+:(\d+) (\w+) (\S+) (\S+) (?:(\d+):\d+:(\d+)|[-?])\n")
 
@@ -18,7 +17,7 @@ class Marks:
     """The marks of programs. What was asked last for the same files is known."""
 
     def __init__(self, seconds):
-        self.seconds, self.known, self.program, self.why = seconds, (None, None), None, None
+        self.seconds, self.known, self.program = seconds, (None, None), None
 
     def of(self, files):
         """The marks of files, a dictionary of bytes by path, in the order of the files and the text; None where they are no class table, or where
@@ -28,13 +27,11 @@ class Marks:
         return self.known[1]
 
     def find(self):
-        """The path of the program, or None; why there is none is told once."""
+        """The path of the program, or None: without it the server tells less, and that is no fault."""
         try:
             self.program = self.program or program.find(None, self.seconds, "cool_editor")
-        except program.Missing as why:
-            if self.why != str(why):
-                self.why = str(why)
-                log(self.why)
+        except program.Missing:
+            pass
         return self.program
 
     def ask(self, files):

@@ -158,7 +158,7 @@ def faults_have_their_cures(room, words):
     said = client.request("textDocument/hover", params)["result"]["contents"]["value"]
     row = next(line for line in (HERE.parent / "docs" / "faults.md").read_text().splitlines() if line.startswith("| `E17:"))
     expect("cure", all(part.strip(" `") in said for part in row.split("|")[1:4]), True)
-    params["position"]["character"] = 20
+    params["position"]["character"] = 22
     expect("beside it", client.request("textDocument/hover", params)["result"], None)
     kinds = re.findall(r"(?m)^\| `([LSCFE]\d+): ", (HERE.parent / "docs" / "faults.md").read_text())
     said = subprocess.run(["python3", "-Bc", "from cool_lsp import cures; print(*cures.read())"], cwd=HERE, stdout=subprocess.PIPE).stdout.decode()
