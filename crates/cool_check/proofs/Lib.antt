@@ -1,11 +1,11 @@
 pub mod AcceptedTables
-pub mod CheckedDecides
-pub mod FaultsInOrder
-pub mod FeaturesDecide
-pub mod Misfits
-pub mod OneType
-pub mod OrderOfKinds
-pub mod PartsLeft
-pub mod PlacedFaults
+mod CheckedDecides
+mod FaultsInOrder
+mod FeaturesDecide
+mod Misfits
+mod OneType
+mod OrderOfKinds
+mod PartsLeft
+mod PlacedFaults
 pub mod PlacesOfParts
-pub mod TypesInScope
+mod TypesInScope

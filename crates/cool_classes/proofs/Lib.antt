@@ -4,41 +4,41 @@ pub mod AllOfLists
 pub mod AttributesOfChains
 pub mod BasicDepths
 pub mod BasicLimits
-pub mod BasicNames
+mod BasicNames
 pub mod ChainsOfTables
 pub mod ClassesNamed
 pub mod Climbs
 pub mod CyclesCaught
-pub mod DistinctNames
-pub mod EntriesInOrder
+mod DistinctNames
+mod EntriesInOrder
 pub mod ExactFaults
 pub mod FaultPlaces
 pub mod Faultless
-pub mod FaultsAdded
-pub mod FaultsInOrder
-pub mod FaultsJoined
-pub mod FaultsLeft
-pub mod FeatureRowsExact
+mod FaultsAdded
+mod FaultsInOrder
+mod FaultsJoined
+mod FaultsLeft
+mod FeatureRowsExact
 pub mod FeaturesChecked
 pub mod FirstIndexes
-pub mod GroundedByDepths
+mod GroundedByDepths
 pub mod LawfulByFaults
-pub mod Lineages
-pub mod MainMethods
+mod Lineages
+mod MainMethods
 pub mod Methods
-pub mod MethodsNamed
-pub mod NameIndexes
-pub mod NamesOfDefinitions
+mod MethodsNamed
+mod NameIndexes
+mod NamesOfDefinitions
 pub mod NamesOfFeatures
-pub mod NewMethods
-pub mod OwnNamesGrow
+mod NewMethods
+mod OwnNamesGrow
 pub mod ParentsOfDefinitions
 pub mod PassingDefinitions
 pub mod Resolving
 pub mod RowsExact
-pub mod SameMembers
-pub mod SameTypes
-pub mod Seen
+mod SameMembers
+mod SameTypes
+mod Seen
 pub mod Signatures
 pub mod SwappedBodies
 pub mod WalksFind

@@ -1,14 +1,14 @@
-pub mod Digits
-pub mod Keywords
-pub mod NestingComments
-pub mod Words
-pub mod Prefixes
-pub mod ClosedComments
-pub mod StringConstants
-pub mod FrontsAreItems
-pub mod Items
+mod Digits
+mod Keywords
+mod NestingComments
+mod Words
+mod Prefixes
+mod ClosedComments
+mod StringConstants
+mod FrontsAreItems
+mod Items
 pub mod ItemsInARow
-pub mod ReadSoFar
+mod ReadSoFar
 pub mod LexemesKeepLimits
 pub mod WeightsOfTokens
 pub mod OneReading

@@ -1,19 +1,19 @@
 pub mod BoundedFeatures
-pub mod ConcreteMachine
+mod ConcreteMachine
 pub mod FilesWithinLimits
-pub mod GoodNodes
-pub mod GoodStates
-pub mod ParsingAFile
-pub mod NodesOfConcreteTrees
-pub mod ParsedTreesAreShaped
+mod GoodNodes
+mod GoodStates
+mod ParsingAFile
+mod NodesOfConcreteTrees
+mod ParsedTreesAreShaped
 pub mod ParsingIsTheGrammar
-pub mod PlacingANode
-pub mod PrefixesOfFiles
-pub mod ReadingConcreteTrees
-pub mod RoomForNodes
-pub mod RunsOfFeatures
-pub mod StepsOverConcreteTrees
-pub mod TextsOfNodes
-pub mod TreesOfNodesWithin
+mod PlacingANode
+mod PrefixesOfFiles
+mod ReadingConcreteTrees
+mod RoomForNodes
+mod RunsOfFeatures
+mod StepsOverConcreteTrees
+mod TextsOfNodes
+mod TreesOfNodesWithin
 pub mod WeightsOfFiles
-pub mod WeightsOfNodes
+mod WeightsOfNodes

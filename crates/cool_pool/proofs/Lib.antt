@@ -1,1 +1,1 @@
-pub mod PlacingNodes
+mod PlacingNodes

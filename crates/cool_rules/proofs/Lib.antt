@@ -3,6 +3,6 @@ pub mod ClassesAmong
 pub mod NamesOfTables
 pub mod RulesDecided
 pub mod RulesOfTables
-pub mod ScopesInOrder
+mod ScopesInOrder
 pub mod ScopesMoved
 pub mod TypesOfMethods

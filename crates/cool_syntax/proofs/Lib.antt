@@ -1,7 +1,7 @@
 pub mod ComparingLists
 pub mod ParsedTreesAreWritable
-pub mod PartsAreSmaller
+mod PartsAreSmaller
 pub mod PartsStandBefore
 pub mod TreesAtNumbers
 pub mod TreesOfLists
-pub mod WrittenTreesAreParsed
+mod WrittenTreesAreParsed
