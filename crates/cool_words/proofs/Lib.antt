@@ -1,3 +1,4 @@
 mod FoundValues
 mod NoNumbers
 mod ParsedWords
+pub mod FileNames

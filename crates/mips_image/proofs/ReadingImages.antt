@@ -1,5 +1,5 @@
 -- What reading answers, as the contract of `read_image` says it.
-use Rattle.std.proofs.Common.{◌≡◌, ℕ, List, Some, None, sym, ◌∙◌, ap}
+use Rattle.std.proofs.Common.{◌≡◌, ℕ, List, Some, None, sym, ◌∙◌, ap, subst}
 use Rattle.std.specs.Prelude.{Option, Result, Ok, Err, IfOk}
 use Rattle.mips_isa.specs.ImageBounds.{ImageParts, IsImage}
 use Rattle.mips_image.specs.declared.stored_image.StoredImage.{StoredImage}
@@ -8,7 +8,7 @@ use Rattle.mips_image.specs.declared.image_error.ImageError.TheVariants.{Memory,
 use Rattle.mips_image.specs.ImageBytes.{image_bytes, IsVersion, HasWords}
 use Rattle.mips_image.specs.ImageReading.{word_at, first_fault, parts_of, Reads, IsReadAs}
 use Rattle.mips_image.proofs.ImagesAreRead.{no_fault, version_read, parts_read}
-use Rattle.mips_image.proofs.ReadingIsImage.{AreBytes, bytes_of_image, version_of_image}
+use Rattle.mips_image.proofs.ReadingIsImage.{AreBytes, bytes_of_image, version_of_image, image_in_bounds}
 
 -- the same image in the same version has the same bytes
 same_bytes : {v w : ℕ} {i j : ImageParts} → v ≡ w → i ≡ j → image_bytes v i ≡ image_bytes w j
@@ -23,6 +23,12 @@ found_by_reading bytes (Err fault) f h = tt
 pub version_by_reading : (bytes : List ℕ) (result : Result StoredImage ImageError) → Reads bytes result → IfOk result (λ stored. IsVersion stored.version)
 version_by_reading bytes (Ok stored) h = rw h.1 (version_of_image bytes h.0)
 version_by_reading bytes (Err fault) h = tt
+
+-- it is an image
+pub image_by_reading : (bytes : List ℕ) (result : Result StoredImage ImageError) → AreBytes bytes → Reads bytes result
+    → IfOk result (λ stored. IsImage stored.image × HasWords stored.image)
+image_by_reading bytes (Ok stored) f h = subst (λ (i : ImageParts). IsImage i × HasWords i) (sym h.2) (image_in_bounds bytes f h.0)
+image_by_reading bytes (Err fault) f h = tt
 
 -- nothing is both absent and there
 clash : (found : Option ImageError) (fault : ImageError) → found ≡ None → found ≡ Some fault → ⊥

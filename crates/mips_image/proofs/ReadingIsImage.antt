@@ -1,13 +1,15 @@
 -- Bytes without a fault are the bytes of the image that is read from them.
-use Rattle.std.proofs.Common.{◌≡◌, ℕ, suc, zero, ◌+◌, ◌*◌, ◌<◌, ◌≤◌, Bool, true, false, not, cond, List, [], ◌∷◌, ◌++◌, length, take, drop, get_or, flat_map, Some, None, inl, inr, refl, sym, ◌∙◌, ap, append_assoc, arith}
+use Rattle.std.proofs.Common.{◌≡◌, ℕ, suc, zero, ◌+◌, ◌*◌, ◌^◌, ◌<◌, ◌≤◌, Bool, true, false, not, cond, List, [], ◌∷◌, ◌++◌, length, take, drop, get_or, flat_map, Some, None, inl, inr, refl, sym, ◌∙◌, ap, append_assoc, arith}
 use Rattle.std.specs.Prelude.{Option, nat_lt, bytes_eq, ◌==◌}
+use Rattle.std.specs.List.{AllByRecursion}
 use Rattle.std.proofs.lemmas.List.{take-append-drop, drop-drop, get_or-drop}
 use Rattle.std.proofs.Math.ListN.{length-drop}
 use Rattle.std.proofs.lemmas.Slice.Eq.{bytes_eq-Decides}
+use Rattle.mips_isa.specs.ImageBounds.{IsImage}
 use Rattle.mips_image.specs.declared.stored_image.TheConstants.{MAGIC}
-use Rattle.mips_image.specs.ImageBytes.{word_bytes, IsVersion, image_bytes}
+use Rattle.mips_image.specs.ImageBytes.{word_bytes, IsVersion, image_bytes, HasWords}
 use Rattle.mips_image.specs.ImageReading.{word_at, words_at, is_version, are_sizes, size_of, first_fault, parts_of}
-use Rattle.mips_image.proofs.ReadingParts.{length-words_at}
+use Rattle.mips_image.proofs.ReadingParts.{length-words_at, sizes_of_image}
 
 -- each number of a list is a byte
 abbrev pub AreBytes : List ℕ → Type 0
@@ -65,6 +67,7 @@ record Sound (bytes : List ℕ) : Type 0 where
   long : 20 ≤ length bytes
   begins : take 4 bytes ≡ MAGIC
   version : IsVersion (word_at bytes 4)
+  sizes : are_sizes (word_at bytes 8) (word_at bytes 12) (word_at bytes 16) ≡ true
   size : length bytes ≡ size_of (word_at bytes 8) (word_at bytes 12)
 
 sound : (bytes : List ℕ) → first_fault bytes ≡ None → Sound bytes
@@ -84,6 +87,7 @@ sound bytes e =
       long = grind arith;
       begins = (bytes_eq-Decides _ _).0 (not_false _ b.0);
       version = version_known (word_at bytes 4) (not_false _ c.0);
+      sizes = not_false _ d.0;
       size = grind arith;
     }
 
@@ -111,3 +115,24 @@ bytes_of_image bytes f e =
 -- bytes without a fault have a version that is known
 pub version_of_image : (bytes : List ℕ) → first_fault bytes ≡ None → IsVersion (word_at bytes 4)
 version_of_image bytes e = (sound bytes e).version
+
+-- the number in four bytes has 32 bits
+small_word : (bytes : List ℕ) (place : ℕ) → AreBytes bytes → word_at bytes place < 2 ^ 32
+unfolding word_at
+small_word bytes place f =
+    let at : (i : ℕ) → get_or (drop place bytes) i 0 < 256 = λ i. rw get_or-drop (f (place + i)) in
+    omega (arith, at 0, at 1, at 2, at 3)
+
+small_words : (n : ℕ) (bytes : List ℕ) → AreBytes bytes → AllByRecursion (λ word. word < 2 ^ 32) (words_at n bytes)
+small_words zero bytes f = tt
+small_words (suc n) bytes f = (small_word bytes 0 f, small_words n (drop 4 bytes) (drop_bytes 4 bytes f))
+
+-- what is read from bytes without a fault has the bounds of an image, and words of 32 bits
+pub image_in_bounds : (bytes : List ℕ) → AreBytes bytes → first_fault bytes ≡ None → IsImage (parts_of bytes) × HasWords (parts_of bytes)
+image_in_bounds bytes f e =
+    let s = sound bytes e in
+    let words = word_at bytes 8 in
+    let data_bytes : length (drop (20 + 4 * words) bytes) ≡ word_at bytes 12 = omega (arith, length-drop (20 + 4 * words) bytes, s.size) in (
+      sizes_of_image (parts_of bytes) words (word_at bytes 12) s.sizes (length-words_at words (drop 20 bytes)) data_bytes,
+      small_words words (drop 20 bytes) (drop_bytes 20 bytes f),
+    )

@@ -21,6 +21,8 @@ pub fn read_image(alloc: Global, bytes: &[u8]) -> Result<StoredImage, ImageError
     // What is read has these bytes, in version 1 or 2.
     ensures found { IfOk result (λ stored. bytes.now ≡ image_bytes stored.version stored.image) }
     ensures version { IfOk result (λ stored. IsVersion stored.version) }
+    // It has the bounds of an image, and words of 32 bits.
+    ensures image { IfOk result (λ stored. IsImage stored.image × HasWords stored.image) }
 
     // The bytes of an image are read as that image in that version, unless memory runs out.
     ensures only { (version : ℕ) (image : ImageParts) → IsVersion version → IsImage image → HasWords image → bytes.now ≡ image_bytes version image → IsReadAs version image result }

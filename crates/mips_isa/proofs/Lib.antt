@@ -4,3 +4,4 @@ pub mod DecodedIsItsWord
 mod DecodingWords
 pub mod RunsInParts
 pub mod OutputGrows
+pub mod InputShrinks

@@ -19,3 +19,5 @@ pub mod CountsOfRuns
 mod RunsUpToBreaks
 pub mod RunsWithoutBreaks
 mod PutsOfRuns
+pub mod StoppedRuns
+pub mod LoadedRuns
