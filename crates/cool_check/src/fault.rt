@@ -56,7 +56,7 @@ pub struct TypeFault {
 }
 
 /// Why a feature was not found to be well typed.
-#[derive(Clone, Copy, Debug, PartialEq, Eq)]
+#[derive(Clone, Copy, PartialEq, Eq)]
 pub enum CheckError {
     /// Want of memory.
     Memory,
@@ -90,7 +90,7 @@ impl<T: Drop> From<AllocFailed<T>> for CheckError {
 }
 
 /// Why there is no program.
-#[derive(Debug, Drop)]
+#[derive(Drop)]
 pub enum CheckAllError {
     /// Want of memory.
     Memory,

@@ -18,7 +18,7 @@ pub struct Variable {
 }
 
 /// A name that was entered, with its variable.
-#[derive(Clone, Copy, Debug)]
+#[derive(Clone, Copy)]
 struct Entry<'a> {
     name: &'a [u8],
     variable: Variable,

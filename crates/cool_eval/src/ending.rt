@@ -8,7 +8,7 @@ use cool_syntax::Place;
 use std::alloc::AllocError;
 
 /// A run-time error, with the place or the class that its text names (the Cool manual, sections 8.2 and 13).
-#[derive(Clone, Copy, Debug)]
+#[derive(Clone, Copy)]
 pub(crate) enum RunError {
     DispatchVoid { at: Place },
     CaseVoid { at: Place },
@@ -20,7 +20,7 @@ pub(crate) enum RunError {
 }
 
 /// Why a run does not go on.
-#[derive(Clone, Copy, Debug)]
+#[derive(Clone, Copy)]
 pub(crate) enum Ending {
     /// A run-time error.
     Error(RunError),

@@ -13,7 +13,7 @@ use cool_syntax::{Place, Token};
 use std::alloc::Global;
 
 /// The tokens of a file, and the place of its end.
-#[derive(Debug, Drop)]
+#[derive(Drop)]
 pub struct Lexed {
     /// The tokens, in the order in which they stand.
     pub tokens: Vec<Token>,

@@ -46,7 +46,7 @@ pub struct Meaning {
 }
 
 /// A place where a name stands.
-#[derive(Debug, Drop)]
+#[derive(Drop)]
 pub struct Mark {
     pub at: Place,
     pub role: Role,

@@ -9,7 +9,7 @@ use std::alloc::{AllocError, Global};
 use std::marker::Model;
 
 /// A variable that was entered: its name, the name of its type, and where it is declared.
-#[derive(Clone, Copy, Debug)]
+#[derive(Clone, Copy)]
 pub(crate) struct Entry<'a> {
     pub(crate) name: &'a Name,
     pub(crate) declared: &'a Name,

@@ -8,7 +8,7 @@ use cool_syntax::{Feature, Formal, Listed, Name, Node, NodeBranch, NodeId, Place
 use std::alloc::AllocError;
 
 /// A name and its declared type: a formal, an attribute, or a variable of a `let` or of a branch.
-#[derive(Debug, Drop)]
+#[derive(Drop)]
 pub(crate) struct Variable {
     pub(crate) name: Name,
     pub(crate) at: Place,
@@ -16,7 +16,7 @@ pub(crate) struct Variable {
 }
 
 /// A class up to its features so far.
-#[derive(Debug, Drop)]
+#[derive(Drop)]
 pub(crate) struct OpenClass {
     pub(crate) name: Name,
     pub(crate) at: Place,
@@ -25,7 +25,7 @@ pub(crate) struct OpenClass {
 }
 
 /// A method up to its formals so far.
-#[derive(Debug, Drop)]
+#[derive(Drop)]
 pub(crate) struct OpenMethod {
     pub(crate) class: OpenClass,
     pub(crate) name: Name,
@@ -34,7 +34,7 @@ pub(crate) struct OpenMethod {
 }
 
 /// A dispatch up to its arguments; `class` is there where it is static.
-#[derive(Debug, Drop)]
+#[derive(Drop)]
 pub(crate) struct Call {
     pub(crate) at: Place,
     pub(crate) receiver: NodeId,
@@ -43,7 +43,7 @@ pub(crate) struct Call {
 }
 
 /// A `case` up to its branches so far.
-#[derive(Debug, Drop)]
+#[derive(Drop)]
 pub(crate) struct OpenCase {
     pub(crate) at: Place,
     pub(crate) value: NodeId,
@@ -52,7 +52,7 @@ pub(crate) struct OpenCase {
 
 /// A form that waits for an expression. The first four are operators: they end where an operator of a lower level, or a
 /// token that ends an operand, comes after their own. The others end by a token of their own.
-#[derive(Debug, Drop)]
+#[derive(Drop)]
 pub(crate) enum Item {
     /// `left op ..`
     Left {

@@ -4,7 +4,7 @@ use crate::item::{Call, OpenCase, OpenClass, OpenMethod, Variable};
 use cool_syntax::{Listed, Name, NodeId, Place, TypeRef};
 
 /// What a name and its declared type are for.
-#[derive(Debug, Drop)]
+#[derive(Drop)]
 pub(crate) enum Purpose {
     Attribute(OpenClass),
     Formal(OpenMethod),
@@ -13,7 +13,7 @@ pub(crate) enum Purpose {
 }
 
 /// What the parser has just read. `..` in the forms below is what may come next.
-#[derive(Debug, Drop)]
+#[derive(Drop)]
 pub(crate) enum Mode {
     /// Between classes: `class ..`, or the end of the file.
     File,

@@ -8,7 +8,7 @@ use std::alloc::{AllocError, Global};
 use std::marker::Model;
 
 /// Items, of which only the last one is at hand. A contract sees them with the last one first.
-#[derive(Debug, Drop)]
+#[derive(Drop)]
 pub(crate) struct Stack {
     items: Vec<Item>,
 }

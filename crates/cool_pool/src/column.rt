@@ -9,7 +9,7 @@ use std::marker::Model;
 
 /// The values of the first nodes, with room for a number of values that was asked for at the start. A contract sees the
 /// list of the values, and the room for all of them.
-#[derive(Debug, Drop)]
+#[derive(Drop)]
 pub struct Column<T> {
     values: Vec<T>,
 }

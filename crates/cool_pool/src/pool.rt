@@ -16,7 +16,7 @@ use std::mem::replace;
 /// more can be placed without taking memory.
 ///
 /// There are fewer than 2^32 - 1 nodes.
-#[derive(Debug, Drop)]
+#[derive(Drop)]
 pub struct Pool {
     alloc: Global,
     nodes: Vec<Node>,

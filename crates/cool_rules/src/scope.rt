@@ -10,7 +10,7 @@ use std::alloc::{AllocError, Global};
 use std::marker::Model;
 
 /// A name that was entered, with its type.
-#[derive(Clone, Copy, Debug)]
+#[derive(Clone, Copy)]
 struct Entry<'a> {
     name: &'a [u8],
     ty: Ty,

@@ -14,7 +14,7 @@ use mips_isa::{
 use std::alloc::{AllocError, Global};
 
 /// A line of a template.
-#[derive(Clone, Copy, Debug)]
+#[derive(Clone, Copy)]
 pub enum Draft<'a> {
     /// A label alone.
     Label(&'a [u8]),

@@ -15,7 +15,7 @@ const MOST_NAME: usize = 255;
 const MOST_DIGITS: usize = 7;
 
 /// What a line asks.
-#[derive(Clone, Copy, Debug)]
+#[derive(Clone, Copy)]
 pub(crate) enum Command<'a> {
     /// To set the file of this name to the next so many bytes.
     File(&'a str, u64),

@@ -12,7 +12,7 @@ use std::marker::Model;
 /// sees the tree.
 ///
 /// A tree has fewer than 2^32 - 1 nodes here, so that each number is one of `u32`.
-#[derive(Debug, Drop)]
+#[derive(Drop)]
 pub struct Body {
     nodes: Vec<Node>,
 }

@@ -12,7 +12,7 @@ use crate::type_ref::TypeRef;
 /// called method; the constant; the word `if`, `while`, `case`, `new`, `isvoid` or `not`; the opening brace of a block;
 /// the operator. Parentheses leave no trace. A `let` of several bindings is one `Let` inside another. A dispatch
 /// without a receiver has the receiver `Id` of the name `self`, at the method's name.
-#[derive(Debug, Drop)]
+#[derive(Drop)]
 #[cycle(expr)]
 pub enum Expr {
     /// `name <- value`
@@ -125,7 +125,7 @@ pub enum Expr {
 }
 
 /// A branch of a `case`: `name : declared => body;`, at the place of its name.
-#[derive(Debug, Drop)]
+#[derive(Drop)]
 #[cycle(expr)]
 pub struct Branch {
     pub at: Place,

@@ -15,7 +15,7 @@ pub struct Formal {
 }
 
 /// A method: `name(formals) : result { body };`, at the place of its name.
-#[derive(Debug, Drop)]
+#[derive(Drop)]
 pub struct MethodDef {
     pub name: Name,
     pub at: Place,
@@ -25,7 +25,7 @@ pub struct MethodDef {
 }
 
 /// An attribute: `name : declared <- init;`, or with no value of its own. It is at the place of its name.
-#[derive(Debug, Drop)]
+#[derive(Drop)]
 pub struct AttributeDef {
     pub name: Name,
     pub at: Place,
@@ -34,14 +34,14 @@ pub struct AttributeDef {
 }
 
 /// A feature of a class.
-#[derive(Debug, Drop)]
+#[derive(Drop)]
 pub enum Feature {
     Method(MethodDef),
     Attribute(AttributeDef),
 }
 
 /// A class: `class name inherits parent { features };`, or with no parent named. It is at the place of its name.
-#[derive(Debug, Drop)]
+#[derive(Drop)]
 pub struct ClassDef {
     pub name: Name,
     pub at: Place,
@@ -50,7 +50,7 @@ pub struct ClassDef {
 }
 
 /// The classes of one source file, in order. The file is named by its position in the command, from 0.
-#[derive(Debug, Drop)]
+#[derive(Drop)]
 pub struct FileTree {
     pub file: u32,
     pub classes: Listed<ClassDef>,

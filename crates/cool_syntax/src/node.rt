@@ -27,7 +27,7 @@ pub struct NodeBranch {
 ///
 /// In the list of a tree the parts of a node stand before it, in the order in which the variant names them, each with
 /// its own parts before it (`nodes` of `specs/NodeLists.antt`).
-#[derive(Debug, Drop)]
+#[derive(Drop)]
 pub enum Node {
     /// `name <- value`
     Assign {

@@ -9,7 +9,7 @@ use std::alloc::{AllocError, Global};
 use std::marker::Model;
 
 /// An expression in a box. A contract sees its tree.
-#[derive(Debug, Drop)]
+#[derive(Drop)]
 #[cycle(expr)]
 pub struct Child {
     inner: Box<Expr>,
@@ -53,7 +53,7 @@ impl Child {
 }
 
 /// Expressions in order: the arguments of a dispatch, or the items of a block. A contract sees the list of their trees.
-#[derive(Debug, Drop)]
+#[derive(Drop)]
 #[cycle(expr)]
 pub struct Exprs {
     items: Vec<Expr>,
@@ -114,7 +114,7 @@ impl Exprs {
 }
 
 /// The branches of a `case`, in order. A contract sees the list of their twigs.
-#[derive(Debug, Drop)]
+#[derive(Drop)]
 #[cycle(expr)]
 pub struct Branches {
     items: Vec<Branch>,

@@ -3,14 +3,14 @@
 use crate::{Bytes, Name, Place};
 
 /// A lexeme and the place of its first byte.
-#[derive(Debug, Drop)]
+#[derive(Drop)]
 pub struct Token {
     pub kind: TokenKind,
     pub at: Place,
 }
 
 /// A lexeme without its place.
-#[derive(Debug, Drop)]
+#[derive(Drop)]
 pub enum TokenKind {
     Key(Key),
     /// An identifier that begins with a capital letter. `SELF_TYPE` is one.

@@ -18,7 +18,7 @@ use mips_isa::{
 };
 
 /// What the instruction of a line is assembled to.
-#[derive(Clone, Copy, Debug)]
+#[derive(Clone, Copy)]
 pub enum Expansion {
     /// One instruction.
     One(Instr),

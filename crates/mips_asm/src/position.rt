@@ -18,7 +18,7 @@ pub struct Position {
 }
 
 /// What a statement needs.
-#[derive(Clone, Copy, Debug, PartialEq, Eq)]
+#[derive(Clone, Copy, PartialEq, Eq)]
 pub enum Need {
     /// Nothing.
     Nothing,

@@ -32,7 +32,7 @@ pub struct SecondPass {
 }
 
 /// What lines are assembled to so far; the number of the next line, from 1, and the first fault.
-#[derive(Debug, Drop)]
+#[derive(Drop)]
 struct Assembly {
     output: Output,
     number: usize,
@@ -40,7 +40,7 @@ struct Assembly {
 }
 
 /// What lines are assembled to so far, and the segment that is open.
-#[derive(Debug, Drop)]
+#[derive(Drop)]
 struct Output {
     text: Vec<u32>,
     bytes: Vec<u8>,

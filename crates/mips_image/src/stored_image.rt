@@ -6,7 +6,7 @@ use mips_isa::Image;
 ///
 /// Version 1 marks code made before arithmetic was checked for overflow, or by hand; version 2 code whose Cool
 /// arithmetic ends a run on overflow. A machine treats both alike.
-#[derive(Debug, Drop)]
+#[derive(Drop)]
 pub struct StoredImage {
     pub image: Image,
     pub version: u32,

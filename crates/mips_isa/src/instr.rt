@@ -108,7 +108,7 @@ pub enum MemOp {
 ///
 /// Immediates of branches count instructions from the one after the branch. The index of a jump is its target divided
 /// by 4, without the upper four bits.
-#[derive(Clone, Copy, Debug, PartialEq, Eq)]
+#[derive(Clone, Copy, PartialEq, Eq)]
 pub enum Instr {
     Three {
         op: ThreeOp,

@@ -15,13 +15,13 @@ const _: () = prove!(size_of::<Label>() == 16);
 
 /// The name of a place, in 16 bytes: a name of up to `MOST_SHORT_NAME` bytes stands in them, and a longer one in a box. A contract sees
 /// the list of its bytes.
-#[derive(Debug, Drop)]
+#[derive(Drop)]
 pub struct Label {
     name: Spelling,
 }
 
 /// The bytes of a name.
-#[derive(Debug, Drop)]
+#[derive(Drop)]
 enum Spelling {
     /// The first bytes, this many, of these.
     Short {

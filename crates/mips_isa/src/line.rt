@@ -32,7 +32,7 @@ pub enum OrderOp {
 }
 
 /// An operand of `.word`.
-#[derive(Debug, Drop)]
+#[derive(Drop)]
 pub enum WordItem {
     /// A number from -2147483648 to 4294967295.
     Number(i64),
@@ -41,7 +41,7 @@ pub enum WordItem {
 }
 
 /// A line's instruction, or its pseudoinstruction, which is assembled to one instruction or two.
-#[derive(Debug, Drop)]
+#[derive(Drop)]
 pub enum AsmInstr {
     /// An instruction; a target that is a number is the field itself.
     Plain(Instr),
@@ -99,7 +99,7 @@ pub enum AsmInstr {
 }
 
 /// An item of data, by its directive.
-#[derive(Debug, Drop)]
+#[derive(Drop)]
 pub enum DataItem {
     Word(Vec<WordItem>),
     Byte(Vec<i32>),
@@ -109,7 +109,7 @@ pub enum DataItem {
 }
 
 /// A directive that is no item of data.
-#[derive(Debug, Drop)]
+#[derive(Drop)]
 pub enum AsmDirective {
     ToText,
     ToData,
@@ -118,7 +118,7 @@ pub enum AsmDirective {
 }
 
 /// What stands on a line after its labels, in 32 bytes.
-#[derive(Debug, Drop)]
+#[derive(Drop)]
 pub enum Statement {
     /// Nothing.
     Empty,
@@ -137,7 +137,7 @@ impl Statement {
 }
 
 /// A line: its labels, and its statement, in 56 bytes.
-#[derive(Debug, Drop)]
+#[derive(Drop)]
 pub struct Line {
     pub labels: LineLabels,
     pub statement: Statement,

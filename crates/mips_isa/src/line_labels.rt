@@ -9,12 +9,12 @@ use std::marker::Model;
 use std::slice;
 
 /// The labels of a line, in 24 bytes: none and one stand in them, and more in a box. A contract sees the list of the names.
-#[derive(Debug, Drop)]
+#[derive(Drop)]
 pub struct LineLabels {
     labels: Listing,
 }
 
-#[derive(Debug, Drop)]
+#[derive(Drop)]
 enum Listing {
     Nothing,
     One(Label),

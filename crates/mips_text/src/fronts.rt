@@ -13,7 +13,7 @@ use crate::strings::{closes_string, opens_escape};
 use crate::words::Word;
 
 /// A word, and how many bytes of it stand after the first.
-#[derive(Clone, Copy, Debug)]
+#[derive(Clone, Copy)]
 pub(crate) struct Found<'a> {
     pub(crate) word: Word<'a>,
     pub(crate) after: usize,

@@ -8,7 +8,7 @@ use crate::numbers::{LARGEST, value_of_digits};
 use crate::span::{Span, span_len};
 
 /// A number without its sign, or one past every range in place of a larger one, and how many bytes it has.
-#[derive(Clone, Copy, Debug)]
+#[derive(Clone, Copy)]
 pub(crate) struct Magnitude {
     pub(crate) value: u64,
     pub(crate) size: usize,

@@ -41,7 +41,7 @@ pub fn read_asm(alloc: Global, bytes: &[u8]) -> Result<Vec<Line>, AsmError>
 }
 
 /// The bytes of a line, without its newline, and those after it.
-#[derive(Clone, Copy, Debug)]
+#[derive(Clone, Copy)]
 struct Parted<'a> {
     line: &'a [u8],
     behind: &'a [u8],

@@ -7,7 +7,7 @@ ghost use Rattle.mips_text.specs.Fronts.{takes};
 use crate::letters::{continues_name, continues_register};
 
 /// Which bytes a span takes.
-#[derive(Clone, Copy, Debug)]
+#[derive(Clone, Copy)]
 pub(crate) enum Span {
     /// What stands after the first byte of a name.
     Name,

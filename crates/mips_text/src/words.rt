@@ -9,7 +9,7 @@ use crate::fronts::{Found, front_at};
 use std::alloc::{AllocError, Global};
 
 /// A word of a line.
-#[derive(Clone, Copy, Debug)]
+#[derive(Clone, Copy)]
 pub(crate) enum Word<'a> {
     Name(&'a [u8]),
     /// A number, or one past every range in place of a larger one.
@@ -39,7 +39,7 @@ pub(crate) fn words_of(alloc: Global, line: &[u8]) -> Result<Vec<Word<'_>>, Allo
 }
 
 /// A word, and the bytes in which the words behind it stand.
-#[derive(Clone, Copy, Debug)]
+#[derive(Clone, Copy)]
 struct Cut<'a> {
     word: Word<'a>,
     behind: &'a [u8],

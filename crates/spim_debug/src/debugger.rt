@@ -24,7 +24,7 @@ use spim_memory::Limits;
 use std::alloc::{AllocError, Global};
 
 /// How a debugged run ended.
-#[derive(Clone, Copy, Debug, PartialEq, Eq)]
+#[derive(Clone, Copy, PartialEq, Eq)]
 pub enum DebugEnd {
     /// As the machine's run ended.
     Halt(Halt),

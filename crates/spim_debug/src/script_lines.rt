@@ -137,7 +137,7 @@ fn with_operands(
 }
 
 /// What is asked for at a label.
-#[derive(Clone, Copy, Debug)]
+#[derive(Clone, Copy)]
 enum Asked {
     Break,
     Delete,
