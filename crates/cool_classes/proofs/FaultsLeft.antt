@@ -80,17 +80,11 @@ cycles_next ds cyclic i d before now within there is =
     next_found before (record { kind = C5; at = place_at ds k } ∷ []) (cycle_faults ds (drop (i + 1) cyclic)) (cycle_faults ds (drop i cyclic)) now (ap (cycle_faults ds) (drop_one cyclic i 0 within))
     (is ∙ ap (λ (at : Place). before ++ record { kind = C5; at = at } ∷ []) (place_there ds k d there))
 
--- five parts
-pub joined_five : {X : Type 0} (old a b c d e n1 n2 n3 n4 n5 : List X) → n1 ≡ old ++ a → n2 ≡ n1 ++ b → n3 ≡ n2 ++ c → n4 ≡ n3 ++ d → n5 ≡ n4 ++ e → old ≡ []
-    → n5 ≡ a ++ (b ++ (c ++ (d ++ e)))
-joined_five {X} old a b c d e n1 n2 n3 n4 n5 e1 e2 e3 e4 e5 none =
-    let one : n1 ≡ a = e1 ∙ ap (λ (xs : List X). xs ++ a) none in
-    let two : n2 ≡ a ++ b = e2 ∙ ap (λ (xs : List X). xs ++ b) one in
-    let three : n3 ≡ (a ++ b) ++ c = e3 ∙ ap (λ (xs : List X). xs ++ c) two in
-    let four : n4 ≡ ((a ++ b) ++ c) ++ d = e4 ∙ ap (λ (xs : List X). xs ++ d) three in
-    e5 ∙ ap (λ (xs : List X). xs ++ e) four ∙ regrouped
+-- three parts
+pub joined_three : {X : Type 0} (old a b c n1 n2 n3 : List X) → n1 ≡ old ++ a → n2 ≡ n1 ++ b → n3 ≡ n2 ++ c → n3 ≡ old ++ (a ++ (b ++ c))
+joined_three {X} old a b c n1 n2 n3 e1 e2 e3 = e3 ∙ ap (λ (xs : List X). xs ++ c) (e2 ∙ ap (λ (xs : List X). xs ++ b) e1) ∙ regrouped
   where
-    regrouped : (((a ++ b) ++ c) ++ d) ++ e ≡ a ++ (b ++ (c ++ (d ++ e)))
+    regrouped : ((old ++ a) ++ b) ++ c ≡ old ++ (a ++ (b ++ c))
     regrouped = simp append_assoc
 
 -- past the end nothing is left

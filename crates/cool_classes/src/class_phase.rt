@@ -50,15 +50,33 @@ pub(crate) fn settle_classes(
     let names = find_names(alloc, definitions, &mut faults)?;
     let parents = find_parents(alloc, definitions, &names, &mut faults)?;
     let found = depths(alloc, &parents)?;
-    add_cyclic(definitions, &found.cyclic, &mut faults)?;
-    check_main(&names, &mut faults)?;
-    check_number(definitions, &mut faults)?;
+    check_whole(definitions, &names, &found.cyclic, &mut faults)?;
     refuse_faults(faults)?;
     Ok(Ancestry {
         names,
         parents,
         depths: found.known,
     })
+}
+
+/// Adds C5, C6 and C7: for these definitions, which stand on cycles, where no class is named Main, and for the definition past
+/// the most. `Err` comes only for want of memory.
+fn check_whole(
+    definitions: &[ClassDef],
+    names: &FirstNames,
+    cyclic: &[usize],
+    faults: &mut Vec<ClassFault>,
+) -> Result<(), AllocError>
+    requires within { AllByRecursion (λ (k : ℕ). k < length definitions.now) cyclic.now }
+    ensures adds { OnOk result (AddsFaults (λ n. (0 < n) × AreClassesWithin n definitions.now) faults.old.items faults.new.items) }
+    ensures exact { OnOk result ((all : List (List ℕ)) → FindsNames names.now.entries all → faults.new.items ≡ faults.old.items ++ (cycle_faults definitions.now cyclic.now ++ (main_faults all ++ number_faults definitions.now))) }
+    ensures none { OnOk result (faults.new.items ≡ [] → cyclic.now ≡ []) }
+    ensures few { OnOk result (faults.new.items ≡ [] → length definitions.now ≤ MOST_CLASSES) }
+{
+    add_cyclic(definitions, cyclic, faults)?;
+    check_main(names, faults)?;
+    check_number(definitions, faults)?;
+    Ok(())
 }
 
 /// The first class of each name, the basic classes first. Adds C1 and C2 for the names of definitions. `Err` comes only for
