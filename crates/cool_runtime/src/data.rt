@@ -91,10 +91,11 @@ pub fn object(
     requires { size < 2 ^ 63 }
     ensures { IfOk result (λ lines. lines_of lines.items ≡ written.object_lines name.now tag size table.now (map item_of fields.items)) }
 {
-    let mark = word_line(alloc, vec![in alloc; WordItem::Number(-1)]?)?;
-    let under = label_line(alloc, name)?;
-    let words = word_line(alloc, object_words(alloc, tag, size, table, fields)?)?;
-    Ok(vec![in alloc; mark, under, words]?)
+    let mut lines = Vec::new(alloc);
+    lines.push(word_line(alloc, vec![in alloc; WordItem::Number(-1)]?)?)?;
+    lines.push(label_line(alloc, name)?)?;
+    lines.push(word_line(alloc, object_words(alloc, tag, size, table, fields)?)?)?;
+    Ok(lines)
 }
 
 /// An object that holds one number.
