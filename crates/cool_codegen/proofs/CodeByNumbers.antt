@@ -13,14 +13,16 @@ use Rattle.cool_syntax.specs.Falls.{one_le_size}
 use Rattle.cool_syntax.specs.NodeLists.{root, root_of_maybe, roots, branch_roots, nodes, nodes_of_all, nodes_of_maybe, nodes_of_cases, tree_at}
 use Rattle.mips_isa.specs.Lines.{Name}
 use Rattle.cool_classes.specs.declared.class_id.Ty.{Ty}
-use Rattle.cool_classes.specs.declared.class_id.Ty.TheVariants.{Class as IsClass}
 use Rattle.cool_classes.specs.ClimbedChains.{above}
 use Rattle.cool_rules.specs.Rules.{type_meant}
+use Rattle.cool_rules.specs.Scopes.{Binding}
+use Rattle.cool_rules.specs.StaticTypes.{type_of, last_type_of, cases_type_of}
+use Rattle.cool_rules.specs.Typing.{with_name, object_type}
 use Rattle.cool_consts.specs.Constants.{Constants}
 use Rattle.cool_consts.specs.Labels.{int_constant, string_constant}
-use Rattle.cool_codegen.specs.Variables.{Named, bind}
+use Rattle.cool_codegen.specs.Variables.{Named, bind, scope_of}
 use Rattle.cool_rules.specs.Meant.{joined}
-use Rattle.cool_codegen.specs.Types.{class_meant, trees_count, type_in, last_type_in, cases_type_in, object}
+use Rattle.cool_codegen.specs.Types.{class_meant, trees_count}
 use Rattle.cool_codegen.specs.Arms.{Arm, with_arm}
 use Rattle.cool_codegen.specs.Asked.{Extends, integers_in, integers_in_all, integers_in_maybe, integers_in_cases, strings_in, strings_in_all, strings_in_maybe, strings_in_cases, files_of, file_of}
 use Rattle.cool_codegen.specs.Code.{Context, code, arguments_code, items_code, initial_code, arms_code, string_label, label_at}
@@ -60,9 +62,9 @@ lines_is s b t g vs d k e there x =
     let before : k ≡ nodes_before b (root k e) = omega (arith, one_le_size e) in
     stable s t g vs d k e x ∙ (λ i. code s (after t (integers_in (is i)) (strings_in s.files (is i))) vs d (before i) (is i))
 
-pub type_is : (s : Context) (b : Tree) (vs : List Named) (d k : ℕ) (e : Tree) → Stands (nodes 0 b) k e → type_in s.table s.class vs d e ≡ type_at s b vs d (root k e)
+pub type_is : (s : Context) (b : Tree) (scope : List Binding) (k : ℕ) (e : Tree) → Stands (nodes 0 b) k e → type_of s.table s.class scope e ≡ type_at s b scope (root k e)
 unfolding type_at
-type_is s b vs d k e there = ap (type_in s.table s.class vs d) (sym (tree_there b k e there))
+type_is s b scope k e there = ap (type_of s.table s.class scope) (sym (tree_there b k e there))
 
 pub size_is : (b : Tree) (k : ℕ) (e : Tree) → Stands (nodes 0 b) k e → tree_size e ≡ size_at b (root k e)
 unfolding size_at
@@ -208,7 +210,7 @@ arms_are : (s : Context) (b : Tree) (t g : Constants) (vs : List Named) (d k : �
 arms_are s b t g vs d k end before NoCase there x = refl
 arms_are s b t g vs d k end before (CaseOf at name declared e cs) there x =
     let two = split s.files b t g k e (integers_in_cases cs) (strings_in_cases s.files cs) (first_branch_stands e cs there) x in
-    simp (lines_is s b t g (bind d name (IsClass (class_meant s.table s.class declared.name)) vs) (d + 1) k e (first_branch_stands e cs there) two.0)
+    simp (lines_is s b t g (bind d name (type_meant s.table declared.name) vs) (d + 1) k e (first_branch_stands e cs there) two.0)
     (arms_are s b (asked_at s.files b t (root k e)) g vs d (k + tree_size e) end
     (with_arm before (record {
       depth = length (above s.table (class_meant s.table s.class declared.name));
@@ -238,7 +240,7 @@ node_coded s b t vs d k (trees.Dispatch at e name ts) there =
       count_is (k + tree_size e) ts,
       arguments_are s b t g vs d (k + tree_size e) ts parts.1 args.0,
       lines_is s b (all_asked s.files b t (roots (k + tree_size e) ts)) g vs (d + length (roots (k + tree_size e) ts)) k e parts.0 object.0,
-      type_is s b vs (d + length (roots (k + tree_size e) ts)) k e parts.0,
+      type_is s b (scope_of vs) k e parts.0,
     ) refl
 node_coded s b t vs d k (trees.StaticDispatch at e class name ts) there =
     let g = node_asked s.files b t (top k (trees.StaticDispatch at e class name ts)) in
@@ -311,47 +313,47 @@ node_coded s b t vs d k (trees.Str at bytes) there = refl
 node_coded s b t vs d k (trees.Bool at value) there = refl
 
 -- the types of trees in order, and of branches
-last_type_is : (s : Context) (b : Tree) (vs : List Named) (d k : ℕ) (last : Ty) (ts : Trees) → Lies (nodes 0 b) k (nodes_of_all k ts) → last_type_in s.table s.class vs d last ts ≡ last_type_at s b vs d last (roots k ts)
-last_type_is s b vs d k last Last there = refl
-last_type_is s b vs d k last (More e ts) there =
-    simp (type_is s b vs d k e (first_stands e ts there)) (last_type_is s b vs d (k + tree_size e) (type_at s b vs d (root k e)) ts (others_stand e ts there))
+last_type_is : (s : Context) (b : Tree) (scope : List Binding) (k : ℕ) (last : Ty) (ts : Trees) → Lies (nodes 0 b) k (nodes_of_all k ts) → last_type_of s.table s.class scope last ts ≡ last_type_at s b scope last (roots k ts)
+last_type_is s b scope k last Last there = refl
+last_type_is s b scope k last (More e ts) there =
+    simp (type_is s b scope k e (first_stands e ts there)) (last_type_is s b scope (k + tree_size e) (type_at s b scope (root k e)) ts (others_stand e ts there))
 
-cases_type_is : (s : Context) (b : Tree) (vs : List Named) (d k : ℕ) (join : Option Ty) (cs : Cases) → Lies (nodes 0 b) k (nodes_of_cases k cs) → cases_type_in s.table s.class vs d join cs ≡ branches_type_at s b vs d join (branch_roots k cs)
-cases_type_is s b vs d k join NoCase there = refl
-cases_type_is s b vs d k join (CaseOf at name declared e cs) there =
-    simp (type_is s b (bind d name (IsClass (class_meant s.table s.class declared.name)) vs) (d + 1) k e (first_branch_stands e cs there))
-    (cases_type_is s b vs d (k + tree_size e) (Some (joined s.table s.class join (type_at s b (bind d name (IsClass (class_meant s.table s.class declared.name)) vs) (d + 1) (root k e)))) cs (other_branches_stand e cs there))
+cases_type_is : (s : Context) (b : Tree) (scope : List Binding) (k : ℕ) (join : Option Ty) (cs : Cases) → Lies (nodes 0 b) k (nodes_of_cases k cs) → cases_type_of s.table s.class scope join cs ≡ branches_type_at s b scope join (branch_roots k cs)
+cases_type_is s b scope k join NoCase there = refl
+cases_type_is s b scope k join (CaseOf at name declared e cs) there =
+    simp (type_is s b (with_name name (type_meant s.table declared.name) scope) k e (first_branch_stands e cs there))
+    (cases_type_is s b scope (k + tree_size e) (Some (joined s.table s.class join (type_at s b (with_name name (type_meant s.table declared.name) scope) (root k e)))) cs (other_branches_stand e cs there))
 
 -- the type of an expression is that of its node
-pub node_typed : (s : Context) (b : Tree) (vs : List Named) (d k : ℕ) (e : Tree) → Stands (nodes 0 b) k e → type_in s.table s.class vs d e ≡ node_type s b vs d (top k e)
-node_typed s b vs d k (trees.Assign at name e) there = type_is s b vs d k e (one_stands e _ there)
-node_typed s b vs d k (trees.Dispatch at e name ts) there =
+pub node_typed : (s : Context) (b : Tree) (scope : List Binding) (k : ℕ) (e : Tree) → Stands (nodes 0 b) k e → type_of s.table s.class scope e ≡ node_type s b scope (top k e)
+node_typed s b scope k (trees.Assign at name e) there = type_is s b scope k e (one_stands e _ there)
+node_typed s b scope k (trees.Dispatch at e name ts) there =
     let parts = two_stand e (nodes_of_all (k + tree_size e) ts) _ there in
-    simp (count_is (k + tree_size e) ts, type_is s b vs (d + length (roots (k + tree_size e) ts)) k e parts.0) refl
-node_typed s b vs d k (trees.StaticDispatch at e class name ts) there =
+    simp (type_is s b scope k e parts.0) refl
+node_typed s b scope k (trees.StaticDispatch at e class name ts) there =
     let parts = two_stand e (nodes_of_all (k + tree_size e) ts) _ there in
-    simp (count_is (k + tree_size e) ts, type_is s b vs (d + length (roots (k + tree_size e) ts)) k e parts.0) refl
-node_typed s b vs d k (trees.If at c y n) there =
+    simp (type_is s b scope k e parts.0) refl
+node_typed s b scope k (trees.If at c y n) there =
     let parts = three_stand c y n _ there in
-    simp (type_is s b vs d (k + tree_size c) y parts.1, type_is s b vs d (k + tree_size c + tree_size y) n parts.2) refl
-node_typed s b vs d k (trees.While at c a) there = refl
-node_typed s b vs d k (trees.Block at ts) there = last_type_is s b vs d k object ts (all_stand ts _ there)
-node_typed s b vs d k (trees.Let at name declared o a) there =
+    simp (type_is s b scope (k + tree_size c) y parts.1, type_is s b scope (k + tree_size c + tree_size y) n parts.2) refl
+node_typed s b scope k (trees.While at c a) there = refl
+node_typed s b scope k (trees.Block at ts) there = last_type_is s b scope k object_type ts (all_stand ts _ there)
+node_typed s b scope k (trees.Let at name declared o a) there =
     let parts = maybe_stands o a _ there in
-    type_is s b (bind d name (type_meant s.table declared.name) vs) (d + 1) (k + maybe_size o) a parts.1
-node_typed s b vs d k (trees.Case at a cs) there =
+    type_is s b (with_name name (type_meant s.table declared.name) scope) (k + maybe_size o) a parts.1
+node_typed s b scope k (trees.Case at a cs) there =
     let parts = two_stand a (nodes_of_cases (k + tree_size a) cs) _ there in
-    simp (cases_type_is s b vs d (k + tree_size a) None cs parts.1) refl
-node_typed s b vs d k (trees.New at class) there = refl
-node_typed s b vs d k (trees.IsVoid at e) there = refl
-node_typed s b vs d k (trees.Arith at op l r) there = refl
-node_typed s b vs d k (trees.Neg at e) there = refl
-node_typed s b vs d k (trees.Compare at op l r) there = refl
-node_typed s b vs d k (trees.Not at e) there = refl
-node_typed s b vs d k (trees.Id at name) there = refl
-node_typed s b vs d k (trees.Int at value) there = refl
-node_typed s b vs d k (trees.Str at bytes) there = refl
-node_typed s b vs d k (trees.Bool at value) there = refl
+    simp (cases_type_is s b scope (k + tree_size a) None cs parts.1) refl
+node_typed s b scope k (trees.New at class) there = refl
+node_typed s b scope k (trees.IsVoid at e) there = refl
+node_typed s b scope k (trees.Arith at op l r) there = refl
+node_typed s b scope k (trees.Neg at e) there = refl
+node_typed s b scope k (trees.Compare at op l r) there = refl
+node_typed s b scope k (trees.Not at e) there = refl
+node_typed s b scope k (trees.Id at name) there = refl
+node_typed s b scope k (trees.Int at value) there = refl
+node_typed s b scope k (trees.Str at bytes) there = refl
+node_typed s b scope k (trees.Bool at value) there = refl
 
 -- the sizes of trees in order, of a tree or none, and of branches
 sizes_are : (b : Tree) (k : ℕ) (ts : Trees) → Lies (nodes 0 b) k (nodes_of_all k ts) → trees_size ts ≡ sizes_at b (roots k ts)
@@ -419,9 +421,9 @@ pub asked_of_node : (files : List (List ℕ)) (b : Tree) (t : Constants) (id : N
 asked_of_node files b t id n r e =
     ap (asked_at files b t) r.number ∙ sym (asked_is files b t r.before r.tree r.stands) ∙ node_asks files b t r.before r.tree r.stands ∙ ap (node_asked files b t) (sym (at_root b id n r e))
 
-pub type_of_node : (s : Context) (b : Tree) (vs : List Named) (d : ℕ) (id : NodeId) (n : Node) → IsRoot b id → slice_get (nodes 0 b) id.0 ≡ Some n → type_at s b vs d id ≡ node_type s b vs d n
-type_of_node s b vs d id n r e =
-    ap (type_at s b vs d) r.number ∙ sym (type_is s b vs d r.before r.tree r.stands) ∙ node_typed s b vs d r.before r.tree r.stands ∙ ap (node_type s b vs d) (sym (at_root b id n r e))
+pub type_of_node : (s : Context) (b : Tree) (scope : List Binding) (id : NodeId) (n : Node) → IsRoot b id → slice_get (nodes 0 b) id.0 ≡ Some n → type_at s b scope id ≡ node_type s b scope n
+type_of_node s b scope id n r e =
+    ap (type_at s b scope) r.number ∙ sym (type_is s b scope r.before r.tree r.stands) ∙ node_typed s b scope r.before r.tree r.stands ∙ ap (node_type s b scope) (sym (at_root b id n r e))
 
 pub size_of_node : (b : Tree) (id : NodeId) (n : Node) → IsRoot b id → slice_get (nodes 0 b) id.0 ≡ Some n → size_at b id ≡ node_size b n
 size_of_node b id n r e =

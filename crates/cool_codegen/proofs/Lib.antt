@@ -1,7 +1,7 @@
 pub mod AttributesOfClasses
 mod WholeBodies
 mod OperationsAsk
-mod VariablesHave
+pub mod VariablesHave
 mod CodeByNumbers
 mod ConstantsKept
 pub mod NumbersAgree

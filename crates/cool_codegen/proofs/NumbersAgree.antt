@@ -15,7 +15,6 @@ use Rattle.cool_consts.specs.Constants.{Constants, with_integer, with_string, in
 use Rattle.cool_codegen.specs.Pieces.{turn_lines}
 use Rattle.cool_codegen.specs.Types.{class_meant, trees_count}
 use Rattle.cool_codegen.specs.Variables.{Named, bind}
-use Rattle.cool_classes.specs.declared.class_id.Ty.TheVariants.{Class as IsClass}
 use Rattle.cool_classes.specs.ClimbedChains.{above}
 use Rattle.cool_rules.specs.Rules.{type_meant}
 use Rattle.cool_syntax.specs.NodeLists.{root}
@@ -150,13 +149,13 @@ mutual
   arms_agree s g h NoCase vs d k end before i j = refl
   arms_agree s g h (CaseOf at name declared t cs) vs d k end before i j =
       simp (
-        agrees s g h t (bind d name (IsClass (class_meant s.table s.class declared.name)) vs) (d + 1) k (integers_left g h (integers_in t) _ i) (strings_left g h (strings_in s.files t) _ j),
+        agrees s g h t (bind d name (type_meant s.table declared.name) vs) (d + 1) k (integers_left g h (integers_in t) _ i) (strings_left g h (strings_in s.files t) _ j),
         arms_agree s g h cs vs d (k + tree_size t) end
             (with_arm before (record {
               depth = length (above s.table (class_meant s.table s.class declared.name));
               lines =
                   range_code s (class_meant s.table s.class declared.name) (label_at s (codes "next") (root k t))
-                  ++ (code s h (bind d name (IsClass (class_meant s.table s.class declared.name)) vs) (d + 1) k t
+                  ++ (code s h (bind d name (type_meant s.table declared.name) vs) (d + 1) k t
                   ++ turn_lines end (label_at s (codes "next") (root k t)));
             }))
             (integers_right g h (integers_in t) _ i) (strings_right g h (strings_in s.files t) _ j),

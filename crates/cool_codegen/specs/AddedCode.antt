@@ -18,7 +18,7 @@ use Rattle.cool_codegen.specs.declared.setting.Setting.{Setting}
 use Rattle.cool_codegen.specs.Asked.{integers_in, strings_in, with_integers, with_strings, Extends, Keeps}
 use Rattle.cool_codegen.specs.Numbered.{node_asked, node_lines, node_size, node_type, AreRoots, HasRoots, IsRoot}
 use Rattle.cool_codegen.specs.Settings.{context, HaveTypes, IsSound}
-use Rattle.cool_codegen.specs.Variables.{Named}
+use Rattle.cool_codegen.specs.Variables.{Named, scope_of}
 
 -- The setting is sound, and the variables in scope have types of its table.
 pub record IsReady (s : Setting) (vs : List Named) : Type 0 where
@@ -72,8 +72,8 @@ AddsNode depth id node before after result =
     (node_size before.setting.body.now node) before after result
 
 -- What is answered is the type of the expression of a node at this depth.
-abbrev pub HasNodeType : {E : Type 0} → ℕ → Node → Code → Result Ty E → Type 0
-HasNodeType depth node before result = HasType before.setting.table.now (node_type (context before.setting) before.setting.body.now before.variables depth node) result
+abbrev pub HasNodeType : {E : Type 0} → Node → Code → Result Ty E → Type 0
+HasNodeType node before result = HasType before.setting.table.now (node_type (context before.setting) before.setting.body.now (scope_of before.variables) node) result
 
 -- The file of a place has a name, for which there is room among the strings, and for one more.
 pub record CanName (s : Setting) (t : Constants) (at : Place) : Type 0 where

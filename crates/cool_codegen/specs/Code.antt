@@ -19,6 +19,7 @@ use Rattle.cool_classes.specs.Chains.{Class}
 use Rattle.cool_classes.specs.ClimbedChains.{above}
 use Rattle.cool_rules.specs.Conformance.{class_of}
 use Rattle.cool_rules.specs.Rules.{type_meant}
+use Rattle.cool_rules.specs.StaticTypes.{type_of}
 use Rattle.cool_runtime.specs.Labels.{true_constant, false_constant, div_abort}
 use Rattle.cool_runtime.specs.RoutineLabels.{overflow_abort, default_int, default_string}
 use Rattle.cool_runtime.specs.Routines.{push_lines, new_int_lines}
@@ -30,9 +31,9 @@ use Rattle.cool_consts.specs.Labels.{int_constant, string_constant}
 use Rattle.cool_codegen.specs.declared.variables.Variable.{Variable}
 use Rattle.cool_codegen.specs.Pieces.{pop_lines, load_lines, store_lines, take_self_lines, take_void_lines, take_lines, test_lines, mark_lines, turn_lines, repeat_lines, values_lines, compare_equal_lines, less_lines, less_equal_lines, is_void_lines, complement_lines, flag_lines, add_lines, subtract_lines, multiply_lines, divide_lines, negate_lines, is_zero_lines, ends_where_lines, create_lines, create_self_lines, call_lines, call_static_lines, case_begin_lines, try_tags_lines, case_end_lines}
 use Rattle.cool_codegen.specs.Labels.{inner}
-use Rattle.cool_codegen.specs.Variables.{Named, found, bind}
+use Rattle.cool_codegen.specs.Variables.{Named, found, bind, scope_of}
 use Rattle.cool_rules.specs.Meant.{method_in}
-use Rattle.cool_codegen.specs.Types.{is_self, class_meant, type_in, trees_count}
+use Rattle.cool_codegen.specs.Types.{is_self, class_meant, trees_count}
 use Rattle.cool_codegen.specs.Arms.{Arm, with_arm, arms_lines}
 
 -- where an expression stands: in which feature of which class, and the names of the files
@@ -144,7 +145,7 @@ abbrev mutual
   code s g vs d k (trees.Dispatch at t name ts) =
       arguments_code s g vs d (k + tree_size t) ts
       ++ (code s g vs (d + trees_count ts) k t
-      ++ slot_code s g at (class_of s.class (type_in s.table s.class vs (d + trees_count ts) t)) name)
+      ++ slot_code s g at (class_of s.class (type_of s.table s.class (scope_of vs) t)) name)
   code s g vs d k (trees.StaticDispatch at t class name ts) =
       arguments_code s g vs d (k + tree_size t) ts
       ++ (code s g vs (d + trees_count ts) k t ++ static_code s g at (class_meant s.table s.class class.name) name)
@@ -211,6 +212,6 @@ abbrev mutual
         depth = length (above s.table (class_meant s.table s.class declared.name));
         lines =
             range_code s (class_meant s.table s.class declared.name) (label_at s (codes "next") (root k t))
-            ++ (code s g (bind d name (IsClass (class_meant s.table s.class declared.name)) vs) (d + 1) k t
+            ++ (code s g (bind d name (type_meant s.table declared.name) vs) (d + 1) k t
             ++ turn_lines end (label_at s (codes "next") (root k t)));
       })) cs

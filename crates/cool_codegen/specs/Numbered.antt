@@ -13,16 +13,18 @@ use Rattle.cool_syntax.specs.NodeLists.{root, nodes, tree_at}
 use Rattle.mips_isa.specs.Lines.{Name, Line}
 use Rattle.cool_classes.specs.declared.class_id.ClassId.{ClassId}
 use Rattle.cool_classes.specs.declared.class_id.Ty.{Ty}
-use Rattle.cool_classes.specs.declared.class_id.Ty.TheVariants.{Class as IsClass}
 use Rattle.cool_classes.specs.ClimbedChains.{above}
 use Rattle.cool_rules.specs.Conformance.{class_of}
 use Rattle.cool_rules.specs.Rules.{join_in, type_meant}
+use Rattle.cool_rules.specs.Scopes.{Binding}
+use Rattle.cool_rules.specs.StaticTypes.{type_of}
+use Rattle.cool_rules.specs.Typing.{type_in_scope, with_name, object_type, int_type, bool_type, string_type}
 use Rattle.cool_runtime.specs.Routines.{push_lines}
 use Rattle.cool_consts.specs.Constants.{Constants, with_integer, with_string}
 use Rattle.cool_codegen.specs.Pieces.{pop_lines, take_lines, test_lines, mark_lines, turn_lines, repeat_lines, values_lines, is_void_lines, complement_lines, negate_lines, case_begin_lines, case_end_lines}
-use Rattle.cool_codegen.specs.Variables.{Named, bind}
+use Rattle.cool_codegen.specs.Variables.{Named, bind, scope_of}
 use Rattle.cool_rules.specs.Meant.{joined, type_of_call}
-use Rattle.cool_codegen.specs.Types.{class_meant, type_in, type_of_named, object, int, bool, string}
+use Rattle.cool_codegen.specs.Types.{class_meant}
 use Rattle.cool_codegen.specs.Arms.{Arm, with_arm, arms_lines}
 use Rattle.cool_codegen.specs.Asked.{integers_in, strings_in, with_integers, with_strings}
 use Rattle.cool_codegen.specs.Code.{Context, code, name_code, assign_code, new_code, default_code, truth_label, integer_label, string_label, file_label, label_at, bool_code, int_code, operation_code, compare_code, slot_code, static_code, range_code}
@@ -179,15 +181,44 @@ node_asked files b t (node.Int at value) = with_value t value
 node_asked files b t (node.Str at bytes) = with_bytes t bytes
 node_asked files b t (node.Bool at value) = t
 
--- types
+-- types, with these names in scope
 
-unfoldable pub type_at : Context → Tree → List Named → ℕ → NodeId → Ty
-type_at s b vs d id = type_in s.table s.class vs d (tree_at b id)
+unfoldable pub type_at : Context → Tree → List Binding → NodeId → Ty
+type_at s b scope id = type_of s.table s.class scope (tree_at b id)
 
 -- of the last of some expressions, after one of this type
-abbrev pub last_type_at : Context → Tree → List Named → ℕ → Ty → List NodeId → Ty
-last_type_at s b vs d last [] = last
-last_type_at s b vs d last (id ∷ ids) = last_type_at s b vs d (type_at s b vs d id) ids
+abbrev pub last_type_at : Context → Tree → List Binding → Ty → List NodeId → Ty
+last_type_at s b scope last [] = last
+last_type_at s b scope last (id ∷ ids) = last_type_at s b scope (type_at s b scope id) ids
+
+-- of the body of a branch
+abbrev pub branch_type_at : Context → Tree → List Binding → NodeBranch → Ty
+branch_type_at s b scope w = type_at s b (with_name w.name (type_meant s.table w.declared.name) scope) w.body
+
+-- the join of the branches after branches with this join
+abbrev pub branches_type_at : Context → Tree → List Binding → Option Ty → List NodeBranch → Option Ty
+branches_type_at s b scope join [] = join
+branches_type_at s b scope join (w ∷ ws) = branches_type_at s b scope (Some (joined s.table s.class join (branch_type_at s b scope w))) ws
+
+abbrev pub node_type : Context → Tree → List Binding → Node → Ty
+node_type s b scope (node.Assign at name a) = type_at s b scope a
+node_type s b scope (node.Dispatch at a name ids) = type_of_call s.table (class_of s.class (type_at s b scope a)) (type_at s b scope a) name
+node_type s b scope (node.StaticDispatch at a class name ids) = type_of_call s.table (class_meant s.table s.class class.name) (type_at s b scope a) name
+node_type s b scope (node.If at t y n) = join_in s.table s.class (type_at s b scope y) (type_at s b scope n)
+node_type s b scope (node.While at t a) = object_type
+node_type s b scope (node.Block at ids) = last_type_at s b scope object_type ids
+node_type s b scope (node.Let at name declared o a) = type_at s b (with_name name (type_meant s.table declared.name) scope) a
+node_type s b scope (node.Case at a ws) = unwrap_or (branches_type_at s b scope None ws) object_type
+node_type s b scope (node.New at class) = type_meant s.table class.name
+node_type s b scope (node.IsVoid at a) = bool_type
+node_type s b scope (node.Arith at op l r) = int_type
+node_type s b scope (node.Neg at a) = int_type
+node_type s b scope (node.Compare at op l r) = bool_type
+node_type s b scope (node.Not at a) = bool_type
+node_type s b scope (node.Id at name) = unwrap_or (type_in_scope scope name) object_type
+node_type s b scope (node.Int at value) = int_type
+node_type s b scope (node.Str at bytes) = string_type
+node_type s b scope (node.Bool at value) = bool_type
 
 -- the class that a branch declares
 abbrev pub class_of_branch : Context → NodeBranch → ClassId
@@ -195,35 +226,7 @@ class_of_branch s w = class_meant s.table s.class w.declared.name
 
 -- the names in scope in a branch
 abbrev pub within_branch : Context → List Named → ℕ → NodeBranch → List Named
-within_branch s vs d w = bind d w.name (IsClass (class_of_branch s w)) vs
-
--- the join of the branches after branches with this join
-abbrev pub branches_type_at : Context → Tree → List Named → ℕ → Option Ty → List NodeBranch → Option Ty
-branches_type_at s b vs d join [] = join
-branches_type_at s b vs d join (w ∷ ws) =
-    branches_type_at s b vs d (Some (joined s.table s.class join (type_at s b (within_branch s vs d w) (d + 1) w.body))) ws
-
-abbrev pub node_type : Context → Tree → List Named → ℕ → Node → Ty
-node_type s b vs d (node.Assign at name a) = type_at s b vs d a
-node_type s b vs d (node.Dispatch at a name ids) =
-    type_of_call s.table (class_of s.class (type_at s b vs (d + length ids) a)) (type_at s b vs (d + length ids) a) name
-node_type s b vs d (node.StaticDispatch at a class name ids) =
-    type_of_call s.table (class_meant s.table s.class class.name) (type_at s b vs (d + length ids) a) name
-node_type s b vs d (node.If at t y n) = join_in s.table s.class (type_at s b vs d y) (type_at s b vs d n)
-node_type s b vs d (node.While at t a) = object
-node_type s b vs d (node.Block at ids) = last_type_at s b vs d object ids
-node_type s b vs d (node.Let at name declared o a) = type_at s b (bind d name (type_meant s.table declared.name) vs) (d + 1) a
-node_type s b vs d (node.Case at a ws) = unwrap_or (branches_type_at s b vs d None ws) object
-node_type s b vs d (node.New at class) = type_meant s.table class.name
-node_type s b vs d (node.IsVoid at a) = bool
-node_type s b vs d (node.Arith at op l r) = int
-node_type s b vs d (node.Neg at a) = int
-node_type s b vs d (node.Compare at op l r) = bool
-node_type s b vs d (node.Not at a) = bool
-node_type s b vs d (node.Id at name) = type_of_named vs name
-node_type s b vs d (node.Int at value) = int
-node_type s b vs d (node.Str at bytes) = string
-node_type s b vs d (node.Bool at value) = bool
+within_branch s vs d w = bind d w.name (type_meant s.table w.declared.name) vs
 
 -- lines: after a table, which names constants by the table after the expression
 
@@ -271,7 +274,7 @@ node_lines s b t vs d id (node.Assign at name a) = lines_at s b t vs d a ++ assi
 node_lines s b t vs d id (node.Dispatch at a name ids) =
     arguments_lines s b t vs d ids
     ++ (lines_at s b (all_asked s.files b t ids) vs (d + length ids) a
-    ++ slot_code s (node_asked s.files b t (node.Dispatch at a name ids)) at (class_of s.class (type_at s b vs (d + length ids) a)) name)
+    ++ slot_code s (node_asked s.files b t (node.Dispatch at a name ids)) at (class_of s.class (type_at s b (scope_of vs) a)) name)
 node_lines s b t vs d id (node.StaticDispatch at a class name ids) =
     arguments_lines s b t vs d ids
     ++ (lines_at s b (all_asked s.files b t ids) vs (d + length ids) a

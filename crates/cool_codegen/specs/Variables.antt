@@ -3,6 +3,7 @@
 use Rattle.std.specs.Prelude.{ℕ, ◌+◌, ◌*◌, negsuc, List, [], ◌∷◌, ◌++◌, bytes_eq, if◌then◌else◌, Option, Some, None}
 use Rattle.mips_isa.specs.declared.register.TheConstants.{FP}
 use Rattle.cool_classes.specs.declared.class_id.Ty.{Ty}
+use Rattle.cool_rules.specs.Scopes.{Binding}
 use Rattle.cool_codegen.specs.declared.variables.Variable.{Variable}
 use Rattle.cool_codegen.specs.declared.variables.Entry.{Entry}
 
@@ -14,6 +15,11 @@ pub record Named : Type 0 where
 abbrev pub found : List Named → List ℕ → Option Variable
 found [] name = None
 found (v ∷ vs) name = if bytes_eq v.name name then Some v.variable else found vs name
+
+-- the names with the types of their values
+abbrev pub scope_of : List Named → List Binding
+scope_of [] = []
+scope_of (v ∷ vs) = record { name = v.name; type = v.variable.ty } ∷ scope_of vs
 
 -- the names without the latest
 abbrev pub left : List Named → List Named

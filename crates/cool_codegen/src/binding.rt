@@ -9,15 +9,15 @@ ghost use Rattle.cool_syntax.specs.NodeGroups.{IsBinding};
 ghost use Rattle.cool_syntax.specs.NodeLists.{all_trees, at_id, twig_at};
 ghost use Rattle.cool_syntax.specs.TreesWithinLimits.{AreCasesWithin, IsMaybeWithin};
 ghost use Rattle.cool_rules.specs.Conformance.{IsType};
+ghost use Rattle.cool_rules.specs.Typing.{object_type, with_name};
 ghost use Rattle.cool_codegen.specs.AddedCode.{Adds, AddsNode, CanName, HasNodeType, HasRoom, HasType, IsExpressionOf, IsNodeOf, IsReady};
 ghost use Rattle.cool_codegen.specs.Asked.{Keeps};
 ghost use Rattle.cool_codegen.specs.Arms.{arm_of, arms_lines};
 ghost use Rattle.cool_codegen.specs.Code.{file_label, range_code};
 ghost use Rattle.cool_codegen.specs.Pieces.{case_begin_lines};
-ghost use Rattle.cool_codegen.specs.Numbered.{asked_at, branch_lines, branch_sizes_at, branches_arms, branches_asked, branches_type_at, class_of_branch, initial_lines, lines_at, maybe_asked, maybe_size_at, node_size, size_at, type_at, with_file, within_branch, AreBodies, MayBeRoot};
+ghost use Rattle.cool_codegen.specs.Numbered.{asked_at, branch_lines, branch_sizes_at, branches_arms, branches_asked, branch_type_at, branches_type_at, class_of_branch, initial_lines, lines_at, maybe_asked, maybe_size_at, node_size, size_at, type_at, with_file, AreBodies, MayBeRoot};
 ghost use Rattle.cool_codegen.specs.Settings.{context, IsSound};
-ghost use Rattle.cool_codegen.specs.Types.{object};
-ghost use Rattle.cool_codegen.specs.Variables.{bind, pushed};
+ghost use Rattle.cool_codegen.specs.Variables.{bind, pushed, scope_of};
 
 use crate::arm::{Arm, insert_arm};
 use crate::code::Code;
@@ -53,7 +53,7 @@ impl<'a> Code<'a> {
         requires node { IsNodeOf self.old.setting id node.now }
         requires ready { IsReady self.old.setting self.old.variables }
         requires room { HasRoom self.old.consts depth (node_size self.old.setting.body.now node.now) }
-        ensures typed { HasNodeType depth node.now self.old result }
+        ensures typed { HasNodeType node.now self.old result }
         ensures made { AddsNode depth id node.now self.old self.new result }
     {
         let alloc = self.setting.alloc;
@@ -131,7 +131,7 @@ impl<'a> Code<'a> {
         requires bound { IsType self.old.setting.table.now bound }
         requires ready { IsReady self.old.setting self.old.variables }
         requires room { HasRoom self.old.consts (depth + 1) (size_at self.old.setting.body.now body) }
-        ensures typed { HasType self.old.setting.table.now (type_at (context self.old.setting) self.old.setting.body.now (bind depth name.now bound self.old.variables) (depth + 1) body) result }
+        ensures typed { HasType self.old.setting.table.now (type_at (context self.old.setting) self.old.setting.body.now (with_name name.now bound (scope_of self.old.variables)) body) result }
         ensures made { Adds (lines_at (context self.old.setting) self.old.setting.body.now self.old.consts (bind depth name.now bound self.old.variables) (depth + 1) body) (asked_at (context self.old.setting).files self.old.setting.body.now self.old.consts body) (size_at self.old.setting.body.now body) self.old self.new result }
     {
         self.variables.enter(name, pushed(depth, bound))?;
@@ -155,7 +155,7 @@ impl<'a> Code<'a> {
         requires places { AreCasesWithin (length self.old.setting.names.now) (of_twigs (map (twig_at (all_trees self.old.setting.body.now)) branches.now)) }
         requires ready { IsReady self.old.setting self.old.variables }
         requires room { HasRoom self.old.consts (depth + 1) (branch_sizes_at self.old.setting.body.now branches.now) }
-        ensures typed { HasType self.old.setting.table.now (unwrap_or (branches_type_at (context self.old.setting) self.old.setting.body.now self.old.variables depth None branches.now) object) result }
+        ensures typed { HasType self.old.setting.table.now (unwrap_or (branches_type_at (context self.old.setting) self.old.setting.body.now (scope_of self.old.variables) None branches.now) object_type) result }
         ensures made { Adds (arms_lines (branches_arms (context self.old.setting) self.old.setting.body.now self.old.consts self.old.variables depth end.now [] branches.now)) (branches_asked (context self.old.setting).files self.old.setting.body.now self.old.consts branches.now) (branch_sizes_at self.old.setting.body.now branches.now) self.old self.new result }
     {
         let setting = self.setting;
@@ -196,13 +196,13 @@ impl<'a> Code<'a> {
         requires declared { class ≡ class_of_branch (context self.old.setting) branch.now }
         requires ready { IsReady self.old.setting self.old.variables }
         requires room { HasRoom self.old.consts (depth + 1) (size_at self.old.setting.body.now branch.now.body) }
-        ensures typed { HasType self.old.setting.table.now (type_at (context self.old.setting) self.old.setting.body.now (within_branch (context self.old.setting) self.old.variables depth branch.now) (depth + 1) branch.now.body) result }
+        ensures typed { HasType self.old.setting.table.now (branch_type_at (context self.old.setting) self.old.setting.body.now (scope_of self.old.variables) branch.now) result }
         ensures made { Adds (branch_lines (context self.old.setting) self.old.setting.body.now self.old.consts self.old.variables depth end.now branch.now) (asked_at (context self.old.setting).files self.old.setting.body.now self.old.consts branch.now.body) (size_at self.old.setting.body.now branch.now.body) self.old self.new result }
     {
         let alloc = self.setting.alloc;
         let next = inner_label(&self.setting, "next", branch.body)?;
         try_class(&self.setting, class, &next, &mut self.lines)?;
-        let bound = Ty::Class(class);
+        let bound = type_meant(self.setting.table, &branch.declared.name);
         let found = self.within(depth, &branch.name, bound, branch.body)?;
         write(alloc, &mut self.lines, &turn(end, &next))?;
         Ok(found)

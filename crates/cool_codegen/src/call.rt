@@ -37,7 +37,7 @@ impl<'a> Code<'a> {
         requires node { IsNodeOf self.old.setting id node.now }
         requires ready { IsReady self.old.setting self.old.variables }
         requires room { HasRoom self.old.consts depth (node_size self.old.setting.body.now node.now) }
-        ensures typed { HasNodeType depth node.now self.old result }
+        ensures typed { HasNodeType node.now self.old result }
         ensures made { AddsNode depth id node.now self.old self.new result }
     {
         match node {

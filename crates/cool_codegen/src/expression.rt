@@ -1,13 +1,14 @@
 //! The code of expressions: names, constants, new objects, conditionals, loops and blocks.
 
-ghost use Rattle.std.specs.Prelude.{◌≡◌, ◌≤◌};
+ghost use Rattle.std.specs.Prelude.{◌≡◌, ◌≤◌, unwrap_or};
 ghost use Rattle.cool_syntax.specs.NodeGroups.{IsControl, IsLeaf};
 ghost use Rattle.cool_rules.specs.Conformance.{IsType};
+ghost use Rattle.cool_rules.specs.Typing.{object_type, type_in_scope};
 ghost use Rattle.cool_codegen.specs.AddedCode.{Adds, AddsNode, AreExpressionsOf, HasNodeType, HasRoom, HasType, IsExpressionOf, IsNodeOf, IsReady};
 ghost use Rattle.cool_codegen.specs.Code.{truth_label};
 ghost use Rattle.cool_codegen.specs.Numbered.{all_asked, asked_at, items_lines, last_type_at, lines_at, node_asked, node_lines, node_size, node_type, size_at, sizes_at, type_at};
 ghost use Rattle.cool_codegen.specs.Settings.{context};
-ghost use Rattle.cool_codegen.specs.Types.{object, type_of_named};
+ghost use Rattle.cool_codegen.specs.Variables.{scope_of};
 
 use crate::code::Code;
 use crate::constant_labels::{int_label, string_label};
@@ -32,7 +33,7 @@ impl<'a> Code<'a> {
         requires expression { IsExpressionOf self.old.setting id }
         requires ready { IsReady self.old.setting self.old.variables }
         requires room { HasRoom self.old.consts depth (size_at self.old.setting.body.now id) }
-        ensures typed { HasType self.old.setting.table.now (type_at (context self.old.setting) self.old.setting.body.now self.old.variables depth id) result }
+        ensures typed { HasType self.old.setting.table.now (type_at (context self.old.setting) self.old.setting.body.now (scope_of self.old.variables) id) result }
         ensures made { Adds (lines_at (context self.old.setting) self.old.setting.body.now self.old.consts self.old.variables depth id) (asked_at (context self.old.setting).files self.old.setting.body.now self.old.consts id) (size_at self.old.setting.body.now id) self.old self.new result }
         ensures some { 1 ≤ size_at self.old.setting.body.now id }
     {
@@ -61,7 +62,7 @@ impl<'a> Code<'a> {
         ensures node { IsNodeOf self.now.setting id result.now }
         ensures size { size_at self.now.setting.body.now id ≡ node_size self.now.setting.body.now result.now }
         ensures some { 1 ≤ size_at self.now.setting.body.now id }
-        ensures typed { type_at (context self.now.setting) self.now.setting.body.now self.now.variables depth id ≡ node_type (context self.now.setting) self.now.setting.body.now self.now.variables depth result.now }
+        ensures typed { type_at (context self.now.setting) self.now.setting.body.now (scope_of self.now.variables) id ≡ node_type (context self.now.setting) self.now.setting.body.now (scope_of self.now.variables) result.now }
         ensures lines { lines_at (context self.now.setting) self.now.setting.body.now self.now.consts self.now.variables depth id ≡ node_lines (context self.now.setting) self.now.setting.body.now self.now.consts self.now.variables depth id result.now }
         ensures asked { asked_at (context self.now.setting).files self.now.setting.body.now self.now.consts id ≡ node_asked (context self.now.setting).files self.now.setting.body.now self.now.consts result.now }
     {
@@ -75,7 +76,7 @@ impl<'a> Code<'a> {
         requires node { IsNodeOf self.old.setting id node.now }
         requires ready { IsReady self.old.setting self.old.variables }
         requires room { HasRoom self.old.consts depth (node_size self.old.setting.body.now node.now) }
-        ensures typed { HasNodeType depth node.now self.old result }
+        ensures typed { HasNodeType node.now self.old result }
         ensures made { AddsNode depth id node.now self.old self.new result }
     {
         let alloc = self.setting.alloc;
@@ -115,7 +116,7 @@ impl<'a> Code<'a> {
         requires node { IsNodeOf self.old.setting id node.now }
         requires ready { IsReady self.old.setting self.old.variables }
         requires room { HasRoom self.old.consts depth (node_size self.old.setting.body.now node.now) }
-        ensures typed { HasNodeType depth node.now self.old result }
+        ensures typed { HasNodeType node.now self.old result }
         ensures made { AddsNode depth id node.now self.old self.new result }
     {
         let alloc = self.setting.alloc;
@@ -161,7 +162,7 @@ impl<'a> Code<'a> {
         requires items { AreExpressionsOf self.old.setting end items.now }
         requires ready { IsReady self.old.setting self.old.variables }
         requires room { HasRoom self.old.consts depth (sizes_at self.old.setting.body.now items.now) }
-        ensures typed { HasType self.old.setting.table.now (last_type_at (context self.old.setting) self.old.setting.body.now self.old.variables depth object items.now) result }
+        ensures typed { HasType self.old.setting.table.now (last_type_at (context self.old.setting) self.old.setting.body.now (scope_of self.old.variables) object_type items.now) result }
         ensures made { Adds (items_lines (context self.old.setting) self.old.setting.body.now self.old.consts self.old.variables depth items.now) (all_asked (context self.old.setting).files self.old.setting.body.now self.old.consts items.now) (sizes_at self.old.setting.body.now items.now) self.old self.new result }
     {
         let mut last = Ty::Class(OBJECT);
@@ -185,10 +186,11 @@ fn truth_label(value: bool) -> &'static [u8]
 }
 
 /// The type of a name: of `self`, or of a variable; Object where there is none.
+#[tactic(auto, using(crate::proofs::VariablesHave::type_of_none, crate::proofs::VariablesHave::type_of_variable))]
 fn type_of_name(setting: &Setting<'_>, variables: &Variables<'_>, name: &Name) -> Ty
     requires { IsReady setting.now variables.now }
     ensures is_type { IsType setting.now.table.now result }
-    ensures typed { result ≡ type_of_named variables.now name.now }
+    ensures typed { result ≡ unwrap_or (type_in_scope (scope_of variables.now) name.now) object_type }
 {
     if is_self(name) {
         return Ty::SelfType;

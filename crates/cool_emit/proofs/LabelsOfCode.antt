@@ -21,6 +21,7 @@ use Rattle.cool_classes.specs.Chains.{Class}
 use Rattle.cool_classes.specs.ClimbedChains.{above}
 use Rattle.cool_rules.specs.Conformance.{class_of}
 use Rattle.cool_rules.specs.Rules.{type_meant}
+use Rattle.cool_rules.specs.StaticTypes.{type_of}
 use Rattle.cool_runtime.specs.Labels.{false_constant}
 use Rattle.cool_runtime.specs.RoutineLabels.{default_int, default_string}
 use Rattle.cool_runtime.specs.Routines.{push_lines}
@@ -45,8 +46,8 @@ use Rattle.cool_codegen.specs.Pieces.{multiply_lines, divide_lines, negate_lines
 use Rattle.cool_codegen.specs.Pieces.{ends_where_lines, create_lines, create_self_lines, call_lines}
 use Rattle.cool_codegen.specs.Pieces.{call_static_lines, case_begin_lines, try_tags_lines, case_end_lines}
 use Rattle.cool_rules.specs.Meant.{method_in}
-use Rattle.cool_codegen.specs.Types.{is_self, class_meant, trees_count, type_in}
-use Rattle.cool_codegen.specs.Variables.{Named, bind, found}
+use Rattle.cool_codegen.specs.Types.{is_self, class_meant, trees_count}
+use Rattle.cool_codegen.specs.Variables.{Named, bind, found, scope_of}
 use Rattle.cool_emit.specs.SoundLines.{labels_of}
 use Rattle.cool_emit.proofs.CountedNames.{times, times-append, total_from, total_from-append, total_from_more}
 use Rattle.cool_emit.proofs.NamesApart.{kinds}
@@ -362,7 +363,7 @@ module _ (x : Name) where
           let parts : m ≤ within k (tree_size t + trees_size ts) =
           omega (arith, first, arguments_marks vs d (k + tree_size t) ts, hits_two k (tree_size t) (trees_size ts)) in
           let all = with_own k (tree_size t + trees_size ts) m 0 parts (no_label (root k (trees.Dispatch at t name ts)).0) in
-          let class = class_of s.class (type_in s.table s.class vs e t) in
+          let class = class_of s.class (type_of s.table s.class (scope_of vs) t) in
           omega (
             arith,
             all,
@@ -525,7 +526,7 @@ module _ (x : Name) where
           let a = tree_size t in
           let class = class_meant s.table s.class declared.name in
           let next = label_at s (codes "next") (root k t) in
-          let inside = bind d name (IsClass class) vs in
+          let inside = bind d name (type_meant s.table declared.name) vs in
           let body = code s g inside (d + 1) k t in
           let lines = range_code s class next ++ (body ++ turn_lines end next) in
           let arm : Arm = record { depth = length (above s.table class); lines = lines } in

@@ -14,7 +14,6 @@ use Rattle.cool_syntax.specs.declared.file_tree.Formal.{Formal}
 use Rattle.mips_isa.specs.Lines.{Name, Line}
 use Rattle.cool_classes.specs.declared.class_id.ClassId.{ClassId}
 use Rattle.cool_classes.specs.declared.class_id.Ty.{Ty}
-use Rattle.cool_classes.specs.declared.class_id.Ty.TheVariants.{Class as IsClass}
 use Rattle.cool_classes.specs.declared.method.MethodRef.TheVariants.{User}
 use Rattle.cool_classes.specs.declared.TheConstants.{MOST_CLASSES}
 use Rattle.cool_classes.specs.Chains.{Class, class_at, parent_of, features_of}
@@ -167,12 +166,12 @@ mutual
   room_of_arms s g vs d k end before (CaseOf at name declared t cs) =
       let c : ClassId = class_meant s.table s.class declared.name in
       let next : Name = label_at s (codes "next") (root k t) in
-      let lines : List Line = range_code s c next ++ (code s g (bind d name (IsClass c) vs) (d + 1) k t ++ turn_lines end next) in
+      let lines : List Line = range_code s c next ++ (code s g (bind d name (type_meant s.table declared.name) vs) (d + 1) k t ++ turn_lines end next) in
       let arm : Arm = record { depth = length (above s.table c); lines = lines } in
       let more : text_room (arms_lines (with_arm before arm)) ≡ text_room (arms_lines before) + text_room lines =
       room_with_arm before arm in
       let own : text_room lines ≤ 55 * (tree_size t + branches_in t) + 6 =
-      simp (text_room-append, room_try_tags, room_turn) (omega (arith, room_of_code s g (bind d name (IsClass c) vs) (d + 1) k t)) in
+      simp (text_room-append, room_try_tags, room_turn) (omega (arith, room_of_code s g (bind d name (type_meant s.table declared.name) vs) (d + 1) k t)) in
       omega (arith, room_of_arms s g vs d (k + tree_size t) end (with_arm before arm) cs)
 
 -- The code of a feature takes at most 55 words for each unit of its weight. An initial value is stored by one word.

@@ -11,15 +11,15 @@ use Rattle.cool_syntax.specs.NodeLists.{root}
 use Rattle.cool_syntax.specs.TreesWithinLimits.{IsTreeWithin, AreTreesWithin, IsMaybeWithin, AreCasesWithin}
 use Rattle.mips_isa.specs.Lines.{Name, Line}
 use Rattle.cool_classes.specs.declared.class_id.Ty.{Ty}
-use Rattle.cool_classes.specs.declared.class_id.Ty.TheVariants.{Class as IsClass}
 use Rattle.cool_classes.specs.ClimbedChains.{above}
 use Rattle.cool_rules.specs.Conformance.{class_of}
 use Rattle.cool_rules.specs.Rules.{type_meant}
+use Rattle.cool_rules.specs.StaticTypes.{type_of}
 use Rattle.cool_runtime.specs.Routines.{push_lines}
 use Rattle.cool_consts.specs.Constants.{Constants}
 use Rattle.cool_codegen.specs.Pieces.{test_lines, mark_lines, turn_lines, is_void_lines, complement_lines, negate_lines, case_begin_lines}
-use Rattle.cool_codegen.specs.Variables.{Named, bind}
-use Rattle.cool_codegen.specs.Types.{class_meant, type_in, trees_count}
+use Rattle.cool_codegen.specs.Variables.{Named, bind, scope_of}
+use Rattle.cool_codegen.specs.Types.{class_meant, trees_count}
 use Rattle.cool_codegen.specs.Arms.{Arm, with_arm, arms_lines}
 use Rattle.cool_codegen.specs.Asked.{integers_in, integers_in_all, integers_in_maybe, integers_in_cases}
 use Rattle.cool_codegen.specs.Asked.{strings_in, strings_in_all, strings_in_maybe, strings_in_cases}
@@ -127,7 +127,7 @@ module _ (target known : Name → Type 0) (s : Context) (g : Constants) (u : Ser
         (text_of_code t vs (d + trees_count ts) k r (omega arith) w.1 (numbers_right (integers_in_all ts) _ i)
         (strings_left (strings_in s.files t) _ js) (left (code s g vs (d + trees_count ts) k t) _ rest))
         (parts.text_of_slot target known s u within g files at
-        (class_of s.class (type_in s.table s.class vs (d + trees_count ts) t)) name w.0
+        (class_of s.class (type_of s.table s.class (scope_of vs) t)) name w.0
         (strings_right (strings_in s.files t) _ js).0))
     text_of_code (trees.StaticDispatch at t class name ts) vs d k r low w i j m =
         let few = count_low ts in
@@ -313,7 +313,7 @@ module _ (target known : Name → Type 0) (s : Context) (g : Constants) (u : Ser
         let next = label_at s (codes "next") (root k t) in
         let c = class_meant s.table s.class declared.name in
         let range = range_code s c next in
-        let body = code s g (bind d name (IsClass c) vs) (d + 1) k t in
+        let body = code s g (bind d name (type_meant s.table declared.name) vs) (d + 1) k t in
         let arm : Arm = record { depth = length (above s.table c); lines = range ++ (body ++ turn_lines end next) } in
         let m : AreTargets target (range ++ (body ++ turn_lines end next)) =
         (among_arms IsTargetArm before arm (arms_before IsTargetArm cs vs d (k + tree_size t) end (with_arm before arm) all)).0 in
@@ -321,7 +321,7 @@ module _ (target known : Name → Type 0) (s : Context) (g : Constants) (u : Ser
         let new : AreText target known (range ++ (body ++ turn_lines end next)) =
         both range _ (parts.text_of_range target known s u within declared.name next (target_of_turn target end next (right body _ rest)))
         (both body _
-        (text_of_code t (bind d name (IsClass c) vs) (d + 1) k (bound_reached d name (IsClass c) vs (omega arith) r) (omega arith) w.3
+        (text_of_code t (bind d name (type_meant s.table declared.name) vs) (d + 1) k (bound_reached d name (type_meant s.table declared.name) vs (omega arith) r) (omega arith) w.3
         (numbers_left (integers_in t) _ i) (strings_left (strings_in s.files t) _ j) (left body _ rest))
         (text_of_turn target known end next there)) in
         text_of_arms cs vs d (k + tree_size t) end (with_arm before arm) r (omega arith) w.4 (numbers_right (integers_in t) _ i)

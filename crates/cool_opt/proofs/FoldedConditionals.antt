@@ -14,7 +14,7 @@ use Rattle.cool_rules.specs.Scopes.{Binding}
 use Rattle.cool_rules.proofs.RulesDecided.{same_types}
 use Rattle.cool_opt.specs.declared.place.Found.{Found}
 use Rattle.cool_opt.specs.declared.setting.Setting.{Setting}
-use Rattle.cool_opt.specs.Types.{type_of}
+use Rattle.cool_rules.specs.StaticTypes.{type_of}
 use Rattle.cool_opt.specs.Folding.{constant_in, truth_in}
 use Rattle.cool_opt.specs.Shrinking.{shrunk, taken}
 use Rattle.cool_opt.specs.FoldedNodes.{Folds}

@@ -38,11 +38,11 @@ use Rattle.cool_meaning.proofs.SoundEvaluation.{Scene, scene_later, scene_with, 
 use Rattle.cool_meaning.specs.Evaluation.{branch_count}
 use Rattle.cool_rules.specs.Conformance.{IsType}
 use Rattle.cool_rules.proofs.RulesDecided.{denotes_type}
-use Rattle.cool_opt.specs.Types.{type_of}
+use Rattle.cool_rules.specs.StaticTypes.{type_of}
 use Rattle.cool_opt.specs.Folding.{fold, fold_all, fold_maybe, fold_cases, dispatch_by}
 use Rattle.cool_opt.proofs.Rows.{arith_folds, compare_row, neg_folds, not_folds, void_folds, if_folds}
 use Rattle.cool_opt.proofs.FoldedCalls.{SameTables, AllCallsKeep, loop_keeps, make_keeps, KeptBranch, nearest_keeps}
-use Rattle.cool_opt.proofs.TypesGiven.{type_is}
+use Rattle.cool_rules.proofs.StaticTypesAreGiven.{type_is}
 use Rattle.cool_opt.proofs.FoldedDispatches.{named_there, dispatch_folds, static_folds}
 
 module _ (p p' : List Class) (typed : IsTypedTable p) (same_tables : SameTables p p') (calls calls' : Calls) (b : ℕ) (calls_sound : AllCallsSound p calls b) (keep : AllCallsKeep p calls calls' b) (c k : ClassId) (self : Value)

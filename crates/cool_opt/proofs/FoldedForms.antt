@@ -23,7 +23,7 @@ use Rattle.cool_opt.specs.declared.setting.Setting.{Setting}
 use Rattle.cool_opt.specs.Folding.{constant_in, exactly, number_in, number_or, result, truth_in}
 use Rattle.cool_opt.specs.Settings.{IsSound}
 use Rattle.cool_opt.specs.Shrinking.{compared, computed, negated, shrunk, truth_or}
-use Rattle.cool_opt.specs.Types.{type_of}
+use Rattle.cool_rules.specs.StaticTypes.{type_of}
 use Rattle.cool_opt.specs.FoldedNodes.{value_of, number_constant, truth_constant, with_number, with_truth, Folds}
 use Rattle.cool_opt.proofs.NodesPlaced.{more_nodes}
 use Rattle.cool_opt.proofs.FoldedRows.{number_folds, stays_folds, truth_folds}

@@ -13,7 +13,7 @@ use Rattle.cool_meaning.specs.Numbers.{fits}
 use Rattle.cool_meaning.specs.Values.{Int}
 use Rattle.cool_opt.specs.declared.place.Found.{Found}
 use Rattle.cool_opt.specs.declared.setting.Setting.{Setting}
-use Rattle.cool_opt.specs.Types.{type_of}
+use Rattle.cool_rules.specs.StaticTypes.{type_of}
 use Rattle.cool_opt.specs.Folding.{constant_in, number_or}
 use Rattle.cool_opt.specs.Shrinking.{shrunk, truth_or}
 use Rattle.cool_opt.specs.FoldedNodes.{value_of, number_constant, truth_constant, with_number, with_truth, Folds}

@@ -17,7 +17,7 @@ use Rattle.cool_rules.specs.Scopes.{Binding}
 use Rattle.cool_rules.specs.Typing.{with_name}
 use Rattle.cool_meaning.specs.Values.{Value}
 use Rattle.cool_meaning.specs.Evaluation.{same}
-use Rattle.cool_opt.specs.Types.{type_of}
+use Rattle.cool_rules.specs.StaticTypes.{type_of}
 use Rattle.cool_opt.specs.Folding.{constant_in, number_in, truth_in, one_sort, exactly, result, number_or, arith_by, neg_by, less_by, equal_by, compare_by, not_by, is_void_by, if_by, is_redefined, dispatch_by, fold, fold_all, fold_maybe, fold_cases}
 
 -- the nodes and the branches of a tree, and the bytes of its string constants

@@ -24,9 +24,9 @@ use Rattle.cool_rules.proofs.RulesDecided.{denotes_type, same_types}
 use Rattle.cool_rules.proofs.TypesOfMethods.{expression_type}
 use Rattle.cool_meaning.specs.Values.{Value}
 use Rattle.cool_meaning.specs.Evaluation.{same}
-use Rattle.cool_opt.specs.Types.{type_of}
+use Rattle.cool_rules.specs.StaticTypes.{type_of}
 use Rattle.cool_opt.specs.Folding.{constant_in, number_in, truth_in, one_sort, exactly, result, number_or, arith_by, neg_by, less_by, equal_by, compare_by, not_by, is_void_by, taken_by, if_by, is_redefined, dispatch_by, fold, fold_all, fold_maybe, fold_cases}
-use Rattle.cool_opt.proofs.TypesGiven.{type_is, class_there}
+use Rattle.cool_rules.proofs.StaticTypesAreGiven.{type_is, class_there}
 
 module _ (p : List Class) (whole : IsWholeTable p) (c : ClassId) (within : c.0 < length p) where
   abbrev AreTypes : List Binding → Type 0

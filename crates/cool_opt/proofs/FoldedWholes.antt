@@ -26,7 +26,7 @@ use Rattle.cool_opt.specs.Folding.{constant_in, is_redefined, truth_in}
 use Rattle.cool_opt.specs.Settings.{IsSound}
 use Rattle.cool_opt.specs.Shrinking.{shrunk, shrunk_all, shrunk_cases, shrunk_maybe, taken}
 use Rattle.cool_rules.specs.Meant.{type_of_call}
-use Rattle.cool_opt.specs.Types.{type_of}
+use Rattle.cool_rules.specs.StaticTypes.{type_of}
 use Rattle.cool_opt.specs.FoldedNodes.{Folds, FoldsAll, FoldsCases, FoldsMaybe}
 use Rattle.cool_opt.proofs.NodesPlaced.{more_nodes}
 use Rattle.cool_opt.proofs.FoldedForms.{five_classes, two_placed}

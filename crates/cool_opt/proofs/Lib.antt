@@ -1,7 +1,6 @@
 mod NoMoreMeters
 mod Rows
 mod FoldedCalls
-mod TypesGiven
 mod OnlyMethods
 mod FoldedDispatches
 mod FoldedExpressions

@@ -18,7 +18,7 @@ use Rattle.cool_meaning.specs.Meters.{Val, Overflow, DivisionByZero, Metered, Co
 use Rattle.cool_meaning.specs.BasicMethods.{as_number, as_truth, new_number}
 use Rattle.cool_meaning.specs.Numbers.{fits, is_zero, signed}
 use Rattle.cool_meaning.specs.Evaluation.{Calls, eval, exact, arithmetic, compare, same, is_void}
-use Rattle.cool_opt.specs.Types.{type_of}
+use Rattle.cool_rules.specs.StaticTypes.{type_of}
 use Rattle.cool_opt.specs.Folding.{constant_in, number_in, truth_in, one_sort, word_of, exactly, result, number_or, arith_by, neg_by, less_by, equal_by, compare_by, not_by, is_void_by, taken_by, if_by}
 use Rattle.cool_opt.proofs.NoMoreMeters.{NoMore, Always, no_more_same}
 

@@ -22,10 +22,10 @@ use Rattle.cool_rules.proofs.RulesOfTables.{meant_is}
 use Rattle.cool_rules.proofs.RulesDecided.{denotes_type}
 use Rattle.cool_meaning.specs.Values.{Value}
 use Rattle.cool_meaning.specs.Evaluation.{same, is_void}
-use Rattle.cool_opt.specs.Types.{type_of}
+use Rattle.cool_rules.specs.StaticTypes.{type_of}
 use Rattle.cool_opt.specs.Folding.{constant_in, number_in, truth_in, one_sort, number_or, arith_by, neg_by, less_by, equal_by, compare_by, not_by, is_void_by, if_by, dispatch_by, fold, fold_all, fold_maybe, fold_cases}
 use Rattle.cool_opt.specs.Shrinking.{computed, negated, ordered, equated, compared, truth_or, taken, shrunk, shrunk_all, shrunk_maybe, shrunk_cases}
-use Rattle.cool_opt.proofs.TypesGiven.{type_is}
+use Rattle.cool_rules.proofs.StaticTypesAreGiven.{type_is}
 use Rattle.cool_opt.proofs.FoldedTypes.{still_typed}
 
 -- The rows

@@ -14,7 +14,7 @@ use Rattle.cool_rules.specs.Rules.{same_type, join_in, type_meant}
 use Rattle.cool_rules.specs.Scopes.{Binding}
 use Rattle.cool_rules.specs.Typing.{with_name}
 use Rattle.cool_meaning.specs.Evaluation.{is_void}
-use Rattle.cool_opt.specs.Types.{type_of}
+use Rattle.cool_rules.specs.StaticTypes.{type_of}
 use Rattle.cool_opt.specs.Folding.{constant_in, number_in, truth_in, number_or, is_redefined, dispatch_by}
 use Rattle.cool_opt.specs.Shrinking.{computed, negated, compared, truth_or, taken, shrunk, shrunk_all, shrunk_maybe, shrunk_cases}
 

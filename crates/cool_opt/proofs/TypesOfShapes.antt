@@ -12,7 +12,7 @@ use Rattle.cool_rules.specs.Rules.{join_in, type_meant}
 use Rattle.cool_rules.specs.Scopes.{Binding}
 use Rattle.cool_rules.specs.Typing.{with_name, object_type}
 use Rattle.cool_rules.specs.Meant.{joined, type_of_call}
-use Rattle.cool_opt.specs.Types.{type_of, last_type_of, cases_type_of}
+use Rattle.cool_rules.specs.StaticTypes.{type_of, last_type_of, cases_type_of}
 use Rattle.cool_opt.specs.Folding.{constant_in, truth_in, is_redefined}
 use Rattle.cool_opt.specs.Foldable.{IsNotTaken, IsDone, AreDone, IsMaybeDone, AreCasesDone}
 use Rattle.cool_opt.proofs.SameShapes.{meant_same, join_same, call_same, redefined_same}

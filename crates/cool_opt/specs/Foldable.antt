@@ -13,7 +13,7 @@ use Rattle.cool_rules.specs.Rules.{same_type, type_meant}
 use Rattle.cool_rules.specs.Scopes.{Binding}
 use Rattle.cool_rules.specs.Typing.{with_name}
 use Rattle.cool_meaning.specs.Values.{Value}
-use Rattle.cool_opt.specs.Types.{type_of}
+use Rattle.cool_rules.specs.StaticTypes.{type_of}
 use Rattle.cool_opt.specs.Folding.{constant_in, number_in, truth_in, one_sort, exactly, result, is_redefined}
 
 -- a computation of numbers that has no value, or not on two constants

@@ -18,7 +18,7 @@ use Rattle.cool_opt.specs.declared.place.Found.{Found}
 use Rattle.cool_opt.specs.declared.place.Parts.{Parts}
 use Rattle.cool_opt.specs.declared.place.Branches.{Branches}
 use Rattle.cool_opt.specs.declared.setting.Setting.{Setting}
-use Rattle.cool_opt.specs.Types.{type_of, last_type_of, cases_type_of}
+use Rattle.cool_rules.specs.StaticTypes.{type_of, last_type_of, cases_type_of}
 use Rattle.cool_opt.specs.Folding.{constant_in, word_of}
 use Rattle.cool_opt.specs.Shrinking.{shrunk, shrunk_all, shrunk_maybe, shrunk_cases}
 

@@ -23,7 +23,7 @@ use Rattle.cool_rules.specs.Typing.{with_name, formals_in_scope, attributes_in_s
 use Rattle.cool_meaning.specs.Values.{Value, Int, Bool, Str}
 use Rattle.cool_meaning.specs.Numbers.{fits, is_zero, signed}
 use Rattle.cool_meaning.specs.Evaluation.{same, is_void}
-use Rattle.cool_opt.specs.Types.{type_of}
+use Rattle.cool_rules.specs.StaticTypes.{type_of}
 
 -- Constants
 

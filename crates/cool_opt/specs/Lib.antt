@@ -9,5 +9,4 @@ pub mod Laws
 pub mod NothingLeft
 pub mod Settings
 pub mod Shrinking
-pub mod Types
 pub mod Definers

@@ -19,7 +19,7 @@ use Rattle.cool_opt.specs.FoldedNodes.{Folds, FoldsAll, FoldsCases, FoldsMaybe}
 use Rattle.cool_opt.specs.Forms.{operand, left_operand, right_operand}
 use Rattle.cool_opt.specs.Settings.{cases_of, maybe_tree_of, tree_of_node, trees_of}
 use Rattle.cool_opt.specs.Shrinking.{shrunk, taken}
-use Rattle.cool_opt.specs.Types.{type_of}
+use Rattle.cool_rules.specs.StaticTypes.{type_of}
 
 -- the nodes of a tree, and of trees, came after those before, and this was found of it
 abbrev pub IsFolded : Setting → List Binding → Tree → List Node → List Node → Found → Type 0

@@ -17,7 +17,7 @@ use Rattle.cool_rules.specs.Scopes.{Binding}
 use Rattle.cool_rules.specs.Typing.{with_name}
 use Rattle.cool_meaning.specs.Values.{Value}
 use Rattle.cool_meaning.specs.Evaluation.{same, is_void}
-use Rattle.cool_opt.specs.Types.{type_of}
+use Rattle.cool_rules.specs.StaticTypes.{type_of}
 use Rattle.cool_opt.specs.Folding.{constant_in, number_in, truth_in, one_sort, exactly, result, number_or, dispatch_by}
 
 -- What operators make of constants

@@ -8,7 +8,7 @@ ghost use Rattle.cool_opt.specs.FoldedNodes.{Folds};
 ghost use Rattle.cool_opt.specs.Forms.{IsBlock, IsConditional, IsLoop};
 ghost use Rattle.cool_opt.specs.Settings.{tree_of_node, IsReady};
 ghost use Rattle.cool_opt.specs.Shrinking.{taken};
-ghost use Rattle.cool_opt.specs.Types.{type_of};
+ghost use Rattle.cool_rules.specs.StaticTypes.{type_of};
 
 use crate::constant::truth_in;
 use crate::expression::{fold, fold_all};

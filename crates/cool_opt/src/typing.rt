@@ -7,7 +7,7 @@ ghost use Rattle.cool_syntax.specs.NodeLists.{tree_at, HasPartsBelow};
 ghost use Rattle.cool_rules.specs.Conformance.{IsType};
 ghost use Rattle.cool_rules.specs.Typing.{object_type, type_in_scope, with_name};
 ghost use Rattle.cool_opt.specs.Settings.{tree_of_node, trees_of, cases_of, HaveTypes, IsReady, IsSound, IsTyped};
-ghost use Rattle.cool_opt.specs.Types.{cases_type_of, last_type_of, type_of};
+ghost use Rattle.cool_rules.specs.StaticTypes.{cases_type_of, last_type_of, type_of};
 
 use crate::setting::Setting;
 use cool_classes::{BOOL, INT, OBJECT, STRING, Ty};

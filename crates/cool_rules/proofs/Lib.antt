@@ -5,4 +5,5 @@ pub mod RulesDecided
 pub mod RulesOfTables
 mod ScopesInOrder
 pub mod ScopesMoved
+pub mod StaticTypesAreGiven
 pub mod TypesOfMethods

@@ -6,12 +6,14 @@
 #![tactic(auto)]
 
 mod conformance;
+mod laws;
 mod meant;
 mod scope;
 mod typed_program;
 mod types;
 
 pub use conformance::{conforms, join_types};
+pub use laws::law_static_type;
 pub use meant::{call_meant, join_meant, joined_with, method_meant, type_meant};
 pub use scope::Scope;
 pub use typed_program::TypedProgram;

@@ -46,7 +46,7 @@ pub mod ReceiverHeads
 pub mod RoutinesDone
 pub mod Slots
 pub mod StaticDispatches
-pub mod StaticTypes
+pub mod NamesCovered
 pub mod TagTests
 pub mod Tests
 pub mod Verdicts

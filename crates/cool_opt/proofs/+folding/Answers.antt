@@ -17,7 +17,7 @@ use Rattle.cool_opt.specs.PlacedForms.{AreCasesFolded, AreFolded, IsFolded, Plac
 use Rattle.cool_opt.specs.Settings.{cases_of, HaveTypes, IsReady, trees_of}
 use Rattle.cool_opt.specs.Shrinking.{shrunk, shrunk_all, shrunk_cases, taken}
 use Rattle.cool_rules.specs.Meant.{joined}
-use Rattle.cool_opt.specs.Types.{cases_type_of, last_type_of, type_of}
+use Rattle.cool_rules.specs.StaticTypes.{cases_type_of, last_type_of, type_of}
 use Rattle.cool_opt.proofs.FoldedConditionals.{cut_back, part_within, taken_folds, taken_is}
 use Rattle.cool_opt.proofs.NodesPlaced.{more_nodes}
 use Rattle.cool_opt.proofs.PartsOfForms.{no_fewer, operand_within, operands_within}

@@ -7,7 +7,7 @@ use Rattle.cool_syntax.specs.NodeLists.{all_trees, at_id, twig_at, nodes_of_all,
 use Rattle.cool_rules.specs.Conformance.{IsType}
 use Rattle.cool_rules.specs.Typing.{object_type}
 use Rattle.cool_opt.specs.Shrinking.{shrunk_all, shrunk_cases}
-use Rattle.cool_opt.specs.Types.{cases_type_of, last_type_of}
+use Rattle.cool_rules.specs.StaticTypes.{cases_type_of, last_type_of}
 use Rattle.cool_opt.proofs.+folding.Given as goal
 
 abbrev pub decreases-expression::fold : goal.decreases-expression::fold

@@ -13,6 +13,7 @@ use Rattle.cool_classes.specs.ClimbedChains.{chain, above}
 use Rattle.cool_classes.specs.Tables.{IsTable}
 use Rattle.cool_classes.proofs.Climbs.{chain_unique}
 use Rattle.cool_classes.proofs.ChainsOfTables.{chain_is}
+use Rattle.cool_rules.specs.Rules.{type_meant}
 use Rattle.cool_rules.specs.Scopes.{Binding}
 use Rattle.cool_rules.specs.Typing.{HaveBranches}
 use Rattle.cool_rules.proofs.NamesOfTables.{bytes_differ, bytes_same}
@@ -22,17 +23,18 @@ use Rattle.cool_meaning.specs.Values.{Value, Environment}
 use Rattle.cool_meaning.specs.Meters.{◌>>=◌, locate}
 use Rattle.cool_meaning.specs.Evaluation.{Calls, Branch, or_else, nearest, eval, branch_of}
 
--- a branch: its class, its variable, its body, and the number of nodes before that
+-- a branch: its class, its variable and the type of that, its body, and the number of nodes before that
 pub record Entry : Type 0 where
   pub class : ClassId
   pub name : List ℕ
+  pub bound : Ty
   pub tree : Tree
   pub first : ℕ
 
 -- the branches in the order of the text
 abbrev pub entries : List Class → ClassId → ℕ → Cases → List Entry
 entries p c k NoCase = []
-entries p c k (CaseOf at name declared t cs) = record { class = class_meant p c declared.name; name = name; tree = t; first = k } ∷ entries p c (k + tree_size t) cs
+entries p c k (CaseOf at name declared t cs) = record { class = class_meant p c declared.name; name = name; bound = type_meant p declared.name; tree = t; first = k } ∷ entries p c (k + tree_size t) cs
 
 abbrev pub depth_of : List Class → ClassId → ℕ
 depth_of p c = length (above p c)
@@ -225,7 +227,7 @@ module _ (p : List Class) (table : IsTable p) where
         class_of_type y = Rattle.cool_rules.specs.Conformance.class_of c y
 
         e : Entry
-        e = record { class = class_meant p c declared.name; name = name; tree = t'; first = k }
+        e = record { class = class_meant p c declared.name; name = name; bound = type_meant p declared.name; tree = t'; first = k }
 
         by : (x : ClassId) → x.0 < length p → name_of p x ≡ declared.name → (b : Bool) → nat_eq x.0 d.0 ≡ b → nat_eq e.class.0 d.0 ≡ nat_eq x.0 d.0
             → branch_of p calls self env cs (name_of p d) ≡ branch p calls self env (of_class d (entries p c (k + tree_size t') cs))

@@ -8,10 +8,10 @@ use Rattle.mips_isa.specs.Lines.{Name, Line}
 use Rattle.cool_syntax.specs.Tree.{Cases, NoCase, CaseOf, tree_size}
 use Rattle.cool_syntax.specs.NodeLists.{root}
 use Rattle.cool_classes.specs.declared.class_id.ClassId.{ClassId}
-use Rattle.cool_classes.specs.declared.class_id.Ty.TheVariants.{Class as IsClass}
 use Rattle.cool_classes.specs.Chains.{Class}
 use Rattle.cool_classes.specs.ClimbedChains.{chain, above}
 use Rattle.cool_classes.specs.Tables.{IsWholeTable}
+use Rattle.cool_rules.specs.Rules.{type_meant}
 use Rattle.cool_runtime.specs.Reaches.{World, Reaches, stands}
 use Rattle.cool_runtime.specs.Standing.{HasLines, sizes}
 use Rattle.cool_runtime.specs.Machines.{Pointers, Console}
@@ -70,7 +70,7 @@ module _ (s : Context) (g : Constants) (vs : List Named) (d : ℕ) (end : Name) 
   next_of e = label_at s (codes "next") (root e.first e.tree)
 
   abbrev pub body_of : Entry → List Line
-  body_of e = code s g (bind d e.name (IsClass e.class) vs) (d + 1) e.first e.tree
+  body_of e = code s g (bind d e.name e.bound vs) (d + 1) e.first e.tree
 
   abbrev pub arm_of : Entry → Arm
   arm_of e = record { depth = length (above s.table e.class); lines = range_code s e.class (next_of e) ++ (body_of e ++ turn_lines end (next_of e)) }
@@ -88,7 +88,7 @@ module _ (s : Context) (g : Constants) (vs : List Named) (d : ℕ) (end : Name) 
   pub arms_are : (cs : Cases) (k : ℕ) (before : List Entry) → arms_code s g vs d k end (each arm_of before) cs ≡ each arm_of (with_entries s.table before (entries s.table s.class k cs))
   arms_are NoCase k before = refl
   arms_are (CaseOf at name declared t cs) k before =
-      let e : Entry = record { class = Rattle.cool_codegen.specs.Types.class_meant s.table s.class declared.name; name = name; tree = t; first = k } in
+      let e : Entry = record { class = Rattle.cool_codegen.specs.Types.class_meant s.table s.class declared.name; name = name; bound = type_meant s.table declared.name; tree = t; first = k } in
       ap (λ (xs : List Arm). arms_code s g vs d (k + tree_size t) end xs cs) (with_arm_is before e) ∙ arms_are cs (k + tree_size t) (with_entry s.table before e)
 
   range_sizes : (e : Entry) → sizes (range_code s e.class (next_of e)) ≡ 16

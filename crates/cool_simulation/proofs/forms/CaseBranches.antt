@@ -7,13 +7,15 @@ use Rattle.mips_isa.specs.Lines.{Name}
 use Rattle.cool_syntax.specs.declared.place.Place.{Place}
 use Rattle.cool_syntax.specs.Tree.{Tree, Cases, NoCase, CaseOf}
 use Rattle.cool_classes.specs.declared.class_id.ClassId.{ClassId}
+use Rattle.cool_classes.specs.declared.class_id.Ty.{Ty}
 use Rattle.cool_classes.specs.declared.class_id.Ty.TheVariants.{Class as IsClass}
 use Rattle.cool_classes.specs.Chains.{Class, name_of}
 use Rattle.cool_rules.specs.Scopes.{Binding}
 use Rattle.cool_runtime.specs.Standing.{HasLines, sizes}
 use Rattle.cool_runtime.specs.Machines.{At, Pointers}
 use Rattle.cool_runtime.proofs.Pieces.{next, done, has_front, has_back}
-use Rattle.cool_codegen.specs.Variables.{Named}
+use Rattle.cool_codegen.specs.Code.{code}
+use Rattle.cool_codegen.specs.Variables.{Named, bind}
 use Rattle.cool_codegen.specs.Pieces.{turn_lines, case_end_lines}
 use Rattle.cool_meaning.specs.Values.{Value, State, Environment}
 use Rattle.cool_meaning.specs.Meters.{Metered, NoBranch, ◌>>=◌, locate}
@@ -94,8 +96,9 @@ module _ (l : Loading) (is : IsLoaded l) (calls : Calls) (b : ℕ) (c : ClassId)
     branch_runs e good fit n pc2 pc3 whole u2 le at lines ends room sum =
         let w = l.world in
         let ctx = context l c f in
-        let code' = body_of ctx (constants l) vs d end e in
+        let code' = code ctx (constants l) (bind d e.name (IsClass e.class) vs) (d + 1) e.first e.tree in
         let turn = turn_lines end (next_of ctx (constants l) vs d end e) in
+        let there : HasLines w pc2 (code' ++ turn) = subst (λ (x : Ty). HasLines w pc2 (code ctx (constants l) (bind d e.name x vs) (d + 1) e.first e.tree ++ turn)) good.bound lines in
         let small = good.small in
         let numbers = begins.at.numbers in
         let laid = w.laid in
@@ -104,9 +107,9 @@ module _ (l : Loading) (is : IsLoaded l) (calls : Calls) (b : ℕ) (c : ClassId)
         let begins2 = bound_begins l c k self scope vs env made d behind j.memory j.map' j.console t1 u u2 e.name (IsClass e.class) v pc2 begins j.value fit (omega arith) at in
         run_on l (body e n).outcome u2 n (64 * (body e n).work - 4) 2 (64 * (body e n).work - 4 + 2) _ _ (omega arith)
         (good.correct.runs c f k self _ _ _ _ (d + 1) e.first (bound_at pc2) bound_memory _ j.console _ u2 n good.type le begins2 good.has
-        (record { lines = has_front w code' turn pc2 lines; integers = good.asks.integers_there; strings = good.asks.strings_there; within = good.limits; small = good.small }) room)
+        (record { lines = has_front w code' turn pc2 there; integers = good.asks.integers_there; strings = good.asks.strings_there; within = good.limits; small = good.small }) room)
         (λ v2 t2 u3 i. next w u3 2 0 2 _ _
-        (branch_ends w end (next_of ctx (constants l) vs d end e) pc3 (record (bound_at pc2) { pc = pc2 + sizes code'; gp = i.gp; acc = i.acc; ra = i.ra }) i.memory i.console u3 (has_back w code' turn pc2 (pc2 + sizes code') refl lines) ends i.at (omega arith)) (omega arith)
+        (branch_ends w end (next_of ctx (constants l) vs d end e) pc3 (record (bound_at pc2) { pc = pc2 + sizes code'; gp = i.gp; acc = i.acc; ra = i.ra }) i.memory i.console u3 (has_back w code' turn pc2 (pc2 + sizes code') refl there) ends i.at (omega arith)) (omega arith)
         (λ u4 at4. done w 0 u4 _ (done_both l q m map st words (body e n).words whole v v2 t1 t2 u u4 pc1 (pc3 + 8) j.acc j.ra even j
         (bound_done l behind j.memory j.map' j.console t1 v v2 t2 (body e n).words (pc2 + sizes code') (pc3 + 8) u u3 u4 begins.at begins.pictures i
         (subst (λ x. At w (record q { pc = pc3 + 8; sp = x; gp = i.gp; acc = i.acc; ra = i.ra }) i.memory i.console u4) back at4)) sum)))

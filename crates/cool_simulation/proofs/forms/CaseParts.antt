@@ -1,5 +1,5 @@
 -- What the branches of a case are known to have: their types, what their code asks for, and that it is correct.
-use Rattle.std.proofs.Common.{◌≡◌, ℕ, ◌+◌, ◌<◌, ◌≤◌, List, [], ◌∷◌, length, ap, sym, subst, arith}
+use Rattle.std.proofs.Common.{◌≡◌, ℕ, ◌+◌, ◌<◌, ◌≤◌, List, [], ◌∷◌, length, ap, sym, ◌∙◌, subst, arith}
 use Rattle.std.specs.List.{AllByRecursion}
 use Rattle.cool_syntax.specs.Tree.{Cases, NoCase, CaseOf, tree_size, cases_size}
 use Rattle.cool_syntax.specs.TreesWithinLimits.{IsTreeWithin, AreCasesWithin}
@@ -26,6 +26,7 @@ module _ (l : Loading) (is : IsLoaded l) (calls : Calls) (b : ℕ) where
 
   pub record Good (c : ClassId) (scope : List Binding) (d : ℕ) (e : Entry) : Type 0 where
     pub within : e.class.0 < length l.table
+    pub bound : e.bound ≡ IsClass e.class
     pub type : Ty
     pub has : HasType l.table c (with_name e.name (IsClass e.class) scope) e.tree type
     pub asks : Asks l (integers_in e.tree) (strings_in l.files e.tree)
@@ -38,9 +39,11 @@ module _ (l : Loading) (is : IsLoaded l) (calls : Calls) (b : ℕ) where
   all_good c scope d k NoCase ts have asks within small correct = tt
   all_good c scope d k (CaseOf at name declared t cs) [] have asks within small correct = absurd have
   all_good c scope d k (CaseOf at name declared t cs) (u ∷ ts) ((x, other, denotes, has), have) asks within small correct =
-      let meant : class_meant l.table c declared.name ≡ x = ap (class_meant_by c) (meant_is l.table is.buildable.typed.whole.table declared.name (IsClass x) denotes) in (
+      let named = meant_is l.table is.buildable.typed.whole.table declared.name (IsClass x) denotes in
+      let meant : class_meant l.table c declared.name ≡ x = ap (class_meant_by c) named in (
         record {
           within = subst (λ (y : ClassId). y.0 < length l.table) (sym meant) denotes.0;
+          bound = named ∙ ap IsClass (sym meant);
           type = u;
           has = subst (λ (y : ClassId). HasType l.table c (with_name name (IsClass y) scope) t u) (sym meant) has;
           asks = asks_front l (integers_in t) (integers_in_cases cs) (strings_in l.files t) (strings_in_cases l.files cs) asks;

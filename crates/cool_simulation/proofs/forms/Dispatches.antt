@@ -18,8 +18,10 @@ use Rattle.cool_classes.proofs.ChainsOfTables.{chain_is}
 use Rattle.cool_classes.proofs.Methods.{found_has}
 use Rattle.cool_rules.specs.Conformance.{class_of as class_meant}
 use Rattle.cool_rules.specs.Scopes.{Binding}
+use Rattle.cool_rules.specs.StaticTypes.{type_of}
 use Rattle.cool_rules.specs.Typing.{IsCall}
 use Rattle.cool_rules.proofs.ChainsOfTables.{below_trans, below_within, below_itself, chain_within, implementation_below}
+use Rattle.cool_rules.proofs.StaticTypesAreGiven.{type_is_in, class_there, method_found}
 use Rattle.cool_rules.proofs.TypesOfMethods.{expression_type}
 use Rattle.cool_runtime.specs.Reaches.{Reaches, stands}
 use Rattle.cool_runtime.specs.Standing.{HasLines, sizes}
@@ -29,9 +31,9 @@ use Rattle.cool_runtime.specs.Machines.{Pointers}
 use Rattle.cool_runtime.proofs.Pieces.{has_front, has_back, sizes_append}
 use Rattle.cool_layout.specs.Members.{slot}
 use Rattle.cool_layout.specs.Labels.{dispatch_table, method_label}
-use Rattle.cool_codegen.specs.Variables.{Named}
+use Rattle.cool_codegen.specs.Variables.{Named, scope_of}
 use Rattle.cool_codegen.specs.Pieces.{call_lines}
-use Rattle.cool_codegen.specs.Types.{trees_count, type_in}
+use Rattle.cool_codegen.specs.Types.{trees_count}
 use Rattle.cool_codegen.specs.Code.{code, arguments_code, slot_code}
 use Rattle.cool_codegen.specs.Asked.{integers_in, integers_in_all, strings_in, strings_in_all}
 use Rattle.cool_codegen.specs.Asked as asked
@@ -44,7 +46,7 @@ use Rattle.cool_meaning.proofs.SoundParts.{AllCallsSound, arguments_fit}
 use Rattle.cool_meaning.proofs.SoundEvaluation.{Scene}
 use Rattle.cool_simulation.specs.Loadings.{Loading, IsLoaded, constants, context}
 use Rattle.cool_simulation.specs.Simulation.{CodeAt, AllCodeAt, Correct, AllCorrect, AllCallsCorrect}
-use Rattle.cool_simulation.proofs.forms.StaticTypes.{type_is, class_there, method_found}
+use Rattle.cool_simulation.proofs.forms.NamesCovered.{covers}
 use Rattle.cool_simulation.proofs.forms.Slots.{slot_there, slot_kept, method_is}
 use Rattle.cool_simulation.proofs.forms.CallLines.{AtPlace, SlotAt, goes_by_table}
 use Rattle.cool_simulation.proofs.forms.ReceiverHeads.{has_head}
@@ -163,9 +165,9 @@ module _ (l : Loading) (loaded : IsLoaded l) (basics : BasicCorrect l) (calls : 
         let pc1 = q.pc + sizes la in
         let pc2 = pc1 + sizes lb in
         let pc3 = q.pc + sizes (code (context l c f) (constants l) vs d first (trees.Dispatch at t name ts)) in
-        let K' = class_meant c (type_in p c vs (d + trees_count ts) t) in
+        let K' = class_meant c (type_of p c (scope_of vs) t) in
         let K = class_meant c receiver in
-        let K_is : K' ≡ K = ap (class_meant c) (type_is p typed.whole c scene.c_within t scope vs (d + trees_count ts) receiver (types_in_scope p typed made k st.store begins.fits scope env scene.holds) begins.variables.typed has) in
+        let K_is : K' ≡ K = ap (class_meant c) (type_is_in p typed.whole c scene.c_within t scope (scope_of vs) receiver (types_in_scope p typed made k st.store begins.fits scope env scene.holds) (covers scope vs begins.variables.typed) has) in
         let lc : List Line = slot_code (context l c f) (constants l) at K' name in
         let has_lines : HasLines l.world pc2 lc = has_back l.world lb lc pc1 pc2 refl (has_back l.world la (lb ++ lc) q.pc pc1 refl code_at.lines) in
         let K_within = class_there p typed.whole c scene.c_within receiver (expression_type p typed.whole c scene.c_within t scope receiver (types_in_scope p typed made k st.store begins.fits scope env scene.holds) has) in

@@ -48,7 +48,7 @@ use Rattle.cool_meaning.proofs.MethodsOfTables.{implementation_own, formals_are_
 use Rattle.cool_meaning.proofs.SoundParts.{AllCallsSound, arguments_fit}
 use Rattle.cool_simulation.specs.Loadings.{Loading, IsLoaded, constants, context}
 use Rattle.cool_simulation.specs.Simulation.{Done, Runs, CodeAt, AllCodeAt, Correct, AllCorrect, AllCallsCorrect}
-use Rattle.cool_simulation.proofs.forms.StaticTypes.{method_found, class_is, method_is as method_named}
+use Rattle.cool_rules.proofs.StaticTypesAreGiven.{method_found, class_is, method_is as method_named}
 use Rattle.cool_simulation.proofs.forms.CallLines.{AtPlace, goes_static}
 use Rattle.cool_simulation.proofs.forms.ReceiverHeads.{has_head}
 use Rattle.cool_simulation.proofs.ground.DataHere.{string_pic}

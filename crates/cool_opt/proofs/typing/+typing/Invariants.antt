@@ -6,7 +6,7 @@ use Rattle.cool_syntax.specs.Tree.{of_list, of_twigs}
 use Rattle.cool_syntax.specs.NodeLists.{all_trees, at_id, twig_at}
 use Rattle.cool_rules.specs.Conformance.{IsType}
 use Rattle.cool_rules.specs.Typing.{object_type}
-use Rattle.cool_opt.specs.Types.{cases_type_of, last_type_of}
+use Rattle.cool_rules.specs.StaticTypes.{cases_type_of, last_type_of}
 use Rattle.cool_opt.proofs.typing.+typing.Given as goal
 
 abbrev pub decreases-type_of : goal.decreases-type_of

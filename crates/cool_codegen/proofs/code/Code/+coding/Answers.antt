@@ -13,11 +13,12 @@ use Rattle.cool_classes.specs.declared.class_id.Ty.TheVariants.{Class as IsClass
 use Rattle.cool_codegen.specs.Arms.{arm_of, with_arm}
 use Rattle.cool_codegen.specs.Code.{file_name, int_code, label_at, range_code}
 use Rattle.cool_runtime.specs.Routines.{push_lines}
-use Rattle.cool_codegen.specs.Numbered.{asked_at, branch_lines, branch_sizes_at, branches_arms, branches_asked, branches_type_at, class_of_branch, lines_at, node_asked, node_lines, node_size, size_at, type_at, with_bytes, with_file, within_branch, AreBodies}
+use Rattle.cool_codegen.specs.Numbered.{asked_at, branch_lines, branch_sizes_at, branches_arms, branches_asked, branches_type_at, class_of_branch, lines_at, node_asked, node_lines, node_size, size_at, branch_type_at, with_bytes, with_file, AreBodies}
 use Rattle.cool_codegen.specs.Pieces.{mark_lines, negate_lines, repeat_lines, test_lines, turn_lines}
 use Rattle.cool_codegen.specs.Settings.{context}
 use Rattle.cool_rules.specs.Meant.{joined}
-use Rattle.cool_codegen.specs.Variables.{bind}
+use Rattle.cool_rules.specs.Rules.{type_meant}
+use Rattle.cool_codegen.specs.Variables.{bind, scope_of}
 use Rattle.cool_codegen.proofs.NumbersAgree.{extends_same}
 use Rattle.cool_codegen.proofs.SameSettings.{added_in, branch_added_in}
 use Rattle.cool_codegen.proofs.code.Code.+coding.Goals as goal
@@ -32,7 +33,7 @@ arm-returns-clause-made t c =
     let here = c.deref.ensures.value ∙ c.in_ok-next.ensures in
     let there = c.deref-2.ensures.value ∙ c.in_ok-next.ensures in
     let turn = c.turn.ensures ∙ ap (turn_lines c.args.end.now) there in
-    let code = lines_at s b c.args.self.now.consts (bind c.args.depth c.args.branch.now.name (IsClass c.args.class) c.args.self.now.variables) (c.args.depth + 1) body in
+    let code = lines_at s b c.args.self.now.consts (bind c.args.depth c.args.branch.now.name c.type_meant-bound.result c.args.self.now.variables) (c.args.depth + 1) body in
     record {
       setting = search rules;
       scope = search rules;
@@ -42,7 +43,10 @@ arm-returns-clause-made t c =
           ∙ ap (λ xs. (xs ++ code) ++ turn_lines c.args.end.now next) (c.in_ok-try_class.ensures ∙ ap (λ n. before ++ range_code s c.args.class n) here)
           ∙ append_assoc (before ++ range_code s c.args.class next) code (turn_lines c.args.end.now next)
           ∙ append_assoc before (range_code s c.args.class next) (code ++ turn_lines c.args.end.now next)
-          ∙ ap (λ k. before ++ (range_code s k next ++ (lines_at s b c.args.self.now.consts (bind c.args.depth c.args.branch.now.name (IsClass k) c.args.self.now.variables) (c.args.depth + 1) body ++ turn_lines c.args.end.now next))) c.requires.declared;
+          ∙ (λ i. before
+          ++ (range_code s (c.requires.declared i) next
+          ++ (lines_at s b c.args.self.now.consts (bind c.args.depth c.args.branch.now.name (c.type_meant-bound.ensures.meant i) c.args.self.now.variables) (c.args.depth + 1) body
+          ++ turn_lines c.args.end.now next)));
       asked = search rules;
       more_integers = search rules;
       more_strings = search rules;
@@ -205,7 +209,7 @@ arms-loop-branch-preserved t c =
     let scope = c.loop-branch.invariant.scope in
     let made = branch_added_in d end w _ _ _ _ _ _ _ _ same scope c.in_ok-found.ensures.made in
     let cut : drop i ws ≡ w ∷ rest = drop_more ws i w c.loop-branch-test.true ∙ ap (λ (y : NodeBranch). y ∷ rest) (sym c.branch-item.is) in
-    let found = c.in_ok-found.ensures.typed.typed ∙ (λ k. type_at (context (same k)) (same k).body.now (within_branch (context (same k)) (scope k) d w) (d + 1) w.body) in
+    let found = c.in_ok-found.ensures.typed.typed ∙ (λ k. branch_type_at (context (same k)) (same k).body.now (scope_of (scope k)) w) in
     let join = c.joined_with.ensures.joined ∙ ap (joined s.table s.class c.loop-branch.joined) found in
     let class : c.class_of-class.result ≡ class_of_branch s w = search rules in
     let high = c.depth.ensures ∙ ap (λ (k : ClassId). length (above s.table k)) class in
@@ -221,7 +225,7 @@ arms-loop-branch-preserved t c =
       kept = search (rules, made);
       same = search rules;
       joined = search rules;
-      typed = (λ k. branches_type_at s b vs d (Some (join k)) rest) ∙ sym (ap (branches_type_at s b vs d c.loop-branch.joined) cut) ∙ c.loop-branch.invariant.typed;
+      typed = (λ k. branches_type_at s b (scope_of vs) (Some (join k)) rest) ∙ sym (ap (branches_type_at s b (scope_of vs) c.loop-branch.joined) cut) ∙ c.loop-branch.invariant.typed;
       lines = (λ k. branches_arms s b (made.asked k) vs d end (put k) rest) ∙ sym (ap (branches_arms s b old vs d end before) cut) ∙ c.loop-branch.invariant.lines;
       asked = (λ k. branches_asked s.files b (made.asked k) rest) ∙ sym (ap (branches_asked s.files b old) cut) ∙ c.loop-branch.invariant.asked;
       deep = omega arith;

@@ -11,7 +11,8 @@ use Rattle.cool_codegen.specs.Arms.{arm_of}
 use Rattle.cool_codegen.specs.Asked.{Keeps}
 use Rattle.cool_codegen.specs.Numbered.{all_asked, arguments_lines, branch_sizes_at, branches_arms, branches_asked, branches_type_at, items_lines, last_type_at, sizes_at, AreBodies, AreRoots}
 use Rattle.cool_codegen.specs.Settings.{context}
-use Rattle.cool_codegen.specs.Types.{object}
+use Rattle.cool_codegen.specs.Variables.{scope_of}
+use Rattle.cool_rules.specs.Typing.{object_type}
 use Rattle.cool_codegen.proofs.code.Code.+coding.Given as goal
 
 abbrev pub decreases-expression : goal.decreases-expression
@@ -59,8 +60,8 @@ invariant-items-loop-item l = record {
   scope : l.self.variables ≡ l.fn.self.variables;
   kept : Keeps l.fn.self.consts l.self.consts;
   last : IsType l.fn.self.setting.table.now l.last;
-  typed : last_type_at (context l.fn.self.setting) l.fn.self.setting.body.now l.fn.self.variables l.depth l.last (drop l.item-index l.items)
-      ≡ last_type_at (context l.fn.self.setting) l.fn.self.setting.body.now l.fn.self.variables l.depth object l.items;
+  typed : last_type_at (context l.fn.self.setting) l.fn.self.setting.body.now (scope_of l.fn.self.variables) l.last (drop l.item-index l.items)
+      ≡ last_type_at (context l.fn.self.setting) l.fn.self.setting.body.now (scope_of l.fn.self.variables) object_type l.items;
   lines : lines_of l.self.lines.items ++ items_lines (context l.fn.self.setting) l.fn.self.setting.body.now l.self.consts l.fn.self.variables l.depth (drop l.item-index l.items)
       ≡ lines_of l.fn.self.lines.items ++ items_lines (context l.fn.self.setting) l.fn.self.setting.body.now l.fn.self.consts l.fn.self.variables l.depth l.items;
   asked : all_asked (context l.fn.self.setting).files l.fn.self.setting.body.now l.self.consts (drop l.item-index l.items) ≡ all_asked (context l.fn.self.setting).files l.fn.self.setting.body.now l.fn.self.consts l.items;
@@ -96,8 +97,8 @@ invariant-arms-loop-branch l = record {
   kept : Keeps l.fn.self.consts l.self.consts;
   same : l.self.lines ≡ l.fn.self.lines;
   joined : IfSome l.joined (IsType l.fn.self.setting.table.now);
-  typed : branches_type_at (context l.fn.self.setting) l.fn.self.setting.body.now l.fn.self.variables l.depth l.joined (drop l.branch-index l.branches)
-      ≡ branches_type_at (context l.fn.self.setting) l.fn.self.setting.body.now l.fn.self.variables l.depth None l.branches;
+  typed : branches_type_at (context l.fn.self.setting) l.fn.self.setting.body.now (scope_of l.fn.self.variables) l.joined (drop l.branch-index l.branches)
+      ≡ branches_type_at (context l.fn.self.setting) l.fn.self.setting.body.now (scope_of l.fn.self.variables) None l.branches;
   lines : branches_arms (context l.fn.self.setting) l.fn.self.setting.body.now l.self.consts l.fn.self.variables l.depth l.end (map arm_of l.sorted.items) (drop l.branch-index l.branches)
       ≡ branches_arms (context l.fn.self.setting) l.fn.self.setting.body.now l.fn.self.consts l.fn.self.variables l.depth l.end [] l.branches;
   asked : branches_asked (context l.fn.self.setting).files l.fn.self.setting.body.now l.self.consts (drop l.branch-index l.branches) ≡ branches_asked (context l.fn.self.setting).files l.fn.self.setting.body.now l.fn.self.consts l.branches;

@@ -5,6 +5,7 @@ use Rattle.cool_syntax.specs.NodeLists.{tree_at}
 use Rattle.cool_syntax.specs.TreesWithinLimits.{IsTreeWithin}
 use Rattle.cool_codegen.specs.Numbered.{size_at}
 use Rattle.cool_codegen.specs.Settings.{context}
+use Rattle.cool_codegen.specs.Variables.{scope_of}
 use Rattle.cool_codegen.proofs.NodesThere.{has_roots, root_within}
 use Rattle.cool_codegen.proofs.CodeByNumbers.{asked_of_node, lines_of_node, size_of_node, type_of_node}
 use Rattle.cool_codegen.proofs.code.Code.node_of.Goals as goal
@@ -27,7 +28,7 @@ unfolding size_at
 returns-clause-some c = one_le_size (tree_at c.args.self.now.setting.body.now c.args.id)
 
 pub returns-clause-typed : goal.returns-clause-typed
-returns-clause-typed c = type_of_node (context c.args.self.now.setting) c.args.self.now.setting.body.now c.args.self.now.variables c.args.depth c.args.id _ c.requires.root c.node.ensures.node
+returns-clause-typed c = type_of_node (context c.args.self.now.setting) c.args.self.now.setting.body.now (scope_of c.args.self.now.variables) c.args.id _ c.requires.root c.node.ensures.node
 
 pub returns-clause-lines : goal.returns-clause-lines
 returns-clause-lines c = lines_of_node (context c.args.self.now.setting) c.args.self.now.setting.body.now c.args.self.now.consts c.args.self.now.variables c.args.depth c.args.id _ c.requires.root c.node.ensures.node

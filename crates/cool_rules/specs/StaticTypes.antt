@@ -1,16 +1,17 @@
--- The static types of expressions, of which it is known that they have one (the Cool manual, sections 4, 7 and 12). Where an expression
--- has none, some type is given.
-use Rattle.std.specs.Prelude.{List, Option, Some, None, unwrap_or}
+-- The static types of expressions, as a function (the Cool manual, sections 4, 7 and 12): where typing gives an expression a type, it is this one
+-- (`IsTypeWhereTyped`). Where it gives none, some type is given.
+use Rattle.std.specs.Prelude.{◌≡◌, ◌<◌, List, length, Option, Some, None, unwrap_or}
+use Rattle.std.specs.List.{AllByRecursion}
 use Rattle.cool_syntax.specs.Tree.{Tree, Trees, MaybeTree, Cases, Last, More, Without, With, NoCase, CaseOf}
 use Rattle.cool_syntax.specs.Tree as trees
 use Rattle.cool_classes.specs.declared.class_id.ClassId.{ClassId}
 use Rattle.cool_classes.specs.declared.class_id.Ty.{Ty}
 use Rattle.cool_classes.specs.Chains.{Class}
-use Rattle.cool_rules.specs.Conformance.{class_of}
+use Rattle.cool_rules.specs.Conformance.{class_of, IsType}
 use Rattle.cool_rules.specs.Meant.{joined, type_of_call}
 use Rattle.cool_rules.specs.Rules.{join_in, type_meant}
 use Rattle.cool_rules.specs.Scopes.{Binding}
-use Rattle.cool_rules.specs.Typing.{type_in_scope, with_name, object_type, int_type, bool_type, string_type}
+use Rattle.cool_rules.specs.Typing.{type_in_scope, with_name, object_type, int_type, bool_type, string_type, HasType}
 
 -- the type of an expression of a class, with these names in scope
 abbrev mutual
@@ -44,3 +45,8 @@ abbrev mutual
   cases_type_of p c scope join NoCase = join
   cases_type_of p c scope join (CaseOf at name declared t cs) =
       cases_type_of p c scope (Some (joined p c join (type_of p c (with_name name (type_meant p declared.name) scope) t))) cs
+
+-- in a class, and a scope whose names have types of the table, an expression that the rules type has its static type
+abbrev pub IsTypeWhereTyped : List Class → Type 0
+IsTypeWhereTyped p =
+    (c : ClassId) (scope : List Binding) (e : Tree) (type : Ty) → c.0 < length p → AllByRecursion (λ b. IsType p b.type) scope → HasType p c scope e type → type_of p c scope e ≡ type

@@ -1,6 +1,6 @@
 -- The static type of an expression is the one that typing gives it.
-use Rattle.std.proofs.Common.{◌≡◌, ℕ, ◌<◌, List, [], ◌∷◌, length, Option, Some, None, refl, sym, ap, ◌∙◌, subst}
-use Rattle.std.specs.Prelude.{unwrap_or}
+use Rattle.std.proofs.Common.{◌≡◌, ℕ, ◌<◌, List, [], ◌∷◌, length, Option, Some, None, Bool as Truth, true, false, refl, sym, ap, ◌∙◌, subst}
+use Rattle.std.specs.Prelude.{unwrap_or, bytes_eq, codes, if◌then◌else◌}
 use Rattle.std.specs.List.{AllByRecursion}
 use Rattle.cool_syntax.specs.Tree.{Tree, Trees, MaybeTree, Cases, Last, More, Without, With, NoCase, CaseOf}
 use Rattle.cool_syntax.specs.Tree as trees
@@ -20,7 +20,7 @@ use Rattle.cool_rules.specs.Conformance.{IsType, Conforms, class_of}
 use Rattle.cool_rules.specs.Rules.{join_in, type_meant, method_of}
 use Rattle.cool_rules.specs.Scopes.{Binding, found}
 use Rattle.cool_rules.specs.Meant.{joined, method_in}
-use Rattle.cool_opt.specs.Types.{type_of, last_type_of, cases_type_of}
+use Rattle.cool_rules.specs.StaticTypes.{type_of, last_type_of, cases_type_of}
 use Rattle.cool_rules.specs.Typing.{object_type, type_in_scope, with_name, IsImplementation, IsCall, IsJoinOfAll, IsJoinOfBranches, result_on, HasType, HaveItems, HaveBranches}
 use Rattle.cool_rules.proofs.ChainsOfTables.{below_trans, below_itself}
 use Rattle.cool_rules.proofs.RulesOfTables.{meant_is, join_in_is}
@@ -31,6 +31,18 @@ use Rattle.cool_rules.proofs.TypesOfMethods.{expression_type}
 abbrev pub folded : List Class → ClassId → Option Ty → List Ty → Option Ty
 folded p c join [] = join
 folded p c join (t ∷ ts) = folded p c (Some (joined p c join t)) ts
+
+-- what a scope says of a name, another one says, too
+abbrev pub Covers : List Binding → List Binding → Type 0
+Covers scope seen = (name : List ℕ) (t : Ty) → found scope name ≡ Some t → found seen name ≡ Some t
+
+covers_with : (x : List ℕ) (t : Ty) (scope seen : List Binding) → Covers scope seen → Covers (with_name x t scope) (with_name x t seen)
+covers_with x t scope seen covers = λ name u is. by name u (bytes_eq x name) is (covers name u)
+  where
+    by : (name : List ℕ) (u : Ty) (b : Truth) → (if b then Some t else found scope name) ≡ Some u → (found scope name ≡ Some u → found seen name ≡ Some u)
+        → (if b then Some t else found seen name) ≡ Some u
+    by name u true is more = is
+    by name u false is more = more is
 
 module _ (p : List Class) (whole : IsWholeTable p) (c : ClassId) (within : c.0 < length p) where
   abbrev AreTypes : List Binding → Type 0
@@ -107,53 +119,63 @@ module _ (p : List Class) (whole : IsWholeTable p) (c : ClassId) (within : c.0 <
 
   -- Names
 
-  named_is : (scope : List Binding) (name : List ℕ) (type : Ty) → type_in_scope scope name ≡ Some type → unwrap_or (type_in_scope scope name) object_type ≡ type
-  named_is scope name type e = ap (λ (o : Option Ty). unwrap_or o object_type) e
+  named_is : (scope seen : List Binding) (name : List ℕ) (type : Ty) → Covers scope seen → type_in_scope scope name ≡ Some type → unwrap_or (type_in_scope seen name) object_type ≡ type
+  named_is scope seen name type covers e = by (bytes_eq name (codes "self")) e
+    where
+      by : (b : Truth) → (if b then Some SelfType else found scope name) ≡ Some type → unwrap_or (if b then Some SelfType else found seen name) object_type ≡ type
+      by true e = ap (λ (o : Option Ty). unwrap_or o object_type) e
+      by false e = ap (λ (o : Option Ty). unwrap_or o object_type) (covers name type e)
 
   mutual
-    -- the type of an expression
-    pub type_is : (e : Tree) (scope : List Binding) (type : Ty) → AreTypes scope → HasType p c scope e type → type_of p c scope e ≡ type
-    type_is (trees.Id at name) scope type types h = named_is scope name type h
-    type_is (trees.Int at n) scope type types h = sym h
-    type_is (trees.Str at bytes) scope type types h = sym h
-    type_is (trees.Bool at b) scope type types h = sym h
-    type_is (trees.Assign at name e) scope type types (declared, other, has, there, conforms) = type_is e scope type types has
-    type_is (trees.Dispatch at e name es) scope type types (receiver, given, has, have, call) =
-        let same = type_is e scope receiver types has in
+    -- the type of an expression, also in a scope that gives the names more types
+    pub type_is_in : (e : Tree) (scope seen : List Binding) (type : Ty) → AreTypes scope → Covers scope seen → HasType p c scope e type → type_of p c seen e ≡ type
+    type_is_in (trees.Id at name) scope seen type types covers h = named_is scope seen name type covers h
+    type_is_in (trees.Int at n) scope seen type types covers h = sym h
+    type_is_in (trees.Str at bytes) scope seen type types covers h = sym h
+    type_is_in (trees.Bool at b) scope seen type types covers h = sym h
+    type_is_in (trees.Assign at name e) scope seen type types covers (declared, other, has, there, conforms) = type_is_in e scope seen type types covers has
+    type_is_in (trees.Dispatch at e name es) scope seen type types covers (receiver, given, has, have, call) =
+        let same = type_is_in e scope seen receiver types covers has in
         ap (λ (t : Ty). result_on t (type_meant p (result_of p (method_in p (class_of c t) name)))) same
         ∙ call_is (class_of c receiver) (class_there receiver (expression_type p whole c within e scope receiver types has)) name receiver given type call
-    type_is (trees.StaticDispatch at e class name es) scope type types (receiver, given, k, has, have, denotes, conforms, call) =
-        let same = type_is e scope receiver types has in
+    type_is_in (trees.StaticDispatch at e class name es) scope seen type types covers (receiver, given, k, has, have, denotes, conforms, call) =
+        let same = type_is_in e scope seen receiver types covers has in
         ap (λ (t : Ty). result_on t (type_meant p (result_of p (method_in p (class_of c (type_meant p class.name)) name)))) same
         ∙ ap (λ (x : ClassId). result_on receiver (type_meant p (result_of p (method_in p x name)))) (class_is class.name k denotes)
         ∙ call_is k denotes.0 name receiver given type call
-    type_is (trees.If at test first second) scope type types (t, u, has, has1, has2, join) =
-        ap (λ (x : Ty). join_in p c x (type_of p c scope second)) (type_is first scope t types has1)
-        ∙ ap (λ (x : Ty). join_in p c t x) (type_is second scope u types has2)
+    type_is_in (trees.If at test first second) scope seen type types covers (t, u, has, has1, has2, join) =
+        ap (λ (x : Ty). join_in p c x (type_of p c seen second)) (type_is_in first scope seen t types covers has1)
+        ∙ ap (λ (x : Ty). join_in p c t x) (type_is_in second scope seen u types covers has2)
         ∙ sym (join_in_is p c t u type whole.table within (expression_type p whole c within first scope t types has1) (expression_type p whole c within second scope u types has2) join)
-    type_is (trees.While at test body) scope type types (t, has, has1, is) = sym is
-    type_is (trees.Block at es) scope type types h = last_is es scope object_type object_type type types refl h
-    type_is (trees.Let at name declared init e) scope type types (bound, other, denotes, has, has1) =
-        ap (λ (t : Ty). type_of p c (with_name name t scope) e) (meant_is p whole.table declared.name bound denotes)
-        ∙ type_is e (with_name name bound scope) type (denotes_type p whole declared.name bound denotes, types) has1
-    type_is (trees.Case at e cs) scope type types (t, ts, has, have, different, join) =
-        ap (λ (o : Option Ty). unwrap_or o object_type) (cases_are cs scope None ts types have) ∙ branches_folded ts type (branch_types cs scope ts types have) join
-    type_is (trees.New at class) scope type types h = meant_is p whole.table class.name type h
-    type_is (trees.IsVoid at e) scope type types (t, has, is) = sym is
-    type_is (trees.Not at e) scope type types (has, is) = sym is
-    type_is (trees.Neg at e) scope type types (has, is) = sym is
-    type_is (trees.Arith at op a b) scope type types (has, has1, is) = sym is
-    type_is (trees.Compare at op a b) scope type types (t, u, has, has1, comparable, is) = sym is
+    type_is_in (trees.While at test body) scope seen type types covers (t, has, has1, is) = sym is
+    type_is_in (trees.Block at es) scope seen type types covers h = last_is es scope seen object_type object_type type types covers refl h
+    type_is_in (trees.Let at name declared init e) scope seen type types covers (bound, other, denotes, has, has1) =
+        ap (λ (t : Ty). type_of p c (with_name name t seen) e) (meant_is p whole.table declared.name bound denotes)
+        ∙ type_is_in e (with_name name bound scope) (with_name name bound seen) type (denotes_type p whole declared.name bound denotes, types) (covers_with name bound scope seen covers) has1
+    type_is_in (trees.Case at e cs) scope seen type types covers (t, ts, has, have, different, join) =
+        ap (λ (o : Option Ty). unwrap_or o object_type) (cases_are cs scope seen None ts types covers have) ∙ branches_folded ts type (branch_types cs scope ts types have) join
+    type_is_in (trees.New at class) scope seen type types covers h = meant_is p whole.table class.name type h
+    type_is_in (trees.IsVoid at e) scope seen type types covers (t, has, is) = sym is
+    type_is_in (trees.Not at e) scope seen type types covers (has, is) = sym is
+    type_is_in (trees.Neg at e) scope seen type types covers (has, is) = sym is
+    type_is_in (trees.Arith at op a b) scope seen type types covers (has, has1, is) = sym is
+    type_is_in (trees.Compare at op a b) scope seen type types covers (t, u, has, has1, comparable, is) = sym is
 
-    last_is : (es : Trees) (scope : List Binding) (last before type : Ty) → AreTypes scope → last ≡ before → HaveItems p c scope before es type → last_type_of p c scope last es ≡ type
-    last_is Last scope last before type types same is = same ∙ sym is
-    last_is (More e es) scope last before type types same (t, has, have) = last_is es scope (type_of p c scope e) t type types (type_is e scope t types has) have
+    last_is : (es : Trees) (scope seen : List Binding) (last before type : Ty) → AreTypes scope → Covers scope seen → last ≡ before → HaveItems p c scope before es type
+        → last_type_of p c seen last es ≡ type
+    last_is Last scope seen last before type types covers same is = same ∙ sym is
+    last_is (More e es) scope seen last before type types covers same (t, has, have) = last_is es scope seen (type_of p c seen e) t type types covers (type_is_in e scope seen t types covers has) have
 
-    cases_are : (cs : Cases) (scope : List Binding) (join : Option Ty) (ts : List Ty) → AreTypes scope → HaveBranches p c scope cs ts → cases_type_of p c scope join cs ≡ folded p c join ts
-    cases_are NoCase scope join [] types h = refl
-    cases_are NoCase scope join (t ∷ ts) types h = absurd h
-    cases_are (CaseOf at name declared e cs) scope join [] types h = absurd h
-    cases_are (CaseOf at name declared e cs) scope join (t ∷ ts) types ((k, other, denotes, has), have) =
-        ap (λ (x : Ty). cases_type_of p c scope (Some (joined p c join (type_of p c (with_name name x scope) e))) cs) (meant_is p whole.table declared.name (IsClass k) denotes)
-        ∙ ap (λ (x : Ty). cases_type_of p c scope (Some (joined p c join x)) cs) (type_is e (with_name name (IsClass k) scope) t (denotes.0, types) has)
-        ∙ cases_are cs scope (Some (joined p c join t)) ts types have
+    cases_are : (cs : Cases) (scope seen : List Binding) (join : Option Ty) (ts : List Ty) → AreTypes scope → Covers scope seen → HaveBranches p c scope cs ts
+        → cases_type_of p c seen join cs ≡ folded p c join ts
+    cases_are NoCase scope seen join [] types covers h = refl
+    cases_are NoCase scope seen join (t ∷ ts) types covers h = absurd h
+    cases_are (CaseOf at name declared e cs) scope seen join [] types covers h = absurd h
+    cases_are (CaseOf at name declared e cs) scope seen join (t ∷ ts) types covers ((k, other, denotes, has), have) =
+        ap (λ (x : Ty). cases_type_of p c seen (Some (joined p c join (type_of p c (with_name name x seen) e))) cs) (meant_is p whole.table declared.name (IsClass k) denotes)
+        ∙ ap (λ (x : Ty). cases_type_of p c seen (Some (joined p c join x)) cs) (type_is_in e (with_name name (IsClass k) scope) (with_name name (IsClass k) seen) t (denotes.0, types) (covers_with name (IsClass k) scope seen covers) has)
+        ∙ cases_are cs scope seen (Some (joined p c join t)) ts types covers have
+
+  -- the type of an expression
+  pub type_is : (e : Tree) (scope : List Binding) (type : Ty) → AreTypes scope → HasType p c scope e type → type_of p c scope e ≡ type
+  type_is e scope type types has = type_is_in e scope scope type types (λ name t is. is) has
