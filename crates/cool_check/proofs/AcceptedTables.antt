@@ -11,10 +11,8 @@ use Rattle.cool_classes.specs.Chains.{Class, class_number, nothing, features_of}
 use Rattle.cool_classes.specs.ClimbedChains as climbed
 use Rattle.cool_classes.specs.Features.{attributes_of, attribute_name}
 use Rattle.cool_classes.specs.LawfulTables.{IsLawful, HasDifferentFormals}
-use Rattle.cool_classes.specs.Limits.{AreDifferent}
 use Rattle.cool_classes.specs.Tables.{IsTyped, IsWholeTable}
 use Rattle.cool_classes.proofs.ChainsOfTables.{chain_is}
-use Rattle.cool_classes.proofs.NamesOfFeatures.{none_both}
 use Rattle.cool_rules.specs.Scopes.{Binding}
 use Rattle.cool_rules.specs.Typing.{IsTypedFeature}
 use Rattle.cool_rules.specs.TypedTables.{IsTypedTable}
@@ -23,12 +21,9 @@ use Rattle.cool_rules.specs.Rules.{attribute_binding, formal_binding}
 use Rattle.cool_check.specs.TypingFaults.{feature_checked, fault_of, features_faults, classes_faults, typing_faults}
 use Rattle.cool_check.proofs.CheckedDecides.{IsDecided, Decides}
 use Rattle.cool_check.proofs.FeaturesDecide.{OwnDiffer, NamesDiffer, feature_decided}
-
--- what holds of all holds of the one at a place
-typed_at : {X : Type 0} (P : X → Type 0) (xs : List X) (k : ℕ) (x : X) → AllByRecursion P xs → slice_get xs k ≡ Some x → P x
-typed_at P [] k x h e = absurd (cc)
-typed_at P (y ∷ xs) zero x h e = let same : y ≡ x = cc in subst P same h.0
-typed_at P (y ∷ xs) (suc k) x h e = typed_at P xs k x h.1 e
+use Rattle.lists.specs.Different.{AreDifferent}
+use Rattle.lists.proofs.JoinedLists.{none_both}
+use Rattle.lists.proofs.AllItems.{all_get}
 
 -- what is decided and has no fault holds
 decided_typed : (r : Checked (Unit {0})) (P : Type 0) → IsDecided r (λ u. P) → fault_of r ≡ [] → P
@@ -87,8 +82,8 @@ module _ (p : List Class) where
   -- checking a feature of a class decides whether the rules type it
   decided : IsWholeTable p → IsLawful p → (c : ClassId) (k : ℕ) (x : Feature) → c.0 < length p → slice_get (features_of p c) k ≡ Some x → IsDecided (feature_checked p c x) (λ u. IsTypedFeature p c x)
   decided whole lawful c k x within at =
-      feature_decided p whole c within x (own_differ whole lawful c within) (names_differ whole c within x (typed_at HasDifferentFormals (features_of p c) k x (lawful.formals c within) at))
-      (typed_at (IsTyped p) (features_of p c) k x (whole.table.types c within) at)
+      feature_decided p whole c within x (own_differ whole lawful c within) (names_differ whole c within x (all_get HasDifferentFormals (features_of p c) k x (lawful.formals c within) at))
+      (all_get (IsTyped p) (features_of p c) k x (whole.table.types c within) at)
 
   features_typed : IsWholeTable p → IsLawful p → typing_faults p ≡ [] → (c : ClassId) (k : ℕ) (x : Feature) → c.0 < length p → slice_get (features_of p c) k ≡ Some x → IsTypedFeature p c x
   features_typed whole lawful none c k x within at =

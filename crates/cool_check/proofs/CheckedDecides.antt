@@ -15,24 +15,25 @@ use Rattle.cool_classes.specs.declared.class_id.Ty.TheVariants.{Class as IsClass
 use Rattle.cool_classes.specs.declared.method.MethodRef.{MethodRef}
 use Rattle.cool_classes.specs.Chains.{name_of}
 use Rattle.cool_classes.specs.Features.{Denotes, implementation, own_method, first_of, formals_of, result_of, HasMethod}
-use Rattle.cool_classes.specs.Limits.{AreDifferent}
 use Rattle.cool_classes.specs.Tables.{IsClassName, IsWholeTable}
 use Rattle.cool_classes.proofs.Climbs.{chain_unique}
 use Rattle.cool_classes.proofs.Methods.{found_has}
 use Rattle.cool_rules.specs.Conformance.{IsType, Conforms, IsJoinOfTypes, class_of}
 use Rattle.cool_classes.specs.ClimbedChains.{chain as chain_of}
 use Rattle.cool_rules.specs.Scopes.{Binding, found}
-use Rattle.cool_rules.specs.Typing.{int_type, bool_type, has_values, type_in_scope, with_name, result_on, IsNotSelf, AreArguments, IsCall, IsImplementation, AreComparable, IsJoinOfAll, IsJoinOfBranches, branch_types, HasType, HaveTypes, HaveItems, HasInit, HaveBranches}
-use Rattle.cool_rules.proofs.ChainsOfTables.{contains_later, chain_within, below_trans, below_itself}
+use Rattle.cool_rules.specs.Typing.{int_type, bool_type, has_values, type_in_scope, with_name, result_on, IsNotSelf, AreArguments, IsCall, IsImplementation, AreComparable, IsJoinOfAll, IsJoinOfBranches, branch_types, HasType, HaveTypes, HaveItems, HasInit, HaveBranches, object_type, string_type}
+use Rattle.cool_rules.proofs.ChainsOfTables.{chain_within, below_trans, below_itself}
 use Rattle.cool_classes.proofs.ChainsOfTables.{chain_is}
 use Rattle.cool_rules.proofs.RulesDecided.{same_types, types_same, named_denotes, denoted, denotes_type, join_is, one_type, conforming_type}
 use Rattle.cool_rules.proofs.TypesOfMethods.{formals_named, result_named, expression_type}
 use Rattle.cool_check.specs.declared.fault.TypeKind.{TypeKind}
 use Rattle.cool_check.specs.declared.fault.TypeKind.TheVariants.{E2, E3, E5, E8, E9, E10, E13, E14, E15, E16, E17}
-use Rattle.cool_check.specs.FirstFaults.{Checked, refuse, and_then, expect, object, int, bool, string, is_self, bind, conform, or_unknown, name_checked, or_no_type, named, static_among, static_class, misfit, resulting, or_misfit, called_with, call_checked, initialized, bound_type, branch_among, branch_class, joined, compared, checked, all_checked, last_checked, maybe_checked, cases_checked}
+use Rattle.cool_check.specs.FirstFaults.{Checked, refuse, and_then, expect, is_self, bind, conform, or_unknown, name_checked, or_no_type, named, static_among, static_class, misfit, resulting, or_misfit, called_with, call_checked, initialized, bound_type, branch_among, branch_class, joined, compared, checked, all_checked, last_checked, maybe_checked, cases_checked}
 use Rattle.cool_rules.specs.Rules.{same_type, join_in, type_of_name, type_meant, method_of, is_among}
 use Rattle.cool_check.specs.Contexts.{Context}
 use Rattle.cool_rules.proofs.RulesOfTables.{do_conform_true, true_do_conform, join_in_is, type_meant_is}
+use Rattle.lists.specs.Different.{AreDifferent}
+use Rattle.std.proofs.lemmas.List.Elements.{Contains-append_right}
 
 -- what is given is the only one of which this holds; where there is a fault, it holds of none
 abbrev pub Decides : {A : Type 0} → Checked A → (A → Type 0) → Type 0
@@ -138,7 +139,7 @@ module _ (s : Context) (whole : IsWholeTable s.table) (within : s.class.0 < leng
 
   there_by : (ds : List ClassId) → ((d : ClassId) → Contains ds d → d.0 < length s.table) → (name : List ℕ) (m : MethodRef) → implementation s.table ds name ≡ Some m → HasMethod s.table m
   there_by [] h name m e = absurd (cc)
-  there_by (d ∷ ds) h name m e = by (own_method s.table d name) refl e (there_by ds (λ x t. h x (contains_later (d ∷ []) ds x t)) name m)
+  there_by (d ∷ ds) h name m e = by (own_method s.table d name) refl e (there_by ds (λ x t. h x (Contains-append_right (d ∷ []) ds x t)) name m)
     where
       by : (o : Option MethodRef) → own_method s.table d name ≡ o → first_of o (implementation s.table ds name) ≡ Some m → (implementation s.table ds name ≡ Some m → HasMethod s.table m) → HasMethod s.table m
       by None own e more = more e
@@ -252,14 +253,14 @@ module _ (s : Context) (whole : IsWholeTable s.table) (within : s.class.0 < leng
 
   -- Comparison
 
-  compared_less : (at : Place) (t u : Ty) → IsDecided (expect (same_type t int) E14 at (expect (same_type u int) E14 at (Ok bool))) (λ r. ((t ≡ int_type) × (u ≡ int_type)) × (r ≡ bool_type))
-  compared_less at t u = decided_as (λ r w. ((w.0, w.1.0), w.1.1)) (λ r w. (w.0.0, (w.0.1, w.1))) (same_decided E14 at t int (λ x. same_decided E14 at u int (λ y. ok_decided bool)))
+  compared_less : (at : Place) (t u : Ty) → IsDecided (expect (same_type t int_type) E14 at (expect (same_type u int_type) E14 at (Ok bool_type))) (λ r. ((t ≡ int_type) × (u ≡ int_type)) × (r ≡ bool_type))
+  compared_less at t u = decided_as (λ r w. ((w.0, w.1.0), w.1.1)) (λ r w. (w.0.0, (w.0.1, w.1))) (same_decided E14 at t int_type (λ x. same_decided E14 at u int_type (λ y. ok_decided bool_type)))
 
   compared_decided : (op : CompareOp) (at : Place) (t u : Ty) → IsDecided (compared op t u at) (λ r. AreComparable op t u × (r ≡ bool_type))
   compared_decided Less at t u = compared_less at t u
   compared_decided LessEqual at t u = compared_less at t u
-  compared_decided Equal at t u = unless_decided (not (same_type t u) && (has_values t || has_values u)) E15 at (Ok bool) (AreComparable Equal t u)
-      (λ e. yes_by (same_type t u) (has_values t) (has_values u) refl refl refl e) (λ h. no_by h) (λ x. ok_decided bool)
+  compared_decided Equal at t u = unless_decided (not (same_type t u) && (has_values t || has_values u)) E15 at (Ok bool_type) (AreComparable Equal t u)
+      (λ e. yes_by (same_type t u) (has_values t) (has_values u) refl refl refl e) (λ h. no_by h) (λ x. ok_decided bool_type)
     where
       yes_by : (x y z : Bool) → same_type t u ≡ x → has_values t ≡ y → has_values u ≡ z → (not x && (y || z)) ≡ false → AreComparable Equal t u
       yes_by true y z ex ey ez e = inl (same_types t u ex)
@@ -422,7 +423,7 @@ module _ (s : Context) (whole : IsWholeTable s.table) (within : s.class.0 < leng
 
   -- the join with the types before
   joined_from : Option Ty → List Ty → Ty
-  joined_from join [] = unwrap_or join object
+  joined_from join [] = unwrap_or join object_type
   joined_from join (u ∷ us) = joined_from (Some (joined s join u)) us
 
   BranchesJoin : List Binding → List ClassId → Option Ty → Cases → Ty → Type 0
@@ -450,11 +451,11 @@ module _ (s : Context) (whole : IsWholeTable s.table) (within : s.class.0 < leng
   branch_decided at name declared earlier = unless_decided (is_self name) E10 at (branch_among declared.at earlier (type_of_name s.table declared.name)) (IsNotSelf name) (λ e. e) (λ e. e)
       (λ other. branch_by declared.at declared.name earlier (type_of_name s.table declared.name) refl)
 
-  no_branches : (scope : List Binding) (earlier : List ClassId) (join : Option Ty) → IsDecided (Ok (unwrap_or join object)) (BranchesJoin scope earlier join NoCase)
+  no_branches : (scope : List Binding) (earlier : List ClassId) (join : Option Ty) → IsDecided (Ok (unwrap_or join object_type)) (BranchesJoin scope earlier join NoCase)
   unfolding BranchesJoin NewTo joined_from
-  no_branches scope earlier join = decided_as (λ j is. ([], tt, tt, tt, is)) (λ j w. by j w.0 w.1 w.4) (ok_decided (unwrap_or join object))
+  no_branches scope earlier join = decided_as (λ j is. ([], tt, tt, tt, is)) (λ j w. by j w.0 w.1 w.4) (ok_decided (unwrap_or join object_type))
     where
-      by : (j : Ty) (us : List Ty) → HaveBranches s.table s.class scope NoCase us → j ≡ joined_from join us → j ≡ unwrap_or join object
+      by : (j : Ty) (us : List Ty) → HaveBranches s.table s.class scope NoCase us → j ≡ joined_from join us → j ≡ unwrap_or join object_type
       by j [] h is = is
       by j (u ∷ us) h is = absurd h
 
@@ -535,9 +536,9 @@ module _ (s : Context) (whole : IsWholeTable s.table) (within : s.class.0 < leng
   mutual
     checks : (e : Tree) (o : List Binding) → AreTypes o → IsDecided (checked s o e) (λ t. HasType s.table s.class (o ++ s.attributes) e t)
     checks (trees.Id at name) o types = name_decided o at name
-    checks (trees.Int at n) o types = ok_decided int
-    checks (trees.Str at bytes) o types = ok_decided string
-    checks (trees.Bool at b) o types = ok_decided bool
+    checks (trees.Int at n) o types = ok_decided int_type
+    checks (trees.Str at bytes) o types = ok_decided string_type
+    checks (trees.Bool at b) o types = ok_decided bool_type
     checks (trees.Assign at name e) o types = decided_as
         (λ t w. let (u, has, (other, (d, there, (conforms, is)))) = w in
         (d, other, subst (λ (x : Ty). HasType s.table s.class (o ++ s.attributes) e x) (sym is) has, ap (λ (x : Bool). if x then Some SelfType else found (o ++ s.attributes) name) (sym other) ∙ there, subst (λ (x : Ty). Conforms s.table s.class x d) (sym is) conforms))
@@ -562,13 +563,13 @@ module _ (s : Context) (whole : IsWholeTable s.table) (within : s.class.0 < leng
         (λ j w. let (b, has, (t, has1, (u, has2, (is_bool, join)))) = w in (t, u, subst (λ (x : Ty). HasType s.table s.class (o ++ s.attributes) test x) is_bool has, has1, has2, join))
         (λ j w. let (t, u, has, has1, has2, join) = w in (bool_type, has, (t, has1, (u, has2, (refl, join)))))
         (bind_decided (checks test o types) (λ b has. bind_decided (checks first o types) (λ t has1. bind_decided (checks second o types) (λ u has2.
-        same_decided E9 (place_of test) b bool (λ x. join_decided t u (expression_type s.table whole s.class within first (o ++ s.attributes) t (both_types o types) has1)
+        same_decided E9 (place_of test) b bool_type (λ x. join_decided t u (expression_type s.table whole s.class within first (o ++ s.attributes) t (both_types o types) has1)
         (expression_type s.table whole s.class within second (o ++ s.attributes) u (both_types o types) has2))))))
     checks (trees.While at test body) o types = decided_as
         (λ j w. let (b, has, (t, has1, (is_bool, is))) = w in (t, subst (λ (x : Ty). HasType s.table s.class (o ++ s.attributes) test x) is_bool has, has1, is))
         (λ j w. let (t, has, has1, is) = w in (bool_type, has, (t, has1, (refl, is))))
-        (bind_decided (checks test o types) (λ b has. bind_decided (checks body o types) (λ t has1. same_decided E9 (place_of test) b bool (λ x. ok_decided object))))
-    checks (trees.Block at es) o types = checks_items es o object types
+        (bind_decided (checks test o types) (λ b has. bind_decided (checks body o types) (λ t has1. same_decided E9 (place_of test) b bool_type (λ x. ok_decided object_type))))
+    checks (trees.Block at es) o types = checks_items es o object_type types
     checks (trees.Let at name declared init e) o types = decided_as
         (λ t w. let (given, has, (bound, (other, (denotes, fits)), has1)) = w in (bound, other, denotes, fits, has1))
         (λ t w. let (bound, other, denotes, fits, has1) = w in let (given, has) = init_there init (o ++ s.attributes) bound fits in (given, has, (bound, (other, (denotes, fits)), has1)))
@@ -580,20 +581,20 @@ module _ (s : Context) (whole : IsWholeTable s.table) (within : s.class.0 < leng
         (λ j h. type_case (o ++ s.attributes) at e cs j (both_types o types) h)
         (bind_decided (checks e o types) (λ t has. checks_cases cs o [] None types))
     checks (trees.New at class) o types = named_decided class
-    checks (trees.IsVoid at e) o types = bind_decided (checks e o types) (λ t has. ok_decided bool)
+    checks (trees.IsVoid at e) o types = bind_decided (checks e o types) (λ t has. ok_decided bool_type)
     checks (trees.Not at e) o types = decided_as
         (λ t w. (subst (λ (x : Ty). HasType s.table s.class (o ++ s.attributes) e x) w.2.0 w.1, w.2.1))
         (λ t w. (bool_type, w.0, (refl, w.1)))
-        (bind_decided (checks e o types) (λ t has. same_decided E16 at t bool (λ x. ok_decided bool)))
+        (bind_decided (checks e o types) (λ t has. same_decided E16 at t bool_type (λ x. ok_decided bool_type)))
     checks (trees.Neg at e) o types = decided_as
         (λ t w. (subst (λ (x : Ty). HasType s.table s.class (o ++ s.attributes) e x) w.2.0 w.1, w.2.1))
         (λ t w. (int_type, w.0, (refl, w.1)))
-        (bind_decided (checks e o types) (λ t has. same_decided E14 at t int (λ x. ok_decided int)))
+        (bind_decided (checks e o types) (λ t has. same_decided E14 at t int_type (λ x. ok_decided int_type)))
     checks (trees.Arith at op a b) o types = decided_as
         (λ t w. let (u, has, (v, has1, (is_int, (is_int1, is)))) = w in
         (subst (λ (x : Ty). HasType s.table s.class (o ++ s.attributes) a x) is_int has, subst (λ (x : Ty). HasType s.table s.class (o ++ s.attributes) b x) is_int1 has1, is))
         (λ t w. let (has, has1, is) = w in (int_type, has, (int_type, has1, (refl, (refl, is)))))
-        (bind_decided (checks a o types) (λ t has. bind_decided (checks b o types) (λ u has1. same_decided E14 at t int (λ x. same_decided E14 at u int (λ y. ok_decided int)))))
+        (bind_decided (checks a o types) (λ t has. bind_decided (checks b o types) (λ u has1. same_decided E14 at t int_type (λ x. same_decided E14 at u int_type (λ y. ok_decided int_type)))))
     checks (trees.Compare at op a b) o types = decided_as
         (λ t w. let (u, has, (v, has1, (comparable, is))) = w in (u, v, has, has1, comparable, is))
         (λ t w. let (u, v, has, has1, comparable, is) = w in (u, has, (v, has1, (comparable, is))))

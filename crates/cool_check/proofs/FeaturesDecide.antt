@@ -17,7 +17,6 @@ use Rattle.cool_classes.specs.declared.method.AttributeRef.{AttributeRef}
 use Rattle.cool_classes.specs.Chains.{Class, features_of}
 use Rattle.cool_classes.specs.ClimbedChains as climbed
 use Rattle.cool_classes.specs.Features.{Denotes, attributes_of, attribute_type, HasAttribute, IsAttribute, result_in}
-use Rattle.cool_classes.specs.Limits.{AreDifferent}
 use Rattle.cool_classes.specs.Tables.{IsClassName, IsTypeName, IsTyped, IsWholeTable}
 use Rattle.cool_classes.proofs.AttributesOfChains.{attributes_have}
 use Rattle.cool_classes.proofs.Climbs.{chain_unique, all_within}
@@ -36,6 +35,7 @@ use Rattle.cool_check.specs.Contexts.{entered, attribute_bindings}
 use Rattle.cool_check.specs.TypingFaults.{class_context, initial_checked, feature_checked}
 use Rattle.cool_rules.proofs.RulesOfTables.{type_meant_is}
 use Rattle.cool_check.proofs.CheckedDecides.{IsDecided, decided_as, bind_decided, ok_decided, conform_decided, checked_decides, found_after}
+use Rattle.lists.specs.Different.{AreDifferent}
 
 -- Bindings entered one after the other
 

@@ -4,7 +4,7 @@ mod FaultsInOrder
 mod FeaturesDecide
 mod Misfits
 mod OneType
-mod OrderOfKinds
+pub mod OrderOfKinds
 mod PartsLeft
 mod PlacedFaults
 pub mod PlacesOfParts

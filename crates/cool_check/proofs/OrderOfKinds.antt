@@ -18,7 +18,7 @@ abbrev pub kind_cmp : TypeKind → TypeKind → Ordering
 kind_cmp = (order.ghosts).cmp
 
 -- all kinds in their order
-abbrev all_kinds : List TypeKind
+abbrev pub all_kinds : List TypeKind
 all_kinds = E1 ∷ E2 ∷ E3 ∷ E4 ∷ E5 ∷ E6 ∷ E7 ∷ E8 ∷ E9 ∷ E10 ∷ E11 ∷ E12 ∷ E13 ∷ E14 ∷ E15 ∷ E16 ∷ E17 ∷ E18 ∷ []
 
 -- each kind stands there at its rank

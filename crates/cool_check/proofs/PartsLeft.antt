@@ -15,15 +15,7 @@ use Rattle.cool_rules.specs.Rules.{formal_binding}
 use Rattle.cool_check.specs.Contexts.{entered}
 use Rattle.cool_check.specs.FirstFaults.{Checked}
 use Rattle.cool_check.specs.TypingFaults.{feature_checked, fault_of, features_faults, classes_faults}
-
--- the items from one position on
-drop_first : {X : Type 0} (xs : List X) (i : ℕ) (x : X) → i < length xs → x ≡ get_or xs i x → drop i xs ≡ x ∷ drop (suc i) xs
-drop_first [] i x within is = absurd (omega arith)
-drop_first (y ∷ xs) zero x within is = ap (λ z. z ∷ xs) (sym is)
-drop_first (y ∷ xs) (suc i) x within is = drop_first xs i x (omega arith) is
-
-pub drop_one : {X : Type 0} (xs : List X) (i : ℕ) (x : X) → i < length xs → x ≡ get_or xs i x → drop i xs ≡ x ∷ drop (i + 1) xs
-drop_one xs i x within is = subst (λ (j : ℕ). drop i xs ≡ x ∷ drop j xs) (sym (add-one i)) (drop_first xs i x within is)
+use Rattle.lists.proofs.ItemsLeft.{drop_one}
 
 -- a formal is entered before those after it
 pub formals_later : (p : List Class) (fs : List Formal) (o : List Binding) (i : ℕ) (f : Formal) → i < length fs → f ≡ get_or fs i f

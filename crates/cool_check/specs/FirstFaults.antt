@@ -1,8 +1,8 @@
 -- The type of an expression or else its first fault: the parts and the checks of each form in their order, from left to right (the Cool
 -- manual, sections 4, 7 and 12).
 use Rattle.std.specs.Prelude.{◌≡◌, ℕ, List, [], ◌∷◌, ◌++◌, length, Bool, not, ◌&&◌, ◌||◌, true, nat_eq, bytes_eq, if◌then◌else◌, Option, Some, None, unwrap_or, codes, refl}
-use Rattle.std.specs.Option.{option_or}
 use Rattle.std.specs.Prelude.{Result, Ok, Err}
+use Rattle.std.specs.Option.{option_or}
 use Rattle.cool_syntax.specs.declared.place.Place.{Place}
 use Rattle.cool_syntax.specs.declared.type_ref.TypeRef.{TypeRef}
 use Rattle.cool_syntax.specs.declared.operator.ArithOp.TheVariants.{Add}
@@ -18,7 +18,7 @@ use Rattle.cool_classes.specs.Chains.{Class, class_number}
 use Rattle.cool_classes.specs.Features.{formals_of, result_of}
 use Rattle.cool_rules.specs.Conformance.{class_of}
 use Rattle.cool_rules.specs.Scopes.{Binding, found}
-use Rattle.cool_rules.specs.Typing.{has_values}
+use Rattle.cool_rules.specs.Typing.{has_values, object_type, int_type, bool_type, string_type}
 use Rattle.cool_check.specs.declared.fault.CheckError.{CheckError}
 use Rattle.cool_check.specs.declared.fault.CheckError.TheVariants as error
 use Rattle.cool_check.specs.declared.fault.TypeFault.{TypeFault}
@@ -42,19 +42,6 @@ and_then (Err e) f = Err e
 -- what comes where a test holds, and else this fault
 abbrev pub expect : {X : Type 0} → Bool → TypeKind → Place → Checked X → Checked X
 expect test kind at r = if test then r else refuse kind at
-
--- the classes that the rules name
-abbrev pub object : Ty
-object = IsClass (class_number 0)
-
-abbrev pub int : Ty
-int = IsClass (class_number 2)
-
-abbrev pub bool : Ty
-bool = IsClass (class_number 3)
-
-abbrev pub string : Ty
-string = IsClass (class_number 4)
 
 abbrev pub is_self : List ℕ → Bool
 is_self name = bytes_eq name (codes "self")
@@ -147,9 +134,9 @@ joined s (Some b) a = join_in s.table s.class b a
 
 -- the types of a comparison's operands fit
 abbrev pub compared : CompareOp → Ty → Ty → Place → Checked Ty
-compared op.Less a b at = expect (same_type a int) E14 at (expect (same_type b int) E14 at (Ok bool))
-compared op.LessEqual a b at = expect (same_type a int) E14 at (expect (same_type b int) E14 at (Ok bool))
-compared op.Equal a b at = if not (same_type a b) && (has_values a || has_values b) then refuse E15 at else Ok bool
+compared op.Less a b at = expect (same_type a int_type) E14 at (expect (same_type b int_type) E14 at (Ok bool_type))
+compared op.LessEqual a b at = expect (same_type a int_type) E14 at (expect (same_type b int_type) E14 at (Ok bool_type))
+compared op.Equal a b at = if not (same_type a b) && (has_values a || has_values b) then refuse E15 at else Ok bool_type
 
 -- The type of an expression in a context, with these variables in scope, or its first fault.
 abbrev mutual
@@ -162,22 +149,22 @@ abbrev mutual
       and_then (checked s o t) (λ a. and_then (all_checked s o [] ts) (λ types. and_then (static_class s class a) (λ c. call_checked s at c a name ts types)))
   checked s o (trees.If at t y n) =
       and_then (checked s o t) (λ a. and_then (checked s o y) (λ b. and_then (checked s o n) (λ c.
-      expect (same_type a bool) E9 (place_of t) (Ok (join_in s.table s.class b c)))))
-  checked s o (trees.While at t b) = and_then (checked s o t) (λ a. and_then (checked s o b) (λ c. expect (same_type a bool) E9 (place_of t) (Ok object)))
-  checked s o (trees.Block at ts) = last_checked s o object ts
+      expect (same_type a bool_type) E9 (place_of t) (Ok (join_in s.table s.class b c)))))
+  checked s o (trees.While at t b) = and_then (checked s o t) (λ a. and_then (checked s o b) (λ c. expect (same_type a bool_type) E9 (place_of t) (Ok object_type)))
+  checked s o (trees.Block at ts) = last_checked s o object_type ts
   checked s o (trees.Let at name declared init t) =
       and_then (maybe_checked s o init) (λ given. and_then (bound_type s at name declared given) (λ bound. checked s (bind name bound o) t))
   checked s o (trees.Case at t cs) = and_then (checked s o t) (λ a. cases_checked s o [] None cs)
   checked s o (trees.New at class) = named s class
-  checked s o (trees.IsVoid at t) = and_then (checked s o t) (λ a. Ok bool)
+  checked s o (trees.IsVoid at t) = and_then (checked s o t) (λ a. Ok bool_type)
   checked s o (trees.Arith at op a b) =
-      and_then (checked s o a) (λ x. and_then (checked s o b) (λ y. expect (same_type x int) E14 at (expect (same_type y int) E14 at (Ok int))))
-  checked s o (trees.Neg at t) = and_then (checked s o t) (λ a. expect (same_type a int) E14 at (Ok int))
+      and_then (checked s o a) (λ x. and_then (checked s o b) (λ y. expect (same_type x int_type) E14 at (expect (same_type y int_type) E14 at (Ok int_type))))
+  checked s o (trees.Neg at t) = and_then (checked s o t) (λ a. expect (same_type a int_type) E14 at (Ok int_type))
   checked s o (trees.Compare at op a b) = and_then (checked s o a) (λ x. and_then (checked s o b) (λ y. compared op x y at))
-  checked s o (trees.Not at t) = and_then (checked s o t) (λ a. expect (same_type a bool) E16 at (Ok bool))
-  checked s o (trees.Int at value) = Ok int
-  checked s o (trees.Str at bytes) = Ok string
-  checked s o (trees.Bool at value) = Ok bool
+  checked s o (trees.Not at t) = and_then (checked s o t) (λ a. expect (same_type a bool_type) E16 at (Ok bool_type))
+  checked s o (trees.Int at value) = Ok int_type
+  checked s o (trees.Str at bytes) = Ok string_type
+  checked s o (trees.Bool at value) = Ok bool_type
 
   -- the types of arguments, with those of the arguments before
   pub all_checked : Context → List Binding → List Ty → Trees → Checked (List Ty)
@@ -196,7 +183,7 @@ abbrev mutual
 
   -- the join of the branches after branches of these classes and this join
   pub cases_checked : Context → List Binding → List ClassId → Option Ty → Cases → Checked Ty
-  cases_checked s o earlier join NoCase = Ok (unwrap_or join object)
+  cases_checked s o earlier join NoCase = Ok (unwrap_or join object_type)
   cases_checked s o earlier join (CaseOf at name declared t cs) =
       and_then (branch_class s at name declared earlier) (λ c. and_then (checked s (bind name (IsClass c) o) t)
       (λ a. cases_checked s o (earlier ++ c ∷ []) (Some (joined s join a)) cs))
@@ -215,5 +202,5 @@ branch_before_predicate : (t : List Class) (c : ClassId) (p q r u : Place)
     → checked (record { table = t; class = c; attributes = [] }) [] (trees.If p (trees.Int q 1) (trees.Id r (codes "x")) (trees.Int u 2)) ≡ refuse E1 r
 branch_before_predicate t c p q r u = refl
 
-bound_variable : (s : Context) (p : Place) → checked s (bind (codes "x") string []) (trees.Id p (codes "x")) ≡ Ok string
+bound_variable : (s : Context) (p : Place) → checked s (bind (codes "x") string_type []) (trees.Id p (codes "x")) ≡ Ok string_type
 bound_variable s p = refl

@@ -11,12 +11,13 @@ ghost use Rattle.cool_rules.specs.Conformance.{IsType};
 ghost use Rattle.cool_check.specs.Checks.{tree_of_node, trees_of, IsReady, IsAnswer, IsTypeOf};
 ghost use Rattle.cool_check.specs.Faults.{IsPlacedError, StandsAt};
 ghost use Rattle.cool_rules.specs.Rules.{same_type};
-ghost use Rattle.cool_check.specs.FirstFaults.{all_checked, last_checked, name_checked, is_self, bool, object, IsFirst};
+ghost use Rattle.cool_check.specs.FirstFaults.{all_checked, last_checked, name_checked, is_self, IsFirst};
 ghost use Rattle.cool_check.specs.Contexts.{context};
 ghost use Rattle.cool_check.specs.Settings.{HaveTypes, IsSound};
 ghost use Rattle.cool_check.specs.declared.fault.CheckError.TheVariants as error;
 ghost use Rattle.cool_check.specs.declared.fault.TypeKind.TheVariants as kind;
 ghost use Rattle.cool_classes.specs.declared.class_id.Ty.TheVariants.{Class as IsClass};
+ghost use Rattle.cool_rules.specs.Typing.{bool_type, object_type};
 
 use crate::binding::type_of_binding;
 use crate::dispatch::type_of_call;
@@ -147,8 +148,8 @@ fn type_of_control<'a>(
 /// Refuses a predicate that is not Bool.
 fn expect_bool(setting: &Setting<'_, '_>, test: NodeId, found: Ty) -> Result<(), CheckError>
     requires below { test.0 < tree_size setting.now.body.now }
-    ensures holds { IfOk result (λ u. same_type found bool ≡ true) }
-    ensures fails { IfErr result (λ e. (same_type found bool ≡ false) × (e ≡ error.Fault (record { kind = kind.E9; at = place_of (tree_at setting.now.body.now test) }))) }
+    ensures holds { IfOk result (λ u. same_type found bool_type ≡ true) }
+    ensures fails { IfErr result (λ e. (same_type found bool_type ≡ false) × (e ≡ error.Fault (record { kind = kind.E9; at = place_of (tree_at setting.now.body.now test) }))) }
     ensures places { (n : ℕ) → IsTreeWithin n (tree_at setting.now.body.now test) → IfErr result (IsPlacedError n) }
 {
     if is_class(found, BOOL) {
@@ -178,7 +179,7 @@ fn type_of_last<'a>(
     requires items { AllByRecursion (λ item. item.0 < end.0) items.now }
     requires ready { IsReady setting.now locals.old end.0 }
     ensures scope { OnOk result (locals.new ≡ locals.old) }
-    ensures answer { IsAnswer (last_checked (context setting.now) locals.old object (trees_of setting.now items.now)) (IsType setting.now.table.now) (λ n. AreTreesWithin n (trees_of setting.now items.now)) result }
+    ensures answer { IsAnswer (last_checked (context setting.now) locals.old object_type (trees_of setting.now items.now)) (IsType setting.now.table.now) (λ n. AreTreesWithin n (trees_of setting.now items.now)) result }
 {
     let mut last = Ty::Class(OBJECT);
     for item in items {

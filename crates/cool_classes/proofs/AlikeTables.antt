@@ -43,7 +43,7 @@ named_alike f (Method m) (Attribute a) h = absurd h
 named_alike f (Attribute a) (Method m) h = absurd h
 named_alike f (Attribute a) (Attribute a') h = refl
 
-first_alike : (f : List ℕ) (k : ℕ) (xs xs' : List Feature) → AllDeclareSame xs xs' → first_method k xs' f ≡ first_method k xs f
+pub first_alike : (f : List ℕ) (k : ℕ) (xs xs' : List Feature) → AllDeclareSame xs xs' → first_method k xs' f ≡ first_method k xs f
 first_alike f k [] [] h = refl
 first_alike f k [] (x' ∷ xs') h = absurd h
 first_alike f k (x ∷ xs) [] h = absurd h

@@ -15,9 +15,9 @@ use Rattle.cool_classes.specs.Declarations.{DeclareSame, AllDeclareSame, AreAllA
 use Rattle.cool_classes.specs.Chains.{Class, parent_of, features_of, IsChain}
 use Rattle.cool_classes.specs.Features.{own_method, first_of, implementation, attributes_of, attribute_name, Denotes}
 use Rattle.cool_classes.specs.LawfulTables.{HasDifferentFormals, method_names, HasMain, IsLawful}
-use Rattle.cool_classes.specs.Limits.{AreDifferent}
 use Rattle.cool_classes.specs.Tables.{IsClassName, IsTypeName, IsTyped, IsTable, IsGrounded, basic_classes}
 use Rattle.cool_classes.proofs.AlikeTables.{FindSame, flipped, features_alike, find_same, first_alike_classes, bare_same}
+use Rattle.lists.specs.Different.{AreDifferent}
 
 -- formals of the same types are as many
 as_many_formals : (fs fs' : List Formal) → formal_types fs' ≡ formal_types fs → length fs ≡ length fs'

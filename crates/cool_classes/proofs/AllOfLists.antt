@@ -5,12 +5,7 @@ use Rattle.std.specs.List.Sorted.{IsPermutation}
 use Rattle.std.proofs.lemmas.List.Sorted.{All-permutation}
 use Rattle.cool_syntax.specs.declared.file_tree.ClassDef.{ClassDef}
 use Rattle.cool_syntax.specs.TreesWithinLimits.{IsClassWithin, AreClassesWithin}
-
--- what holds of all holds of each
-pub all_at : {X : Type 0} (P : X → Type 0) (xs : List X) (k : ℕ) (d : X) → AllByRecursion P xs → k < length xs → P (get_or xs k d)
-all_at P [] k d all less = absurd (omega arith)
-all_at P (x ∷ xs) zero d all less = all.0
-all_at P (x ∷ xs) (suc k) d all less = all_at P xs k d all.1 (omega arith)
+use Rattle.lists.proofs.AllItems.{all_at}
 
 -- one element more
 pub all_with : {X : Type 0} (P : X → Type 0) (xs : List X) (x : X) → AllByRecursion P xs → P x → AllByRecursion P (xs ++ x ∷ [])
@@ -30,17 +25,7 @@ all_of P (x ∷ xs) all = (all zero x (omega arith), all_of P xs (λ k d less. a
 pub all_permuted : {X : Type 0} (P : X → Type 0) (xs ys : List X) → IsPermutation xs ys → AllByRecursion P xs → AllByRecursion P ys
 all_permuted P xs ys moved all = all_of P ys (All-permutation P xs ys moved (λ k d less. all_at P xs k d all less))
 
--- what holds of two lists holds of both together
-pub all_append : {X : Type 0} (P : X → Type 0) (xs ys : List X) → AllByRecursion P xs → AllByRecursion P ys → AllByRecursion P (xs ++ ys)
-all_append P [] ys h k = k
-all_append P (x ∷ xs) ys h k = (h.0, all_append P xs ys h.1 k)
-
 -- what holds of the images of all holds of all images
 pub all_map : {X Y : Type 0} (P : Y → Type 0) (f : X → Y) (xs : List X) → AllByRecursion (λ (x : X). P (f x)) xs → AllByRecursion P (map f xs)
 all_map P f [] h = tt
 all_map P f (x ∷ xs) h = (h.0, all_map P f xs h.1)
-
--- what follows from a fact of each
-pub all_then : {X : Type 0} (P Q : X → Type 0) (xs : List X) → ((x : X) → P x → Q x) → AllByRecursion P xs → AllByRecursion Q xs
-all_then P Q [] f h = tt
-all_then P Q (x ∷ xs) f h = (f x h.0, all_then P Q xs f h.1)

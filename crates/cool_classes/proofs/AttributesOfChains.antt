@@ -1,7 +1,7 @@
 -- The attributes of a chain, class by class, and that they are there.
 use Rattle.std.proofs.Common.{◌≡◌, ℕ, suc, ◌-◌, ◌+◌, ◌<◌, List, [], ◌∷◌, ◌++◌, length, drop, get_or, slice_get, Some, ap, sym, ◌∙◌, refl, subst, arith}
 use Rattle.std.specs.List.{AllByRecursion}
-use Rattle.std.proofs.lemmas.List.{append_assoc}
+use Rattle.std.proofs.lemmas.List.{append_assoc, length_push}
 use Rattle.std.proofs.Math.Seq.{drop-cons}
 use Rattle.cool_syntax.specs.declared.file_tree.Feature.{Feature}
 use Rattle.cool_syntax.specs.declared.file_tree.Feature.TheVariants.{Method, Attribute}
@@ -26,15 +26,11 @@ after : (front fs : List Feature) (x : Feature) → slice_get (front ++ x ∷ fs
 after [] fs x = refl
 after (y ∷ front) fs x = after front fs x
 
-longer : (front : List Feature) (x : Feature) → length (front ++ x ∷ []) ≡ length front + 1
-longer [] x = refl
-longer (y ∷ front) x = let more = longer front x in omega arith
-
 -- the attributes that a class has of its own are there
 own_has : (p : List Class) (c : ClassId) → c.0 < length p → (front fs : List Feature) → features_of p c ≡ front ++ fs → AllByRecursion (HasAttribute p) (own_attributes c (length front) fs)
 own_has p c within front [] e = tt
 own_has p c within front (x ∷ fs) e =
-    by x e (subst (λ (k : ℕ). AllByRecursion (HasAttribute p) (own_attributes c k fs)) (longer front x)
+    by x e (subst (λ (k : ℕ). AllByRecursion (HasAttribute p) (own_attributes c k fs)) (length_push front x)
     (own_has p c within (front ++ x ∷ []) fs (e ∙ sym (append_assoc front (x ∷ []) fs))))
   where
     by : (x : Feature) → features_of p c ≡ front ++ x ∷ fs → AllByRecursion (HasAttribute p) (own_attributes c (length front + 1) fs) → AllByRecursion (HasAttribute p) (own_attributes c (length front) (x ∷ fs))

@@ -1,5 +1,5 @@
 -- The basic classes of a table keep its limits, and have no features of their own.
-use Rattle.std.proofs.Common.{◌≡◌, ℕ, zero, suc, ◌<◌, ◌≤◌, List, [], ◌∷◌, ◌++◌, length, take, get_or, Option, Some, ap, sym, ◌∙◌, refl, subst, arith}
+use Rattle.std.proofs.Common.{◌≡◌, ℕ, zero, suc, ◌<◌, ◌≤◌, List, [], ◌∷◌, ◌++◌, length, take, get_or, Option, Some, ap, sym, ◌∙◌, refl, subst, length-take, arith}
 use Rattle.std.proofs.lemmas.List.{get_or-take}
 use Rattle.cool_syntax.specs.declared.file_tree.Feature.{Feature}
 use Rattle.cool_classes.specs.declared.TheConstants.{MOST_ATTRIBUTES, MOST_METHODS}
@@ -8,8 +8,12 @@ use Rattle.cool_classes.specs.declared.method.AttributeRef.{AttributeRef}
 use Rattle.cool_classes.specs.Chains.{Class, class_number, class_at, parent_of, features_of, nothing, IsChain}
 use Rattle.cool_classes.specs.Features.{own_attributes, attributes_of}
 use Rattle.cool_classes.specs.MethodNames.{methods_of}
-use Rattle.cool_classes.specs.Tables.{basic_classes}
+use Rattle.cool_classes.specs.Tables.{basic_classes, IsTable}
 use Rattle.cool_classes.proofs.Climbs.{chain_unique}
+
+-- there are five of them
+pub five_classes : (p : List Class) → IsTable p → 5 ≤ length p
+five_classes p table = omega (arith, ap length table.basic, length-take 5 p)
 
 -- a basic class is what it is in every table
 pub class_there : (p : List Class) (n : ℕ) → take 5 p ≡ basic_classes → n < 5 → class_at p (class_number n) ≡ class_at basic_classes (class_number n)

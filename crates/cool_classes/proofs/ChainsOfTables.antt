@@ -10,6 +10,7 @@ use Rattle.cool_classes.specs.Chains.{Class, class_number, parent_of, IsChain}
 use Rattle.cool_classes.specs.Tables.{IsTable}
 use Rattle.cool_classes.proofs.Climbs.{chain_unique}
 use Rattle.cool_classes.specs.ClimbedChains.{climbed, above, chain}
+use Rattle.cool_classes.specs.Cycles.{AreApart}
 
 -- a climb of enough steps gives the chain
 climbed_is : (n : ℕ) (p : List Class) (o : Option ClassId) (ds : List ClassId) → IsChain p o ds → length ds ≤ n → climbed n p o ≡ ds
@@ -23,11 +24,6 @@ climbed_is (suc n) p (Some c) [] h l = absurd h
 climbed_is (suc n) p (Some c) (d ∷ ds) h l =
     let rest : climbed n p (parent_of p c) ≡ ds = climbed_is n p (parent_of p c) ds h.1 (omega arith) in
     λ i. sym h.0 i ∷ rest i
-
--- no number of a list is that of this one, and no number stands there twice
-abbrev Different : List ℕ → Type 0
-Different [] = Unit {0}
-Different (x ∷ xs) = AllByRecursion (λ y. y ≢ x) xs × Different xs
 
 -- a list without the first place of a number
 without : ℕ → List ℕ → List ℕ
@@ -52,12 +48,12 @@ without_all P m (x ∷ xs) h = by (nat_eq x m) (without_all P m xs h.1)
     by true k = h.1
     by false k = (h.0, k)
 
-without_different : (m : ℕ) (xs : List ℕ) → Different xs → Different (without m xs)
+without_different : (m : ℕ) (xs : List ℕ) → AreApart xs → AreApart (without m xs)
 unfolding without
 without_different m [] h = tt
 without_different m (x ∷ xs) h = by (nat_eq x m) (without_different m xs h.1)
   where
-    by : (b : Bool) → Different (without m xs) → Different (cond b xs (x ∷ without m xs))
+    by : (b : Bool) → AreApart (without m xs) → AreApart (cond b xs (x ∷ without m xs))
     by true k = h.1
     by false k = (without_all (λ y. y ≢ x) m xs h.0, k)
 
@@ -76,7 +72,7 @@ lower m (x ∷ xs) h k =
         by false e = let n = eqb-false x m e in inl (omega arith)
 
 -- different numbers up to one are below it where that one is taken away
-without_below : (m : ℕ) (xs : List ℕ) → AllByRecursion (λ y. y < suc m) xs → Different xs → AllByRecursion (λ y. y < m) (without m xs)
+without_below : (m : ℕ) (xs : List ℕ) → AllByRecursion (λ y. y < suc m) xs → AreApart xs → AllByRecursion (λ y. y < m) (without m xs)
 unfolding without
 without_below m [] h d = tt
 without_below m (x ∷ xs) h d = by (nat_eq x m) refl (without_below m xs h.1 d.1)
@@ -86,7 +82,7 @@ without_below m (x ∷ xs) h d = by (nat_eq x m) refl (without_below m xs h.1 d.
     by false e k = (let n = eqb-false x m e in let low = h.0 in omega arith, k)
 
 -- different numbers below one are at most so many
-few_numbers : (n : ℕ) (xs : List ℕ) → AllByRecursion (λ y. y < n) xs → Different xs → length xs ≤ n
+few_numbers : (n : ℕ) (xs : List ℕ) → AllByRecursion (λ y. y < n) xs → AreApart xs → length xs ≤ n
 few_numbers zero [] h d = omega arith
 few_numbers zero (x ∷ xs) h d = let low = h.0 in absurd (omega arith)
 few_numbers (suc n) xs h d =
@@ -128,7 +124,7 @@ outside p c past = by p c.0 past
 
 -- no class stands on a chain twice
 different_by : (p : List Class) (d : ClassId) (o : Option ClassId) → parent_of p d ≡ o → (ds : List ClassId) → IsChain p o ds → IsChain p (Some d) (d ∷ ds)
-    → ((q : ClassId) → IsChain p (Some q) ds → Different (capped (length p) ds)) → Different (capped (length p) (d ∷ ds))
+    → ((q : ClassId) → IsChain p (Some q) ds → AreApart (capped (length p) ds)) → AreApart (capped (length p) (d ∷ ds))
 different_by p d None e [] h k more = (tt, tt)
 different_by p d None e (x ∷ ds) h k more = absurd h
 different_by p d (Some q) e ds h k more =
@@ -139,7 +135,7 @@ different_by p d (Some q) e ds h k more =
     below_or : (n k : ℕ) → (k < n) ⊎ (n ≤ k)
     below_or n k = elim (ltb k n) as (λ b. ltb k n ≡ b → (k < n) ⊎ (n ≤ k)) [ true ↦ (λ e. inl (ltb-true k n e)) | false ↦ (λ e. inr (ltb-false k n e)) ] refl
 
-different : (p : List Class) (c : ClassId) (ds : List ClassId) → IsChain p (Some c) ds → Different (capped (length p) ds)
+different : (p : List Class) (c : ClassId) (ds : List ClassId) → IsChain p (Some c) ds → AreApart (capped (length p) ds)
 different p c [] k = absurd k
 different p c (d ∷ ds) k =
     different_by p d (parent_of p d) refl ds (subst (λ (x : ClassId). IsChain p (parent_of p x) ds) (sym k.0) k.1)

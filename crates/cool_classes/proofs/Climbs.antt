@@ -4,14 +4,11 @@ use Rattle.std.specs.Prelude.{Contains, IfSome}
 use Rattle.cool_classes.specs.declared.class_id.ClassId.{ClassId}
 use Rattle.cool_classes.specs.Chains.{Class, class_number, parent_of, IsChain, Below, IsJoin}
 use Rattle.cool_classes.specs.Tables.{IsGrounded}
+use Rattle.lists.proofs.Membership.{contains_cases}
 
 -- what is among a list's items is its first one or among the others
 contains_cons : (d b : ClassId) (ds : List ClassId) → Contains ds b → Contains (d ∷ ds) b
 contains_cons d b ds (k, within, is) = (suc k, omega arith, is)
-
-contains_cases : (d b : ClassId) (ds : List ClassId) → Contains (d ∷ ds) b → (d ≡ b) ⊎ Contains ds b
-contains_cases d b ds (zero, within, is) = inl is
-contains_cases d b ds (suc k, within, is) = inr (k, omega arith, is)
 
 nothing_in : {X : Type 0} (b : ClassId) → Contains {X = ClassId} [] b → X
 nothing_in b (k, within, is) = absurd (omega arith)

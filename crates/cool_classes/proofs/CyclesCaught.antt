@@ -2,15 +2,18 @@
 use Rattle.std.proofs.Common.{◌≡◌, ◌≢◌, ◌⊎◌, inl, inr, ℕ, zero, suc, ◌+◌, ◌-◌, ◌<◌, ◌≤◌, List, [], ◌∷◌, ◌++◌, length, get_or, Option, Some, None, Contains, Bool, true, false, sym, ap, ◌∙◌, refl, subst, cond, arith}
 use Rattle.std.specs.Prelude.{is_some, IsSome, nat_eq, nat_lt, replicate}
 use Rattle.std.specs.List.{AllByRecursion}
-use Rattle.std.proofs.lemmas.Bool.{eqb-true, eqb-false, ltb-true, ltb-false}
+use Rattle.std.proofs.lemmas.Bool.{eqb-true, eqb-false, ltb-true, ltb-false, cases_eq}
 use Rattle.std.proofs.lemmas.Option.{none-some, same_Some}
 use Rattle.cool_classes.specs.declared.class_id.ClassId.{ClassId}
 use Rattle.cool_classes.specs.declared.depths.Above.TheVariants.{Known, Cycle, Lost}
 use Rattle.cool_classes.specs.Cycles.{StepsTo, IsOnCycle, AreApart, AreCycles}
 use Rattle.cool_classes.specs.Depths.{parents_with_basic, HasDepth}
 use Rattle.cool_classes.specs.Walks.{LeadsTo, cycle_of, IsClimb, AreCaught}
-use Rattle.cool_classes.proofs.AllOfLists.{all_append}
-use Rattle.cool_classes.proofs.PassingDefinitions.{same_or_other, some_or_none, contains_first, contains_rest, contains_cases}
+use Rattle.cool_classes.proofs.PassingDefinitions.{some_or_none, contains_first, contains_rest}
+use Rattle.lists.proofs.AllItems.{all_append}
+use Rattle.lists.proofs.Options.{value_of}
+use Rattle.lists.proofs.Membership.{contains_cases}
+use Rattle.std.proofs.lemmas.List.Elements.{Contains-append_left, Contains-append_right, Contains-append_cases}
 
 -- some steps lead from a class to another
 abbrev Reaches : List (Option ClassId) → ℕ → ℕ → Type 0
@@ -51,7 +54,7 @@ depth_falls all c (suc d) (suc m) b (p, there, has) (q, is, rest) =
     let w = depth_falls all q.0 d m b (subst (λ (x : ClassId). HasDepth all x.0 d) (same_Some p q (sym there ∙ is)) has) rest in
     (w.0, w.1, let e = w.2 in omega arith)
 
-depth_once : (all : List (Option ClassId)) (c d e : ℕ) → HasDepth all c d → HasDepth all c e → d ≡ e
+pub depth_once : (all : List (Option ClassId)) (c d e : ℕ) → HasDepth all c d → HasDepth all c e → d ≡ e
 depth_once all c zero zero h k = refl
 depth_once all c zero (suc e) h (q, is, k) = absurd (none-some q (sym h ∙ is))
 depth_once all c (suc d) zero (q, is, h) k = absurd (none-some q (sym k ∙ is))
@@ -90,23 +93,6 @@ closed_on parents xs closed (suc n) k x there (q, is, rest) =
   where
     low_or : (c : ℕ) → (c < 5) ⊎ ((j : ℕ) × (c ≡ j + 5))
     low_or c = elim (nat_lt c 5) as (λ b. nat_lt c 5 ≡ b → (c < 5) ⊎ ((j : ℕ) × (c ≡ j + 5))) [ true ↦ (λ e. inl (ltb-true c 5 e)) | false ↦ (λ e. let past = ltb-false c 5 e in inr (c - 5, omega arith)) ] refl
-
--- what is among lists joined
-pub contains_left : (xs ys : List ℕ) (k : ℕ) → Contains xs k → Contains (xs ++ ys) k
-contains_left [] ys k (i, less, e) = absurd (omega arith)
-contains_left (x ∷ xs) ys k there = elim (contains_cases x k xs there) [ inl e ↦ contains_first x k (xs ++ ys) (sym e) | inr rest ↦ contains_rest x k (xs ++ ys) (contains_left xs ys k rest) ]
-
-pub contains_right : (xs ys : List ℕ) (k : ℕ) → Contains ys k → Contains (xs ++ ys) k
-contains_right [] ys k there = there
-contains_right (x ∷ xs) ys k there = contains_rest x k (xs ++ ys) (contains_right xs ys k there)
-
-pub contains_either : (xs ys : List ℕ) (k : ℕ) → Contains (xs ++ ys) k → Contains xs k ⊎ Contains ys k
-contains_either [] ys k there = inr there
-contains_either (x ∷ xs) ys k there =
-    elim (contains_cases x k (xs ++ ys) there) [
-      | inl e ↦ inl (contains_first x k xs (sym e))
-      | inr rest ↦ elim (contains_either xs ys k rest) [ inl left ↦ inl (contains_rest x k xs left) | inr right ↦ inr right ]
-    ]
 
 pub nothing_in : {X : Type 0} (k : ℕ) → Contains {X = ℕ} [] k → X
 nothing_in k (i, less, e) = absurd (omega arith)
@@ -233,17 +219,12 @@ lies_ahead parents k (n, (q, is, rest)) = (q, is, (n, rest))
 on_cycle : (parents : List ClassId) (k : ℕ) → LiesAhead (parents_with_basic parents) (k + 5) (k + 5) → IsOnCycle parents k
 on_cycle parents k (q, is, (n, rest)) = (n, (q, is, rest))
 
--- an option with a value
-value_of : (o : Option ℕ) → IsSome o → (w : ℕ) × (o ≡ Some w)
-value_of None some = absurd (cc)
-value_of (Some w) some = (w, refl)
-
 -- what is met so far
 met_by : (known more passed after : List (Option ℕ)) (start k : ℕ) → k < start + 1 → ((j : ℕ) → j < start → IsSome (get_or known j None) ⊎ IsSome (get_or passed j None))
     → (IsSome (get_or known start None) ⊎ IsSome (get_or after start None)) → ((j : ℕ) → IsSome (get_or known j None) → IsSome (get_or more j None))
     → ((j : ℕ) → IsSome (get_or passed j None) → IsSome (get_or after j None)) → IsSome (get_or more k None) ⊎ IsSome (get_or after k None)
 met_by known more passed after start k less met starts knows keeps =
-    elim (same_or_other k start) [
+    elim (cases_eq k start) [
       | inl same ↦
           subst (λ (j : ℕ). IsSome (get_or more j None) ⊎ IsSome (get_or after j None)) (sym same) (elim starts [ inl some ↦ inl (knows start some) | inr some ↦ inr some ])
       | inr other ↦ elim (met k (omega arith)) [ inl some ↦ inl (knows k some) | inr some ↦ inr (keeps k some) ]
@@ -293,18 +274,18 @@ caught_cycle parents start known cyclic before after path first w climb there =
           (λ k old here. some_or_none (get_or before k None) (one_of (λ (j : ℕ). IsSome (get_or before j None)) cyclic k w.noted old)
           (one_of (λ (j : ℕ). get_or before j None ≡ None) path k climb.fresh.fresh (cycle_within first path k here)));
       closed = λ k j q there_k is at.
-          elim (contains_either cyclic new k there_k) [
-            | inl old ↦ contains_left cyclic new j (w.closed k j q old is at)
-            | inr here ↦ contains_right cyclic new j (closed_new k j q here is at)
+          elim (Contains-append_cases cyclic new k there_k) [
+            | inl old ↦ Contains-append_left cyclic new j (w.closed k j q old is at)
+            | inr here ↦ Contains-append_right cyclic new j (closed_new k j q here is at)
           ];
       caught = λ k some cycle.
           let v = value_of (get_or after k None) some in
           elim (climb.passed k v.0 v.1) [
-            | inl old ↦ contains_left cyclic new k (w.caught k (ap (λ (o : Option ℕ). is_some o) old) cycle)
+            | inl old ↦ Contains-append_left cyclic new k (w.caught k (ap (λ (o : Option ℕ). is_some o) old) cycle)
             | inr (is, on_path) ↦
                 let out = ahead_reaches all (k + 5) (first + 5) (path_ahead parents path (first + 5) k leads on_path) in
                 let back = (orbit all (k + 5) out.0 (first + 5) out.1 (lies_ahead parents k cycle)).1 in
-                contains_right cyclic new k (closed_on parents new closed_new back.0 first k (cycle_first first path there) back.1)
+                Contains-append_right cyclic new k (closed_on parents new closed_new back.0 first k (cycle_first first path there) back.1)
           ];
       met = λ k less. met_by known known before after start k less w.met climb.starts (λ j some'. some') climb.fresh.kept;
     }

@@ -33,7 +33,7 @@ refused_features ds fs error.Memory none is h = tt
 refused_features ds fs (error.Faults faults) none is h = (h.0, h.2, inr (none, subst (λ (xs : List ClassFault). IsPermutation xs faults) is h.1))
 
 -- the classes of entries that definitions make
-meant_in : (names : List (List ℕ)) (ds : List ClassDef) (os : List (Option ℕ)) → length os ≡ length ds → map as_class (entries_meant names ds os) ≡ map (class_meant names) ds
+pub meant_in : (names : List (List ℕ)) (ds : List ClassDef) (os : List (Option ℕ)) → length os ≡ length ds → map as_class (entries_meant names ds os) ≡ map (class_meant names) ds
 meant_in names [] os long = refl
 meant_in names (d ∷ ds) [] long = absurd (omega arith)
 meant_in names (d ∷ ds) (o ∷ os) long = ap (λ (cs : List Class). class_meant names d ∷ cs) (meant_in names ds os (omega arith))

@@ -19,11 +19,7 @@ use Rattle.cool_classes.specs.Features.{first_method, implementation}
 use Rattle.cool_classes.specs.FirstNames.{first_index, is_index}
 use Rattle.cool_classes.specs.FeatureFaults.{noted, is_class, is_doubled, redefines_otherwise, lacks_main, is_over_limit, type_faults, formal_faults, formals_faults, one_feature_faults, features_faults, class_faults}
 use Rattle.cool_classes.specs.Names.{self_type}
-
--- what holds of two lists holds of both as one
-pub all_both : {X : Type 0} (P : X → Type 0) (xs ys : List X) → AllByRecursion P xs → AllByRecursion P ys → AllByRecursion P (xs ++ ys)
-all_both P [] ys h k = k
-all_both P (x ∷ xs) ys h k = (h.0, all_both P xs ys h.1 k)
+use Rattle.lists.proofs.AllItems.{all_append}
 
 -- a fault of features at a good place is a good fault
 abbrev Makes : (Place → Type 0) → (ClassFault → Type 0) → Type 0
@@ -44,7 +40,7 @@ noted_good Q P make false kind r at q = tt
 -- one more test
 and_noted : (Q : Place → Type 0) (P : ClassFault → Type 0) → Makes Q P → (b : Bool) (kind : ClassKind) → 6 < rank kind → (at : Place) → Q at → (rest : List ClassFault) → AllByRecursion P rest
     → AllByRecursion P (noted b kind at ++ rest)
-and_noted Q P make b kind r at q rest h = all_both P (noted b kind at) rest (noted_good Q P make b kind r at q) h
+and_noted Q P make b kind r at q rest h = all_append P (noted b kind at) rest (noted_good Q P make b kind r at q) h
 
 type_good : (Q : Place → Type 0) (P : ClassFault → Type 0) → Makes Q P → (p : List Class) (r : TypeRef) → Q r.at → AllByRecursion P (type_faults p r)
 type_good Q P make p r q = noted_good Q P make (not (bytes_eq r.name self_type || is_class p r.name)) F6 (omega arith) r.at q
@@ -62,7 +58,7 @@ formals_good : (Q : Place → Type 0) (P : ClassFault → Type 0) → Makes Q P 
     → AllByRecursion P (formals_faults p before fs)
 formals_good Q P make p before [] q = tt
 formals_good Q P make p before (f ∷ fs) q =
-    all_both P (formal_faults p before f) (formals_faults p (before ++ Some f.name ∷ []) fs) (formal_good Q P make p before f q.0) (formals_good Q P make p (before ++ Some f.name ∷ []) fs q.1)
+    all_append P (formal_faults p before f) (formals_faults p (before ++ Some f.name ∷ []) fs) (formal_good Q P make p before f q.0) (formals_good Q P make p (before ++ Some f.name ∷ []) fs q.1)
 
 feature_good : (Q : Place → Type 0) (P : ClassFault → Type 0) → Makes Q P → (p : List Class) (c : ClassId) (above : List ClassId) (k : ℕ) (x : Feature) → IsGoodFeature Q x
     → AllByRecursion P (one_feature_faults p c above k x)
@@ -70,7 +66,7 @@ feature_good Q P make p c above k (Method m) q =
     let double = not (is_index k (first_method 0 (features_of p c) m.name)) in
     let otherwise = redefines_otherwise p m (implementation p above m.name) in
     let declared = formals_faults p [] m.formals ++ type_faults p m.result in
-    let last = all_both P (formals_faults p [] m.formals) (type_faults p m.result) (formals_good Q P make p [] m.formals q.1) (type_good Q P make p m.result q.2) in
+    let last = all_append P (formals_faults p [] m.formals) (type_faults p m.result) (formals_good Q P make p [] m.formals q.1) (type_good Q P make p m.result q.2) in
     let two = and_noted Q P make otherwise F7 (omega arith) m.at q.0 declared last in
     and_noted Q P make double F1 (omega arith) m.at q.0 (noted otherwise F7 m.at ++ declared) two
 feature_good Q P make p c above k (Attribute a) q =
@@ -83,7 +79,7 @@ features_good : (Q : Place → Type 0) (P : ClassFault → Type 0) → Makes Q P
     → AllByRecursion P (features_faults p c above k fs)
 features_good Q P make p c above k [] q = tt
 features_good Q P make p c above k (x ∷ fs) q =
-    all_both P (one_feature_faults p c above k x) (features_faults p c above (k + 1) fs) (feature_good Q P make p c above k x q.0) (features_good Q P make p c above (k + 1) fs q.1)
+    all_append P (one_feature_faults p c above k x) (features_faults p c above (k + 1) fs) (feature_good Q P make p c above k x q.0) (features_good Q P make p c above (k + 1) fs q.1)
 
 class_good : (Q : Place → Type 0) (P : ClassFault → Type 0) → Makes Q P → (p : List Class) (c : ClassId) (above : List ClassId) (at : Place) → AllByRecursion (IsGoodFeature Q) (features_of p c) → Q at
     → AllByRecursion P (class_faults p c above at)
@@ -91,7 +87,7 @@ class_good Q P make p c above at q here =
     let main = lacks_main p c in
     let over = is_over_limit p (c ∷ above) in
     let last = and_noted Q P make main F8 (omega arith) at here (noted over F9 at) (noted_good Q P make over F9 (omega arith) at here) in
-    all_both P (features_faults p c above 0 (features_of p c)) (noted main F8 at ++ noted over F9 at) (features_good Q P make p c above 0 (features_of p c) q) last
+    all_append P (features_faults p c above 0 (features_of p c)) (noted main F8 at ++ noted over F9 at) (features_good Q P make p c above 0 (features_of p c) q) last
 
 -- all places are good for a test that asks nothing
 any_formals : (fs : List Formal) → AllByRecursion (IsGoodFormal (λ _. Unit {0})) fs

@@ -18,16 +18,8 @@ use Rattle.cool_classes.specs.FirstNames.{first_index}
 use Rattle.cool_classes.specs.Tables.{IsClassName, IsTypeName, IsTyped}
 use Rattle.cool_classes.specs.FeatureFaults.{noted, is_class, type_faults, formal_faults, formals_faults, one_feature_faults, features_faults, class_faults, is_over_limit}
 use Rattle.cool_classes.specs.Names.{self_type}
-
--- two lists that are none as one are none
-pub none_both : {X : Type 0} (xs ys : List X) → xs ++ ys ≡ [] → (xs ≡ []) × (ys ≡ [])
-none_both [] ys h = (refl, h)
-none_both (x ∷ xs) ys h = absurd (cc)
-
--- a test that notes no fault fails
-not_noted : (b : Bool) (kind : ClassKind) (at : Place) → noted b kind at ≡ [] → b ≡ false
-not_noted false kind at h = refl
-not_noted true kind at h = absurd (cc)
+use Rattle.lists.proofs.JoinedLists.{none_both}
+use Rattle.cool_classes.proofs.NamesOfFeatures.{not_noted}
 
 -- the class at the first index of a name has it
 abbrev Finds : List Class → List ℕ → Type 0

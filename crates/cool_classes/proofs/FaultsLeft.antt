@@ -1,6 +1,6 @@
 -- The faults so far, with those that are left.
-use Rattle.std.proofs.Common.{◌≡◌, ℕ, zero, suc, ◌+◌, ◌<◌, ◌≤◌, List, is_some, [], ◌∷◌, ◌++◌, length, drop, get_or, Some, Option, None, ap, sym, ◌∙◌, refl, subst, arith, append_assoc}
-use Rattle.std.proofs.lemmas.List.{get_or-map}
+use Rattle.std.proofs.Common.{◌≡◌, ℕ, zero, suc, ◌+◌, ◌<◌, ◌≤◌, List, is_some, [], ◌∷◌, ◌++◌, length, drop, get_or, Some, Option, None, ap, sym, ◌∙◌, refl, subst, arith, append_assoc, append-nil}
+use Rattle.std.proofs.lemmas.List.{get_or-map, drop_more}
 use native.Mathlib.Numerals.{add-one}
 use Rattle.cool_syntax.specs.declared.place.Place.{Place}
 use Rattle.cool_syntax.specs.declared.file_tree.ClassDef.{ClassDef}
@@ -21,9 +21,6 @@ drop_first [] i d within = absurd (omega arith)
 drop_first (y ∷ xs) zero d within = refl
 drop_first (y ∷ xs) (suc i) d within = drop_first xs i d (omega arith)
 
-pub drop_one : {X : Type 0} (xs : List X) (i : ℕ) (d : X) → i < length xs → drop i xs ≡ get_or xs i d ∷ drop (i + 1) xs
-drop_one xs i d within = subst (λ (j : ℕ). drop i xs ≡ get_or xs i d ∷ drop j xs) (sym (add-one i)) (drop_first xs i d within)
-
 -- what comes first of what is left is found next
 pub next_found : {X : Type 0} (before more rest left now : List X) → left ≡ more ++ rest → now ≡ before ++ more → now ++ rest ≡ before ++ left
 next_found before more rest left now first is =
@@ -37,18 +34,13 @@ features_next p places k before now ds d within chain is =
     let c = class_number (5 + k) in
     let n : suc (5 + k) ≡ 5 + (k + 1) = omega arith in
     let first : features_from p (5 + k) (drop k places) ≡ class_faults p c ds at ++ features_from p (5 + (k + 1)) (drop (k + 1) places) =
-    ap (features_from p (5 + k)) (drop_one places k d within)
+    ap (features_from p (5 + k)) (drop_more places k d within)
     ∙ (λ i. class_faults p c (above_of p c ds chain i) at ++ features_from p (n i) (drop (k + 1) places)) in
     next_found before (class_faults p c ds at) (features_from p (5 + (k + 1)) (drop (k + 1) places)) (features_from p (5 + k) (drop k places)) now first is
 
--- nothing comes after a list
-pub nothing_after : {X : Type 0} (xs : List X) → xs ++ [] ≡ xs
-nothing_after [] = refl
-nothing_after (x ∷ xs) = ap (λ ys. x ∷ ys) (nothing_after xs)
-
 -- a fault that is added where there is one
 pub with_kind : (kind : Option ClassKind) (at : Place) (fs : List ClassFault) → with_fault kind at fs ≡ fs ++ of_kind kind at
-with_kind None at fs = sym (nothing_after fs)
+with_kind None at fs = sym (append-nil fs)
 with_kind (Some kind) at fs = refl
 
 -- the fault of the next name
@@ -57,7 +49,7 @@ pub names_next : (ds : List ClassDef) (k : ℕ) (d : ClassDef) (names next : Lis
     → now ++ names_faults next (drop (k + 1) ds) ≡ before ++ names_faults names (drop k ds)
 names_next ds k d names next before now kind within here more is added =
     let first : names_faults names (drop k ds) ≡ of_kind kind d.at ++ names_faults next (drop (k + 1) ds) =
-    ap (names_faults names) (drop_one ds k d within ∙ ap (λ (x : ClassDef). x ∷ drop (k + 1) ds) (sym here))
+    ap (names_faults names) (drop_more ds k d within ∙ ap (λ (x : ClassDef). x ∷ drop (k + 1) ds) (sym here))
     ∙ (λ i. of_kind (sym is i) d.at ++ names_faults (more i) (drop (k + 1) ds)) in
     next_found before (of_kind kind d.at) (names_faults next (drop (k + 1) ds)) (names_faults names (drop k ds)) now first (added ∙ with_kind kind d.at before)
 
@@ -66,7 +58,7 @@ pub parents_next : (names : List (List ℕ)) (ds : List ClassDef) (k : ℕ) (d :
     → now ++ parents_faults names (drop (k + 1) ds) ≡ before ++ parents_faults names (drop k ds)
 parents_next names ds k d before now within here is =
     next_found before (parent_faults names d.parent) (parents_faults names (drop (k + 1) ds)) (parents_faults names (drop k ds)) now
-    (ap (parents_faults names) (drop_one ds k d within ∙ ap (λ (x : ClassDef). x ∷ drop (k + 1) ds) (sym here))) is
+    (ap (parents_faults names) (drop_more ds k d within ∙ ap (λ (x : ClassDef). x ∷ drop (k + 1) ds) (sym here))) is
 
 -- where a definition stands
 pub place_there : (ds : List ClassDef) (k : ℕ) (d : ClassDef) → k < length ds → (get_or ds k d).at ≡ place_at ds k
@@ -77,7 +69,7 @@ pub cycles_next : (ds : List ClassDef) (cyclic : List ℕ) (i : ℕ) (d : ClassD
     → now ≡ with_fault (Some C5) (get_or ds (get_or cyclic i 0) d).at before → now ++ cycle_faults ds (drop (i + 1) cyclic) ≡ before ++ cycle_faults ds (drop i cyclic)
 cycles_next ds cyclic i d before now within there is =
     let k = get_or cyclic i 0 in
-    next_found before (record { kind = C5; at = place_at ds k } ∷ []) (cycle_faults ds (drop (i + 1) cyclic)) (cycle_faults ds (drop i cyclic)) now (ap (cycle_faults ds) (drop_one cyclic i 0 within))
+    next_found before (record { kind = C5; at = place_at ds k } ∷ []) (cycle_faults ds (drop (i + 1) cyclic)) (cycle_faults ds (drop i cyclic)) now (ap (cycle_faults ds) (drop_more cyclic i 0 within))
     (is ∙ ap (λ (at : Place). before ++ record { kind = C5; at = at } ∷ []) (place_there ds k d there))
 
 -- three parts

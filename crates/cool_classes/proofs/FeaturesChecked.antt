@@ -19,10 +19,13 @@ use Rattle.cool_classes.specs.Resolved.{AreResolved, AreGood, ArePlaced}
 use Rattle.cool_classes.specs.Tables.{IsTyped}
 use Rattle.cool_classes.proofs.BasicLimits.{KeepsChain, basic_keeps, basic_features}
 use Rattle.cool_classes.proofs.Climbs.{chain_unique}
-use Rattle.cool_classes.proofs.FaultPlaces.{all_both, class_kinds, class_places}
-use Rattle.cool_classes.proofs.Faultless.{none_both, class_faultless}
+use Rattle.cool_classes.proofs.FaultPlaces.{class_kinds, class_places}
+use Rattle.cool_classes.proofs.Faultless.{class_faultless}
 use Rattle.cool_classes.proofs.MethodsNamed.{names_fit}
 use Rattle.cool_classes.proofs.Seen.{within_classes, within_entries}
+use Rattle.lists.proofs.AllItems.{all_append}
+use Rattle.lists.proofs.JoinedLists.{none_both}
+use Rattle.lists.proofs.Numbers.{below_next}
 
 -- a class's features are typed, and it keeps the limits
 pub record IsChecked (p : List Class) (c : ClassId) : Type 0 where
@@ -39,7 +42,7 @@ pub record AreFaults (es : List Entry) (places : List Place) (count : ℕ) (faul
 pub no_faults : (es : List Entry) (places : List Place) → AreFaults es places 0 []
 no_faults es places = record { kinds = tt; good = λ e k less. absurd (omega arith); places_good = λ n h. tt }
 
-within_limits : (a b : ℕ) → (nat_lt MOST_ATTRIBUTES a || nat_lt MOST_METHODS b) ≡ false → (a ≤ MOST_ATTRIBUTES) × (b ≤ MOST_METHODS)
+pub within_limits : (a b : ℕ) → (nat_lt MOST_ATTRIBUTES a || nat_lt MOST_METHODS b) ≡ false → (a ≤ MOST_ATTRIBUTES) × (b ≤ MOST_METHODS)
 within_limits a b h = by (nat_lt MOST_ATTRIBUTES a) refl h
   where
     by : (x : Bool) → nat_lt MOST_ATTRIBUTES a ≡ x → (x || nat_lt MOST_METHODS b) ≡ false → (a ≤ MOST_ATTRIBUTES) × (b ≤ MOST_METHODS)
@@ -52,13 +55,6 @@ checked_by p c above types over chain = record {
   limits = λ ds h. subst (KeepsChain p) (chain_unique p (Some c) (c ∷ above) ds (refl, chain) h) (within_limits (length (attributes_of p (c ∷ above))) (length (methods_of p (c ∷ above))) over);
 }
 
-next_checked : (P : ℕ → Type 0) (k c : ℕ) → c < k + 1 → ((j : ℕ) → j < k → P j) → P k → P c
-next_checked P k c less below here = by (nat_lt c k) refl
-  where
-    by : (b : Bool) → nat_lt c k ≡ b → P c
-    by true e = below c (ltb-true c k e)
-    by false e = let past : k ≤ c = ltb-false c k e in let same : k ≡ c = omega arith in subst P same here
-
 -- the faults of one more class
 pub faults_next : (es : List Entry) (places : List Place) (k : ℕ) (faults now : List ClassFault) (above : List ClassId) (at : Place) → AreResolved es → 5 + k < length es
     → ((n : ℕ) → AllByRecursion (IsPlaced n) places → IsPlaced n at) → IsChain (classes es) (parent_of (classes es) (class_number (5 + k))) above
@@ -69,14 +65,14 @@ faults_next es places k faults now above at resolved within placed chain are is 
     let more = class_faults p c above at in
     let there = within_classes es c within in
     record {
-      kinds = subst (AllByRecursion IsOfFeatures) (sym is) (all_both IsOfFeatures faults more are.kinds (class_kinds p c above at));
+      kinds = subst (AllByRecursion IsOfFeatures) (sym is) (all_append IsOfFeatures faults more are.kinds (class_kinds p c above at));
       good = λ e j less.
           let both = none_both faults more (sym is ∙ e) in
           let here = class_faultless p c above at (resolved.few_formals c there) both.1 in
-          next_checked (λ (i : ℕ). IsChecked p (class_number (5 + i))) k j less (are.good both.0) (checked_by p c above here.0 here.1 chain);
+          below_next (λ (i : ℕ). IsChecked p (class_number (5 + i))) k j less (are.good both.0) (checked_by p c above here.0 here.1 chain);
       places_good = λ n h.
           subst (AllByRecursion (λ (f : ClassFault). IsPlaced n f.at)) (sym is)
-          (all_both (λ (f : ClassFault). IsPlaced n f.at) faults more (are.places_good n h) (class_places n p c above at (h.0 c there) (placed n h.1)));
+          (all_append (λ (f : ClassFault). IsPlaced n f.at) faults more (are.places_good n h) (class_places n p c above at (h.0 c there) (placed n h.1)));
     }
 
 -- every class of the table is checked

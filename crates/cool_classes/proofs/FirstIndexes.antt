@@ -12,13 +12,9 @@ use Rattle.cool_classes.specs.declared.class_id.ClassId.{ClassId}
 use Rattle.cool_classes.specs.Chains.{Class, class_number, name_of}
 use Rattle.cool_classes.specs.FirstNames.{first_with, first_index, is_named, method_name, attribute_name}
 use Rattle.cool_classes.specs.Names.{first_named}
+use Rattle.lists.proofs.EqualBytes.{bytes_eq-same}
 
--- what stands at a position of a list stands there after others, and before others
-pub after_get : {X : Type 0} (xs ys : List X) (k : ℕ) (x : X) → slice_get xs k ≡ Some x → slice_get (xs ++ ys) k ≡ Some x
-after_get [] ys k x e = absurd (none-some x e)
-after_get (z ∷ xs) ys zero x e = e
-after_get (z ∷ xs) ys (suc k) x e = after_get xs ys k x e
-
+-- right behind a list stands what comes first after it
 pub seam_get : {X : Type 0} (xs ys : List X) (x : X) → slice_get (xs ++ x ∷ ys) (length xs) ≡ Some x
 seam_get [] ys x = refl
 seam_get (z ∷ xs) ys x = seam_get xs ys x
@@ -28,21 +24,6 @@ take_get [] n k x less e = absurd (none-some x e)
 take_get (z ∷ xs) zero k x less e = absurd (omega arith)
 take_get (z ∷ xs) (suc n) zero x less e = e
 take_get (z ∷ xs) (suc n) (suc k) x less e = take_get xs n k x (omega arith) e
-
-pub get_within : {X : Type 0} (xs : List X) (k : ℕ) (x : X) → slice_get xs k ≡ Some x → k < length xs
-get_within [] k x e = absurd (none-some x e)
-get_within (z ∷ xs) zero x e = omega arith
-get_within (z ∷ xs) (suc k) x e = let less = get_within xs k x e in omega arith
-
--- among lists
-pub has_left : {X : Type 0} (xs ys : List X) (x : X) → Contains xs x → Contains (xs ++ ys) x
-has_left [] ys x (i, less, e) = absurd (omega arith)
-has_left (z ∷ xs) ys x (zero, less, e) = (zero, omega arith, e)
-has_left (z ∷ xs) ys x (suc i, less, e) = let w = has_left xs ys x (i, omega arith, e) in (suc w.0, (let l = w.1 in omega arith), w.2)
-
-pub has_right : {X : Type 0} (xs ys : List X) (x : X) → Contains ys x → Contains (xs ++ ys) x
-has_right [] ys x there = there
-has_right (z ∷ xs) ys x there = let w = has_right xs ys x there in (suc w.0, (let l = w.1 in omega arith), w.2)
 
 -- an item for which a test holds is the first one, or comes after it
 pub first_found : {X Y : Type 0} (has : X → Bool) (at : ℕ → Y) (k : ℕ) (xs : List X) (i : ℕ) (x : X) → slice_get xs i ≡ Some x → has x ≡ true
@@ -70,9 +51,6 @@ first_holds {X} has at k (x ∷ xs) y e = by (has x) refl e (first_holds has at 
     by true t h more = (zero, x, sym (same_Some (at k) y h) ∙ ap at (let n : k ≡ k + 0 = omega arith in n), refl, t)
     by false t h more = let w = more h in (suc w.0, w.1, w.2 ∙ ap at (let n : k + 1 + w.0 ≡ k + suc w.0 = omega arith in n), w.3, w.4)
 
-same_name : (f : List ℕ) → bytes_eq f f ≡ true
-same_name f = (bytes_eq-Decides f f).1 refl
-
 named_so : (f : List ℕ) (o : Option (List ℕ)) → is_named f o ≡ true → o ≡ Some f
 named_so f None e = absurd (true≢false (sym e))
 named_so f (Some name) e = ap Some (sym ((bytes_eq-Decides f name).0 e))
@@ -80,7 +58,7 @@ named_so f (Some name) e = ap Some (sym ((bytes_eq-Decides f name).0 e))
 -- a name that stands in a row has a first index there, no later
 pub index_found : (k : ℕ) (row : List (Option (List ℕ))) (i : ℕ) (f : List ℕ) → slice_get row i ≡ Some (Some f)
     → (j : ℕ) × (first_index k row f ≡ Some (k + j)) × (j ≤ i) × (slice_get row j ≡ Some (Some f))
-index_found k row i f e = let w = first_found (is_named f) (λ (n : ℕ). n) k row i (Some f) e (same_name f) in (w.0, w.2, w.3, w.4 ∙ ap Some (named_so f w.1 w.5))
+index_found k row i f e = let w = first_found (is_named f) (λ (n : ℕ). n) k row i (Some f) e (bytes_eq-same f) in (w.0, w.2, w.3, w.4 ∙ ap Some (named_so f w.1 w.5))
 
 -- a first index has the name
 pub index_sound : (k : ℕ) (row : List (Option (List ℕ))) (f : List ℕ) (m : ℕ) → first_index k row f ≡ Some m → (j : ℕ) × (m ≡ k + j) × (slice_get row j ≡ Some (Some f))
@@ -88,7 +66,7 @@ index_sound k row f m e = let w = first_holds (is_named f) (λ (n : ℕ). n) k r
 
 -- a name that is there is found
 pub named_found : (k : ℕ) (names : List (List ℕ)) (i : ℕ) (f : List ℕ) → slice_get names i ≡ Some f → (c : ClassId) × (first_named k names f ≡ Some c)
-named_found k names i f e = let w = first_found (bytes_eq f) class_number k names i f e (same_name f) in (class_number (k + w.0), w.2)
+named_found k names i f e = let w = first_found (bytes_eq f) class_number k names i f e (bytes_eq-same f) in (class_number (k + w.0), w.2)
 
 -- the class that a name finds first has it
 pub named_sound : (k : ℕ) (names : List (List ℕ)) (f : List ℕ) (c : ClassId) → first_named k names f ≡ Some c → (j : ℕ) × (c ≡ class_number (k + j)) × (slice_get names j ≡ Some f)

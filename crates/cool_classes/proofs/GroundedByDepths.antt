@@ -5,17 +5,7 @@ use Rattle.cool_classes.specs.declared.class_id.ClassId.{ClassId}
 use Rattle.cool_classes.specs.Chains.{Class, class_number, parent_of}
 use Rattle.cool_classes.specs.Tables.{IsGrounded}
 use Rattle.cool_classes.specs.Depths.{parents_with_basic, HasDepth}
-
--- a class has one depth
-one_depth : (all : List (Option ClassId)) (c d e : ℕ) → HasDepth all c d → HasDepth all c e → d ≡ e
-one_depth all c zero zero h k = refl
-one_depth all c zero (suc e) h k = let is = k.1 in absurd (cc)
-one_depth all c (suc d) zero h k = let is = h.1 in absurd (cc)
-one_depth all c (suc d) (suc e) h k =
-    let h_is = h.1 in
-    let k_is = k.1 in
-    let same : k.0 ≡ h.0 = cc in
-    ap suc (one_depth all h.0.0 d e h.2 (subst (λ (q : ClassId). HasDepth all q.0 e) same k.2))
+use Rattle.cool_classes.proofs.CyclesCaught.{depth_once}
 
 -- a parent is one of the classes
 some_parent : (P : ClassId → Type 0) (ps : List ClassId) (k : ℕ) (q : ClassId) → AllByRecursion P ps → get_or (map Some ps) k None ≡ Some q → P q
@@ -57,7 +47,7 @@ deeper all c q zero e is has above = absurd (cc)
 deeper all c q (suc d) e is has above =
     let has_is = has.1 in
     let same : has.0 ≡ q = cc in
-    let equal : d ≡ e = one_depth all q.0 d e (subst (λ (x : ClassId). HasDepth all x.0 d) same has.2) above in
+    let equal : d ≡ e = depth_once all q.0 d e (subst (λ (x : ClassId). HasDepth all x.0 d) same has.2) above in
     omega arith
 
 -- right depths put the classes above one another
@@ -71,5 +61,5 @@ grounded_by p ps depth long parents all has = record {
   top = λ c within e.
       let is : get_or (parents_with_basic ps) c.0 None ≡ None = sym (parents c) ∙ e in
       let first : c.0 ≡ 0 = only_object ps c.0 (omega arith) is in
-      ((λ i. record { 0 = first i }), one_depth (parents_with_basic ps) c.0 (depth c) 0 (has c (omega arith)) is);
+      ((λ i. record { 0 = first i }), depth_once (parents_with_basic ps) c.0 (depth c) 0 (has c (omega arith)) is);
 }

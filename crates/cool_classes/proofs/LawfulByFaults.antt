@@ -26,9 +26,13 @@ use Rattle.cool_classes.specs.Settled.{basic_names, names_in, names_with_basic, 
 use Rattle.cool_classes.specs.Tables.{IsWholeTable}
 use Rattle.cool_classes.proofs.ChainsOfTables.{above_of}
 use Rattle.cool_classes.proofs.ClassesNamed.{named_back}
-use Rattle.cool_classes.proofs.NamesOfFeatures.{none_both, not_noted, formals_named, methods_named, attributes_named}
+use Rattle.cool_classes.proofs.NamesOfFeatures.{not_noted, formals_named, methods_named, attributes_named}
+use Rattle.lists.proofs.JoinedLists.{none_both}
+use Rattle.cool_classes.proofs.FeatureRowsExact.{same_types_is}
+use Rattle.std.proofs.lemmas.Option.{same_Some}
+use Rattle.std.proofs.lemmas.Bool.{ltb-false, ltb-true}
 
-no_kind : (o : Option ClassKind) (at : Place) → of_kind o at ≡ [] → o ≡ None
+pub no_kind : (o : Option ClassKind) (at : Place) → of_kind o at ≡ [] → o ≡ None
 no_kind None at h = refl
 no_kind (Some k) at h = absurd (cc)
 
@@ -36,16 +40,6 @@ both_true : (a b : Bool) → not (a && b) ≡ false → (a ≡ true) × (b ≡ t
 both_true true true h = (refl, refl)
 both_true true false h = absurd (cc)
 both_true false b h = absurd (cc)
-
-same_lists : (ts us : List (List ℕ)) → same_types ts us ≡ true → ts ≡ us
-same_lists [] [] h = refl
-same_lists [] (u ∷ us) h = absurd (cc)
-same_lists (t ∷ ts) [] h = absurd (cc)
-same_lists (t ∷ ts) (u ∷ us) h = by (bytes_eq t u) refl h (same_lists ts us)
-  where
-    by : (b : Bool) → bytes_eq t u ≡ b → (b && same_types ts us) ≡ true → (same_types ts us ≡ true → ts ≡ us) → t ∷ ts ≡ u ∷ us
-    by true e h more = let first : t ≡ u = (bytes_eq-Decides t u).0 e in let rest : ts ≡ us = more h in λ i. first i ∷ rest i
-    by false e h more = absurd (cc)
 
 -- Parents
 
@@ -80,20 +74,17 @@ parent_may names (Some r) h = by (bytes_eq r.name self_type) (no_kind (parent_ki
     by true e = absurd (cc)
     by false e = class_may (first_named 0 names r.name) e
 
-some_is : {A : Type 0} (x y : A) → Some x ≡ Some y → x ≡ y
-some_is x y e = cc
-
 parents_may : (names : List (List ℕ)) (ds : List ClassDef) → parents_faults names ds ≡ [] → (k : ℕ) (q : ClassId) → (get_or (map (class_meant names) ds) k nothing).parent ≡ Some q → MayInherit q
 parents_may names [] h k q e = absurd (cc)
-parents_may names (d ∷ ds) h zero q e = subst MayInherit (some_is (parent_meant names d.parent) q e) (parent_may names d.parent (none_both (parent_faults names d.parent) (parents_faults names ds) h).0)
+parents_may names (d ∷ ds) h zero q e = subst MayInherit (same_Some (parent_meant names d.parent) q e) (parent_may names d.parent (none_both (parent_faults names d.parent) (parents_faults names ds) h).0)
 parents_may names (d ∷ ds) h (suc k) q e = parents_may names ds (none_both (parent_faults names d.parent) (parents_faults names ds) h).1 k q e
 
 all_may : (ds : List ClassDef) → parents_faults (names_with_basic ds) ds ≡ [] → (n : ℕ) (q : ClassId) → parent_of (classes_meant ds) (class_number n) ≡ Some q → MayInherit q
 all_may ds h zero q e = absurd (cc)
-all_may ds h (suc zero) q e = subst MayInherit (some_is (class_number 0) q e) object_may
-all_may ds h (suc (suc zero)) q e = subst MayInherit (some_is (class_number 0) q e) object_may
-all_may ds h (suc (suc (suc zero))) q e = subst MayInherit (some_is (class_number 0) q e) object_may
-all_may ds h (suc (suc (suc (suc zero)))) q e = subst MayInherit (some_is (class_number 0) q e) object_may
+all_may ds h (suc zero) q e = subst MayInherit (same_Some (class_number 0) q e) object_may
+all_may ds h (suc (suc zero)) q e = subst MayInherit (same_Some (class_number 0) q e) object_may
+all_may ds h (suc (suc (suc zero))) q e = subst MayInherit (same_Some (class_number 0) q e) object_may
+all_may ds h (suc (suc (suc (suc zero)))) q e = subst MayInherit (same_Some (class_number 0) q e) object_may
 all_may ds h (suc (suc (suc (suc (suc k))))) q e = parents_may (names_with_basic ds) ds h k q e
 
 -- Methods defined anew
@@ -139,14 +130,14 @@ first_there j (Method m ∷ fs) f k e = by (bytes_eq m.name f) refl e (first_the
     by : (b : Bool) → bytes_eq m.name f ≡ b → cond b (Some j) (first_method (j + 1) fs f) ≡ Some k
         → (first_method (j + 1) fs f ≡ Some k → (i : ℕ) × (k ≡ j + 1 + i) × ((n : MethodDef) × (slice_get fs i ≡ Some (Method n)) × (n.name ≡ f)))
         → (i : ℕ) × (k ≡ j + i) × ((n : MethodDef) × (slice_get (Method m ∷ fs) i ≡ Some (Method n)) × (n.name ≡ f))
-    by true is e more = let same : j ≡ k = some_is j k e in (0, omega arith, (m, refl, (bytes_eq-Decides m.name f).0 is))
+    by true is e more = let same : j ≡ k = same_Some j k e in (0, omega arith, (m, refl, (bytes_eq-Decides m.name f).0 is))
     by false is e more = let (i, sum, rest) = more e in (suc i, omega arith, rest)
 
 -- no feature of a class has a fault
 pub one_faultless : (p : List Class) (c : ClassId) (ds : List ClassId) (j : ℕ) (fs : List Feature) → features_faults p c ds j fs ≡ [] → (i : ℕ) (x : Feature) → slice_get fs i ≡ Some x → (k : ℕ) → k ≡ j + i → one_feature_faults p c ds k x ≡ []
 one_faultless p c ds j [] h i x e k sum = absurd (cc)
 one_faultless p c ds j (y ∷ fs) h zero x e k sum =
-    let same : y ≡ x = some_is y x e in
+    let same : y ≡ x = same_Some y x e in
     let here : j ≡ k = omega arith in
     subst (λ (z : Feature). one_feature_faults p c ds k z ≡ []) same (subst (λ (i : ℕ). one_feature_faults p c ds i y ≡ []) here (none_both (one_feature_faults p c ds j y) (features_faults p c ds (j + 1) fs) h).0)
 one_faultless p c ds j (y ∷ fs) h (suc i) x e k sum = one_faultless p c ds (j + 1) fs (none_both (one_feature_faults p c ds j y) (features_faults p c ds (j + 1) fs) h).1 i x e k (omega arith)
@@ -171,7 +162,7 @@ user_has p n f from = ap (λ (b : Bool). if b then option_map Basic (method_amon
 same_signature : (p : List Class) (c : ClassId) (k : ℕ) (d : MethodDef) (n : MethodRef) → slice_get (features_of p c) k ≡ Some (Method d) → declares_otherwise p d n ≡ false → SameSignature p (User c k) n
 same_signature p c k d n there h =
     let both = both_true (same_types (declared_types d.formals) (formals_of p n)) (bytes_eq d.result.name (result_of p n)) h in
-    record { formals = ap formals_in there ∙ same_lists (declared_types d.formals) (formals_of p n) both.0; result = ap result_in there ∙ (bytes_eq-Decides d.result.name (result_of p n)).0 both.1 }
+    record { formals = ap formals_in there ∙ same_types_is (declared_types d.formals) (formals_of p n) both.0; result = ap result_in there ∙ (bytes_eq-Decides d.result.name (result_of p n)).0 both.1 }
 
 -- a class whose features have no fault keeps the types of the methods above it
 user_redefined : (p : List Class) (n : ℕ) (ds : List ClassId) (f : List ℕ) (m u : MethodRef) → 5 ≤ n → features_faults p (class_number n) ds 0 (features_of p (class_number n)) ≡ []
@@ -187,7 +178,7 @@ user_redefined p n ds f m u from free own over = by (first_method 0 (features_of
         let faultless = one_faultless p (class_number n) ds 0 (features_of p (class_number n)) free k (Method d) at k (omega arith) in
         let kept = not_noted (redefines_otherwise p d (implementation p ds d.name)) F7 d.at (none_both (noted (redefines_otherwise p d (implementation p ds d.name)) F7 d.at) _ (none_both (noted _ _ d.at) _ faultless).1).0 in
         let it : redefines_otherwise p d (Some u) ≡ false = subst (λ (o : Option MethodRef). redefines_otherwise p d o ≡ false) over (subst (λ (g : List ℕ). redefines_otherwise p d (implementation p ds g) ≡ false) named kept) in
-        subst (λ (x : MethodRef). SameSignature p x u) (some_is (User (class_number n) k) m h) (same_signature p (class_number n) k d u at it)
+        subst (λ (x : MethodRef). SameSignature p x u) (same_Some (User (class_number n) k) m h) (same_signature p (class_number n) k d u at it)
 
 -- no basic class defines a method of Object anew
 object_only : (p : List Class) (ds : List ClassId) → IsChain p (Some (class_number 0)) ds → parent_of p (class_number 0) ≡ None → (f : List ℕ) → implementation p ds f ≡ first_of (option_map Basic (method_among object_methods f)) None
@@ -231,20 +222,14 @@ no_fault_of ds free (suc (suc (suc (suc (suc i))))) from less =
     let few = few_basic ds in
     class_faultless (classes_meant ds) 5 (places ds) free i (omega arith) (suc (suc (suc (suc (suc i))))) (omega arith)
 
-pub basic_number : (n : ℕ) → nat_lt n 5 ≡ true → n < 5
-basic_number n h = grind arith
-
-pub later_number : (n : ℕ) → nat_lt n 5 ≡ false → 5 ≤ n
-later_number n h = grind arith
-
 all_redefined : (ds : List ClassDef) → feature_phase ds ≡ [] → (n : ℕ) → n < length (classes_meant ds) → (up : List ClassId) (f : List ℕ) (m u : MethodRef) → IsChain (classes_meant ds) (parent_of (classes_meant ds) (class_number n)) up
     → own_method (classes_meant ds) (class_number n) f ≡ Some m → implementation (classes_meant ds) up f ≡ Some u → SameSignature (classes_meant ds) m u
 all_redefined ds free n within up f m u chain own over = by (nat_lt n 5) refl
   where
     by : (b : Bool) → nat_lt n 5 ≡ b → SameSignature (classes_meant ds) m u
-    by true e = absurd (basic_redefined ds n up f m u (basic_number n e) chain own over)
+    by true e = absurd (basic_redefined ds n up f m u (ltb-true n 5 e) chain own over)
     by false e =
-        let from = later_number n e in
+        let from = ltb-false n 5 e in
         let (at, free) = no_fault_of ds free n from within in
         let some = (none_both (features_faults (classes_meant ds) (class_number n) (above (classes_meant ds) (class_number n)) 0 (features_of (classes_meant ds) (class_number n))) _ free).0 in
         user_redefined (classes_meant ds) n up f m u from
@@ -252,7 +237,7 @@ all_redefined ds free n within up f m u chain own over = by (nat_lt n 5) refl
 
 -- Main
 
-names_of_meant : (names : List (List ℕ)) (ds : List ClassDef) → map (λ (c : Class). c.name) (map (class_meant names) ds) ≡ names_in ds
+pub names_of_meant : (names : List (List ℕ)) (ds : List ClassDef) → map (λ (c : Class). c.name) (map (class_meant names) ds) ≡ names_in ds
 names_of_meant names [] = refl
 names_of_meant names (d ∷ ds) = let rest : map (λ (c : Class). c.name) (map (class_meant names) ds) ≡ names_in ds = names_of_meant names ds in λ i. d.name ∷ rest i
 
@@ -321,9 +306,9 @@ all_free : (ds : List ClassDef) → feature_phase ds ≡ [] → (n : ℕ) → n 
 all_free ds free n within up chain = by (nat_lt n 5) refl
   where
     by : (b : Bool) → nat_lt n 5 ≡ b → features_faults (classes_meant ds) (class_number n) up 0 (features_of (classes_meant ds) (class_number n)) ≡ []
-    by true e = basic_free ds n up (basic_number n e)
+    by true e = basic_free ds n up (ltb-true n 5 e)
     by false e =
-        let (at, none) = no_fault_of ds free n (later_number n e) within in
+        let (at, none) = no_fault_of ds free n (ltb-false n 5 e) within in
         subst (λ (cs : List ClassId). features_faults (classes_meant ds) (class_number n) cs 0 (features_of (classes_meant ds) (class_number n)) ≡ []) (above_of (classes_meant ds) (class_number n) up chain)
         (none_both (features_faults (classes_meant ds) (class_number n) (above (classes_meant ds) (class_number n)) 0 (features_of (classes_meant ds) (class_number n))) _ none).0
 

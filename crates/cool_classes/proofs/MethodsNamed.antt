@@ -13,8 +13,9 @@ use Rattle.cool_classes.specs.declared.method.MethodRef.TheVariants.{Basic}
 use Rattle.cool_classes.specs.Chains.{Class, features_of}
 use Rattle.cool_classes.specs.Features.{NamedMethod, basic_methods, method_among, first_method, user_method, own_method, first_of, implementation}
 use Rattle.cool_classes.specs.FirstNames.{is_index}
-use Rattle.cool_classes.specs.Limits.{AreDifferent, IsImplemented}
+use Rattle.cool_classes.specs.Limits.{IsImplemented}
 use Rattle.cool_classes.specs.MethodNames.{is_new, new_name, new_among, method_names, new_methods, methods_of}
+use Rattle.lists.specs.Different.{AreDifferent}
 
 -- a name stands in a list
 abbrev pub Among : List ℕ → List (List ℕ) → Type 0

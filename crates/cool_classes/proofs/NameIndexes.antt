@@ -13,15 +13,12 @@ use Rattle.indexmap.proofs.CallerLemmas.{insert_entry-new}
 use Rattle.cool_classes.specs.Chains.{class_number}
 use Rattle.cool_classes.specs.FirstNames.{first_index, shown_names, FindsFirst}
 use Rattle.cool_classes.specs.Names.{first_named}
+use Rattle.lists.proofs.EqualBytes.{same_key}
 
 -- the first of two answers
 pub or_else : Option ℕ → Option ℕ → Option ℕ
 or_else None o = o
 or_else (Some c) o = Some c
-
--- names are compared byte by byte, as lists
-abbrev pub same_key : Vec ℕ → Vec ℕ → Bool
-same_key x y = bytes_eq x.items y.items
 
 -- a look-up among keys finds what it finds among the names
 pub shown_lookup : (f : List ℕ) (entries : List (Vec ℕ × ℕ)) → lookup (λ key. bytes_eq f key.items) entries ≡ lookup (bytes_eq f) (shown_names entries)
@@ -100,16 +97,6 @@ finds_old entries row name there finds f =
     let same : f ≡ name = (bytes_eq-Decides f name).0 e in
     ap is_some (sym (finds f) ∙ ap (λ (g : List ℕ). lookup (bytes_eq g) entries) same) ∙ there)
     ∙ sym (first_more 0 row name f)
-
--- a look-up that copies finds as much
-pub copied_some : (o : Option (Bor ℕ)) → is_some (option_copied o) ≡ is_some o
-copied_some None = refl
-copied_some (Some c) = refl
-
--- nothing is there
-pub nothing_there : (o : Option ℕ) → is_some o ≡ false → o ≡ None
-nothing_there None h = refl
-nothing_there (Some c) h = absurd (true≢false h)
 
 -- the class of a name is that at the first index of the name
 pub class_at_index : (k : ℕ) (names : List (List ℕ)) (f : List ℕ) → option_map class_number (first_index k (map Some names) f) ≡ first_named k names f

@@ -17,27 +17,20 @@ use Rattle.cool_classes.specs.FeatureFaults.{noted, type_faults, redefines_other
 use Rattle.cool_classes.specs.Features.{first_method, implementation, own_attributes, attributes_of, name_in, attribute_name as name_at}
 use Rattle.cool_classes.specs.FirstNames.{first_index, is_index, attribute_name}
 use Rattle.cool_classes.specs.LawfulTables.{HasDifferentFormals, method_names}
-use Rattle.cool_classes.specs.Limits.{AreDifferent}
 use Rattle.cool_classes.specs.Tables.{IsWholeTable}
-use Rattle.cool_classes.proofs.AllOfLists.{all_append}
+use Rattle.lists.specs.Different.{AreDifferent}
+use Rattle.lists.proofs.AllItems.{all_append}
+use Rattle.lists.proofs.JoinedLists.{none_both}
+use Rattle.lists.proofs.EqualBytes.{bytes_same}
+use Rattle.lists.proofs.Options.{none_is}
+use Rattle.std.proofs.lemmas.Bool.{or_parts, not-false, eqb-true}
 
--- two lists that are none as one are none
-pub none_both : {X : Type 0} (xs ys : List X) → xs ++ ys ≡ [] → (xs ≡ []) × (ys ≡ [])
-none_both [] ys h = (refl, h)
-none_both (x ∷ xs) ys h = absurd (cc)
-
+-- a test that notes no fault fails
 pub not_noted : (b : Bool) (kind : ClassKind) (at : Place) → noted b kind at ≡ [] → b ≡ false
 not_noted false kind at h = refl
 not_noted true kind at h = absurd (cc)
 
 -- Rows of names
-
-same_name : (f n : List ℕ) → f ≡ n → bytes_eq f n ≡ true
-same_name f n e = (bytes_eq-Decides f n).1 e
-
-is_some_not : (o : Option ℕ) → is_some o ≡ false → o ≡ None
-is_some_not None h = refl
-is_some_not (Some k) h = absurd (cc)
 
 -- a name that stands in a row stands in a longer one
 kept : (k : ℕ) (row more : List (Option (List ℕ))) (n : List ℕ) → first_index k row n ≢ None → first_index k (row ++ more) n ≢ None
@@ -51,7 +44,7 @@ kept k (Some m ∷ row) more n h = by (bytes_eq n m) h (kept (k + 1) row more n)
 
 -- the last name of a row stands in it
 last_there : (k : ℕ) (row : List (Option (List ℕ))) (n : List ℕ) → first_index k (row ++ Some n ∷ []) n ≢ None
-last_there k [] n = λ e. absurd (some_none (sym (ap (λ (b : Bool). cond b (Some k) None) (same_name n n refl)) ∙ e))
+last_there k [] n = λ e. absurd (some_none (sym (ap (λ (b : Bool). cond b (Some k) None) (bytes_same n n refl)) ∙ e))
   where
     some_none : Some k ≡ None → ⊥
     some_none e = cc
@@ -64,20 +57,9 @@ last_there k (Some m ∷ row) n = by (bytes_eq n m) (last_there (k + 1) row n)
 
 -- Two tests, and lists of names
 
-neither : (a b : Bool) → (a || b) ≡ false → (a ≡ false) × (b ≡ false)
-neither true b h = absurd (cc)
-neither false b h = (refl, h)
-
-not_false : (b : Bool) → not b ≡ false → b ≡ true
-not_false true h = refl
-not_false false h = absurd (cc)
-
-equal_number : (m n : ℕ) → nat_eq m n ≡ true → m ≡ n
-equal_number m n h = grind arith
-
 index_is : (k : ℕ) (o : Option ℕ) → is_index k o ≡ true → o ≡ Some k
 index_is k None h = absurd (cc)
-index_is k (Some j) h = ap Some (equal_number j k h)
+index_is k (Some j) h = ap Some (eqb-true j k h)
 
 different_append : (xs ys : List (List ℕ)) → AreDifferent xs → AreDifferent ys → AllByRecursion (λ (n : List ℕ). AllByRecursion (λ (o : List ℕ). o ≢ n) xs) ys → AreDifferent (xs ++ ys)
 different_append [] ys h g both = g
@@ -99,7 +81,7 @@ module _ (p : List Class) where
 
   -- no formal has a name that stands before it
   formal_new : (before : List (Option (List ℕ))) (f : Formal) → formal_faults p before f ≡ [] → first_index 0 before f.name ≡ None
-  formal_new before f h = is_some_not (first_index 0 before f.name) (not_noted (is_some (first_index 0 before f.name)) F4 f.at (none_both (noted (is_some (first_index 0 before f.name)) F4 f.at) _ (none_both (noted _ F3 f.at) _ h).1).0)
+  formal_new before f h = none_is (first_index 0 before f.name) (not_noted (is_some (first_index 0 before f.name)) F4 f.at (none_both (noted (is_some (first_index 0 before f.name)) F4 f.at) _ (none_both (noted _ F3 f.at) _ h).1).0)
 
   later_new : (before : List (Option (List ℕ))) (n : List ℕ) (fs : List Formal) → first_index 0 before n ≢ None → formals_faults p before fs ≡ [] → AllByRecursion (λ (o : List ℕ). o ≢ n) (formal_names fs)
   later_new before n [] there h = tt
@@ -150,7 +132,7 @@ module _ (p : List Class) where
       by : (b : Bool) → bytes_eq n a.name ≡ b → cond b (Some k) (first_index (k + 1) (map attribute_name fs) n) ≡ None → (first_index (k + 1) (map attribute_name fs) n ≡ None → AllByRecursion (λ (o : List ℕ). o ≢ n) (own_names fs))
           → (a.name ≢ n) × AllByRecursion (λ (o : List ℕ). o ≢ n) (own_names fs)
       by true e h rest = absurd (cc)
-      by false e h rest = ((λ same. true_false (sym (same_name n a.name (sym same)) ∙ e)), rest h)
+      by false e h rest = ((λ same. true_false (sym (bytes_same n a.name (sym same)) ∙ e)), rest h)
         where
           true_false : true ≡ false → ⊥
           true_false e = cc
@@ -184,17 +166,17 @@ module _ (p : List Class) where
   above_names : (ds : List ClassId) (n : List ℕ) → have_attribute p ds n ≡ false → AllByRecursion (λ (o : List ℕ). o ≢ n) (names (attributes_of p ds))
   above_names [] n h = tt
   above_names (d ∷ ds) n h =
-      let both = neither (is_some (first_index 0 (map attribute_name (features_of p d)) n)) (have_attribute p ds n) h in
+      let both = or_parts (is_some (first_index 0 (map attribute_name (features_of p d)) n)) (have_attribute p ds n) h in
       subst (AllByRecursion (λ (o : List ℕ). o ≢ n)) (sym (names_append (attributes_of p ds) (own_attributes d 0 (features_of p d))))
       (all_append (λ (o : List ℕ). o ≢ n) (names (attributes_of p ds)) (names (own_attributes d 0 (features_of p d))) (above_names ds n both.1)
-      (subst (AllByRecursion (λ (o : List ℕ). o ≢ n)) (sym (own_named d 0 (features_of p d) (whole_at d))) (none_own 0 (features_of p d) n (is_some_not (first_index 0 (map attribute_name (features_of p d)) n) both.0))))
+      (subst (AllByRecursion (λ (o : List ℕ). o ≢ n)) (sym (own_named d 0 (features_of p d) (whole_at d))) (none_own 0 (features_of p d) n (none_is (first_index 0 (map attribute_name (features_of p d)) n) both.0))))
 
   -- an attribute without fault is the first of its name, and has none above it
   not_doubled : (d : ClassId) (up : List ClassId) (k : ℕ) (a : AttributeDef) → attribute_faults p d up k a ≡ [] → (first_index 0 (map attribute_name (features_of p d)) a.name ≡ Some k) × (have_attribute p up a.name ≡ false)
   not_doubled d up k a h =
       let doubled = not_noted (is_doubled p d up k a.name) F2 a.at (none_both (noted (is_doubled p d up k a.name) F2 a.at) _ (none_both (noted _ F3 a.at) _ h).1).0 in
-      let both = neither (not (is_index k (first_index 0 (map attribute_name (features_of p d)) a.name))) (have_attribute p up a.name) doubled in
-      (index_is k (first_index 0 (map attribute_name (features_of p d)) a.name) (not_false (is_index k (first_index 0 (map attribute_name (features_of p d)) a.name)) both.0), both.1)
+      let both = or_parts (not (is_index k (first_index 0 (map attribute_name (features_of p d)) a.name))) (have_attribute p up a.name) doubled in
+      (index_is k (first_index 0 (map attribute_name (features_of p d)) a.name) (not-false (is_index k (first_index 0 (map attribute_name (features_of p d)) a.name)) both.0), both.1)
 
   firsts : (d : ClassId) (up : List ClassId) (k : ℕ) (fs : List Feature) → features_faults p d up k fs ≡ [] → AreFirst (map attribute_name (features_of p d)) k fs
   firsts d up k [] h = tt
@@ -287,7 +269,7 @@ module _ (p : List Class) where
   first_methods d up k (Method m ∷ fs) h =
       let both = none_both (one_feature_faults p d up k (Method m)) (features_faults p d up (k + 1) fs) h in
       let twice = not_noted (not (is_index k (first_method 0 (features_of p d) m.name))) F1 m.at (none_both (noted (not (is_index k (first_method 0 (features_of p d) m.name))) F1 m.at) _ both.0).0 in
-      (index_is k (first_method 0 (features_of p d) m.name) (not_false (is_index k (first_method 0 (features_of p d) m.name)) twice), first_methods d up (k + 1) fs both.1)
+      (index_is k (first_method 0 (features_of p d) m.name) (not-false (is_index k (first_method 0 (features_of p d) m.name)) twice), first_methods d up (k + 1) fs both.1)
   first_methods d up k (Attribute a ∷ fs) h = first_methods d up (k + 1) fs (none_both (one_feature_faults p d up k (Attribute a)) (features_faults p d up (k + 1) fs) h).1
 
   -- where the features of no class have a fault, the methods of each have different names

@@ -12,6 +12,7 @@ use Rattle.cool_classes.specs.Features.{first_method, implementation, own_attrib
 use Rattle.cool_classes.specs.FirstNames.{is_index}
 use Rattle.cool_classes.specs.Lineages.{AreCounted}
 use Rattle.cool_classes.specs.MethodNames.{new_name, new_methods}
+use Rattle.lists.proofs.Numbers.{below_next}
 
 -- a test that fails where another holds
 pub turned : (s r : Bool) → s ≡ not r → r ≡ not s
@@ -30,14 +31,6 @@ new_counts p above own k x m a b is here there =
     by true = refl
     by false = refl
 
--- what holds of each class below a number and of the next one
-next_of : (P : ℕ → Type 0) (k c : ℕ) → c < k + 1 → ((j : ℕ) → j < k → P j) → P k → P c
-next_of P k c less below here = by (nat_lt c k) refl
-  where
-    by : (b : Bool) → nat_lt c k ≡ b → P c
-    by true e = below c (ltb-true c k e)
-    by false e = let past : k ≤ c = ltb-false c k e in let same : k ≡ c = omega arith in subst P same here
-
 -- what one more class adds
 pub counted_next : (k : ℕ) (p : List Class) (gs ms : List ℕ) (a m : ℕ) → AreCounted k p gs ms
     → a ≡ length (own_attributes (class_number k) 0 (features_of p (class_number k)))
@@ -46,10 +39,10 @@ pub counted_next : (k : ℕ) (p : List Class) (gs ms : List ℕ) (a m : ℕ) →
 counted_next k p gs ms a m are attributes methods = record {
   same_attributes = let s = are.same_attributes in simp length-append (omega arith);
   same_methods = let s = are.same_methods in simp length-append (omega arith);
-  attributes = λ c less. next_of (λ (j : ℕ). get_or (gs ++ a ∷ []) j 0 ≡ length (own_attributes (class_number j) 0 (features_of p (class_number j)))) k c.0 less
+  attributes = λ c less. below_next (λ (j : ℕ). get_or (gs ++ a ∷ []) j 0 ≡ length (own_attributes (class_number j) 0 (features_of p (class_number j)))) k c.0 less
       (λ j below. get_or_append_left gs (a ∷ []) 0 j (let s = are.same_attributes in omega arith) ∙ are.attributes (class_number j) below)
       (get_or_push gs a 0 k are.same_attributes ∙ attributes);
-  methods = λ c ds less chain. next_of (λ (j : ℕ). IsChain p (parent_of p (class_number j)) ds → get_or (ms ++ m ∷ []) j 0 ≡ length (new_methods p ds (class_number j))) k c.0 less
+  methods = λ c ds less chain. below_next (λ (j : ℕ). IsChain p (parent_of p (class_number j)) ds → get_or (ms ++ m ∷ []) j 0 ≡ length (new_methods p ds (class_number j))) k c.0 less
       (λ j below h. get_or_append_left ms (m ∷ []) 0 j (let s = are.same_methods in omega arith) ∙ are.methods (class_number j) ds below h)
       (λ h. get_or_push ms m 0 k are.same_methods ∙ methods ds h) chain;
 }

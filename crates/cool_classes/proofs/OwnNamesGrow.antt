@@ -22,6 +22,7 @@ use Rattle.cool_classes.specs.FirstNames.{first_index, shown_names, FindsFirst, 
 use Rattle.cool_classes.specs.OwnNames.{AreOwn, AreAllOwn, AreTableNames}
 use Rattle.cool_classes.specs.FeatureFaults.{have_attribute}
 use Rattle.cool_classes.proofs.NameIndexes.{finds_none}
+use Rattle.lists.proofs.EqualBytes.{bytes_eq-turned}
 
 -- a row of one more feature
 row_next : (name : Feature → Option (List ℕ)) (fs : List Feature) (x : Feature) (o : Option (List ℕ)) → name x ≡ o → (entries : List (List ℕ × ℕ))
@@ -65,15 +66,11 @@ all_own_next k all p own have here = record {
         let same : k ≡ c = omega arith in
         subst (λ (o : OwnNames). AreOwn o (features_of p (class_number c))) (sym (get_or_push all own d c last)) (subst (λ (n : ℕ). AreOwn own (features_of p (class_number n))) same here)
 
--- names are the same either way round
-bytes_eq_turned : (x y : List ℕ) → bytes_eq x y ≡ bytes_eq y x
-bytes_eq_turned x y = let d = bytes_eq-Decides y x in same_from_decides (bytes_eq x y) (bytes_eq y x) (bytes_eq-Decides x y) (λ h. sym (d.0 h), λ h. d.1 (sym h))
-
 -- the first method of a name is at the first index of the name
 pub first_method_index : (k : ℕ) (fs : List Feature) (f : List ℕ) → first_index k (map method_name fs) f ≡ first_method k fs f
 first_method_index k [] f = refl
 first_method_index k (Method m ∷ fs) f =
-    ap (λ (b : Bool). cond b (Some k) (first_index (k + 1) (map method_name fs) f)) (bytes_eq_turned f m.name) ∙ ap (cond (bytes_eq m.name f) (Some k)) (first_method_index (k + 1) fs f)
+    ap (λ (b : Bool). cond b (Some k) (first_index (k + 1) (map method_name fs) f)) (bytes_eq-turned f m.name) ∙ ap (cond (bytes_eq m.name f) (Some k)) (first_method_index (k + 1) fs f)
 first_method_index k (Attribute a ∷ fs) f = first_method_index (k + 1) fs f
 
 -- the method that a class of the program has of its own

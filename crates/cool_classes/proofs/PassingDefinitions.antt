@@ -5,10 +5,12 @@ use Rattle.std.specs.List.{AllByRecursion}
 use Rattle.std.proofs.lemmas.List.{get_or-map, length-set}
 use Rattle.std.proofs.lemmas.List.Sums.{sum_by-set}
 use Rattle.cool_classes.specs.declared.class_id.ClassId.{ClassId}
-use Rattle.cool_classes.proofs.AllOfLists.{all_at}
 use Rattle.cool_classes.specs.declared.depths.Above.TheVariants.{Known}
 use Rattle.cool_classes.specs.Depths.{parents_with_basic, HasDepth}
 use Rattle.cool_classes.specs.Walks.{LeadsTo, unpassed, AreFresh, IsClimb}
+use Rattle.lists.proofs.AllItems.{all_at}
+use Rattle.std.proofs.lemmas.Bool.{cases_eq}
+use Rattle.lists.proofs.ItemsAt.{known_set}
 
 -- a climb so far: the path leads to a definition, and has those that the climb passed
 pub record Climbing (parents : List ClassId) (before : List (Option ℕ)) (start : ℕ) (passed : List (Option ℕ)) (path : List ℕ) (class : ℕ) : Type 0 where
@@ -21,13 +23,6 @@ pub record Climbing (parents : List ClassId) (before : List (Option ℕ)) (start
   pub count : unpassed passed + length path ≡ unpassed before
   pub fresh : AreFresh before passed path
 
--- two numbers are one, or not
-pub same_or_other : (j k : ℕ) → (j ≡ k) ⊎ (j ≢ k)
-same_or_other zero zero = inl refl
-same_or_other zero (suc k) = inr (λ e. omega arith)
-same_or_other (suc j) zero = inr (λ e. omega arith)
-same_or_other (suc j) (suc k) = elim (same_or_other j k) [ inl e ↦ inl (ap suc e) | inr n ↦ inr (λ e. n (omega arith)) ]
-
 -- a path has its last definition
 pub contains_first : (k j : ℕ) (ks : List ℕ) → j ≡ k → Contains (k ∷ ks) j
 contains_first k j ks e = (zero, omega arith, sym e)
@@ -35,11 +30,6 @@ contains_first k j ks e = (zero, omega arith, sym e)
 -- a path has those before its last definition
 pub contains_rest : (k j : ℕ) (ks : List ℕ) → Contains ks j → Contains (k ∷ ks) j
 contains_rest k j ks (i, less, e) = (suc i, omega arith, e)
-
--- a definition of a path is the last one or one before
-pub contains_cases : (k j : ℕ) (ks : List ℕ) → Contains (k ∷ ks) j → (k ≡ j) ⊎ Contains ks j
-contains_cases k j ks (zero, less, e) = inl e
-contains_cases k j ks (suc i, less, e) = inr (i, omega arith, e)
 
 -- the parent of a definition, among the parents of all classes
 pub parent_there : (parents : List ClassId) (k : ℕ) (d : ClassId) → k < length parents → get_or (parents_with_basic parents) (k + 5) None ≡ Some (get_or parents k d)
@@ -73,18 +63,10 @@ none_before None a keeps none = refl
 none_before (Some w) a keeps none = some_or_none a (keeps refl) none
 
 -- what is passed stays passed
-marked_set : (passed : List (Option ℕ)) (class start k : ℕ) → class < length passed → IsSome (get_or passed k None) → IsSome (get_or (set passed class (Some start)) k None)
-marked_set passed class start k within some =
-    elim (same_or_other k class) [
-      | inl same ↦
-          ap (λ (n : ℕ). is_some (get_or (set passed class (Some start)) n None)) same ∙ ap (λ (o : Option ℕ). is_some o) (get_or-set_same passed class (Some start) None within)
-      | inr other ↦ ap (λ (o : Option ℕ). is_some o) (get_or-set_other passed class k (Some start) None other) ∙ some
-    ]
-
 all_marked : (passed : List (Option ℕ)) (class start : ℕ) → class < length passed → (path : List ℕ) → AllByRecursion (λ (k : ℕ). IsSome (get_or passed k None)) path
     → AllByRecursion (λ (k : ℕ). IsSome (get_or (set passed class (Some start)) k None)) path
 all_marked passed class start within [] all = tt
-all_marked passed class start within (k ∷ ks) all = (marked_set passed class start k within all.0, all_marked passed class start within ks all.1)
+all_marked passed class start within (k ∷ ks) all = (known_set passed class start k within all.0, all_marked passed class start within ks all.1)
 
 -- a definition that is not passed is none of those that are
 apart_by : (passed : List (Option ℕ)) (class : ℕ) → get_or passed class None ≡ None → (path : List ℕ) → AllByRecursion (λ (k : ℕ). IsSome (get_or passed k None)) path → AllByRecursion (λ (k : ℕ). k ≢ class) path
@@ -99,7 +81,7 @@ fresh_one before passed path class start within none f = record {
   fresh = (none_before (get_or before class None) (get_or passed class None) (f.kept class) none, f.fresh);
   marked = (ap (λ (o : Option ℕ). is_some o) (get_or-set_same passed class (Some start) None within), all_marked passed class start within path f.marked);
   apart = (apart_by passed class none path f.marked, f.apart);
-  kept = λ k some. marked_set passed class start k within (f.kept k some);
+  kept = λ k some. known_set passed class start k within (f.kept k some);
 }
 
 -- what stands after a definition is passed
@@ -116,7 +98,7 @@ noted_by : (before : List (Option ℕ)) (start : ℕ) (passed : List (Option ℕ
     → ((k w : ℕ) → get_or passed k None ≡ Some w → (get_or before k None ≡ Some w) ⊎ ((w ≡ start) × Contains path k))
     → (k w : ℕ) → get_or (set passed class (Some start)) k None ≡ Some w → (get_or before k None ≡ Some w) ⊎ ((w ≡ start) × Contains (class ∷ path) k)
 noted_by before start passed path class within noted k w e =
-    elim (same_or_other k class) [
+    elim (cases_eq k class) [
       | inl same ↦
           let here : Some start ≡ Some w = sym (get_or-set_same passed class (Some start) None within) ∙ ap (λ (n : ℕ). get_or (set passed class (Some start)) n None) (sym same) ∙ e in
           let w_is : w ≡ start = cc in
@@ -131,7 +113,7 @@ noted_by before start passed path class within noted k w e =
 -- the first definition of a climb is passed
 starts_by : (start : ℕ) (passed : List (Option ℕ)) (class : ℕ) → class < length passed → (class ≡ start) ⊎ IsSome (get_or passed start None) → IsSome (get_or (set passed class (Some start)) start None)
 starts_by start passed class within starts =
-    elim (same_or_other start class) [
+    elim (cases_eq start class) [
       | inl same ↦
           ap (λ (n : ℕ). is_some (get_or (set passed class (Some start)) n None)) same ∙ ap (λ (o : Option ℕ). is_some o) (get_or-set_same passed class (Some start) None within)
       | inr other ↦

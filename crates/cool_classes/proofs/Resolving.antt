@@ -20,31 +20,21 @@ use Rattle.cool_classes.specs.Names.{first_named, self_type}
 use Rattle.cool_classes.specs.Depths.{parents_with_basic, HasDepth, AreDepths}
 use Rattle.cool_classes.specs.Resolved.{AreResolved, AreGood, ArePlaced}
 use Rattle.cool_classes.specs.Settled.{basic_names, names_in, names_with_basic, parent_meant, parents_meant, entries_meant, entries_of, or_zero, or_object, IsParentKnown, AreSettled}
-use Rattle.cool_classes.proofs.AllOfLists.{all_at, all_append, all_map, all_then}
+use Rattle.cool_classes.proofs.AllOfLists.{all_map}
 use Rattle.cool_classes.proofs.BasicDepths.{basic_top, basic_below}
 use Rattle.cool_classes.proofs.GroundedByDepths.{grounded_by}
 use Rattle.cool_classes.proofs.Climbs.{chain_there}
 use Rattle.cool_classes.proofs.DistinctNames.{same_place, all_new, no_self_types}
 use Rattle.cool_classes.proofs.FirstIndexes.{named_sound}
 use Rattle.cool_classes.proofs.ParentsOfDefinitions.{parents_long, parents_within, all_names_long, found_within}
-
--- the class that a definition makes
-abbrev pub class_meant : List (List ℕ) → ClassDef → Class
-class_meant names d = record { name = d.name; parent = Some (parent_meant names d.parent); features = d.features }
-
--- the classes that definitions make, after the basic ones
-abbrev pub classes_meant : List ClassDef → List Class
-classes_meant ds = basic_classes ++ map (class_meant (names_with_basic ds)) ds
-
--- entries are seen as the classes that their definitions make
-entries_seen : (names : List (List ℕ)) (ds : List ClassDef) (os : List (Option ℕ)) → length os ≡ length ds → map as_class (entries_meant names ds os) ≡ map (class_meant names) ds
-entries_seen names [] os long = refl
-entries_seen names (d ∷ ds) [] long = absurd (omega arith)
-entries_seen names (d ∷ ds) (o ∷ os) long = ap (λ (cs : List Class). class_meant names d ∷ cs) (entries_seen names ds os (omega arith))
+use Rattle.lists.proofs.AllItems.{all_at, all_append, all_then}
+use Rattle.cool_classes.specs.ClassFaults.{class_meant, classes_meant}
+use Rattle.cool_classes.proofs.ExactFaults.{meant_in}
+use Rattle.cool_classes.proofs.LawfulByFaults.{names_of_meant}
 
 -- the entries are seen as these classes
 pub all_seen : (ds : List ClassDef) (os : List (Option ℕ)) → length os ≡ length ds → classes (entries_of ds os) ≡ classes_meant ds
-all_seen ds os long = ap (λ (cs : List Class). basic_classes ++ cs) (entries_seen (names_with_basic ds) ds os long)
+all_seen ds os long = ap (λ (cs : List Class). basic_classes ++ cs) (meant_in (names_with_basic ds) ds os long)
 
 -- what holds of the basic classes and of those of definitions holds of all
 each_class : (P : Class → Type 0) (ds : List ClassDef) → AllByRecursion P basic_classes → AllByRecursion (λ (d : ClassDef). P (class_meant (names_with_basic ds) d)) ds
@@ -56,16 +46,11 @@ each_class P ds basic all c within =
 pub classes_long : (ds : List ClassDef) → length (classes_meant ds) ≡ length ds + 5
 classes_long ds = let long = length-map ds (class_meant (names_with_basic ds)) in omega arith
 
--- the names and the parents of the classes
-names_seen : (names : List (List ℕ)) (ds : List ClassDef) → map (λ (c : Class). c.name) (map (class_meant names) ds) ≡ names_in ds
-names_seen names [] = refl
-names_seen names (d ∷ ds) = ap (λ (ns : List (List ℕ)). d.name ∷ ns) (names_seen names ds)
-
 -- the name of a class
 name_seen : (ds : List ClassDef) (c : ClassId) → name_of (classes_meant ds) c ≡ get_or (names_with_basic ds) c.0 []
 name_seen ds c =
     sym (get_or-map_same (λ (x : Class). x.name) (classes_meant ds) c.0 nothing)
-    ∙ ap (λ (ns : List (List ℕ)). get_or (basic_names ++ ns) c.0 []) (names_seen (names_with_basic ds) ds)
+    ∙ ap (λ (ns : List (List ℕ)). get_or (basic_names ++ ns) c.0 []) (names_of_meant (names_with_basic ds) ds)
 
 -- the parents of the classes of definitions
 parents_seen : (names : List (List ℕ)) (ds : List ClassDef) → map (λ (c : Class). c.parent) (map (class_meant names) ds) ≡ map Some (parents_meant names ds)

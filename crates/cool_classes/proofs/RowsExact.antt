@@ -3,10 +3,10 @@ use Rattle.std.proofs.Common.{◌≡◌, ◌≢◌, ◌⊎◌, inl, inr, ℕ, ze
 use Rattle.std.specs.Prelude.{slice_get, bytes_eq, nat_eq, codes, if◌then◌else◌}
 use Rattle.std.specs.List.{AllByRecursion}
 use Rattle.std.specs.List.Sorted.{IsPermutation}
-use Rattle.std.proofs.lemmas.Bool.{eqb-true}
+use Rattle.std.proofs.lemmas.Bool.{eqb-true, false_from_ne_true}
 use Rattle.std.proofs.lemmas.List.{map-append}
 use Rattle.std.proofs.lemmas.List.Sorted.{Contains-permutation, IsPermutation-append_left, IsPermutation-append_right, IsPermutation-map}
-use Rattle.std.proofs.lemmas.Option.{none-some, same_Some, slice_get-get_or, get_or_from_slice_get}
+use Rattle.std.proofs.lemmas.Option.{none-some, same_Some, slice_get-get_or, get_or_from_slice_get, slice_get_within}
 use Rattle.std.proofs.lemmas.Slice.Eq.{bytes_eq-Decides}
 use Rattle.cool_syntax.specs.declared.place.Place.{Place}
 use Rattle.cool_syntax.specs.declared.type_ref.TypeRef.{TypeRef}
@@ -31,11 +31,13 @@ use Rattle.cool_classes.specs.Names.{first_named, self_type}
 use Rattle.cool_classes.specs.Settled.{basic_names, names_in, names_with_basic, parents_meant}
 use Rattle.cool_classes.proofs.AllOfLists.{all_permuted}
 use Rattle.cool_classes.proofs.CyclesCaught.{one_of}
-use Rattle.cool_classes.proofs.FaultPlaces.{all_both}
 use Rattle.cool_classes.proofs.SameMembers.{same_members}
-use Rattle.cool_classes.proofs.FeatureRowsExact.{fault, class_rows, bytes_other, some_value, false_from}
-use Rattle.cool_classes.proofs.FirstIndexes.{get_within, seam_get, has_left, has_right, named_found, named_sound}
+use Rattle.cool_classes.proofs.FeatureRowsExact.{fault, class_rows, bytes_other}
+use Rattle.cool_classes.proofs.FirstIndexes.{seam_get, named_found, named_sound}
 use Rattle.cool_classes.proofs.ParentsOfDefinitions.{parents_long}
+use Rattle.lists.proofs.AllItems.{all_append}
+use Rattle.lists.proofs.Options.{some_value, none_is}
+use Rattle.std.proofs.lemmas.List.Elements.{Contains-append_left, Contains-append_right}
 
 -- a stronger property of all
 all_weaker : (P Q : ClassFault → Type 0) → ((f : ClassFault) → P f → Q f) → (fs : List ClassFault) → AllByRecursion P fs → AllByRecursion Q fs
@@ -48,7 +50,7 @@ from_only p k [] = tt
 from_only p k (here ∷ stand) =
     let c = class_number k in
     let z : k ≡ k + 0 = omega arith in
-    all_both (λ (f : ClassFault). IsFaultFrom p k (here ∷ stand) f.kind f.at) (class_faults p c (above p c) here) (features_from p (suc k) stand)
+    all_append (λ (f : ClassFault). IsFaultFrom p k (here ∷ stand) f.kind f.at) (class_faults p c (above p c) here) (features_from p (suc k) stand)
     (all_weaker (λ (f : ClassFault). IsFeatureFault p c (above p c) here f.kind f.at) (λ (f : ClassFault). IsFaultFrom p k (here ∷ stand) f.kind f.at)
     (λ f row. (zero, here, refl, subst (λ (n : ℕ). IsFeatureFault p (class_number n) (above p (class_number n)) here f.kind f.at) z row))
     (class_faults p c (above p c) here) (class_rows p c (above p c) here).only)
@@ -65,10 +67,10 @@ from_there p k (h ∷ stand) kind at zero here is row =
     let same = same_Some h here is in
     let here_row = subst (λ (n : ℕ). IsFeatureFault p (class_number n) (above p (class_number n)) h kind at) z
     (subst (λ (x : Place). IsFeatureFault p (class_number (k + 0)) (above p (class_number (k + 0))) x kind at) (sym same) row) in
-    has_left (class_faults p c (above p c) h) (features_from p (suc k) stand) (fault kind at) ((class_rows p c (above p c) h).all kind at here_row)
+    Contains-append_left (class_faults p c (above p c) h) (features_from p (suc k) stand) (fault kind at) ((class_rows p c (above p c) h).all kind at here_row)
 from_there p k (h ∷ stand) kind at (suc i) here is row =
     let c = class_number k in
-    has_right (class_faults p c (above p c) h) (features_from p (suc k) stand) (fault kind at)
+    Contains-append_right (class_faults p c (above p c) h) (features_from p (suc k) stand) (fault kind at)
     (from_there p (suc k) stand kind at i here is (subst (λ (n : ℕ). IsFeatureFault p (class_number n) (above p (class_number n)) here kind at) (let n : k + suc i ≡ suc k + i = omega arith in n) row))
 
 -- the faults of the feature phase are those of the rows of features
@@ -95,11 +97,7 @@ found_named : (names : List (List ℕ)) (f : List ℕ) → is_some (first_named 
 found_named names f e =
     let c = some_value (first_named 0 names f) e in
     let w = named_sound 0 names f c.0 c.1 in
-    (w.0, get_within names w.0 f w.2, get_or_from_slice_get names w.0 f f w.2)
-
-none_is : {X : Type 0} (o : Option X) → is_some o ≡ false → o ≡ None
-none_is None e = refl
-none_is (Some x) e = absurd (true≢false e)
+    (w.0, slice_get_within names w.0 f w.2, get_or_from_slice_get names w.0 f f w.2)
 
 -- the faults of the names of definitions
 name_cases : (name : List ℕ) (known : Bool) (kind : ClassKind) → name_kind name known ≡ Some kind → ((kind ≡ C2) × (name ≡ self_type)) ⊎ ((kind ≡ C1) × (name ≢ self_type) × (known ≡ true))
@@ -122,7 +120,7 @@ names_only all done (d ∷ ds) whole =
     let next : before ++ d.name ∷ [] ≡ basic_names ++ names_in (done ++ d ∷ []) =
     append_assoc basic_names (names_in done) (d.name ∷ []) ∙ ap (λ (xs : List (List ℕ)). basic_names ++ xs) (sym (map-append (λ (x : ClassDef). x.name) done (d ∷ []))) in
     let rest = names_only all (done ++ d ∷ []) ds (append_assoc done (d ∷ []) ds ∙ whole) in
-    all_both P (of_kind (name_kind d.name known) d.at) (names_faults (before ++ d.name ∷ []) ds)
+    all_append P (of_kind (name_kind d.name known) d.at) (names_faults (before ++ d.name ∷ []) ds)
     (kind_only P (name_kind d.name known) d.at (λ kind e.
     elim (name_cases d.name known kind e) [
       | inl (is, self) ↦ subst (λ (k : ClassKind). IsClassFault all k d.at) (sym is) (rows.named_self_type (length done) d at self)
@@ -142,14 +140,14 @@ names_have before [] k d f e there = absurd (none-some d e)
 names_have before (x ∷ ds) zero d f e there =
     let same = same_Some x d e in
     let here = subst (λ (y : ClassDef). Contains (of_kind (name_kind y.name (is_some (first_named 0 (before ++ []) y.name))) y.at) f) (sym same) there in
-    has_left (of_kind (name_kind x.name (is_some (first_named 0 before x.name))) x.at) (names_faults (before ++ x.name ∷ []) ds) f
+    Contains-append_left (of_kind (name_kind x.name (is_some (first_named 0 before x.name))) x.at) (names_faults (before ++ x.name ∷ []) ds) f
     (subst (λ (ns : List (List ℕ)). Contains (of_kind (name_kind x.name (is_some (first_named 0 ns x.name))) x.at) f) (nothing_more before) here)
   where
     nothing_more : (xs : List (List ℕ)) → xs ++ [] ≡ xs
     nothing_more [] = refl
     nothing_more (y ∷ xs) = ap (λ (ys : List (List ℕ)). y ∷ ys) (nothing_more xs)
 names_have before (x ∷ ds) (suc k) d f e there =
-    has_right (of_kind (name_kind x.name (is_some (first_named 0 before x.name))) x.at) (names_faults (before ++ x.name ∷ []) ds) f
+    Contains-append_right (of_kind (name_kind x.name (is_some (first_named 0 before x.name))) x.at) (names_faults (before ++ x.name ∷ []) ds) f
     (names_have (before ++ x.name ∷ []) ds k d f e
     (subst (λ (ns : List (List ℕ)). Contains (of_kind (name_kind d.name (is_some (first_named 0 ns d.name))) d.at) f) (sym (append_assoc before (x.name ∷ []) (take k (names_in ds)))) there))
 
@@ -188,7 +186,7 @@ parents_only : (all ds : List ClassDef) (n : ℕ) → ((i : ℕ) (d : ClassDef) 
 parents_only all [] n left = tt
 parents_only all (d ∷ ds) n left =
     let P = λ (f : ClassFault). IsClassFault all f.kind f.at in
-    all_both P (parent_faults (names_with_basic all) d.parent) (parents_faults (names_with_basic all) ds) (one d.parent refl)
+    all_append P (parent_faults (names_with_basic all) d.parent) (parents_faults (names_with_basic all) ds) (one d.parent refl)
     (parents_only all ds (suc n) (λ i x e. ap (slice_get all) (let z : suc n + i ≡ n + suc i = omega arith in z) ∙ left (suc i) x e))
   where
     one : (o : Option TypeRef) → d.parent ≡ o → AllByRecursion (λ (f : ClassFault). IsClassFault all f.kind f.at) (parent_faults (names_with_basic all) o)
@@ -201,8 +199,8 @@ parents_have : (names : List (List ℕ)) (ds : List ClassDef) (k : ℕ) (r : Typ
 parents_have names [] k r f (d, e, is) there = absurd (none-some d e)
 parents_have names (x ∷ ds) zero r f (d, e, is) there =
     let same = same_Some x d e in
-    has_left (parent_faults names x.parent) (parents_faults names ds) f (subst (λ (o : Option TypeRef). Contains (parent_faults names o) f) (sym (ap (λ (y : ClassDef). y.parent) same ∙ is)) there)
-parents_have names (x ∷ ds) (suc k) r f (d, e, is) there = has_right (parent_faults names x.parent) (parents_faults names ds) f (parents_have names ds k r f (d, e, is) there)
+    Contains-append_left (parent_faults names x.parent) (parents_faults names ds) f (subst (λ (o : Option TypeRef). Contains (parent_faults names o) f) (sym (ap (λ (y : ClassDef). y.parent) same ∙ is)) there)
+parents_have names (x ∷ ds) (suc k) r f (d, e, is) there = Contains-append_right (parent_faults names x.parent) (parents_faults names ds) f (parents_have names ds k r f (d, e, is) there)
 
 -- the faults of cycles
 place_is : (ds : List ClassDef) (k : ℕ) → k < length ds → (d : ClassDef) × IsClassAt ds k d × (place_at ds k ≡ d.at)
@@ -280,19 +278,19 @@ phase_only ds cyclic on =
     let parents = parents_faults (names_with_basic ds) ds in
     let cycles = cycle_faults ds cyclic in
     let main = main_faults (names_with_basic ds) in
-    all_both P names (parents ++ (cycles ++ (main ++ number_faults ds))) (names_only ds [] ds refl)
-    (all_both P parents (cycles ++ (main ++ number_faults ds)) (parents_only ds ds 0 (λ i d e. ap (slice_get ds) (let z : 0 + i ≡ i = omega arith in z) ∙ e))
-    (all_both P cycles (main ++ number_faults ds) (cycles_only ds cyclic (all_within ds cyclic on.only) on.only)
-    (all_both P main (number_faults ds) (main_only ds) (number_only ds MOST_CLASSES P (λ d e. rows.too_many d e)))))
+    all_append P names (parents ++ (cycles ++ (main ++ number_faults ds))) (names_only ds [] ds refl)
+    (all_append P parents (cycles ++ (main ++ number_faults ds)) (parents_only ds ds 0 (λ i d e. ap (slice_get ds) (let z : 0 + i ≡ i = omega arith in z) ∙ e))
+    (all_append P cycles (main ++ number_faults ds) (cycles_only ds cyclic (all_within ds cyclic on.only) on.only)
+    (all_append P main (number_faults ds) (main_only ds) (number_only ds MOST_CLASSES P (λ d e. rows.too_many d e)))))
 
 in_names : (ds : List ClassDef) (cyclic : List ℕ) (f : ClassFault) → Contains (names_faults basic_names ds) f → Contains (class_phase ds cyclic) f
-in_names ds cyclic f there = has_left (names_faults basic_names ds) _ f there
+in_names ds cyclic f there = Contains-append_left (names_faults basic_names ds) _ f there
 
 in_parents : (ds : List ClassDef) (cyclic : List ℕ) (f : ClassFault) → Contains (parents_faults (names_with_basic ds) ds) f → Contains (class_phase ds cyclic) f
-in_parents ds cyclic f there = has_right (names_faults basic_names ds) _ f (has_left (parents_faults (names_with_basic ds) ds) _ f there)
+in_parents ds cyclic f there = Contains-append_right (names_faults basic_names ds) _ f (Contains-append_left (parents_faults (names_with_basic ds) ds) _ f there)
 
 in_rest : (ds : List ClassDef) (cyclic : List ℕ) (f : ClassFault) → Contains (cycle_faults ds cyclic ++ (main_faults (names_with_basic ds) ++ number_faults ds)) f → Contains (class_phase ds cyclic) f
-in_rest ds cyclic f there = has_right (names_faults basic_names ds) _ f (has_right (parents_faults (names_with_basic ds) ds) _ f there)
+in_rest ds cyclic f there = Contains-append_right (names_faults basic_names ds) _ f (Contains-append_right (parents_faults (names_with_basic ds) ds) _ f there)
 
 phase_there : (ds : List ClassDef) (cyclic : List ℕ) → AreOnCycles ds cyclic → (kind : ClassKind) (at : Place) → IsClassFault ds kind at → Contains (class_phase ds cyclic) (fault kind at)
 phase_there ds cyclic on kind at (rows.twice k d is other there) =
@@ -303,7 +301,7 @@ phase_there ds cyclic on kind at (rows.twice k d is other there) =
   where
     kind_known : (name : List ℕ) (known : Bool) → name ≢ self_type → known ≡ true → name_kind name known ≡ Some C1
     kind_known name known o k =
-        ap (λ (b : Bool). if b then Some C2 else (if known then Some C1 else None)) (false_from (bytes_eq name self_type) (λ e. o ((bytes_eq-Decides name self_type).0 e)))
+        ap (λ (b : Bool). if b then Some C2 else (if known then Some C1 else None)) (false_from_ne_true (bytes_eq name self_type) (λ e. o ((bytes_eq-Decides name self_type).0 e)))
         ∙ ap (λ (b : Bool). if b then Some C1 else None) k
 phase_there ds cyclic on kind at (rows.named_self_type k d is self) =
     let known = is_some (first_named 0 (basic_names ++ take k (names_in ds)) d.name) in
@@ -317,11 +315,11 @@ phase_there ds cyclic on kind at (rows.parent_self_type k r has self) =
     (kind_in (parent_kind r.name o) C2 r.at (ap (λ (b : Bool). if b then Some C2 else class_kind o) ((bytes_eq-Decides r.name self_type).1 self))))
 phase_there ds cyclic on kind at (rows.no_parent k r has other none) =
     let o = first_named 0 (names_with_basic ds) r.name in
-    let nowhere : o ≡ None = none_is o (false_from (is_some o) (λ e. none (found_named (names_with_basic ds) r.name e))) in
+    let nowhere : o ≡ None = none_is o (false_from_ne_true (is_some o) (λ e. none (found_named (names_with_basic ds) r.name e))) in
     in_parents ds cyclic (fault C3 r.at)
     (parents_have (names_with_basic ds) ds k r (fault C3 r.at) has
     (kind_in (parent_kind r.name o) C3 r.at
-    (ap (λ (b : Bool). if b then Some C2 else class_kind o) (false_from (bytes_eq r.name self_type) (λ e. other ((bytes_eq-Decides r.name self_type).0 e))) ∙ ap class_kind nowhere)))
+    (ap (λ (b : Bool). if b then Some C2 else class_kind o) (false_from_ne_true (bytes_eq r.name self_type) (λ e. other ((bytes_eq-Decides r.name self_type).0 e))) ∙ ap class_kind nowhere)))
 phase_there ds cyclic on kind at (rows.barred_parent k r has barred) =
     let o = first_named 0 (names_with_basic ds) r.name in
     in_parents ds cyclic (fault C4 r.at)
@@ -335,14 +333,14 @@ phase_there ds cyclic on kind at (rows.barred_parent k r has barred) =
     by name (inr (inl e)) = at_name (codes "Bool") name e refl
     by name (inr (inr e)) = at_name (codes "String") name e refl
 phase_there ds cyclic on kind at (rows.cycle k d is cycle) =
-    let less = get_within ds k d is in
+    let less = slice_get_within ds k d is in
     let long = parents_long (names_with_basic ds) ds in
-    in_rest ds cyclic (fault C5 d.at) (has_left (cycle_faults ds cyclic) _ (fault C5 d.at) (cycles_have ds cyclic k d (on.all k (omega arith) cycle) is))
+    in_rest ds cyclic (fault C5 d.at) (Contains-append_left (cycle_faults ds cyclic) _ (fault C5 d.at) (cycles_have ds cyclic k d (on.all k (omega arith) cycle) is))
 phase_there ds cyclic on kind at (rows.no_main none) =
     in_rest ds cyclic (fault C6 (record { file = 0; line = 1; byte = 0 }))
-    (has_right (cycle_faults ds cyclic) _ (fault C6 (record { file = 0; line = 1; byte = 0 })) (has_left (main_faults (names_with_basic ds)) _ (fault C6 (record { file = 0; line = 1; byte = 0 })) (main_has ds none)))
+    (Contains-append_right (cycle_faults ds cyclic) _ (fault C6 (record { file = 0; line = 1; byte = 0 })) (Contains-append_left (main_faults (names_with_basic ds)) _ (fault C6 (record { file = 0; line = 1; byte = 0 })) (main_has ds none)))
 phase_there ds cyclic on kind at (rows.too_many d is) =
-    in_rest ds cyclic (fault C7 d.at) (has_right (cycle_faults ds cyclic) _ (fault C7 d.at) (has_right (main_faults (names_with_basic ds)) _ (fault C7 d.at) (number_has ds MOST_CLASSES d is)))
+    in_rest ds cyclic (fault C7 d.at) (Contains-append_right (cycle_faults ds cyclic) _ (fault C7 d.at) (Contains-append_right (main_faults (names_with_basic ds)) _ (fault C7 d.at) (number_has ds MOST_CLASSES d is)))
 
 -- the rows hold of the same faults in another order
 rows_permuted : (R : ClassKind → Place → Type 0) (xs ys : List ClassFault) → IsPermutation xs ys → AreRows R xs → AreRows R ys

@@ -3,8 +3,10 @@ use Rattle.std.proofs.Common.{◌≡◌, ◌≢◌, ◌⊎◌, inl, inr, ℕ, Li
 use Rattle.std.specs.List.Sorted.{IsPermutation}
 use Rattle.std.proofs.lemmas.List.Sorted.{IsPermutation-refl, IsPermutation-sym, IsPermutation-trans, IsPermutation-cons, IsPermutation-middle}
 use Rattle.cool_classes.specs.Cycles.{AreApart}
-use Rattle.cool_classes.proofs.CyclesCaught.{all_from, one_of, contains_left, contains_right, contains_either, nothing_in}
-use Rattle.cool_classes.proofs.PassingDefinitions.{contains_first, contains_rest, contains_cases}
+use Rattle.cool_classes.proofs.CyclesCaught.{all_from, one_of, nothing_in}
+use Rattle.cool_classes.proofs.PassingDefinitions.{contains_first, contains_rest}
+use Rattle.std.proofs.lemmas.List.Elements.{Contains-append_left, Contains-append_right, Contains-append_cases}
+use Rattle.lists.proofs.Membership.{contains_cases}
 
 -- a list around one of its numbers
 split_at : (xs : List ℕ) (k : ℕ) → Contains xs k → (before : List ℕ) × (after : List ℕ) × (xs ≡ before ++ k ∷ after)
@@ -18,16 +20,16 @@ split_at (x ∷ xs) k there =
 -- without that number
 around : (before after : List ℕ) (x k : ℕ) → Contains (before ++ x ∷ after) k → (k ≡ x) ⊎ Contains (before ++ after) k
 around before after x k there =
-    elim (contains_either before (x ∷ after) k there) [
-      | inl left ↦ inr (contains_left before after k left)
-      | inr right ↦ elim (contains_cases x k after right) [ inl e ↦ inl (sym e) | inr rest ↦ inr (contains_right before after k rest) ]
+    elim (Contains-append_cases before (x ∷ after) k there) [
+      | inl left ↦ inr (Contains-append_left before after k left)
+      | inr right ↦ elim (contains_cases x k after right) [ inl e ↦ inl (sym e) | inr rest ↦ inr (Contains-append_right before after k rest) ]
     ]
 
 within_around : (before after : List ℕ) (x k : ℕ) → Contains (before ++ after) k → Contains (before ++ x ∷ after) k
 within_around before after x k there =
-    elim (contains_either before after k there) [
-      | inl left ↦ contains_left before (x ∷ after) k left
-      | inr right ↦ contains_right before (x ∷ after) k (contains_rest x k after right)
+    elim (Contains-append_cases before after k there) [
+      | inl left ↦ Contains-append_left before (x ∷ after) k left
+      | inr right ↦ Contains-append_right before (x ∷ after) k (contains_rest x k after right)
     ]
 
 apart_around : (before after : List ℕ) (x : ℕ) → AreApart (before ++ x ∷ after) → AreApart (before ++ after) × ((k : ℕ) → Contains (before ++ after) k → k ≢ x)
@@ -35,7 +37,7 @@ apart_around [] after x a = (a.1, λ k there. one_of (λ (y : ℕ). y ≢ x) aft
 apart_around (b ∷ before) after x a =
     let rest = apart_around before after x a.1 in
     let other = λ (k : ℕ) (there : Contains (before ++ after) k). one_of (λ (y : ℕ). y ≢ b) (before ++ x ∷ after) k a.0 (within_around before after x k there) in
-    let here : x ≢ b = one_of (λ (y : ℕ). y ≢ b) (before ++ x ∷ after) x a.0 (contains_right before (x ∷ after) x (contains_first x x after refl)) in (
+    let here : x ≢ b = one_of (λ (y : ℕ). y ≢ b) (before ++ x ∷ after) x a.0 (Contains-append_right before (x ∷ after) x (contains_first x x after refl)) in (
       (all_from (λ (y : ℕ). y ≢ b) (before ++ after) other, rest.0),
       λ k there e. elim (contains_cases b k (before ++ after) there) [ inl same ↦ here (sym (same ∙ e)) | inr later ↦ rest.1 k later e ],
     )

@@ -16,6 +16,7 @@ use Rattle.cool_classes.specs.Chains.{Class, features_of}
 use Rattle.cool_classes.specs.Features.{Denotes, formals_in, result_in, formals_of, result_of, IsMethod}
 use Rattle.cool_classes.specs.Tables.{basic_classes, IsTable, IsTyped, IsClassName, IsTypeName}
 use Rattle.cool_classes.proofs.BasicLimits.{class_there}
+use Rattle.lists.proofs.AllItems.{all_at}
 
 five : (p : List Class) → length (take 5 p) ≡ 5 → 5 ≤ length p
 five [] e = absurd (omega (arith, e))
@@ -32,11 +33,6 @@ denotes_there p name (IsClass c) basic (within, is) =
     let all : 5 ≤ length p = five p (ap length basic) in
     (omega arith, ap (λ (x : Class). x.name) (class_there p c.0 basic low) ∙ is)
 denotes_there p name SelfType basic is = is
-
-all_at : {X : Type 0} (P : X → Type 0) (xs : List X) (k : ℕ) (d : X) → AllByRecursion P xs → k < length xs → P (get_or xs k d)
-all_at P [] k d h within = absurd (omega arith)
-all_at P (x ∷ xs) zero d h within = h.0
-all_at P (x ∷ xs) (suc k) d h within = let less : k < length xs = omega arith in all_at P xs k d h.1 less
 
 -- a method that is there stands within the list
 pub method_within : (fs gs : List Feature) (k : ℕ) → fs ≡ gs → IsMethod (slice_get fs k) → k < length gs

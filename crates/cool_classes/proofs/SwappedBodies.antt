@@ -60,11 +60,11 @@ depth_same (e ∷ es) (suc n) k (suc m) f = depth_same es n k m f
 
 -- A table with another feature that declares the same is like the one before
 
-declare_self : (x : Feature) → DeclareSame x x
+pub declare_self : (x : Feature) → DeclareSame x x
 declare_self (Method m) = (refl, refl, refl, refl)
 declare_self (Attribute a) = (refl, refl)
 
-all_declare_self : (xs : List Feature) → AllDeclareSame xs xs
+pub all_declare_self : (xs : List Feature) → AllDeclareSame xs xs
 all_declare_self [] = tt
 all_declare_self (x ∷ xs) = (declare_self x, all_declare_self xs)
 
@@ -82,7 +82,7 @@ all_declare_changed f k [] h = tt
 all_declare_changed f zero (x ∷ xs) h = (h, all_declare_self xs)
 all_declare_changed f (suc k) (x ∷ xs) h = (declare_self x, all_declare_changed f k xs h)
 
-all_alike_self : (ds : List Class) → AreAllAlike ds ds
+pub all_alike_self : (ds : List Class) → AreAllAlike ds ds
 all_alike_self [] = tt
 all_alike_self (d ∷ ds) = ((refl, refl, all_declare_self d.features), all_alike_self ds)
 
@@ -107,7 +107,7 @@ alike_with_feature p n k x h =
 
 -- Names
 
-class_names_same : (ds ds' : List Class) → AreAllAlike ds ds' → map (λ (d : Class). Some d.name) ds' ≡ map (λ (d : Class). Some d.name) ds
+pub class_names_same : (ds ds' : List Class) → AreAllAlike ds ds' → map (λ (d : Class). Some d.name) ds' ≡ map (λ (d : Class). Some d.name) ds
 class_names_same [] [] h = refl
 class_names_same [] (d' ∷ ds') h = absurd h
 class_names_same (d ∷ ds) [] h = absurd h
@@ -122,7 +122,7 @@ method_row_same (Method m ∷ xs) (Attribute a ∷ xs') (h, hs) = absurd h
 method_row_same (Attribute a ∷ xs) (Method m ∷ xs') (h, hs) = absurd h
 method_row_same (Attribute a ∷ xs) (Attribute a' ∷ xs') (h, hs) = λ i. None ∷ method_row_same xs xs' hs i
 
-attribute_row_same : (xs xs' : List Feature) → AllDeclareSame xs xs' → map attribute_name xs' ≡ map attribute_name xs
+pub attribute_row_same : (xs xs' : List Feature) → AllDeclareSame xs xs' → map attribute_name xs' ≡ map attribute_name xs
 attribute_row_same [] [] h = refl
 attribute_row_same [] (x' ∷ xs') h = absurd h
 attribute_row_same (x ∷ xs) [] h = absurd h

@@ -9,10 +9,13 @@ use Rattle.cool_classes.specs.declared.class_id.ClassId.{ClassId}
 use Rattle.cool_classes.specs.declared.depths.Above.TheVariants.{Known, Cycle, Lost}
 use Rattle.cool_classes.specs.Depths.{parents_with_basic, HasDepth, AreDepths}
 use Rattle.cool_classes.specs.Walks.{LeadsTo, settled, cycle_of, unpassed, IsClimb, IsFound, AreWalked}
-use Rattle.cool_classes.proofs.AllOfLists.{all_append}
 use Rattle.std.proofs.lemmas.Option.{none-some}
 use Rattle.cool_classes.proofs.CyclesCaught.{caught_known, caught_cycle, caught_lost, caught_none, none_there}
-use Rattle.cool_classes.proofs.PassingDefinitions.{same_or_other, contains_cases}
+use Rattle.lists.proofs.AllItems.{all_append}
+use Rattle.std.proofs.lemmas.Bool.{cases_eq}
+use Rattle.lists.proofs.ItemsAt.{known_set}
+use Rattle.lists.proofs.Options.{value_of}
+use Rattle.lists.proofs.Membership.{contains_cases}
 
 -- the depths that are known are right, and no greater than a bound
 AreRight : List ClassId → ℕ → List (Option ℕ) → Type 0
@@ -23,7 +26,7 @@ right_set : (parents : List ClassId) (most : ℕ) (known : List (Option ℕ)) (k
     → AreRight parents most known → AreRight parents most (set known k (Some d))
 unfolding AreRight
 right_set parents most known k d within has low right j e there =
-    elim (same_or_other j k) [
+    elim (cases_eq j k) [
       | inl same ↦
           let here : Some d ≡ Some e = sym (get_or-set_same known k (Some d) None within) ∙ ap (λ (n : ℕ). get_or (set known k (Some d)) n None) (sym same) ∙ there in
           let d_is : d ≡ e = cc in
@@ -56,14 +59,6 @@ pub settled_length : (ks : List ℕ) (d : ℕ) (known : List (Option ℕ)) → l
 settled_length [] d known = refl
 settled_length (k ∷ ks) d known = settled_length ks (d + 1) (set known k (Some (d + 1))) ∙ length-set known k (Some (d + 1))
 
--- a depth that is known stays known
-known_set : (known : List (Option ℕ)) (k d j : ℕ) → k < length known → IsSome (get_or known j None) → IsSome (get_or (set known k (Some d)) j None)
-known_set known k d j within some =
-    elim (same_or_other j k) [
-      | inl same ↦ ap (λ (n : ℕ). is_some (get_or (set known k (Some d)) n None)) same ∙ ap (λ (o : Option ℕ). is_some o) (get_or-set_same known k (Some d) None within)
-      | inr other ↦ ap (λ (o : Option ℕ). is_some o) (get_or-set_other known k j (Some d) None other) ∙ some
-    ]
-
 -- a depth that is noted is known
 known_here : (known : List (Option ℕ)) (k d j : ℕ) → k < length known → k ≡ j → IsSome (get_or (set known k (Some d)) j None)
 known_here known k d j within same =
@@ -87,11 +82,6 @@ settled_knows (k ∷ ks) d j known within there =
 -- what is found stays found
 found_more : (known more : List (Option ℕ)) (cyclic : List ℕ) (k : ℕ) → (IsSome (get_or known k None) → IsSome (get_or more k None)) → IsFound known cyclic k → IsFound more cyclic k
 found_more known more cyclic k keeps found = elim found [ inl some ↦ inl (keeps some) | inr no_more ↦ inr no_more ]
-
--- the option is one or the other
-is_known : (o : Option ℕ) → IsSome o → (d : ℕ) × (o ≡ Some d)
-is_known None some = absurd (true≢false (sym some))
-is_known (Some d) some = (d, refl)
 
 -- the depth of what a climb comes to
 record Reaches (parents : List ClassId) (path : List ℕ) (most d : ℕ) : Type 0 where
@@ -131,13 +121,13 @@ reaches parents start known cyclic before after path d w climb =
 -- what is found up to a definition and there
 done_by : (known : List (Option ℕ)) (cyclic : List ℕ) (start k : ℕ) → k < start + 1 → (k < start → IsFound known cyclic k) → (k ≡ start → IsFound known cyclic k) → IsFound known cyclic k
 done_by known cyclic start k less earlier here =
-    elim (same_or_other k start) [ inl same ↦ here same | inr other ↦ earlier (omega arith) ]
+    elim (cases_eq k start) [ inl same ↦ here same | inr other ↦ earlier (omega arith) ]
 
 -- a definition from which a climb began is found
 start_by : (known after : List (Option ℕ)) (cyclic : List ℕ) (start : ℕ) → ((k w : ℕ) → get_or after k None ≡ Some w → IsFound known cyclic k)
     → IsSome (get_or known start None) ⊎ IsSome (get_or after start None) → IsFound known cyclic start
 start_by known after cyclic start seen starts =
-    elim starts [ inl some ↦ inl some | inr passed ↦ (let w = is_known (get_or after start None) passed in seen start w.0 w.1) ]
+    elim starts [ inl some ↦ inl some | inr passed ↦ (let w = value_of (get_or after start None) passed in seen start w.0 w.1) ]
 
 -- a walk to a known depth
 pub walked_known : (parents : List ClassId) (start : ℕ) (known : List (Option ℕ)) (cyclic : List ℕ) (before after : List (Option ℕ)) (path : List ℕ) (d : ℕ)
@@ -218,7 +208,7 @@ pub walked_lost : (parents : List ClassId) (start : ℕ) (known : List (Option �
     → AreWalked parents start known cyclic before → length after ≡ length parents → IsClimb parents known before start after path Lost → AreWalked parents (start + 1) known cyclic after
 walked_lost parents start known cyclic before after path w same climb =
     let (j, v, none, was) = climb.comes_to in
-    let found : cyclic ≢ [] = elim (w.seen j v was) [ inl some ↦ absurd (let d = is_known (get_or known j None) some in none_known (get_or known j None) d.0 d.1 none) | inr there ↦ there ] in
+    let found : cyclic ≢ [] = elim (w.seen j v was) [ inl some ↦ absurd (let d = value_of (get_or known j None) some in none_known (get_or known j None) d.0 d.1 none) | inr there ↦ there ] in
     let count = climb.count in
     record {
       same_known = w.same_known;
@@ -265,7 +255,7 @@ all_known parents known cyclic passed n most w none = record {
   same = w.same_known;
   right = λ k less.
       elim (w.done k (omega arith)) [
-        | inl some ↦ let d = is_known (get_or known k None) some in (d.0, d.1, w.right k d.0 d.1)
+        | inl some ↦ let d = value_of (get_or known k None) some in (d.0, d.1, w.right k d.0 d.1)
         | inr found ↦ absurd (found none)
       ];
 }

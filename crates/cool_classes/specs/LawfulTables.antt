@@ -9,7 +9,7 @@ use Rattle.cool_classes.specs.declared.class_id.ClassId.{ClassId}
 use Rattle.cool_classes.specs.declared.method.MethodRef.{MethodRef}
 use Rattle.cool_classes.specs.Chains.{Class, name_of, parent_of, features_of, IsChain}
 use Rattle.cool_classes.specs.Features.{own_method, implementation, formals_of, result_of, attributes_of, attribute_name}
-use Rattle.cool_classes.specs.Limits.{AreDifferent}
+use Rattle.lists.specs.Different.{AreDifferent}
 
 -- Int, Bool and String are the parents of no class
 pub record MayInherit (q : ClassId) : Type 0 where

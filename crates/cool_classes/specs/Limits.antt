@@ -5,11 +5,7 @@ use Rattle.cool_classes.specs.declared.TheConstants.{MOST_CLASSES, MOST_ATTRIBUT
 use Rattle.cool_classes.specs.declared.class_id.ClassId.{ClassId}
 use Rattle.cool_classes.specs.Chains.{Class, IsChain}
 use Rattle.cool_classes.specs.Features.{implementation, attributes_of}
-
--- no name stands twice
-abbrev pub AreDifferent : List (List ℕ) → Type 0
-AreDifferent [] = Unit {0}
-AreDifferent (name ∷ names) = AllByRecursion (λ other. other ≢ name) names × AreDifferent names
+use Rattle.lists.specs.Different.{AreDifferent}
 
 -- the classes of a chain have a method of this name
 abbrev pub IsImplemented : List Class → List ClassId → List ℕ → Type 0

@@ -7,12 +7,6 @@ use Rattle.std.specs.Prelude.{nat_lt, if◌then◌else◌}
 use Rattle.cool_codegen.specs.declared.arm.Arm as declared_arm
 use Rattle.cool_codegen.specs.Arms.{Arm, arm_of, with_arm}
 
-pub not_less : (a b : ℕ) → b ≤ a → nat_lt a b ≡ false
-not_less a b h = grind arith
-
-pub less : (a b : ℕ) → a < b → nat_lt a b ≡ true
-less a b h = grind arith
-
 -- the branch at a place of the list
 pub at_place : (xs : List declared_arm.Arm) (k : ℕ) (x : declared_arm.Arm) → k < length xs → x ≡ get_or xs k x → drop k (map arm_of xs) ≡ arm_of x ∷ drop (suc k) (map arm_of xs)
 at_place xs k x within is =

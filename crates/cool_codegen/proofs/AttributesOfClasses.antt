@@ -10,6 +10,8 @@ use Rattle.cool_classes.specs.Chains.{Class, features_of}
 use Rattle.cool_classes.specs.ClimbedChains.{above, chain}
 use Rattle.cool_classes.specs.Features.{attributes_of, own_attributes}
 use Rattle.cool_layout.specs.Members.{attributes}
+use Rattle.lists.proofs.Membership.{later_there}
+use Rattle.std.proofs.lemmas.List.Elements.{Contains-append_right}
 
 -- a place among some is no greater than their number
 pub place_low : {X : Type 0} (q : X → Bool) (xs : List X) → position_or_len q xs ≤ length xs
@@ -25,22 +27,14 @@ pub all_there : {X : Type 0} (ys xs : List X) → ((x : X) → Contains xs x →
 all_there ys [] h = tt
 all_there ys (x ∷ xs) h = (h x (zero, omega arith, refl), all_there ys xs (λ y k. h y (suc k.0, (let l = k.1 in omega arith), k.2)))
 
--- one that stands after others is among all
-after : {X : Type 0} (y : X) (xs : List X) (x : X) → Contains xs x → Contains (y ∷ xs) x
-after y xs x k = (suc k.0, (let l = k.1 in omega arith), k.2)
-
-after_all : {X : Type 0} (ys xs : List X) (x : X) → Contains xs x → Contains (ys ++ xs) x
-after_all [] xs x k = k
-after_all (y ∷ ys) xs x k = after y (ys ++ xs) x (after_all ys xs x k)
-
 -- a feature that is an attribute is one of its class's own
 own_there : (c : ClassId) (fs : List Feature) (k j n : ℕ) (a : AttributeDef) → slice_get fs j ≡ Some (Attribute a) → n ≡ k + j → Contains (own_attributes c k fs) (record { owner = c; index = n })
 own_there c [] k j n a h e = absurd (cc)
 own_there c (Method m ∷ fs) k zero n a h e = absurd (cc)
 own_there c (Method m ∷ fs) k (suc j) n a h e = own_there c fs (k + 1) j n a h (omega arith)
 own_there c (Attribute b ∷ fs) k zero n a h e = let same : k ≡ n = omega arith in (zero, omega arith, λ i. record { owner = c; index = same i })
-own_there c (Attribute b ∷ fs) k (suc j) n a h e = after (record { owner = c; index = k }) (own_attributes c (k + 1) fs) (record { owner = c; index = n }) (own_there c fs (k + 1) j n a h (omega arith))
+own_there c (Attribute b ∷ fs) k (suc j) n a h e = later_there (record { owner = c; index = k }) (own_attributes c (k + 1) fs) (record { owner = c; index = n }) (own_there c fs (k + 1) j n a h (omega arith))
 
 pub attribute_there : (p : List Class) (c : ClassId) (j : ℕ) (a : AttributeDef) → slice_get (features_of p c) j ≡ Some (Attribute a) → Contains (attributes p c) (record { owner = c; index = j })
 unfolding chain
-attribute_there p c j a is = after_all (attributes_of p (above p c)) (own_attributes c 0 (features_of p c)) (record { owner = c; index = j }) (own_there c (features_of p c) 0 j j a is (omega arith))
+attribute_there p c j a is = Contains-append_right (attributes_of p (above p c)) (own_attributes c 0 (features_of p c)) (record { owner = c; index = j }) (own_there c (features_of p c) 0 j j a is (omega arith))

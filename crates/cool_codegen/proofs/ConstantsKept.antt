@@ -4,13 +4,9 @@ use Rattle.std.specs.Prelude.{slice_get}
 use Rattle.cool_consts.specs.Constants.{Constants, with_integer, with_string}
 use Rattle.cool_codegen.specs.Asked.{Extends, Keeps}
 use Rattle.cool_codegen.proofs.NumbersAgree.{extends_before, extends_same}
+use Rattle.lists.proofs.ItemsAt.{front_get}
 
--- a list after which others stand, and what stands after a list whose elements are all there
-at_front : {X : Type 0} (xs ys : List X) (k : ℕ) → k < length xs → slice_get (xs ++ ys) k ≡ slice_get xs k
-at_front [] ys k h = absurd (omega arith)
-at_front (x ∷ xs) ys zero h = refl
-at_front (x ∷ xs) ys (suc k) h = at_front xs ys k (omega arith)
-
+-- what stands after a list whose elements are all there
 behind : {X : Type 0} (xs ys : List X) → length xs ≤ length ys → ((k : ℕ) → k < length xs → slice_get ys k ≡ slice_get xs k) → (rest : List X) × (ys ≡ xs ++ rest)
 behind [] ys l h = (ys, refl)
 behind (x ∷ xs) [] l h = absurd (omega arith)
@@ -25,8 +21,8 @@ pub kept_extended : (t u : Constants) → Extends t u → Keeps t u
 kept_extended t u e = record {
   no_fewer_integers = omega (arith, ap length e.integers.1, length-append t.integers e.integers.0);
   no_fewer_strings = omega (arith, ap length e.strings.1, length-append t.strings e.strings.0);
-  integers = λ k less. ap (λ (xs : List ℕ). slice_get xs k) e.integers.1 ∙ at_front t.integers e.integers.0 k less;
-  strings = λ k less. ap (λ (xs : List (List ℕ)). slice_get xs k) e.strings.1 ∙ at_front t.strings e.strings.0 k less;
+  integers = λ k less. ap (λ (xs : List ℕ). slice_get xs k) e.integers.1 ∙ front_get t.integers e.integers.0 k less;
+  strings = λ k less. ap (λ (xs : List (List ℕ)). slice_get xs k) e.strings.1 ∙ front_get t.strings e.strings.0 k less;
 }
 
 pub extended_kept : (t u : Constants) → Keeps t u → Extends t u

@@ -13,6 +13,7 @@ use Rattle.cool_syntax.specs.TreesWithinLimits.{IsFeatureWithin}
 use Rattle.cool_classes.specs.declared.class_id.ClassId.{ClassId}
 use Rattle.cool_classes.specs.Chains.{Class, features_of}
 use Rattle.cool_rules.specs.Fits.{Fits}
+use Rattle.lists.proofs.AllItems.{all_get}
 
 -- what stands at a place
 pub stands : {X : Type 0} (xs ys : List X) (k : ℕ) (x : X) → ys ≡ xs → k < length xs → x ≡ get_or ys k x → slice_get xs k ≡ Some x
@@ -24,18 +25,12 @@ stands {X = X} xs ys k x same less is =
 pub one_there : {X : Type 0} (xs : List X) (k : ℕ) (x y : X) → slice_get xs k ≡ Some x → slice_get xs k ≡ Some y → y ≡ x
 one_there xs k x y e f = let same = sym f ∙ e in cc
 
--- what all keep, the one at a place keeps
-pub kept_there : {X : Type 0} (Q : X → Type 0) (xs : List X) (k : ℕ) (x : X) → AllByRecursion Q xs → slice_get xs k ≡ Some x → Q x
-kept_there Q [] k x all is = absurd (cc)
-kept_there Q (y ∷ ys) zero x all is = subst Q (cc) all.0
-kept_there Q (y ∷ ys) (suc k) x all is = kept_there Q ys k x all.1 is
-
 -- a feature of a program within the limits is bounded, and stands in the files
 pub bounded_there : (p : List Class) (count : ℕ) (c : ClassId) (k : ℕ) (x : Feature) → Fits p count → c.0 < length p → slice_get (features_of p c) k ≡ Some x → IsBoundedFeature x
-bounded_there p count c k x fits within is = kept_there IsBoundedFeature (features_of p c) k x (fits.bounded c within) is
+bounded_there p count c k x fits within is = all_get IsBoundedFeature (features_of p c) k x (fits.bounded c within) is
 
 pub within_there : (p : List Class) (count : ℕ) (c : ClassId) (k : ℕ) (x : Feature) → Fits p count → c.0 < length p → slice_get (features_of p c) k ≡ Some x → IsFeatureWithin count x
-within_there p count c k x fits within is = kept_there (IsFeatureWithin count) (features_of p c) k x (fits.within c within) is
+within_there p count c k x fits within is = all_get (IsFeatureWithin count) (features_of p c) k x (fits.within c within) is
 
 -- and its expression has few nodes
 pub small_value : (p : List Class) (count : ℕ) (c : ClassId) (k : ℕ) (a : AttributeDef) (t : Tree) → Fits p count → c.0 < length p → slice_get (features_of p c) k ≡ Some (Attribute a) → a.init ≡ Some t → tree_size t ≤ MOST_TOKENS

@@ -8,7 +8,6 @@ pub mod NumbersAgree
 mod NodesThere
 mod ArmsInOrder
 pub mod FeaturesThere
-mod NatsAreEqual
 mod NumbersStay
 mod SameSettings
 mod VariablesInOrder

@@ -23,7 +23,9 @@ use Rattle.cool_codegen.specs.Asked.{Extends, integers_in, integers_in_all, inte
 use Rattle.cool_codegen.specs.Code.{Context, code, arguments_code, items_code, initial_code, arms_code, label_at, range_code, integer_label, string_label, file_label, arith_code}
 use Rattle.cool_codegen.specs.Numbered.{after}
 use Rattle.cool_codegen.proofs.NumbersStay.{stays}
-use Rattle.cool_codegen.proofs.NatsAreEqual.{nat_eq-same, bytes_eq-same}
+use Rattle.lists.proofs.Numbers.{nat_eq-same}
+use Rattle.lists.proofs.EqualBytes.{bytes_eq-same}
+use Rattle.lists.proofs.AllItems.{all_left, all_right}
 
 -- two tables give these integers, and these strings, one number
 abbrev pub SameIntegers : Constants → Constants → List ℕ → Type 0
@@ -31,15 +33,6 @@ SameIntegers g h ns = AllByRecursion (λ n. integer_label g n ≡ integer_label 
 
 abbrev pub SameStrings : Constants → Constants → List (List ℕ) → Type 0
 SameStrings g h bs = AllByRecursion (λ b. string_label g b ≡ string_label h b) bs
-
--- what holds of all of two lists holds of all of each
-all_left : {X : Type 0} (P : X → Type 0) (xs ys : List X) → AllByRecursion P (xs ++ ys) → AllByRecursion P xs
-all_left P [] ys h = tt
-all_left P (x ∷ xs) ys h = (h.0, all_left P xs ys h.1)
-
-all_right : {X : Type 0} (P : X → Type 0) (xs ys : List X) → AllByRecursion P (xs ++ ys) → AllByRecursion P ys
-all_right P [] ys h = h
-all_right P (x ∷ xs) ys h = all_right P xs ys h.1
 
 integers_left : (g h : Constants) (xs ys : List ℕ) → SameIntegers g h (xs ++ ys) → SameIntegers g h xs
 integers_left g h xs ys a = all_left (λ n. integer_label g n ≡ integer_label h n) xs ys a

@@ -7,21 +7,11 @@ use Rattle.cool_ports.specs.declared.shelf.ShelfFault.{ShelfFault}
 use Rattle.cool_ports.specs.declared.shelf.ShelfFault.TheVariants as faults
 use Rattle.std.specs.Global.{Global, Vec}
 use Rattle.std.proofs.lemmas.List.{at_drop_more, map_more, map_push, map-append}
-use Rattle.cool_ports.specs.ShelfFiles.{FileMap, MayHold, IsMissing, IsLonger}
+use Rattle.cool_ports.specs.ShelfFiles.{FileMap, MayHold, IsMissing, IsLonger, AreHeld}
 use Rattle.cool_faults.specs.Files.{bytes_of, total}
-use Rattle.cool_editor.specs.Ends.{AreHeld, IsCause, IsStop}
-
--- one more file is held
-held_more : (told : Option FileMap) (names contents : List (List ℕ)) (name bytes : List ℕ) → AreHeld told names contents → MayHold told name bytes → AreHeld told (names ++ name ∷ []) (contents ++ bytes ∷ [])
-held_more told [] [] name bytes held here = (here, tt)
-held_more told [] (x ∷ contents) name bytes held here = absurd held
-held_more told (n ∷ names) [] name bytes held here = absurd held
-held_more told (n ∷ names) (x ∷ contents) name bytes held here = (held.0, held_more told names contents name bytes held.1 here)
-
--- the bytes of one more file are counted
-total_more : (contents : List (List ℕ)) (bytes : List ℕ) → total (contents ++ bytes ∷ []) ≡ total contents + length bytes
-total_more [] bytes = omega arith
-total_more (x ∷ contents) bytes = omega (arith, total_more contents bytes)
+use Rattle.cool_editor.specs.Ends.{IsCause, IsStop}
+use Rattle.cool_faults.proofs.FileSizes.{total-push}
+use Rattle.cool_ports.proofs.FilesHeld.{held_more}
 
 -- one more file was read
 pub held_turn : (told now : Option FileMap) (names : List (String Global)) (i : ℕ) (name : String Global) (given : List ℕ) (contents more : List (Vec ℕ)) (file : Vec ℕ) → now ≡ told → i < length names → name ≡ get_or names i name → given ≡ string_bytes name
@@ -38,12 +28,7 @@ held_turn told now names i name given contents more file same h is called held g
 pub total_turn : (contents more : List (Vec ℕ)) (file : Vec ℕ) → more ≡ contents ++ file ∷ [] → total (bytes_of more) ≡ total (bytes_of contents) + length file.items
 total_turn contents more file pushed =
     let all : bytes_of more ≡ bytes_of contents ++ file.items ∷ [] = ap bytes_of pushed ∙ map_push _ _ _ in
-    ap total all ∙ total_more (bytes_of contents) file.items
-
--- one more item is counted
-pub length_more : {X : Type 0} (xs : List X) (x : X) → length (xs ++ x ∷ []) ≡ length xs + 1
-length_more [] x = omega arith
-length_more (y ∷ xs) x = omega (arith, length_more xs x)
+    ap total all ∙ total-push (bytes_of contents) file.items
 
 -- a name stands between those before it and those after it
 names_cut : (names : List (String Global)) (i : ℕ) (name : String Global) → i < length names → name ≡ get_or names i name → map string_bytes names ≡ map string_bytes (take i names) ++ string_bytes name ∷ map string_bytes (drop (i + 1) names)

@@ -11,6 +11,7 @@ use Rattle.cool_classes.specs.Tables.{IsTable}
 use Rattle.cool_faults.specs.Phases.{AreFound, IsParsed, IsSyntactic}
 use Rattle.cool_faults.proofs.FindingsInARow.{AllFound, all_found}
 use Rattle.cool_editor.specs.Ends.{AreTrees}
+use Rattle.lists.proofs.ItemsLeft.{drop_one}
 
 -- files that were parsed are trees
 trees_of : (k : ℕ) (files : List Lexed) (trees : List FileTree) → AllFound IsParsed k files trees → AreTrees files trees
@@ -39,15 +40,6 @@ basic_first (a ∷ b ∷ c ∷ d ∷ f ∷ p) e = omega arith
 
 pub each_class : (p : List Class) (ds : List ClassDef) → IsTable p → IsTableOf ds p → length p ≡ length ds + 5
 each_class p ds table of = basic_first p (ap length table.basic) ∙ ap (λ (n : ℕ). n + 5) (as_many p ds (drop 5 p) of)
-
--- the items from one position on
-drop_first : {X : Type 0} (xs : List X) (i : ℕ) (x : X) → i < length xs → x ≡ get_or xs i x → drop i xs ≡ x ∷ drop (suc i) xs
-drop_first [] i x within is = absurd (omega arith)
-drop_first (y ∷ xs) zero x within is = ap (λ z. z ∷ xs) (sym is)
-drop_first (y ∷ xs) (suc i) x within is = drop_first xs i x (omega arith) is
-
-pub drop_one : {X : Type 0} (xs : List X) (i : ℕ) (x : X) → i < length xs → x ≡ get_or xs i x → drop i xs ≡ x ∷ drop (i + 1) xs
-drop_one xs i x within is = subst (λ (j : ℕ). drop i xs ≡ x ∷ drop j xs) (sym (add-one i)) (drop_first xs i x within is)
 
 -- The files that are left are trees whose definitions complete all.
 abbrev pub GoOn : List Lexed → List ClassDef → List ClassDef → Type 0

@@ -13,18 +13,11 @@ use Rattle.cool_faults.specs.Untyped.{IsRefusedEarly, IsUntyped}
 use Rattle.cool_names.specs.declared.mark.Mark.{Mark}
 use Rattle.cool_names.specs.Programs.{program_marks}
 use Rattle.cool_ports.specs.Counts.{Rose}
-use Rattle.cool_ports.specs.ShelfFiles.{FileMap, MayHold, IsMissing, IsLonger}
+use Rattle.cool_ports.specs.ShelfFiles.{FileMap, MayHold, IsMissing, IsLonger, AreHeld}
 use Rattle.cool_ports.specs.SinkBytes.{appended, GotPrefix}
 use Rattle.cool_editor.specs.Lines.{mark_lines}
 use Rattle.cool_editor.specs.declared.status.Status.{Status}
 use Rattle.cool_editor.specs.declared.status.Status.TheVariants.{Done, Refused, Usage, WriteFault, Memory, FileFault}
-
--- the files of these names have these bytes, as far as the shelf tells
-abbrev pub AreHeld : Option FileMap → List (List ℕ) → List (List ℕ) → Type 0
-AreHeld files [] [] = Unit {0}
-AreHeld files [] (bytes ∷ contents) = ⊥
-AreHeld files (name ∷ names) [] = ⊥
-AreHeld files (name ∷ names) (bytes ∷ contents) = MayHold files name bytes × AreHeld files names contents
 
 -- the tokens of each file are the tree that has its place
 abbrev pub AreTrees : List Lexed → List FileTree → Type 0

@@ -14,7 +14,7 @@ use Rattle.cool_syntax.specs.Tree as trees
 use Rattle.cool_syntax.specs.TreesWithinLimits.{IsTreeWithin, AreTreesWithin, IsMaybeWithin, AreCasesWithin, IsFeatureWithin}
 use Rattle.cool_classes.specs.declared.class_id.ClassId.{ClassId}
 use Rattle.cool_classes.specs.Chains.{Class, features_of}
-use Rattle.cool_classes.proofs.AllOfLists.{all_append, all_with}
+use Rattle.cool_classes.proofs.AllOfLists.{all_with}
 use Rattle.cool_layout.specs.Preorder.{numbers_from}
 use Rattle.cool_consts.specs.Constants.{with_integer, with_string}
 use Rattle.cool_codegen.specs.Asked.{with_integers, with_strings, integers_in, integers_in_all}
@@ -24,6 +24,7 @@ use Rattle.cool_codegen.specs.Features.{feature_integers, initial_integers, feat
 use Rattle.cool_emit.specs.declared.TheConstants.{MOST_FILE_NAME}
 use Rattle.cool_emit.specs.FileNames.{AreShortNames}
 use Rattle.cool_emit.specs.Programs.{Placed, attributes_from, methods_from, class_features, all_features, program_constants, IsBuildable}
+use Rattle.lists.proofs.AllItems.{all_append}
 
 -- what holds of the lists that are made for the elements of a list holds of them joined
 pub all_flat : {X Y : Type 0} (P : X → Type 0) (Q : Y → Type 0) (f : X → List Y) (xs : List X) → ((x : X) → P x → AllByRecursion Q (f x))
@@ -40,7 +41,7 @@ all_with_integers P xs (y ∷ ys) all more = all_with_integers P (with_integer x
     by true = all
     by false = all_with P xs y all more.0
 
-all_with_strings : (P : List ℕ → Type 0) (xs ys : List (List ℕ)) → AllByRecursion P xs → AllByRecursion P ys
+pub all_with_strings : (P : List ℕ → Type 0) (xs ys : List (List ℕ)) → AllByRecursion P xs → AllByRecursion P ys
     → AllByRecursion P (with_strings xs ys)
 all_with_strings P xs [] all more = all
 all_with_strings P xs (y ∷ ys) all more = all_with_strings P (with_string xs y) ys (by (list_any (bytes_eq y) xs)) more.1
@@ -200,7 +201,7 @@ methods_within n j (Method m ∷ fs) all = (all.0, methods_within n (j + 1) fs a
 methods_within n j (Attribute a ∷ fs) all = methods_within n (j + 1) fs all.1
 
 -- the numbers of classes are below their end
-numbers_low : (k n m : ℕ) → k + n ≤ m → AllByRecursion (λ (c : ClassId). c.0 < m) (numbers_from k n)
+pub numbers_low : (k n m : ℕ) → k + n ≤ m → AllByRecursion (λ (c : ClassId). c.0 < m) (numbers_from k n)
 numbers_low k zero m l = tt
 numbers_low k (suc n) m l = (omega arith, numbers_low (k + 1) n m (omega arith))
 

@@ -8,7 +8,6 @@ use Rattle.cool_runtime.specs.Labels.{int_table, bool_table, true_constant, fals
 use Rattle.cool_runtime.specs.LinesOfData.{words, int_lines, bool_lines, string_lines}
 use Rattle.cool_layout.specs.Preorder.{tag}
 use Rattle.cool_layout.specs.LinesOfLayout.{layout_lines}
-use Rattle.cool_layout.proofs.SlotNames.{equal_self}
 use Rattle.cool_consts.specs.Constants.{integer_number, string_number}
 use Rattle.cool_consts.specs.Labels.{int_constant, string_constant, string_length}
 use Rattle.cool_consts.specs.LinesOfConstants.{integers_lines, strings_lines}
@@ -16,6 +15,7 @@ use Rattle.cool_codegen.specs.Code.{integer_label, string_label}
 use Rattle.cool_emit.specs.Programs.{program_constants, heap_start, heap_lines, program_lines}
 use Rattle.cool_emit.proofs.LabelsOfParts.{Has, first_place_less, has_left, has_right, has_label}
 use Rattle.cool_emit.proofs.LabelsThere.{has_object, has_string, has_string_length, lines_of_constants, data_there}
+use Rattle.lists.proofs.EqualBytes.{bytes_eq-same}
 
 -- the label of the integer of a number
 int_at : (tag j : ℕ) (ns : List ℕ) (k : ℕ) → k < length ns → Has (integers_lines tag j ns) (int_constant (j + k))
@@ -127,7 +127,7 @@ module _ (p : List Class) (files : List (List ℕ)) where
       → Has (program_lines p files) (string_label (program_constants p files) bytes)
   string_there bytes h =
       string_constant_there (string_number (program_constants p files).strings bytes)
-      (first_place_less (bytes_eq bytes) (program_constants p files).strings bytes (equal_self bytes) h)
+      (first_place_less (bytes_eq bytes) (program_constants p files).strings bytes (bytes_eq-same bytes) h)
 
   -- where the heap begins
   pub heap_start_there : Has (program_lines p files) heap_start

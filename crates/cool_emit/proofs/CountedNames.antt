@@ -5,8 +5,9 @@ use Rattle.std.specs.Prelude.{nat_eq, nat_le, nat_lt, bytes_eq}
 use Rattle.std.specs.List.{AllByRecursion, list_all, list_any}
 use Rattle.std.proofs.lemmas.Bool.{not-true}
 use Rattle.std.proofs.lemmas.Slice.Eq.{bytes_eq-Decides}
-use Rattle.cool_classes.specs.Limits.{AreDifferent}
 use Rattle.cool_layout.proofs.Counting.{one}
+use Rattle.lists.specs.Different.{AreDifferent}
+use Rattle.lists.proofs.EqualBytes.{bytes_eq-same, bytes_equal}
 
 -- how often a name stands in a list
 abbrev pub times : List ℕ → List (List ℕ) → ℕ
@@ -27,18 +28,11 @@ pub times-append : (x : List ℕ) (xs ys : List (List ℕ)) → times x (xs ++ y
 times-append x [] ys = omega arith
 times-append x (y ∷ xs) ys = let e : times x (xs ++ ys) ≡ times x xs + times x ys = times-append x xs ys in omega arith
 
--- names are the same where their bytes are
-pub same : (x : List ℕ) → bytes_eq x x ≡ true
-same x = (bytes_eq-Decides x x).1 refl
-
-pub is_same : (x y : List ℕ) → bytes_eq x y ≡ true → x ≡ y
-is_same x y e = (bytes_eq-Decides x y).0 e
-
 -- a name that stands nowhere is another than each
 others : (x : List ℕ) (ys : List (List ℕ)) → times x ys ≤ 0 → AllByRecursion (λ other. other ≢ x) ys
 others x [] none = tt
 others x (y ∷ ys) none = (
-  λ i. let e : one (bytes_eq x y) ≡ 1 = ap one (ap (bytes_eq x) i ∙ same x) in
+  λ i. let e : one (bytes_eq x y) ≡ 1 = ap one (ap (bytes_eq x) i ∙ bytes_eq-same x) in
       let all : one (bytes_eq x y) + times x ys ≤ 0 = none in
       omega arith,
   let all : one (bytes_eq x y) + times x ys ≤ 0 = none in others x ys (omega arith),
@@ -48,7 +42,7 @@ others x (y ∷ ys) none = (
 pub different : (ys : List (List ℕ)) → ((x : List ℕ) → times x ys ≤ 1) → AreDifferent ys
 different [] h = tt
 different (y ∷ ys) h =
-    let first : one (bytes_eq y y) ≡ 1 = ap one (same y) in
+    let first : one (bytes_eq y y) ≡ 1 = ap one (bytes_eq-same y) in
     let all : one (bytes_eq y y) + times y ys ≤ 1 = h y in
     (others y ys (omega arith), different ys (λ x. let e : one (bytes_eq x y) + times x ys ≤ 1 = h x in omega arith))
 
@@ -57,7 +51,7 @@ pub hit : (P : List ℕ → Bool) (x y : List ℕ) → P y ≡ true → one (byt
 hit P x y h = by (bytes_eq x y) refl
   where
     by : (b : Bool) → bytes_eq x y ≡ b → one b ≤ one (P x)
-    by true e = let l : one (P x) ≡ 1 = ap one (ap P (is_same x y e) ∙ h) in omega arith
+    by true e = let l : one (P x) ≡ 1 = ap one (ap P (bytes_equal x y e) ∙ h) in omega arith
     by false e = omega arith
 
 -- two ranges side by side
@@ -151,7 +145,7 @@ listed P x (y ∷ ys) h l =
     by : (b : Bool) → bytes_eq x y ≡ b → list_any (bytes_eq y) ys ≡ false → P y ≡ true → times x ys ≤ one (P x)
         → one b + times x ys ≤ one (P x)
     by true e apart has rest =
-        let is : x ≡ y = is_same x y e in
+        let is : x ≡ y = bytes_equal x y e in
         let z : times x ys ≡ 0 = ap (λ (z : List ℕ). times z ys) is ∙ none_there y ys apart in
         let o : one (P x) ≡ 1 = ap one (ap P is ∙ has) in
         omega arith

@@ -13,7 +13,7 @@ use Rattle.cool_classes.specs.Chains.{Class, class_number, name_of, nothing}
 use Rattle.cool_classes.specs.ClimbedChains.{chain}
 use Rattle.cool_classes.specs.Features.{attribute_type, HasMethod}
 use Rattle.cool_classes.specs.Tables.{basic_classes}
-use Rattle.cool_classes.proofs.AllOfLists.{all_append, all_map, all_then}
+use Rattle.cool_classes.proofs.AllOfLists.{all_map}
 use Rattle.cool_rules.specs.Fits.{weight_of}
 use Rattle.cool_runtime.specs.Contents.{words_of_bytes}
 use Rattle.cool_runtime.specs.Labels.{int_table, bool_table, string_table, true_constant, false_constant}
@@ -41,6 +41,7 @@ use Rattle.cool_emit.proofs.LabelsThere.{class_name_there, class_name_length_the
 use Rattle.cool_emit.proofs.ConstantsThere.{false_constant_there, string_length_there}
 use Rattle.cool_emit.proofs.FixedNamesThere.{basic_within, basic_named, int_table_there, bool_table_there, string_table_there}
 use Rattle.cool_emit.proofs.ConstantsInRange.{all_flat, IsInt, IsShort, integers_in_range, strings_in_range}
+use Rattle.lists.proofs.AllItems.{all_append, all_then}
 
 -- The parts of data, where names may be used
 

@@ -19,28 +19,28 @@ use Rattle.cool_runtime.specs.Labels.{abort_text, newline_text, colon_text, no_b
 use Rattle.cool_runtime.specs.RoutineLabels.{dispatch_text, case_text, division_text, substring_text, overflow_text}
 use Rattle.cool_layout.specs.Labels.{method_label}
 use Rattle.cool_layout.proofs.BasicNames.{five, basic_name}
-use Rattle.cool_layout.proofs.SlotNames.{same_bytes}
 use Rattle.cool_emit.specs.Programs.{program_text, program_lines, IsBuildable}
 use Rattle.cool_emit.proofs.LabelsOfParts.{Has, place_there}
 use Rattle.cool_emit.proofs.LabelsThere.{texts_there, dispatch_table_there, prototype_there, initializer_there, method_there}
+use Rattle.lists.proofs.EqualBytes.{bytes_equal}
 
 -- the first method of a name has that name
-abbrev Named : ℕ → List Feature → List ℕ → ℕ → Type 0
+abbrev pub Named : ℕ → List Feature → List ℕ → ℕ → Type 0
 Named j fs f k = (i : ℕ) × (k ≡ j + i) × (name_in (slice_get fs i) ≡ f)
 
-first_is_named : (j : ℕ) (fs : List Feature) (f : List ℕ) (k : ℕ) → first_method j fs f ≡ Some k → Named j fs f k
+pub first_is_named : (j : ℕ) (fs : List Feature) (f : List ℕ) (k : ℕ) → first_method j fs f ≡ Some k → Named j fs f k
 first_is_named j [] f k h = absurd (cc)
 first_is_named j (Method m ∷ fs) f k h = by (bytes_eq m.name f) refl h (λ g. first_is_named (j + 1) fs f k g)
   where
     by : (t : Bool) → bytes_eq m.name f ≡ t → cond t (Some j) (first_method (j + 1) fs f) ≡ Some k
         → (first_method (j + 1) fs f ≡ Some k → Named (j + 1) fs f k) → Named j (Method m ∷ fs) f k
-    by true e g more = (0, (let s : j ≡ k = cc in omega arith), same_bytes m.name f e)
+    by true e g more = (0, (let s : j ≡ k = cc in omega arith), bytes_equal m.name f e)
     by false e g more = let rest = more g in (suc rest.0, (let s = rest.1 in omega arith), rest.2)
 first_is_named j (Attribute a ∷ fs) f k h =
     let rest = first_is_named (j + 1) fs f k h in (suc rest.0, (let s = rest.1 in omega arith), rest.2)
 
 -- no basic class has a method main
-no_basic_main : (n : ℕ) → method_among (basic_methods n) (codes "main") ≡ None
+pub no_basic_main : (n : ℕ) → method_among (basic_methods n) (codes "main") ≡ None
 no_basic_main zero = refl
 no_basic_main (suc zero) = refl
 no_basic_main (suc (suc zero)) = refl

@@ -3,7 +3,6 @@ use Rattle.std.proofs.Common.{ℕ, ◌≤◌, List, ◌∷◌, arith}
 use Rattle.mips_isa.specs.Lines.{Name, ToData}
 use Rattle.mips_isa.specs.Assembly.{directive_line}
 use Rattle.cool_classes.specs.Chains.{Class}
-use Rattle.cool_classes.specs.Limits.{AreDifferent}
 use Rattle.cool_runtime.specs.RoutineLines.{all_routine_lines}
 use Rattle.cool_emit.specs.SoundLines.{labels_of}
 use Rattle.cool_emit.specs.Programs.{IsBuildable, program_constants, program_text, program_data, program_lines, classes_code}
@@ -13,6 +12,7 @@ use Rattle.cool_emit.proofs.LabelsOfClasses.{classes_once}
 use Rattle.cool_emit.proofs.LabelsOfCode.{marks, marks-append}
 use Rattle.cool_emit.proofs.LabelsOfData.{data_once}
 use Rattle.cool_emit.proofs.RoutineLabelsApart.{routines_once}
+use Rattle.lists.specs.Different.{AreDifferent}
 
 -- a name counts once at most among the labels of a program
 label_once : (p : List Class) (files : List (List ℕ)) → IsBuildable p files → (x : Name) → marks x (program_lines p files) ≤ 1

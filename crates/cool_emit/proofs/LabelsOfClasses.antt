@@ -3,6 +3,7 @@ use Rattle.std.proofs.Common.{◌≡◌, ℕ, zero, suc, ◌+◌, ◌^◌, ◌<�
 use Rattle.std.proofs.Common.{Option, Some, None, Bool, true, false, ◌&&◌, refl, sym, ap, ◌∙◌, subst, arith}
 use Rattle.std.specs.Prelude.{pos, nat_eq, nat_lt, bytes_eq, codes, IfSome, if◌then◌else◌}
 use Rattle.std.specs.List.{AllByRecursion}
+use Rattle.std.proofs.lemmas.Bool.{ltb-false, ltb-true}
 use Rattle.cool_syntax.specs.declared.TheConstants.{MOST_TOKENS}
 use Rattle.cool_syntax.specs.declared.file_tree.Feature.{Feature}
 use Rattle.cool_syntax.specs.declared.file_tree.Feature.TheVariants.{Method, Attribute}
@@ -25,7 +26,8 @@ use Rattle.cool_emit.proofs.NamesApart.{word_starts, sort, initializer_sort, ini
 use Rattle.cool_emit.proofs.NamesOfClasses.{is_word, own_place, not_basic, no_features}
 use Rattle.cool_emit.proofs.MethodsInPlace.{EachInPlace, each-weaker, IsFound, all_found}
 use Rattle.cool_emit.proofs.LabelsOfCode.{marks, marks-append}
-use Rattle.cool_emit.proofs.LabelsOfFeatures.{class_by_name, label_class, label_feature, of_class, equal, IsSmallFeature, feature_once}
+use Rattle.cool_emit.proofs.LabelsOfFeatures.{class_by_name, label_class, label_feature, of_class, IsSmallFeature, feature_once}
+use Rattle.lists.proofs.Numbers.{nat_eq-same}
 
 -- features, each with two properties
 each_both : (P Q : ℕ → Feature → Type 0) (k : ℕ) (fs : List Feature) → EachInPlace P k fs → EachInPlace Q k fs
@@ -72,13 +74,6 @@ pub by_number : (x : Name) (F : ClassId → List Line) (k n : ℕ)
     → marks x (flat_map F (numbers_from k n)) ≡ total_from (λ i. marks x (F (class_number i))) k n
 by_number x F k zero = refl
 by_number x F k (suc n) = omega (arith, marks-append x (F (class_number k)) (flat_map F (numbers_from (k + 1) n)), by_number x F (k + 1) n)
-
--- numbers below five, tested
-is_basic : (n : ℕ) → nat_lt n 5 ≡ true → n < 5
-is_basic n e = grind arith
-
-no_basic : (n : ℕ) → nat_lt n 5 ≡ false → 5 ≤ n
-no_basic n e = grind arith
 
 module _ (x : Name) where
   -- the parts of an initializer
@@ -141,7 +136,7 @@ module _ (x : Name) where
         let class : label_class p y ≡ c.0 =
         class_by_name p y (name_of p c) (word_starts (name_of p c) (codes "_init") word) (initializer_class (name_of p c) word)
         ∙ own_place p table c within in
-        hit (of_class p c.0 1 2) x y (rw (class, equal c.0) (ap (between 1 2) (initializer_sort (name_of p c) word)))
+        hit (of_class p c.0 1 2) x y (rw (class, nat_eq-same c.0) (ap (between 1 2) (initializer_sort (name_of p c) word)))
 
     -- the code of a feature in its place holds the name once at most, and only where the name is of this feature
     abbrev IsOnce : Constants → ClassId → ℕ → Feature → Type 0
@@ -155,10 +150,10 @@ module _ (x : Name) where
       where
         by : (t : Bool) → nat_lt c.0 5 ≡ t → EachInPlace (IsOnce g c) 0 (features_of p c)
         by true e =
-            let low : c.0 < 5 = is_basic c.0 e in
+            let low : c.0 < 5 = ltb-true c.0 5 e in
             subst (EachInPlace (IsOnce g c) 0) (sym (no_features p table c within low)) tt
         by false e =
-            let high : 5 ≤ c.0 = no_basic c.0 e in
+            let high : 5 ≤ c.0 = ltb-false c.0 5 e in
             let few : length p < 2 ^ 32 = table.few in
             let few_features : length (features_of p c) < 2 ^ 32 = table.few_features c within in
             let found = all_found (features_of p c) (b.typed.lawful.methods c within) in

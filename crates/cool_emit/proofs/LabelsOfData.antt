@@ -33,8 +33,11 @@ use Rattle.cool_emit.proofs.NamesApart.{integer_sort, length_sort, string_sort, 
 use Rattle.cool_emit.proofs.NamesApart.{name_number, integer_number, length_number, string_number}
 use Rattle.cool_emit.proofs.NamesOfClasses.{is_word, own_place}
 use Rattle.cool_emit.proofs.LabelsOfCode.{marks, marks-append}
-use Rattle.cool_emit.proofs.LabelsOfFeatures.{class_by_name, label_class, of_class, equal}
+use Rattle.cool_emit.proofs.LabelsOfFeatures.{class_by_name, label_class, of_class}
 use Rattle.cool_emit.proofs.RootedTables.{rooted}
+use Rattle.lists.proofs.Numbers.{nat_eq-same}
+use Rattle.std.proofs.lemmas.Bool.{ltb-true, ltb-false}
+use Rattle.lists.proofs.AllItems.{all_then}
 
 module _ (x : Name) where
   -- words have no labels
@@ -106,24 +109,12 @@ outside n o (c ∷ cs) l h =
     apart : (m : ℕ) → m < n → nat_eq m o ≡ false
     apart m k = grind arith
 
--- a number below another, tested
-is_less : (m n : ℕ) → nat_lt m n ≡ true → m < n
-is_less m n e = grind arith
-
-no_less : (m n : ℕ) → nat_lt m n ≡ false → n ≤ m
-no_less m n e = grind arith
-
 once_by_tag : (p : List Class) → IsRooted p → (o : ℕ) → classes.times (class_number o) (preorder p) ≤ 1
 once_by_tag p r o = by (nat_lt o (length p)) refl
   where
     by : (b : Bool) → nat_lt o (length p) ≡ b → classes.times (class_number o) (preorder p) ≤ 1
-    by true e = omega (arith, once p r (class_number o) (is_less o (length p) e))
-    by false e = omega (arith, outside (length p) o (preorder p) (no_less o (length p) e) (preorder_in p r))
-
--- what follows from a property that each class has
-all_of : (P Q : ClassId → Type 0) (cs : List ClassId) → ((c : ClassId) → P c → Q c) → AllByRecursion P cs → AllByRecursion Q cs
-all_of P Q [] w h = tt
-all_of P Q (c ∷ cs) w h = (w c h.0, all_of P Q cs w h.1)
+    by true e = omega (arith, once p r (class_number o) (ltb-true o (length p) e))
+    by false e = omega (arith, outside (length p) o (preorder p) (ltb-false o (length p) e) (preorder_in p r))
 
 -- lines for each class by tag hold a name once at most where it tells the number of the class
 pub by_tag : (p : List Class) → IsRooted p → (x : Name) (F : ClassId → List Line) (o : ℕ) (b : Bool)
@@ -132,12 +123,12 @@ by_tag p r x F o true h =
     omega (
       arith,
       each_once x F o (preorder p)
-          (all_of (λ c. c.0 < length p) (λ c. marks x (F c) ≤ one (nat_eq c.0 o && true)) (preorder p) h (preorder_in p r)),
+          (all_then (λ c. c.0 < length p) (λ c. marks x (F c) ≤ one (nat_eq c.0 o && true)) (preorder p) h (preorder_in p r)),
       once_by_tag p r o,
     )
 by_tag p r x F o false h =
     none_of x F o (preorder p)
-    (all_of (λ c. c.0 < length p) (λ c. marks x (F c) ≤ one (nat_eq c.0 o && false)) (preorder p) h (preorder_in p r))
+    (all_then (λ c. c.0 < length p) (λ c. marks x (F c) ≤ one (nat_eq c.0 o && false)) (preorder p) h (preorder_in p r))
 
 module _ (p : List Class) (table : IsTable p) (r : IsRooted p)
     (words : (c : ClassId) → c.0 < length p → IsWord (name_of p c)) (x : Name) where
@@ -155,7 +146,7 @@ module _ (p : List Class) (table : IsTable p) (r : IsRooted p)
           class_by_name p y (name_of p c) (word_starts (name_of p c) (codes "_dispTab") word) (table_class (name_of p c) word)
           ∙ own_place p table c within in
           let all : one (bytes_eq x y) ≤ one (of_class p c.0 6 7 x) =
-          hit (of_class p c.0 6 7) x y (rw (class, equal c.0) (ap (between 6 7) (table_sort (name_of p c) word))) in
+          hit (of_class p c.0 6 7) x y (rw (class, nat_eq-same c.0) (ap (between 6 7) (table_sort (name_of p c) word))) in
           omega (arith, all)
 
   prototypes_once : marks x (flat_map (prototype_lines p) (preorder p)) ≤ one (between 7 8 (sort x))
@@ -169,7 +160,7 @@ module _ (p : List Class) (table : IsTable p) (r : IsRooted p)
           class_by_name p y (name_of p c) (word_starts (name_of p c) (codes "_protObj") word)
           (prototype_class (name_of p c) word) ∙ own_place p table c within in
           let all : one (bytes_eq x y) ≤ one (of_class p c.0 7 8 x) =
-          hit (of_class p c.0 7 8) x y (rw (class, equal c.0) (ap (between 7 8) (prototype_sort (name_of p c) word))) in
+          hit (of_class p c.0 7 8) x y (rw (class, nat_eq-same c.0) (ap (between 7 8) (prototype_sort (name_of p c) word))) in
           omega (arith, all)
 
   names_once : marks x (flat_map (name_lines p) (preorder p)) ≤ one (between 10 12 (sort x))
@@ -189,13 +180,13 @@ module _ (p : List Class) (table : IsTable p) (r : IsRooted p)
               → one (bytes_eq x (class_name_length (class_number n))) ≤ one (nat_eq n (end_number x) && between 10 11 (sort x))
           first n fits =
               hit (λ z. nat_eq n (end_number z) && between 10 11 (sort z)) x (class_name_length (class_number n))
-              (rw (name_length_number n fits, equal n) (ap (between 10 11) (name_length_sort n fits)))
+              (rw (name_length_number n fits, nat_eq-same n) (ap (between 10 11) (name_length_sort n fits)))
 
           second : (n : ℕ) → n < 2 ^ 64
               → one (bytes_eq x (class_name (class_number n))) ≤ one (nat_eq n (end_number x) && between 11 12 (sort x))
           second n fits =
               hit (λ z. nat_eq n (end_number z) && between 11 12 (sort z)) x (class_name (class_number n))
-              (rw (name_number n fits, equal n) (ap (between 11 12) (name_sort n fits)))
+              (rw (name_number n fits, nat_eq-same n) (ap (between 11 12) (name_sort n fits)))
 
   -- the whole layout
   layout_once : marks x (layout_lines p) ≤ one (between 4 13 (sort x))
@@ -257,17 +248,17 @@ module _ (x : Name) where
   integer_once : (n : ℕ) → n < 2 ^ 64 → one (bytes_eq x (int_constant n)) ≤ one (nat_eq n (end_number x) && between 14 15 (sort x))
   integer_once n fits =
       hit (λ z. nat_eq n (end_number z) && between 14 15 (sort z)) x (int_constant n)
-      (rw (integer_number n fits, equal n) (ap (between 14 15) (integer_sort n fits)))
+      (rw (integer_number n fits, nat_eq-same n) (ap (between 14 15) (integer_sort n fits)))
 
   string_once : (n : ℕ) → n < 2 ^ 64 → one (bytes_eq x (string_length n)) + one (bytes_eq x (string_constant n))
       ≤ one (nat_eq n (end_number x) && between 15 17 (sort x))
   string_once n fits =
       let a : one (bytes_eq x (string_length n)) ≤ one (nat_eq n (end_number x) && between 15 16 (sort x)) =
       hit (λ z. nat_eq n (end_number z) && between 15 16 (sort z)) x (string_length n)
-      (rw (length_number n fits, equal n) (ap (between 15 16) (length_sort n fits))) in
+      (rw (length_number n fits, nat_eq-same n) (ap (between 15 16) (length_sort n fits))) in
       let b : one (bytes_eq x (string_constant n)) ≤ one (nat_eq n (end_number x) && between 16 17 (sort x)) =
       hit (λ z. nat_eq n (end_number z) && between 16 17 (sort z)) x (string_constant n)
-      (rw (string_number n fits, equal n) (ap (between 16 17) (string_sort n fits))) in
+      (rw (string_number n fits, nat_eq-same n) (ap (between 16 17) (string_sort n fits))) in
       let apart = under (nat_eq n (end_number x)) (between 15 16 (sort x)) (between 16 17 (sort x))
       (between 15 17 (sort x)) (beside 15 16 17 (sort x) (omega arith) (omega arith)) in
       omega (arith, a, b, apart)

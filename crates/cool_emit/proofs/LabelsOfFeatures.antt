@@ -31,6 +31,7 @@ use Rattle.cool_emit.proofs.NamesApart.{inner_small, inner_sort, kind_is, class_
 use Rattle.cool_emit.proofs.NamesOfClasses.{class_place, own_place}
 use Rattle.cool_emit.proofs.MethodsInPlace.{IsFound}
 use Rattle.cool_emit.proofs.LabelsOfCode.{marks, marks-append, mark_marks, kind_hit, node_hits, hits, code_marks}
+use Rattle.lists.proofs.Numbers.{nat_eq-same}
 
 -- the number of the class to which a label belongs, and the place of its feature
 
@@ -75,12 +76,9 @@ abbrev pub of_class : List Class → ℕ → ℕ → ℕ → Name → Bool
 of_class p c low high x = nat_eq c (label_class p x) && between low high (sort x)
 
 -- numbers that are equal, tested
-pub equal : (n : ℕ) → nat_eq n n ≡ true
-equal n = grind arith
-
 all_equal : (a b c d e f g h : ℕ) (t : Bool) → b ≡ a → d ≡ c → f ≡ e → h ≡ g → t ≡ true
     → (nat_eq a b && (nat_eq c d && (nat_eq e f && (nat_eq g h && t)))) ≡ true
-all_equal a b c d e f g h t s u v w holds = rw (s, u, v, w, equal a, equal c, equal e, equal g) holds
+all_equal a b c d e f g h t s u v w holds = rw (s, u, v, w, nat_eq-same a, nat_eq-same c, nat_eq-same e, nat_eq-same g) holds
 
 -- the expression of a feature has fewer nodes than there are numbers
 abbrev pub IsSmallFeature : Feature → Type 0
@@ -156,7 +154,7 @@ module _ (p : List Class) (x : Name) where
         feature_by_name p y c name capital (ap (class_place p) names ∙ own) (method_is (name_of p c) text word ∙ named)
         ∙ ap (λ (o : Option ℕ). unwrap_or o 0) found in
         let sorted : between 2 3 (sort y) ≡ true = ap (between 2 3) (method_sort (name_of p c) text word other) in
-        hit (of_feature p c.0 k 2 3) x y (rw (feature, class, equal k, equal c.0) sorted)
+        hit (of_feature p c.0 k 2 3) x y (rw (feature, class, nat_eq-same k, nat_eq-same c.0) sorted)
 
     -- an initial value, or none
     initial_once : (files : List (List ℕ)) (g : Constants) (k : ℕ) (o : Option Tree) → c.0 < 2 ^ 64

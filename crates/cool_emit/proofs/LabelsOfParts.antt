@@ -12,13 +12,7 @@ use Rattle.cool_classes.specs.Chains.{class_number}
 use Rattle.cool_layout.specs.Preorder.{numbers_from}
 use Rattle.cool_runtime.specs.Instructions.{label}
 use Rattle.cool_emit.specs.SoundLines.{labels_of}
-
--- a list contains its first element, and those after it
-pub first_there : {X : Type 0} (x : X) (xs : List X) → Contains (x ∷ xs) x
-first_there x xs = (0, omega arith, refl)
-
-pub later_there : {X : Type 0} (y : X) (xs : List X) (x : X) → Contains xs x → Contains (y ∷ xs) x
-later_there y xs x (k, l, e) = (suc k, omega arith, e)
+use Rattle.lists.proofs.Membership.{first_there, later_there}
 
 -- what stands at a place below the length, by computing
 pub place_there : {X : Type 0} (xs : List X) (k : ℕ) (x : X) → nat_lt k (length xs) ≡ true → get_or xs k x ≡ x → Contains xs x

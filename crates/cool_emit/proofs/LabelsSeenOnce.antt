@@ -7,7 +7,8 @@ use Rattle.std.proofs.lemmas.List.Folds.{list_any-append, list_any_at}
 use Rattle.std.proofs.lemmas.Slice.Eq.{bytes_eq-Decides}
 use Rattle.mips_isa.specs.Lines.{Name}
 use Rattle.mips_isa.specs.Assembly.{has, any_twice}
-use Rattle.cool_classes.specs.Limits.{AreDifferent}
+use Rattle.lists.specs.Different.{AreDifferent}
+use Rattle.lists.proofs.AllItems.{all_right}
 
 -- a name among names is found
 pub found_among : (names : List Name) (name : Name) → Contains names name → has names name ≡ true
@@ -33,16 +34,11 @@ one_more_seen first seen (name ∷ names) apart new =
     by true e = absurd (apart.0 ((bytes_eq-Decides name first).0 e))
     by false e = refl
 
--- what holds of names holds of the last of them
-all_after : (P : Name → Type 0) (front back : List Name) → AllByRecursion P (front ++ back) → AllByRecursion P back
-all_after P [] back h = h
-all_after P (name ∷ front) back h = all_after P front back h.1
-
 -- of different names, the last are different from the first
 after_new : (front back : List Name) → AreDifferent (front ++ back) → AreNew front back
 after_new [] back apart = nothing_seen back
 after_new (name ∷ front) back apart =
-    one_more_seen name front back (all_after (λ (other : Name). other ≢ name) front back apart.0) (after_new front back apart.1)
+    one_more_seen name front back (all_right (λ (other : Name). other ≢ name) front back apart.0) (after_new front back apart.1)
 
 -- and from each other
 after_different : (front back : List Name) → AreDifferent (front ++ back) → AreDifferent back
@@ -72,6 +68,6 @@ pub record LeftOnce (seen front back : List Name) : Type 0 where
 pub left_once : (seen front back : List Name) → AreNew seen (front ++ back) → AreDifferent (front ++ back) → LeftOnce seen front back
 left_once seen front back new apart = record {
   once = none_twice seen front back new apart;
-  new = both_seen seen front back (all_after (λ (name : Name). has seen name ≡ false) front back new) (after_new front back apart);
+  new = both_seen seen front back (all_right (λ (name : Name). has seen name ≡ false) front back new) (after_new front back apart);
   different = after_different front back apart;
 }

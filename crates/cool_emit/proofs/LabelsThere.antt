@@ -36,9 +36,10 @@ use Rattle.cool_emit.specs.Programs.{methods_from, methods_in, placed_code, init
 use Rattle.cool_emit.specs.Programs.{class_code, classes_code, program_constants, program_text}
 use Rattle.cool_emit.specs.Programs.{heap_lines, program_data, program_lines, IsBuildable}
 use Rattle.cool_emit.proofs.RootedTables.{rooted}
-use Rattle.cool_emit.proofs.LabelsOfParts.{Has, first_there, later_there, number_there, has_left}
+use Rattle.cool_emit.proofs.LabelsOfParts.{Has, number_there, has_left}
 use Rattle.cool_emit.proofs.LabelsOfParts.{has_right, has_label, has_later, has_among}
 use Rattle.cool_emit.proofs.LabelsOfRoutines.{basic_there}
+use Rattle.lists.proofs.Membership.{first_there, later_there}
 
 -- each class stands in preorder
 pub in_preorder : (p : List Class) → IsRooted p → (c : ClassId) → c.0 < length p → Contains (preorder p) c

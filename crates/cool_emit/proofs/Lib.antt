@@ -18,16 +18,15 @@ mod ConstantsThere
 pub mod FixedNamesThere
 pub mod ConstantsInRange
 mod DataOfPrograms
-pub mod TextOfPieces
+mod TextOfPieces
 mod TextOfParts
-mod TextOfCode
+pub mod TextOfCode
 mod TextOfFeatures
 mod TextOfRoutines
 mod NamesMeant
 mod LowNumbers
-mod TextOfPrograms
+pub mod TextOfPrograms
 mod AddingParts
-mod ResultsOfCalls
 pub mod CountedNames
 pub mod NamesApart
 pub mod LabelsOfCode

@@ -16,6 +16,7 @@ use Rattle.cool_layout.specs.Roots.{IsRooted}
 use Rattle.cool_layout.proofs.BasicNames.{five}
 use Rattle.cool_layout.proofs.TagRanges.{at_tag, tag_cut, preorder_long, head_first}
 use Rattle.cool_emit.proofs.SlotsInLimits.{few_slots}
+use Rattle.cool_layout.proofs.Counting.{climb_none}
 
 -- a place that is found is one of the list
 place_found : {X : Type 0} (q : X → Bool) (xs : List X) → unwrap_or (position q xs) 0 ≤ length xs
@@ -28,11 +29,6 @@ place_found q (x ∷ xs) = by (position q (x ∷ xs)) refl
 
 -- past a table no class has slots
 
-none_climbed : (p : List Class) (n : ℕ) → climbed n p None ≡ []
-unfolding climbed
-none_climbed p zero = refl
-none_climbed p (suc n) = refl
-
 slots_past : (p : List Class) (c : ClassId) → 5 ≤ length p → length p ≤ c.0 → slots p c ≡ []
 unfolding above chain
 slots_past p c five past =
@@ -43,7 +39,7 @@ slots_past p c five past =
     ap (λ (b : Bool). if b then map (λ m. m.name) (basic_methods c.0) else flat_map method_name (features_of p c)) high ∙ ap
     (λ (x : Class). flat_map method_name x.features) is in
     ap (λ (o : Option ClassId). with_new (slots_of p (climbed (length p) p o)) (own_names p c)) up ∙ ap
-    (λ (ds : List ClassId). with_new (slots_of p ds) (own_names p c)) (none_climbed p (length p))
+    (λ (ds : List ClassId). with_new (slots_of p ds) (own_names p c)) (climb_none p (length p))
     ∙ ap (with_new []) own
 
 module _ (p : List Class) (r : IsRooted p) (limits : KeepsLimits p) where

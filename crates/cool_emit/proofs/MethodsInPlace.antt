@@ -7,8 +7,9 @@ use Rattle.cool_syntax.specs.declared.file_tree.Feature.{Feature}
 use Rattle.cool_syntax.specs.declared.file_tree.Feature.TheVariants.{Method, Attribute}
 use Rattle.cool_classes.specs.Features.{first_method}
 use Rattle.cool_classes.specs.LawfulTables.{method_names}
-use Rattle.cool_classes.specs.Limits.{AreDifferent}
-use Rattle.cool_emit.proofs.CountedNames.{is_same, same}
+use Rattle.lists.specs.Different.{AreDifferent}
+use Rattle.lists.proofs.EqualBytes.{bytes_equal, bytes_eq-same}
+use Rattle.lists.proofs.ItemsAt.{seam_get}
 
 -- features stand in their places, which begin at one
 abbrev pub EachInPlace : (ℕ → Feature → Type 0) → ℕ → List Feature → Type 0
@@ -25,11 +26,6 @@ each-weaker P Q k (f ∷ fs) w h = (w k f h.0, each-weaker P Q (k + 1) fs w h.1)
 abbrev pub IsFound : List Feature → ℕ → Feature → Type 0
 IsFound all k (Method m) = (slice_get all k ≡ Some (Method m)) × (first_method 0 all m.name ≡ Some k)
 IsFound all k (Attribute a) = Unit {0}
-
--- the feature after others
-get_there : (front : List Feature) (f : Feature) (fs : List Feature) → slice_get (front ++ f ∷ fs) (length front) ≡ Some f
-get_there [] f fs = refl
-get_there (g ∷ front) f fs = get_there front f fs
 
 -- the method after others has a property that the names of all have
 last_of : (P : List ℕ → Type 0) (front : List Feature) (name : List ℕ) (names : List (List ℕ)) (all : List Feature)
@@ -50,7 +46,7 @@ search k (Method m ∷ front) all name names e d = by (bytes_eq m.name name) ref
 
     by : (b : Bool) → bytes_eq m.name name ≡ b → first_method (k + 1) (front ++ all) name ≡ first_method (k + 1 + length front) all name
         → (if b then Some k else first_method (k + 1) (front ++ all) name) ≡ first_method (k + length (Method m ∷ front)) all name
-    by true t more = absurd (other (sym (is_same m.name name t)))
+    by true t more = absurd (other (sym (bytes_equal m.name name t)))
     by false t more = let l : k + 1 + length front ≡ k + suc (length front) = omega arith in more ∙ ap (λ j. first_method j all name) l
 search k (Attribute a ∷ front) all name names e d =
     let l : k + 1 + length front ≡ k + suc (length front) = omega arith in
@@ -72,9 +68,9 @@ found_after front (f ∷ fs) d =
     here (Attribute a) d = tt
     here (Method m) d =
         let l : 0 + length front ≡ length front = omega arith in (
-          get_there front (Method m) fs,
+          seam_get front (Method m) fs,
           search 0 front (Method m ∷ fs) m.name (method_names fs) refl d ∙ ap (λ (b : Bool). if b then Some (0 + length front)
-              else first_method (0 + length front + 1) fs m.name) (same m.name) ∙ ap Some l,
+              else first_method (0 + length front + 1) fs m.name) (bytes_eq-same m.name) ∙ ap Some l,
         )
 
 -- each feature of a class is found

@@ -18,6 +18,7 @@ use Rattle.cool_rules.specs.Rules.{class_named, type_of_name, type_meant, method
 use Rattle.cool_layout.specs.Roots.{IsRooted}
 use Rattle.cool_layout.proofs.ShortChains.{chain_in, chain_is}
 use Rattle.cool_rules.specs.Meant.{method_in}
+use Rattle.cool_layout.proofs.MethodsThere.{implementation_has}
 
 -- the first class of a name is one of those named
 named_low : (k : ℕ) (names : List (List ℕ)) (f : List ℕ) (n : ℕ) → k + length names ≤ n → IfSome (first_named k names f) (λ c. c.0 < n)
@@ -45,17 +46,6 @@ type_there p some name = by (bytes_eq name (codes "SELF_TYPE")) (class_named p n
     by true o h = tt
     by false None h = omega arith
     by false (Some c) h = h
-
--- what the classes of a chain implement is a method
-implementation_has : (p : List Class) (ds : List ClassId) (f : List ℕ) → AllByRecursion (λ d. d.0 < length p) ds
-    → IfSome (implementation p ds f) (HasMethod p)
-implementation_has p [] f within = tt
-implementation_has p (d ∷ ds) f within = by (own_method p d f) (own_has p d f within.0) (implementation_has p ds f within.1)
-  where
-    by : (o : Option MethodRef) → IfSome o (HasMethod p) → IfSome (implementation p ds f) (HasMethod p)
-        → IfSome (first_of o (implementation p ds f)) (HasMethod p)
-    by None h rest = rest
-    by (Some m) h rest = h
 
 -- a name means a method of a class
 pub method_in_there : (p : List Class) → IsRooted p → (c : ClassId) (f : List ℕ) → c.0 < length p → HasMethod p (method_in p c f)

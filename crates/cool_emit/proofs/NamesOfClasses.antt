@@ -17,8 +17,8 @@ use Rattle.cool_classes.specs.declared.class_id.ClassId.{ClassId}
 use Rattle.cool_classes.specs.Chains.{Class, class_number, name_of, features_of, nothing}
 use Rattle.cool_classes.specs.Tables.{IsTable, basic_classes}
 use Rattle.cool_layout.proofs.BasicNames.{five, basic_name}
-use Rattle.cool_emit.proofs.CountedNames.{is_same, same}
 use Rattle.cool_emit.proofs.NamesApart.{IsWord, basic_texts}
+use Rattle.lists.proofs.EqualBytes.{bytes_equal, bytes_eq-same}
 
 -- whether a form is the name of a type
 abbrev is_type : Option Form → Bool
@@ -124,14 +124,14 @@ module _ (p : List Class) (table : IsTable p) (c : ClassId) (within : c.0 < leng
   pub own_place : class_place p (name_of p c) ≡ c.0
   own_place =
       position_or_len_is (λ (d : Class). bytes_eq d.name (name_of p c)) p c.0 nothing (omega arith)
-      (λ k l. other k l (bytes_eq (name_of p (class_number k)) (name_of p c)) refl) (λ l. same (name_of p c))
+      (λ k l. other k l (bytes_eq (name_of p (class_number k)) (name_of p c)) refl) (λ l. bytes_eq-same (name_of p c))
     where
       other : (k : ℕ) → k < c.0 → (b : Bool) → bytes_eq (name_of p (class_number k)) (name_of p c) ≡ b
           → bytes_eq (name_of p (class_number k)) (name_of p c) ≡ false
       other k l false e = e
       other k l true e =
           let is : class_number k ≡ c =
-          table.names (class_number k) c (omega arith) within (is_same (name_of p (class_number k)) (name_of p c) e) in
+          table.names (class_number k) c (omega arith) within (bytes_equal (name_of p (class_number k)) (name_of p c) e) in
           let n : k ≡ c.0 = ap (λ (d : ClassId). d.0) is in
           absurd (omega arith)
 
@@ -146,7 +146,7 @@ module _ (p : List Class) (table : IsTable p) (c : ClassId) (within : c.0 < leng
           let l = five p table.basic in
           let is : c ≡ class_number k =
           table.names c (class_number k) within (omega arith)
-          (is_same (name_of p c) (name_of basic_classes (class_number k)) e ∙ sym (basic_name p table.basic k low)) in
+          (bytes_equal (name_of p c) (name_of basic_classes (class_number k)) e ∙ sym (basic_name p table.basic k low)) in
           let n : c.0 ≡ k = ap (λ (d : ClassId). d.0) is in
           absurd (omega arith)
 

@@ -5,7 +5,6 @@ use Rattle.std.proofs.lemmas.Grind.{flat_map-append}
 use Rattle.std.proofs.lemmas.List.{take-append-drop}
 use Rattle.mips_isa.specs.Lines.{Line, ToData, IsInRange, AreInRange}
 use Rattle.mips_isa.specs.Assembly.{directive_line}
-use Rattle.mips_asm.proofs.LoopRests.{rest_here}
 use Rattle.cool_syntax.specs.declared.file_tree.Feature.{Feature}
 use Rattle.cool_syntax.specs.declared.file_tree.Feature.TheVariants as features
 use Rattle.cool_classes.specs.declared.class_id.ClassId.{ClassId}
@@ -28,14 +27,12 @@ use Rattle.cool_emit.proofs.ClassesInTurn.{features_weigh, placed_weight, table_
 use Rattle.cool_emit.proofs.ConstantsAsked.{few_integers, few_strings}
 use Rattle.cool_emit.proofs.ProgramsAreSound.{programs_sound}
 use Rattle.cool_emit.proofs.SoundLinesAssemble.{in_range}
-use Rattle.cool_emit.proofs.TextOfPieces.{all_both, all_left, all_right}
 use Rattle.cool_emit.proofs.Totals.{total, total-append}
+use Rattle.lists.proofs.ItemsLeft.{drop_one}
+use Rattle.lists.proofs.AllItems.{all_append, all_left, all_right}
+use Rattle.std.proofs.lemmas.List.Folds.{flat_map-map}
 
 -- lists of lists
-
-map_then : {X Y Z : Type 0} (f : Y → List Z) (g : X → Y) (xs : List X) → flat_map f (map g xs) ≡ flat_map (λ x. f (g x)) xs
-map_then f g [] = refl
-map_then f g (x ∷ xs) = ap (λ zs. f (g x) ++ zs) (map_then f g xs)
 
 lists_then : {X Y Z : Type 0} (f : Y → List Z) (g : X → List Y) (xs : List X) → flat_map f (flat_map g xs) ≡ flat_map (λ x. flat_map f (g x)) xs
 lists_then f g [] = refl
@@ -67,7 +64,7 @@ methods_there front (features.Method m ∷ fs) k e =
     ∙ methods_there (front ++ x ∷ []) fs (k + 1) (omega (arith, length-append front (x ∷ []))))
 
 methods_of_sections : (p : List Class) (c : ClassId) → flat_map (features_in p) (map (λ f. Method c f.place) (methods_in p c)) ≡ methods_in p c
-methods_of_sections p c = map_then (features_in p) (λ f. Method c f.place) (methods_in p c) ∙ methods_there [] (features_of p c) 0 refl
+methods_of_sections p c = flat_map-map (features_in p) (λ f. Method c f.place) (methods_in p c) ∙ methods_there [] (features_of p c) 0 refl
 
 -- the features of the sections of a class, and their code
 features_of_class : (p : List Class) (c : ClassId) → flat_map (features_in p) (class_sections p c) ≡ class_features p c
@@ -76,7 +73,7 @@ features_of_class p c = ap (λ ps. attributes_in p c ++ ps) (methods_of_sections
 code_of_class : (p : List Class) (files : List (List ℕ)) (g : Constants) (c : ClassId) → flat_map (section_code p files g) (class_sections p c) ≡ class_code p files g c
 code_of_class p files g c =
     ap (λ (ls : List Line). initializer_code p files g c ++ ls)
-    (map_then (section_code p files g) (λ f. Method c f.place) (methods_in p c)
+    (flat_map-map (section_code p files g) (λ f. Method c f.place) (methods_in p c)
     ∙ sym (lists_then (placed_code p files g c) (λ f. features_in p (Method c f.place)) (methods_in p c))
     ∙ ap (flat_map (placed_code p files g c)) (methods_there [] (features_of p c) 0 refl))
 
@@ -105,7 +102,7 @@ classes_within : (p : List Class) (k n : ℕ) → k + n ≤ length p → AllByRe
 classes_within p k zero most = tt
 classes_within p k (suc n) most =
     let c = class_number k in
-    all_both (IsSection p) (class_sections p c) (flat_map (class_sections p) (numbers_from (k + 1) n))
+    all_append (IsSection p) (class_sections p c) (flat_map (class_sections p) (numbers_from (k + 1) n))
     (omega arith, methods_within p c 0 (features_of p c) (omega arith) (omega arith)) (classes_within p (k + 1) n (omega arith))
 
 all_within : (p : List Class) → AllByRecursion (IsSection p) (sections_in p)
@@ -117,7 +114,7 @@ all_at P [] x ys h = h.0
 all_at P (z ∷ xs) x ys h = all_at P xs x ys h.1
 
 parts_at : {X : Type 0} (xs : List X) (i : ℕ) (x : X) → i < length xs → x ≡ get_or xs i x → xs ≡ take i xs ++ x ∷ drop (i + 1) xs
-parts_at xs i x less is = sym (take-append-drop i xs) ∙ ap (λ ys. take i xs ++ ys) (rest_here xs i x less is)
+parts_at xs i x less is = sym (take-append-drop i xs) ∙ ap (λ ys. take i xs ++ ys) (drop_one xs i x less is)
 
 -- the constants after some sections
 abbrev pub asked_by : List Class → List (List ℕ) → List Section → Constants
@@ -238,7 +235,7 @@ module _ (p : List Class) (files : List (List ℕ)) (b : IsBuildable p files) wh
       pub left : flat_map (section_code p files g) (drop i (sections_in p)) ≡ made ++ flat_map (section_code p files g) (drop (i + 1) (sections_in p))
       left =
           let code = section_code p files g in
-          ap (flat_map code) (rest_here (sections_in p) i s less is)
+          ap (flat_map code) (drop_one (sections_in p) i s less is)
           ∙ ap (λ (ls : List Line). ls ++ flat_map code (drop (i + 1) (sections_in p))) (sym lines_here)
 
   -- the numbers of the data are in their ranges

@@ -21,15 +21,15 @@ use Rattle.mips_isa.specs.Assembly.{after_line, place_in, place_from, place_of, 
 use Rattle.mips_isa.specs.Assembly.{directive_line, added_lines, completed, is_wrong, any_twice, is_too_large}
 use Rattle.mips_isa.specs.Assembly.{fault_or, first_pass, names_of_items, used, jump_reaches, reaches}
 use Rattle.mips_isa.specs.Assembly.{any_without_place, start_fault, second_pass, first_or, fault_of_all, fault_of}
-use Rattle.cool_runtime.specs.Images.{after_lines}
 use Rattle.cool_runtime.specs.Instructions.{label, la}
-use Rattle.cool_classes.specs.Limits.{AreDifferent}
 use Rattle.cool_emit.specs.SoundLines.{IsText, IsDataWord, IsData, AreText, AreData, labels_of, text_need}
 use Rattle.cool_emit.specs.SoundLines.{text_room, data_need, data_room, joined_lines, AreSound}
-use Rattle.cool_classes.proofs.AllOfLists.{all_append, all_then}
 use Rattle.cool_runtime.proofs.PlacesOfLabels.{words_grow}
 use Rattle.cool_emit.proofs.LabelsSeenOnce.{AreNew, found_among, left_once, nothing_seen}
 use Rattle.cool_emit.proofs.RoomOfLines.{HasRoom, StandWell, needs_text, after_text, lines_stand}
+use Rattle.mips_asm.specs.Passes.{after_lines}
+use Rattle.lists.specs.Different.{AreDifferent}
+use Rattle.lists.proofs.AllItems.{all_append, all_then}
 
 -- The first pass
 
@@ -173,7 +173,7 @@ module _ (place : Name → Option Place) (target known : Name → Type 0) (place
 -- The start
 
 -- the label at which a run starts is at the beginning of the text
-start_found : (text items : List Line) (main : Name) (behind : List Line) → text ≡ label start_name ∷ la 4 main ∷ behind
+pub start_found : (text items : List Line) (main : Name) (behind : List Line) → text ≡ label start_name ∷ la 4 main ∷ behind
     → place_of (joined_lines text items) start_name ≡ Some (record { segment = Text; address = TEXT_START })
 start_found text items main behind e = ap (λ (lines : List Line). place_of (joined_lines lines items) start_name) e
 
@@ -192,7 +192,7 @@ starts_at place p e some =
     ∙ ap (λ (b : Bool). if b then None else Some A6) (lt-ltb TEXT_START (TEXT_START + 4 * p.words) (omega arith))
 
 -- lines that have a start are complete
-complete : (lines : List Line) → is_some (place_of lines start_name) ≡ true → completed lines ≡ lines
+pub complete : (lines : List Line) → is_some (place_of lines start_name) ≡ true → completed lines ≡ lines
 complete lines h = ap (λ (b : Bool). if not b && in_text (place_of lines main_name) then lines ++ added_lines else lines) h
 
 -- The theorems

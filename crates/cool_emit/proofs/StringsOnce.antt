@@ -14,7 +14,7 @@ use Rattle.cool_syntax.specs.Tree.{Tree, Trees, MaybeTree, Cases, Last, More, Wi
 use Rattle.cool_syntax.specs.Tree as trees
 use Rattle.cool_syntax.specs.Weights.{text_in, text_in_all, text_in_maybe, text_in_cases, text_of_feature, text_of_value}
 use Rattle.cool_consts.specs.Constants.{with_string}
-use Rattle.cool_layout.proofs.SlotNames.{has, same_bytes, equal_self}
+use Rattle.cool_layout.proofs.SlotNames.{has}
 use Rattle.cool_codegen.specs.Asked.{with_strings, strings_in, strings_in_all, strings_in_maybe, strings_in_cases, files_of}
 use Rattle.cool_codegen.specs.Features.{feature_strings, initial_strings}
 use Rattle.cool_emit.specs.declared.TheConstants.{MOST_FILE_NAME}
@@ -22,14 +22,8 @@ use Rattle.cool_emit.specs.FileNames.{AreShortNames}
 use Rattle.cool_emit.specs.Programs.{Placed}
 use Rattle.cool_emit.proofs.Totals.{total, total-append, total-le}
 use Rattle.cool_emit.proofs.ClassesInTurn.{placed_weight}
-
-or_true : (b : Bool) → (b || true) ≡ true
-or_true true = refl
-or_true false = refl
-
-or_false : (b : Bool) → (b || false) ≡ b
-or_false true = refl
-or_false false = refl
+use Rattle.lists.proofs.EqualBytes.{bytes_equal, bytes_eq-same}
+use Rattle.lists.proofs.TruthValues.{or_true, or_false}
 
 -- a number, or nothing where there is no need
 abbrev unless : Bool → ℕ → ℕ
@@ -79,8 +73,8 @@ left_paid xs y new (f ∷ fs) there = by (bytes_eq y f) refl (λ t. left_paid xs
         → (b || has y fs) ≡ true
         → bytes_left (xs ++ y ∷ []) (f ∷ fs) + length y ≤ bytes_left xs (f ∷ fs)
     by true e more t =
-        let same : y ≡ f = same_bytes y f e in
-        let there : has y (xs ++ y ∷ []) ≡ true = has_more y y xs ∙ ap (λ b. has y xs || b) (equal_self y) ∙ or_true (has y xs) in
+        let same : y ≡ f = bytes_equal y f e in
+        let there : has y (xs ++ y ∷ []) ≡ true = has_more y y xs ∙ ap (λ b. has y xs || b) (bytes_eq-same y) ∙ or_true (has y xs) in
         let now : unless (has f (xs ++ y ∷ [])) (length f) ≡ 0 =
         subst (λ (g : List ℕ). unless (has g (xs ++ y ∷ [])) (length g) ≡ 0) same (ap (λ b. unless b (length y)) there) in
         let before : unless (has f xs) (length f) ≡ length y =
@@ -123,7 +117,7 @@ bytes_used files ys = omega (arith, steps files [] ys, all_left files)
 -- The name of a file costs nothing, and neither does what stands for one that is none.
 file_there : (files : List (List ℕ)) (k : ℕ) → (get_or files k [] ≡ []) ⊎ (has (get_or files k []) files ≡ true)
 file_there [] k = inl refl
-file_there (f ∷ files) zero = inr (ap (λ b. b || has f files) (equal_self f))
+file_there (f ∷ files) zero = inr (ap (λ b. b || has f files) (bytes_eq-same f))
 file_there (f ∷ files) (suc k) = by (file_there files k)
   where
     by : (get_or files k [] ≡ []) ⊎ (has (get_or files k []) files ≡ true)

@@ -26,13 +26,14 @@ use Rattle.cool_codegen.specs.Asked.{strings_in, strings_in_all, strings_in_mayb
 use Rattle.cool_codegen.specs.Code.{Context, code, arguments_code, items_code, initial_code}
 use Rattle.cool_codegen.specs.Code.{arms_code, label_at, file_label, range_code, assign_code}
 use Rattle.cool_emit.specs.SoundLines.{AreText}
-use Rattle.cool_emit.proofs.TextOfPieces.{AreTargets, all_both, all_left, all_right, text_of_push}
+use Rattle.cool_emit.proofs.TextOfPieces.{AreTargets, text_of_push}
 use Rattle.cool_emit.proofs.TextOfPieces.{text_of_pop, text_of_take, text_of_test, text_of_mark}
 use Rattle.cool_emit.proofs.TextOfPieces.{text_of_turn, text_of_repeat, text_of_is_void, text_of_complement}
 use Rattle.cool_emit.proofs.TextOfPieces.{text_of_negate, text_of_case_begin, text_of_case_end}
 use Rattle.cool_emit.proofs.TextOfParts.{Serves, AreReached, AreNumbers, AreStrings, bound_reached, line_low}
 use Rattle.cool_emit.proofs.TextOfParts.{target_of_mark, target_of_turn, target_of_repeat, target_of_case_end}
 use Rattle.cool_emit.proofs.TextOfParts as parts
+use Rattle.lists.proofs.AllItems.{all_append, all_left, all_right}
 
 -- what holds of all branches holds of one that is put among them, and of those
 all_with_arm : (P : Arm → Type 0) (arms : List Arm) (b : Arm) → AllByRecursion P arms → P b → AllByRecursion P (with_arm arms b)
@@ -55,7 +56,7 @@ among_arms P (a ∷ arms) b all = by (nat_lt a.depth b.depth) all (λ h. among_a
 -- the lines of all branches, and those of each
 all_lines : (P : Line → Type 0) (arms : List Arm) → AllByRecursion (λ a. AllByRecursion P a.lines) arms → AllByRecursion P (arms_lines arms)
 all_lines P [] h = tt
-all_lines P (a ∷ arms) h = all_both P a.lines (arms_lines arms) h.0 (all_lines P arms h.1)
+all_lines P (a ∷ arms) h = all_append P a.lines (arms_lines arms) h.0 (all_lines P arms h.1)
 
 each_lines : (P : Line → Type 0) (arms : List Arm) → AllByRecursion P (arms_lines arms)
     → AllByRecursion (λ a. AllByRecursion P a.lines) arms
@@ -63,7 +64,7 @@ each_lines P [] h = tt
 each_lines P (a ∷ arms) h = (all_left P a.lines (arms_lines arms) h, each_lines P arms (all_right P a.lines (arms_lines arms) h))
 
 -- no more trees than their nodes
-count_low : (ts : Trees) → trees_count ts ≤ trees_size ts
+pub count_low : (ts : Trees) → trees_count ts ≤ trees_size ts
 count_low Last = omega arith
 count_low (More t ts) = let one = one_le_size t in let rest = count_low ts in omega arith
 
@@ -73,7 +74,7 @@ module _ (target known : Name → Type 0) (s : Context) (g : Constants) (u : Ser
   -- parts of lines, and of the constants that are asked for
 
   both : (xs ys : List Line) → AreText target known xs → AreText target known ys → AreText target known (xs ++ ys)
-  both xs ys h k = all_both _ xs ys h k
+  both xs ys h k = all_append _ xs ys h k
 
   left : (xs ys : List Line) → AreTargets target (xs ++ ys) → AreTargets target xs
   left xs ys m = all_left _ xs ys m

@@ -34,11 +34,12 @@ use Rattle.cool_emit.specs.SoundLines.{AreText}
 use Rattle.cool_emit.specs.Programs.{Placed, attributes_from, methods_from, placed_code, parent_code}
 use Rattle.cool_emit.specs.Programs.{initializer_code, class_code, class_features, classes_code}
 use Rattle.cool_emit.specs.Programs as programs
-use Rattle.cool_emit.proofs.TextOfPieces.{AreTargets, all_both, all_left, all_right, text_of_enter}
+use Rattle.cool_emit.proofs.TextOfPieces.{AreTargets, text_of_enter}
 use Rattle.cool_emit.proofs.TextOfPieces.{text_of_leave, text_of_mark, text_of_store, text_of_take_self}
 use Rattle.cool_emit.proofs.TextOfPieces.{text_of_begin_init, text_of_call_init, text_of_return_basic}
 use Rattle.cool_emit.proofs.TextOfParts.{Serves, AreReached, AreNumbers, AreStrings}
 use Rattle.cool_emit.proofs.TextOfCode.{text_of_code}
+use Rattle.lists.proofs.AllItems.{all_append, all_left, all_right}
 
 -- an attribute stands near the head of its object
 pub offset_low : (p : List Class) (c : ClassId) (a : AttributeRef) → length (attributes p c) ≤ 2000 → offset p c a < 32768
@@ -76,9 +77,9 @@ module _ (target known : Name → Type 0) (s : Context) (g : Constants) (u : Ser
       let vs = with_formals s.table formals (attributes_in s.table s.class) in
       let m1 = all_right _ (mark_lines (method_label s.table (User s.class s.feature))) _ m in
       let m2 = all_right _ enter_lines _ m1 in
-      all_both _ (mark_lines (method_label s.table (User s.class s.feature))) _ (text_of_mark target known _)
-      (all_both _ enter_lines _ (text_of_enter target known u.ends_stack)
-      (all_both _ (code s g vs 0 0 body) _
+      all_append _ (mark_lines (method_label s.table (User s.class s.feature))) _ (text_of_mark target known _)
+      (all_append _ enter_lines _ (text_of_enter target known u.ends_stack)
+      (all_append _ (code s g vs 0 0 body) _
       (text_of_code target known s g u within files body vs 0 0 (formals_reached s.table formals (attributes_in s.table s.class)
       (omega arith) in_scope) (omega arith) w i j (all_left _ (code s g vs 0 0 body) _ m2))
       (text_of_leave target known _ (omega arith))))
@@ -90,7 +91,7 @@ module _ (target known : Name → Type 0) (s : Context) (g : Constants) (u : Ser
   text_of_value None bounded w i j m = tt
   text_of_value (Some t) bounded w i j m =
       let vs = attributes_in s.table s.class in
-      all_both _ (code s g vs 0 0 t) _
+      all_append _ (code s g vs 0 0 t) _
       (text_of_code target known s g u within files t vs 0 0 in_scope (omega arith) w i j (all_left _ (code s g vs 0 0 t) _ m))
       (text_of_store target known _ 16 (offset_low s.table s.class (record { owner = s.class; index = s.feature }) few) (omega arith))
 
@@ -126,7 +127,7 @@ module _ (target known : Name → Type 0) (p : List Class) (files : List (List �
       → AreText target known (flat_map (placed_code p files g c) xs)
   text_of_placed c within [] b w asks m = tt
   text_of_placed c within (x ∷ xs) b w asks m =
-      all_both _ (placed_code p files g c x) _
+      all_append _ (placed_code p files g c x) _
       (text_of_feature target known (record { table = p; class = c; feature = x.place; files = files }) g u within (few c within)
       (length files) x.feature b.0 w.0 asks.0 (all_left _ (placed_code p files g c x) _ m))
       (text_of_placed c within xs b.1 w.1 asks.1 (all_right _ (placed_code p files g c x) _ m))
@@ -160,19 +161,19 @@ module _ (target known : Name → Type 0) (p : List Class) (files : List (List �
           let m1 = all_right _ (begin_init_lines (initializer p c)) _ m in
           let m2 = all_right _ enter_lines _ m1 in
           let m3 = all_right _ (parent_code p (parent_of p c)) _ m2 in
-          all_both _ (begin_init_lines (initializer p c)) _ (text_of_begin_init target known _)
-          (all_both _ enter_lines _ (text_of_enter target known u.ends_stack)
-          (all_both _ (parent_code p (parent_of p c)) _ (text_of_parent c within)
-          (all_both _ rest _
+          all_append _ (begin_init_lines (initializer p c)) _ (text_of_begin_init target known _)
+          (all_append _ enter_lines _ (text_of_enter target known u.ends_stack)
+          (all_append _ (parent_code p (parent_of p c)) _ (text_of_parent c within)
+          (all_append _ rest _
           (text_of_placed c within (programs.attributes_in p c) (all_attributes IsBoundedFeature 0 (features_of p c) (bounded c within))
           (all_attributes (IsFeatureWithin (length files)) 0 (features_of p c) (limited c within)) asks (all_left _ rest _ m3))
-          (all_both _ take_self_lines _ (text_of_take_self target known) (text_of_leave target known _ (omega arith))))))
+          (all_append _ take_self_lines _ (text_of_take_self target known) (text_of_leave target known _ (omega arith))))))
 
   -- a class: its initializer and its methods
   text_of_class : (c : ClassId) → c.0 < length p → AllByRecursion (λ x. AsksKnown known files g x.feature) (class_features p c)
       → AreTargets target (class_code p files g c) → AreText target known (class_code p files g c)
   text_of_class c within asks m =
-      all_both _ (initializer_code p files g c) _
+      all_append _ (initializer_code p files g c) _
       (text_of_initializer c within (all_left _ (programs.attributes_in p c) _ asks) (all_left _ (initializer_code p files g c) _ m))
       (text_of_placed c within (programs.methods_in p c) (all_methods IsBoundedFeature 0 (features_of p c) (bounded c within))
       (all_methods (IsFeatureWithin (length files)) 0 (features_of p c) (limited c within))
@@ -184,6 +185,6 @@ module _ (target known : Name → Type 0) (p : List Class) (files : List (List �
       → AreTargets target (flat_map (class_code p files g) cs) → AreText target known (flat_map (class_code p files g) cs)
   text_of_classes [] within asks m = tt
   text_of_classes (c ∷ cs) within asks m =
-      all_both _ (class_code p files g c) _
+      all_append _ (class_code p files g c) _
       (text_of_class c within.0 (all_left _ (class_features p c) _ asks) (all_left _ (class_code p files g c) _ m))
       (text_of_classes cs within.1 (all_right _ (class_features p c) _ asks) (all_right _ (class_code p files g c) _ m))

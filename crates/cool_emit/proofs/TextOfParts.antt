@@ -40,12 +40,13 @@ use Rattle.cool_codegen.specs.Code.{name_code, store_of, assign_code, truth_labe
 use Rattle.cool_codegen.specs.Code.{default_code, bool_code, int_code, divisor_code, operation_code}
 use Rattle.cool_codegen.specs.Code.{arith_code, compare_code, slot_code, static_code, minus, range_code}
 use Rattle.cool_emit.specs.SoundLines.{AreText}
-use Rattle.cool_emit.proofs.TextOfPieces.{AreTargets, all_both, all_left, all_right, text_of_load, text_of_store}
+use Rattle.cool_emit.proofs.TextOfPieces.{AreTargets, text_of_load, text_of_store}
 use Rattle.cool_emit.proofs.TextOfPieces.{text_of_take_self, text_of_take_void, text_of_take, text_of_values}
 use Rattle.cool_emit.proofs.TextOfPieces.{text_of_compare_equal, text_of_less, text_of_less_equal, text_of_flag}
 use Rattle.cool_emit.proofs.TextOfPieces.{text_of_add, text_of_subtract, text_of_multiply, text_of_divide}
 use Rattle.cool_emit.proofs.TextOfPieces.{text_of_is_zero, text_of_ends_where, text_of_new_int, text_of_create}
 use Rattle.cool_emit.proofs.TextOfPieces.{text_of_create_self, text_of_call, text_of_call_static, text_of_try_tags}
+use Rattle.lists.proofs.AllItems.{all_append, all_left, all_right}
 
 -- What code may name, by targets of jumps and names that are known, and how large its numbers become: the routines and the constants of the
 -- run-time system, the methods, initializers and prototypes of the classes of a table, its slots and its tags.
@@ -137,7 +138,7 @@ module _ (target known : Name → Type 0) (s : Context) (u : Serves target known
   -- two parts: their text, and the targets of each
 
   pub both : (xs ys : List Line) → AreText target known xs → AreText target known ys → AreText target known (xs ++ ys)
-  both xs ys h k = all_both _ xs ys h k
+  both xs ys h k = all_append _ xs ys h k
 
   pub targets_left : (xs ys : List Line) → AreTargets target (xs ++ ys) → AreTargets target xs
   targets_left xs ys m = all_left _ xs ys m

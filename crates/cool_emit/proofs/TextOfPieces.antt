@@ -24,19 +24,6 @@ use Rattle.cool_emit.specs.SoundLines.{AreText}
 abbrev pub AreTargets : (Name → Type 0) → List Line → Type 0
 AreTargets target = AllByRecursion (λ line. AllByRecursion target line.labels)
 
--- what holds of all of two lists holds of all of both, and of each
-pub all_both : {X : Type 0} (P : X → Type 0) (xs ys : List X) → AllByRecursion P xs → AllByRecursion P ys → AllByRecursion P (xs ++ ys)
-all_both P [] ys h k = k
-all_both P (x ∷ xs) ys h k = (h.0, all_both P xs ys h.1 k)
-
-pub all_left : {X : Type 0} (P : X → Type 0) (xs ys : List X) → AllByRecursion P (xs ++ ys) → AllByRecursion P xs
-all_left P [] ys h = tt
-all_left P (x ∷ xs) ys h = (h.0, all_left P xs ys h.1)
-
-pub all_right : {X : Type 0} (P : X → Type 0) (xs ys : List X) → AllByRecursion P (xs ++ ys) → AllByRecursion P ys
-all_right P [] ys h = h
-all_right P (x ∷ xs) ys h = all_right P xs ys h.1
-
 -- values and names
 
 pub text_of_pop : (target known : Name → Type 0) → AreText target known pop_lines

@@ -39,10 +39,14 @@ use Rattle.cool_emit.proofs.FixedNamesThere.{string_prototype_there, substring_t
 use Rattle.cool_emit.proofs.SlotsInLimits.{few_attributes}
 use Rattle.cool_emit.proofs.NamesMeant.{type_there, method_in_there}
 use Rattle.cool_emit.proofs.LowNumbers.{slot_low, tag_low, family_low}
-use Rattle.cool_emit.proofs.TextOfPieces.{AreTargets, all_both, all_left, all_right}
+use Rattle.cool_emit.proofs.TextOfPieces.{AreTargets}
 use Rattle.cool_emit.proofs.TextOfParts.{Serves, AreNumbers, AreStrings}
 use Rattle.cool_emit.proofs.TextOfFeatures.{AsksKnown, text_of_classes}
 use Rattle.cool_emit.proofs.TextOfRoutines.{ServesRoutines, text_of_routines}
+use Rattle.lists.proofs.AllItems.{all_append, all_left, all_right, all_then}
+use Rattle.cool_emit.proofs.ConstantsInRange.{numbers_low}
+use Rattle.std.proofs.lemmas.List.Elements.{Contains-append_left, Contains-push}
+use Rattle.std.proofs.lemmas.Bool.{eqb-true}
 
 -- all of lists that are joined, looked at one list after the other
 each_list : {X Y : Type 0} (P : Y → Type 0) (f : X → List Y) (xs : List X) → AllByRecursion P (flat_map f xs)
@@ -50,19 +54,10 @@ each_list : {X Y : Type 0} (P : Y → Type 0) (f : X → List Y) (xs : List X) �
 each_list P f [] h = tt
 each_list P f (x ∷ xs) h = (all_left P (f x) (flat_map f xs) h, each_list P f xs (all_right P (f x) (flat_map f xs) h))
 
--- what follows for each follows for all
-all_then : {X : Type 0} (P Q : X → Type 0) (xs : List X) → ((x : X) → P x → Q x) → AllByRecursion P xs → AllByRecursion Q xs
-all_then P Q [] h all = tt
-all_then P Q (x ∷ xs) h all = (h x all.0, all_then P Q xs h all.1)
-
+-- what two facts say of each item
 all_pairs : {X : Type 0} (P Q : X → Type 0) (xs : List X) → AllByRecursion P xs → AllByRecursion Q xs → AllByRecursion (λ x. P x × Q x) xs
 all_pairs P Q [] h k = tt
 all_pairs P Q (x ∷ xs) h k = ((h.0, k.0), all_pairs P Q xs h.1 k.1)
-
--- the numbers of classes are below their end
-numbers_below : (k n most : ℕ) → k + n ≤ most → AllByRecursion (λ (c : ClassId). c.0 < most) (numbers_from k n)
-numbers_below k zero most low = tt
-numbers_below k (suc n) most low = (omega arith, numbers_below (k + 1) n most (omega arith))
 
 -- each label of lines is one of them
 labels_are_targets : (lines : List Line) → AreTargets (Contains (labels_of lines)) lines
@@ -71,18 +66,9 @@ labels_are_targets lines =
 
 -- A constant that was asked for is in the table, whatever is asked for later.
 
-stays_front : {X : Type 0} (xs ys : List X) (x : X) → Contains xs x → Contains (xs ++ ys) x
-stays_front [] ys x (k, l, e) = absurd (omega arith)
-stays_front (y ∷ xs) ys x (zero, l, e) = (zero, omega arith, e)
-stays_front (y ∷ xs) ys x (suc k, l, e) = let h = stays_front xs ys x (k, omega arith, e) in (suc h.0, (let m = h.1 in omega arith), h.2)
-
-last_there : {X : Type 0} (xs : List X) (x : X) → Contains (xs ++ x ∷ []) x
-last_there [] x = (zero, omega arith, refl)
-last_there (y ∷ xs) x = let h = last_there xs x in (suc h.0, (let m = h.1 in omega arith), h.2)
-
 stays : {X : Type 0} (b : Bool) (xs : List X) (y x : X) → Contains xs x → Contains (if b then xs else xs ++ y ∷ []) x
 stays true xs y x h = h
-stays false xs y x h = stays_front xs (y ∷ []) x h
+stays false xs y x h = Contains-append_left xs (y ∷ []) x h
 
 added : {X : Type 0} (same : X → X → Bool) → ((x y : X) → same x y ≡ true → x ≡ y) → (xs : List X) (x : X)
     → Contains (if list_any (same x) xs then xs else xs ++ x ∷ []) x
@@ -90,23 +76,20 @@ added same decides xs x = by (list_any (same x) xs) refl
   where
     by : (b : Bool) → list_any (same x) xs ≡ b → Contains (if b then xs else xs ++ x ∷ []) x
     by true e = Contains-from_any decides x xs e
-    by false e = last_there xs x
+    by false e = Contains-push xs x
 
-same_numbers : (m n : ℕ) → nat_eq m n ≡ true → m ≡ n
-same_numbers m n e = grind (arith, e)
-
-integer_stays : (xs ns : List ℕ) (n : ℕ) → Contains xs n → Contains (with_integers xs ns) n
+pub integer_stays : (xs ns : List ℕ) (n : ℕ) → Contains xs n → Contains (with_integers xs ns) n
 integer_stays xs [] n h = h
 integer_stays xs (m ∷ ns) n h = integer_stays (with_integer xs m) ns n (stays (list_any (nat_eq m) xs) xs m n h)
 
-string_stays : (xs bs : List (List ℕ)) (b : List ℕ) → Contains xs b → Contains (with_strings xs bs) b
+pub string_stays : (xs bs : List (List ℕ)) (b : List ℕ) → Contains xs b → Contains (with_strings xs bs) b
 string_stays xs [] b h = h
 string_stays xs (c ∷ bs) b h = string_stays (with_string xs c) bs b (stays (list_any (bytes_eq c) xs) xs c b h)
 
 integers_there : (xs ns : List ℕ) → AllByRecursion (Contains (with_integers xs ns)) ns
 integers_there xs [] = tt
 integers_there xs (n ∷ ns) =
-    (integer_stays (with_integer xs n) ns n (added nat_eq same_numbers xs n), integers_there (with_integer xs n) ns)
+    (integer_stays (with_integer xs n) ns n (added nat_eq eqb-true xs n), integers_there (with_integer xs n) ns)
 
 strings_there : (xs bs : List (List ℕ)) → AllByRecursion (Contains (with_strings xs bs)) bs
 strings_there xs [] = tt
@@ -216,8 +199,8 @@ pub text_sound : (p : List Class) (files : List (List ℕ)) → IsBuildable p fi
     → AreText (Contains (labels_of (program_text p files))) (Contains (labels_of (program_lines p files))) (program_text p files)
 text_sound p files b =
     let r = rooted p b.typed.whole in
-    all_both _ all_routine_lines _ (text_of_routines (target p files b) (known p files b) (routines_served p files b))
+    all_append _ all_routine_lines _ (text_of_routines (target p files b) (known p files b) (routines_served p files b))
     (text_of_classes (target p files b) (known p files b) p files (program_constants p files) (code_served p files b) r
     (few_attributes p r b.fits.table) b.fits.bounded b.fits.within (numbers_from 0 (length p))
-    (numbers_below 0 (length p) (length p) (omega arith)) (all_known p files b)
+    (numbers_low 0 (length p) (length p) (omega arith)) (all_known p files b)
     (all_right _ all_routine_lines (classes_code p files (program_constants p files)) (labels_are_targets (program_text p files))))

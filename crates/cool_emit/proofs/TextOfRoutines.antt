@@ -16,7 +16,7 @@ use Rattle.cool_runtime.specs.RoutineLines.{value_routines_lines, error_routines
 use Rattle.cool_runtime.specs.RoutineLines.{limit_routines_lines, all_routine_lines}
 use Rattle.cool_runtime.specs.declared.catalogue.Routine.TheVariants as routines
 use Rattle.cool_emit.specs.SoundLines.{AreText}
-use Rattle.cool_emit.proofs.TextOfPieces.{all_both}
+use Rattle.lists.proofs.AllItems.{all_append}
 
 -- what the routines name: the labels to which they jump, and the data whose addresses they take
 pub record ServesRoutines (target known : Name → Type 0) : Type 0 where
@@ -195,37 +195,37 @@ module _ (target known : Name → Type 0) (r : ServesRoutines target known) wher
 
   text_of_object_routines : AreText target known object_routines_lines
   text_of_object_routines =
-      all_both _ (routine_lines routines.Start) _ text_of_start
-      (all_both _ (routine_lines routines.Copy) _ text_of_copy
-      (all_both _ (routine_lines routines.Abort) _ text_of_abort text_of_type_name))
+      all_append _ (routine_lines routines.Start) _ text_of_start
+      (all_append _ (routine_lines routines.Copy) _ text_of_copy
+      (all_append _ (routine_lines routines.Abort) _ text_of_abort text_of_type_name))
 
   text_of_io_routines : AreText target known io_routines_lines
   text_of_io_routines =
-      all_both _ (routine_lines routines.OutString) _ text_of_out_string
-      (all_both _ (routine_lines routines.OutInt) _ text_of_out_int
-      (all_both _ (routine_lines routines.InString) _ text_of_in_string text_of_in_int))
+      all_append _ (routine_lines routines.OutString) _ text_of_out_string
+      (all_append _ (routine_lines routines.OutInt) _ text_of_out_int
+      (all_append _ (routine_lines routines.InString) _ text_of_in_string text_of_in_int))
 
   text_of_value_routines : AreText target known value_routines_lines
   text_of_value_routines =
-      all_both _ (routine_lines routines.Length) _ text_of_length
-      (all_both _ (routine_lines routines.Concat) _ text_of_concat
-      (all_both _ (routine_lines routines.Substr) _ text_of_substr text_of_equal))
+      all_append _ (routine_lines routines.Length) _ text_of_length
+      (all_append _ (routine_lines routines.Concat) _ text_of_concat
+      (all_append _ (routine_lines routines.Substr) _ text_of_substr text_of_equal))
 
   text_of_error_routines : AreText target known error_routines_lines
   text_of_error_routines =
-      all_both _ (routine_lines routines.DispatchVoid) _ text_of_dispatch_void
-      (all_both _ (routine_lines routines.CaseVoid) _ text_of_case_void
-      (all_both _ (routine_lines routines.NoBranch) _ text_of_no_branch text_of_div_zero))
+      all_append _ (routine_lines routines.DispatchVoid) _ text_of_dispatch_void
+      (all_append _ (routine_lines routines.CaseVoid) _ text_of_case_void
+      (all_append _ (routine_lines routines.NoBranch) _ text_of_no_branch text_of_div_zero))
 
   text_of_limit_routines : AreText target known limit_routines_lines
   text_of_limit_routines =
-      all_both _ (routine_lines routines.SubstrRange) _ text_of_substr_range
-      (all_both _ (routine_lines routines.Overflow) _ text_of_overflow
-      (all_both _ (routine_lines routines.HeapLimit) _ text_of_heap_limit text_of_stack_limit))
+      all_append _ (routine_lines routines.SubstrRange) _ text_of_substr_range
+      (all_append _ (routine_lines routines.Overflow) _ text_of_overflow
+      (all_append _ (routine_lines routines.HeapLimit) _ text_of_heap_limit text_of_stack_limit))
 
   pub text_of_routines : AreText target known all_routine_lines
   text_of_routines =
-      all_both _ object_routines_lines _ text_of_object_routines
-      (all_both _ io_routines_lines _ text_of_io_routines
-      (all_both _ value_routines_lines _ text_of_value_routines
-      (all_both _ error_routines_lines _ text_of_error_routines text_of_limit_routines)))
+      all_append _ object_routines_lines _ text_of_object_routines
+      (all_append _ io_routines_lines _ text_of_io_routines
+      (all_append _ value_routines_lines _ text_of_value_routines
+      (all_append _ error_routines_lines _ text_of_error_routines text_of_limit_routines)))

@@ -6,8 +6,8 @@ use Rattle.mips_isa.specs.declared.address_map.TheConstants.{MOST_DATA_BYTES}
 use Rattle.mips_isa.specs.Words.{InRange}
 use Rattle.mips_isa.specs.Lines.{Name, WordItem, Number, Address, AsmInstr, Plain, ToTwo, ToOne, ToJump, La, Li, Move, Neg, Nop, B, BranchZero, BranchOrder, Mul, DataItem, Word, Byte, Ascii, Asciiz, Space, AsmDirective, ToText, ToData, Globl, Align, Statement, Empty, Instruction, Data, Directive, Line, IsWord}
 use Rattle.mips_isa.specs.Assembly.{Need, Nothing, Words, Item, Switch, Padding, need, directive_line, start_name}
-use Rattle.cool_classes.specs.Limits.{AreDifferent}
 use Rattle.cool_runtime.specs.Instructions.{label, la}
+use Rattle.lists.specs.Different.{AreDifferent}
 
 -- An instruction of text has numbers in their ranges. A jump goes to a target; an address is that of a name that may be used.
 abbrev pub IsTextInstruction : (Name → Type 0) → (Name → Type 0) → AsmInstr → Type 0

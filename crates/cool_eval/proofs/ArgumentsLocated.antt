@@ -16,6 +16,7 @@ use Rattle.cool_eval.specs.Devices.{state_at}
 use Rattle.cool_eval.specs.Machine.{Frame, Begin, Continue, Halt, begin_body, begin_method}
 use Rattle.cool_eval.proofs.LocalsAtEnd.{locals_more}
 use Rattle.cool_eval.proofs.NewLocations.{located_all}
+use Rattle.lists.proofs.ItemsLeft.{drop_first}
 
 -- the variables of the formals from one on, at locations from the first on
 unfoldable pub located_from : List Formal → ℕ → ℕ → ℕ → Environment
@@ -52,18 +53,13 @@ all_from fs first count =
     ap (λ (l : ℕ). located (formal_names fs) (locations_from l (count - 0))) here ∙ ap (λ (n : ℕ). located (formal_names fs) (locations_from first n)) whole
 
 -- one more at the front
-formal_here : (fs : List Formal) (k : ℕ) (f : Formal) → k < length fs → f ≡ get_or fs k f → drop k fs ≡ f ∷ drop (suc k) fs
-formal_here [] k f less is = absurd (omega arith)
-formal_here (x ∷ fs) zero f less is = ap (λ (y : Formal). y ∷ fs) (sym is)
-formal_here (x ∷ fs) (suc k) f less is = formal_here fs k f (omega arith) is
-
 pub one_from : (fs : List Formal) (first count k : ℕ) (f : Formal) → k < length fs → k < count → f ≡ get_or fs k f
     → located_from fs first count k ≡ record { name = f.name; location = first + k } ∷ located_from fs first count (suc k)
 unfolding located_from
 one_from fs first count k f less below is =
     let rest : count - k ≡ suc (count - suc k) = omega arith in
     let next : suc (first + k) ≡ first + suc k = omega arith in
-    ap (λ (gs : List Formal). located (formal_names gs) (locations_from (first + k) (count - k))) (formal_here fs k f less is)
+    ap (λ (gs : List Formal). located (formal_names gs) (locations_from (first + k) (count - k))) (drop_first fs k f less is)
     ∙ ap (λ (n : ℕ). located (formal_names (f ∷ drop (suc k) fs)) (locations_from (first + k) n)) rest
     ∙ ap (λ (l : ℕ). record { name = f.name; location = first + k } ∷ located (formal_names (drop (suc k) fs)) (locations_from l (count - suc k))) next
 

@@ -2,7 +2,7 @@
 use Rattle.std.proofs.Common.{◌≡◌, ℕ, zero, suc, ◌<◌, ◌≤◌, ◌+◌, List, [], ◌∷◌, length, take, get_or, Option, Some, None, Bool, true, false, ap, sym, ◌∙◌, refl, arith, length-take}
 use Rattle.std.specs.Prelude.{nat_lt, option_map, if◌then◌else◌}
 use Rattle.std.proofs.lemmas.List.{get_or_past}
-use Rattle.std.proofs.lemmas.Bool.{ltb-true}
+use Rattle.std.proofs.lemmas.Bool.{ltb-true, le-ltb}
 use Rattle.cool_syntax.specs.declared.place.Place.{Place}
 use Rattle.cool_classes.specs.declared.class_id.ClassId.{ClassId}
 use Rattle.cool_classes.specs.declared.method.MethodRef.{MethodRef}
@@ -18,6 +18,8 @@ use Rattle.cool_meaning.specs.Meters.{Outcome, Val, Stop, On, Stuck, DispatchVoi
 use Rattle.cool_meaning.specs.Lookups.{method_at}
 use Rattle.cool_eval.specs.Machine.{Frame, Halt, begin_call, begin_method, call_class, class_called}
 use Rattle.cool_eval.proofs.ClassesByName.{named_is}
+use Rattle.cool_eval.proofs.AttributesInTables.{climbed_none}
+use Rattle.cool_classes.proofs.BasicLimits.{five_classes}
 
 -- The class in which a method is looked up
 
@@ -76,33 +78,14 @@ class_called_on p at name v vs s n left c o fs is more =
 -- The method
 
 -- a class that is none of the table has no method
-climbed_none : (n : ℕ) (p : List Class) → climbed n p None ≡ []
-unfolding climbed
-climbed_none zero p = refl
-climbed_none (suc n) p = refl
-
-five_within : (p : List Class) → IsTable p → 5 ≤ length p
-five_within p table =
-    let five : length (take 5 p) ≡ 5 = ap length table.basic in
-    let least = length-take 5 p in
-    omega arith
-
--- no number past the basic classes is one of them
-not_low : (n : ℕ) → 5 ≤ n → nat_lt n 5 ≡ false
-not_low n high = by (nat_lt n 5) refl
-  where
-    by : (b : Bool) → nat_lt n 5 ≡ b → nat_lt n 5 ≡ false
-    by true e = let low = ltb-true n 5 e in absurd (omega arith)
-    by false e = e
-
 pub method_outside : (p : List Class) (c : ClassId) (name : List ℕ) → IsTable p → length p ≤ c.0 → None ≡ implementation p (chain p c) name
 unfolding chain above
 method_outside p c name table past =
     let is : get_or p c.0 nothing ≡ nothing = get_or_past p c.0 nothing past in
     let none : climbed (length p) p (parent_of p c) ≡ [] = ap (λ (x : Class). climbed (length p) p x.parent) is ∙ climbed_none (length p) p in
-    let many = five_within p table in
+    let many = five_classes p table in
     let own : own_method p c name ≡ None =
-    ap (λ (b : Bool). if b then option_map Basic (method_among (basic_methods c.0) name) else user_method c (first_method 0 (features_of p c) name)) (not_low c.0 (omega arith))
+    ap (λ (b : Bool). if b then option_map Basic (method_among (basic_methods c.0) name) else user_method c (first_method 0 (features_of p c) name)) (le-ltb c.0 5 (omega arith))
     ∙ ap (λ (x : Class). user_method c (first_method 0 x.features name)) is in
     sym (ap (λ (ds : List ClassId). implementation p (c ∷ ds) name) none ∙ ap (λ (o : Option MethodRef). first_of o None) own)
 

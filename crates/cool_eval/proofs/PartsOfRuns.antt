@@ -8,7 +8,7 @@ use Rattle.cool_meaning.specs.SourceRun.{Run, run}
 use Rattle.cool_meaning.proofs.LongerRuns.{longer_extends}
 use Rattle.cool_meaning.proofs.SoundRuns.{never_stuck}
 use Rattle.cool_eval.specs.Ends.{IsPart, StoppedReading, StoppedWriting, StoppedAtLastLine, StoppedShort, last_line}
-use Rattle.cool_eval.proofs.RunSoFar.{appended_twice}
+use Rattle.cool_ports.proofs.GettingBytes.{appended-appended}
 
 -- all of a front, and a prefix of what comes after it
 prefix_after : (first : Option (List ℕ)) (output front more : List ℕ) (held : Option (List ℕ)) → output ≡ front ++ more
@@ -18,7 +18,7 @@ prefix_after first output front more held is (rest, h) = (
   record {
     front = front ++ h.front;
     cut = is ∙ (ap (λ (xs : List ℕ). front ++ xs) h.cut ∙ sym (append_assoc front h.front rest));
-    got = h.got ∙ appended_twice first front h.front;
+    got = h.got ∙ appended-appended first front h.front;
   },
 )
 

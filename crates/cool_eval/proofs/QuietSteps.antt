@@ -26,10 +26,6 @@ use Rattle.cool_eval.specs.Devices.{OnDevices, Reaches, Acts, HasLeft, HasPut, T
 use Rattle.cool_eval.specs.Machine.{Frame, Return, Next, after, begin_call}
 use Rattle.cool_ports.proofs.InputsInParts.{leaves_same, took_nothing}
 
--- nothing was taken of a source that was not asked
-pub untouched : (ended : Bool) (past : Past) (left : Option (List ℕ)) → Took ended ended past past left left
-untouched ended past left = took_nothing ended past left
-
 -- what came, with the sink as it was
 pub comes_reach : (p : List Class) (r : Result Focus Ending) (m : Machine) (first : Option (List ℕ)) (output input : List ℕ)
     (next : Next)

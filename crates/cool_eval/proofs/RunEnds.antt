@@ -17,18 +17,15 @@ use Rattle.cool_eval.specs.Configurations.{error_of}
 use Rattle.cool_eval.specs.Devices.{HasLeft, HasPut}
 use Rattle.cool_eval.specs.Ends.{last_line, Evaluates}
 use Rattle.cool_eval.specs.Running.{outcome_of, OfState, HasTaken, RunsShort, Ended}
-use Rattle.cool_eval.proofs.RunSoFar.{appended_twice, prefix_longer}
+use Rattle.cool_eval.proofs.RunSoFar.{prefix_longer}
 use Rattle.cool_eval.proofs.RunsMean.{SameEnd, start_means, run_is}
-
--- four words, put together one after the other
-pub words_joined : (a b c d : List ℕ) → ((a ++ b) ++ c) ++ d ≡ a ++ (b ++ (c ++ d))
-words_joined a b c d = append_assoc (a ++ b) c d ∙ append_assoc a b (c ++ d)
+use Rattle.cool_ports.proofs.GettingBytes.{appended-appended}
 
 -- a text that is put after the output of a run
 text_put : (first held held' : Option (List ℕ)) (output text : List ℕ) → held ≡ appended first output
     → held' ≡ appended held text → held' ≡ appended first (output ++ text)
 text_put first held held' output text put is =
-    is ∙ (ap (λ (h : Option (List ℕ)). appended h text) put ∙ appended_twice first output text)
+    is ∙ (ap (λ (h : Option (List ℕ)). appended h text) put ∙ appended-appended first output text)
 
 outcome_run : (p : List Class) (names : List (List ℕ)) (input : List ℕ) (n : ℕ)
     → SameEnd (run p names input n) (run_of p names (outcome_of p input n) 0 0 0)

@@ -36,11 +36,6 @@ unfolding appended
 nothing_appended None = refl
 nothing_appended (Some bytes) = ap Some (sym (append-nil bytes))
 
-pub appended_twice : (first : Option (List ℕ)) (a b : List ℕ) → appended (appended first a) b ≡ appended first (a ++ b)
-unfolding appended
-appended_twice None a b = refl
-appended_twice (Some bytes) a b = ap Some (append_assoc bytes a b)
-
 -- a prefix of a front
 pub prefix_longer : (first : Option (List ℕ)) (a b : List ℕ) (held : Option (List ℕ)) → GotPrefix first a held
     → GotPrefix first (a ++ b) held

@@ -4,6 +4,7 @@ use Rattle.std.specs.Prelude.{Option, Some, None, Ok, Err, ◌==◌}
 use Rattle.cool_ports.specs.declared.Failed.{Failed}
 use Rattle.cool_ports.specs.Taking.{with_front, GaveByte}
 use Rattle.cool_meaning.specs.BasicMethods.{Line, line_of}
+use Rattle.cool_meaning.proofs.MoreSteps.{line_taken}
 
 -- these bytes, and then a line
 abbrev pub prepend : List ℕ → Line → Line
@@ -25,12 +26,6 @@ leaves_by : (zero_byte newline : Bool) (b : ℕ) (more kept : List ℕ) → (b =
 leaves_by true newline b more kept is _ more_is = (b ∷ kept, rw is (ap (λ bytes. b ∷ bytes) more_is))
 leaves_by false true b more kept is ten more_is = (b ∷ [], rw (is, ten) refl)
 leaves_by false false b more kept is ten more_is = (b ∷ kept, rw (is, ten) (ap (λ bytes. b ∷ bytes) more_is))
-
-line_leaves : (input : List ℕ) → (front : List ℕ) × (input ≡ front ++ (line_of input).rest)
-line_leaves [] = ([], refl)
-line_leaves (b ∷ more) =
-    let later = line_leaves more in
-    leaves_by (b == 0) (b == 10) b more later.0 refl refl later.1
 
 -- The bytes of a line so far came from an input, of which a rest is left; where the end was answered before, none was left.
 pub record LineUpTo (was : Bool) (said input rest : List ℕ) : Type 0 where
@@ -82,14 +77,14 @@ line_end false ended said input mid rest l (is, at_end, (zeros, told)) =
 pub line_failed : (was ended : Bool) (failed : Failed) (said input mid rest : List ℕ) → LineUpTo was said input mid → GaveByte was (Some mid) (Err failed) ended (Some rest) → (kept : List ℕ) × (rest ≡ kept ++ (line_of input).rest)
 line_failed true ended failed said input mid rest l g = absurd g
 line_failed false ended failed said input mid rest l (is, (zeros, told)) =
-    let later = line_leaves rest in
+    let later = line_taken rest in
     let same : (line_of input).rest ≡ (line_of rest).rest = ap (λ line. line.rest) (l.is ∙ ap (prepend said) (line_after_zeros mid rest zeros told)) in
     (later.0, rw same later.1)
 
 -- a byte of the line came, and there was no memory for it
 pub line_short : (was ended : Bool) (byte : ℕ) (said input mid rest : List ℕ) → LineUpTo was said input mid → GaveByte was (Some mid) (Ok (Some byte)) ended (Some rest) → (byte == 10) ≡ false → (kept : List ℕ) × (rest ≡ kept ++ (line_of input).rest)
 line_short was ended byte said input mid rest l g other =
-    let later = line_leaves rest in
+    let later = line_taken rest in
     let more = line_more was ended byte said input mid rest l g other in
     let same : (line_of input).rest ≡ (line_of rest).rest = ap (λ line. line.rest) more.is in
     (later.0, rw same later.1)

@@ -5,14 +5,9 @@ use Rattle.std.proofs.lemmas.Nat.{mul-mod_second}
 use Rattle.std.proofs.lemmas.List.{at_drop_more}
 use Rattle.std.proofs.lemmas.Bool.Decides.{nat_tests}
 use Rattle.cool_meaning.specs.Numbers.{digits_from, is_digit}
+use Rattle.lists.proofs.Numbers.{digit_same}
 
--- one more digit keeps the low bits the same
-digit_same : (n m d : ℕ) → n % 4294967296 ≡ m % 4294967296 → (10 * n + d) % 4294967296 ≡ (10 * m + d) % 4294967296
-digit_same n m d same =
-    sym (mod-add-mod (10 * n) 4294967296 d)
-    ∙ ap (λ k. (k + d) % 4294967296) (sym (mul-mod_second 10 n 4294967296) ∙ ap (λ k. 10 * k % 4294967296) same ∙ mul-mod_second 10 m 4294967296)
-    ∙ mod-add-mod (10 * m) 4294967296 d
-
+-- one more digit keeps the low bits the same, and so do those after it
 digits_by : (digit : Bool) (n m b : ℕ) (rest : List ℕ) → is_digit b ≡ digit → n % 4294967296 ≡ m % 4294967296
     → ((n m : ℕ) → n % 4294967296 ≡ m % 4294967296 → digits_from n rest % 4294967296 ≡ digits_from m rest % 4294967296)
     → digits_from n (b ∷ rest) % 4294967296 ≡ digits_from m (b ∷ rest) % 4294967296

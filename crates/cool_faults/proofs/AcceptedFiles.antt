@@ -18,16 +18,12 @@ use Rattle.cool_check.specs.TypingFaults.{typing_faults}
 use Rattle.cool_check.proofs.AcceptedTables.{typed_exactly}
 use Rattle.cool_faults.specs.Verdicts.{AreFaultless, IsAccepted, IsFaultList, faultless}
 use Rattle.cool_faults.proofs.MeantTables.{table_meant}
+use Rattle.lists.proofs.ItemsAt.{there_is}
 
 -- rows that are none leave no fault
 pub no_rows : (IsRow : ClassKind → Place → Type 0) (fs : List ClassFault) → AreRows IsRow fs → ((kind : ClassKind) (at : Place) → IsRow kind at → ⊥) → fs ≡ []
 no_rows IsRow [] rows none = refl
 no_rows IsRow (f ∷ fs) rows none = absurd (none f.kind f.at rows.only.0)
-
-pub there_is : {X : Type 0} (xs : List X) (k : ℕ) → k < length xs → (x : X) × (slice_get xs k ≡ Some x)
-there_is [] k less = absurd (omega arith)
-there_is (x ∷ xs) zero less = (x, refl)
-there_is (x ∷ xs) (suc k) less = there_is xs k (omega arith)
 
 -- where no row of classes holds, there is no cycle, and no fault of classes
 no_cycles : (ds : List ClassDef) → ((kind : ClassKind) (at : Place) → IsClassFault ds kind at → ⊥) → AreOnCycles ds []

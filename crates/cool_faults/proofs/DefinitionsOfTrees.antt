@@ -11,9 +11,9 @@ use Rattle.cool_syntax.specs.TreesWithinLimits.{AreClassesWithin, IsClassWithin}
 use Rattle.cool_syntax.specs.Weights.{classes_weight, features_weight}
 use Rattle.cool_classes.specs.Definitions.{definitions, AreFew, HasFewFeatures, HasFewFormals}
 use Rattle.cool_faults.specs.Files.{total}
-use Rattle.cool_faults.proofs.AllItems.{all_append}
 use Rattle.cool_faults.proofs.FindingsInARow.{AllFound}
 use Rattle.cool_faults.proofs.SyntaxFaults.{IsWhole}
+use Rattle.lists.proofs.AllItems.{all_append}
 
 -- the weight of two lists of classes
 weight_append : (cs ds : List ClassDef) → classes_weight (cs ++ ds) ≡ classes_weight cs + classes_weight ds

@@ -13,15 +13,16 @@ use Rattle.cool_faults.specs.declared.fault.Untyped.{Untyped}
 use Rattle.cool_faults.specs.Untyped.{IsEarly, IsRefusedEarly, IsUntyped}
 use Rattle.cool_faults.specs.Verdicts.{IsFaultList, faultless, faulty}
 use Rattle.cool_faults.proofs.OneVerdict.{nothing_but_typing}
-use Rattle.cool_faults.proofs.RowsOfFiles.{has_first, first_or_rest, has_nothing}
+use Rattle.cool_faults.proofs.RowsOfFiles.{has_nothing}
 use Rattle.cool_faults.proofs.SyntaxFaults.{are_trees}
 use Rattle.cool_faults.proofs.VerdictsOfPhases.{files_whole}
+use Rattle.lists.proofs.Membership.{first_there, contains_cases}
 
 -- no fault of a phase before typing is among those of typing
 early_among : (fs : List TypeFault) (f : Fault) → IsEarly f → Contains (map Typing fs) f → ⊥
 early_among [] f early there = has_nothing f there
 early_among (g ∷ fs) f early there =
-    elim (first_or_rest (Typing g) f (map Typing fs) there) [
+    elim (contains_cases (Typing g) f (map Typing fs) there) [
       | inl e ↦ subst IsEarly (sym e) early
       | inr rest ↦ early_among fs f early rest
     ]
@@ -30,7 +31,7 @@ no_typing : (fs : List TypeFault) (faults : List Fault) → AllByRecursion IsEar
 no_typing fs [] early moved = refl
 no_typing fs (f ∷ faults) early moved =
     let back = IsPermutation-sym (map Typing fs) (f ∷ faults) moved in
-    absurd (early_among fs f early.0 (Contains-permutation (f ∷ faults) (map Typing fs) f back (has_first f faults)))
+    absurd (early_among fs f early.0 (Contains-permutation (f ∷ faults) (map Typing fs) f back (first_there f faults)))
 
 -- files without a fault before typing have no fault list of phases before it, but an empty one
 none_early : (files : List (List ℕ)) (u : Untyped) (faults : List Fault) → IsUntyped files u → AllByRecursion IsEarly faults → IsFaultList files faults

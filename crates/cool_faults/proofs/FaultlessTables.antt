@@ -32,20 +32,21 @@ use Rattle.cool_classes.specs.Tables.{IsWholeTable}
 use Rattle.cool_classes.proofs.BasicLimits.{KeepsChain}
 use Rattle.cool_classes.proofs.ChainsOfTables.{above_of}
 use Rattle.cool_classes.proofs.ExactFaults.{entries_are_meant}
-use Rattle.cool_classes.proofs.Faultless.{none_both, class_faultless}
-use Rattle.cool_classes.proofs.FeaturesChecked.{IsChecked, all_good}
+use Rattle.cool_classes.proofs.Faultless.{class_faultless}
+use Rattle.cool_classes.proofs.FeaturesChecked.{IsChecked, all_good, within_limits}
 use Rattle.cool_classes.proofs.FirstIndexes.{named_found, named_sound}
 use Rattle.cool_classes.proofs.LawfulByFaults.{lawful_meant, no_fault_of}
 use Rattle.cool_classes.proofs.ParentsOfDefinitions.{parents_within}
 use Rattle.cool_classes.proofs.Resolving.{classes_long, entries_long, resolved_by, table_by, whole_by}
 use Rattle.cool_classes.proofs.RowsExact.{accepted_rows}
-use Rattle.cool_faults.proofs.AcceptedFiles.{there_is}
 use Rattle.cool_faults.proofs.HierarchiesFound.{Hierarchy, hierarchy}
+use Rattle.lists.proofs.JoinedLists.{none_both}
+use Rattle.lists.proofs.ItemsAt.{there_is}
 
 -- Definitions whose classes have no fault
 
 -- no row of classes holds of definitions
-abbrev NoRow : List ClassDef → Type 0
+abbrev pub NoRow : List ClassDef → Type 0
 NoRow ds = (kind : ClassKind) (at : Place) → IsClassFault ds kind at → ⊥
 
 has_at : {X : Type 0} (xs : List X) (k : ℕ) (x : X) → slice_get xs k ≡ Some x → Contains xs x
@@ -130,13 +131,6 @@ depths_of ds none =
     h.known (no_cyclic ds h.cyclic (none_both (cycle_faults ds h.cyclic) (main_faults (names_with_basic ds) ++ number_faults ds) more).0)
 
 -- The table
-
-within_limits : (a b : ℕ) → (nat_lt MOST_ATTRIBUTES a || nat_lt MOST_METHODS b) ≡ false → (a ≤ MOST_ATTRIBUTES) × (b ≤ MOST_METHODS)
-within_limits a b h = by (nat_lt MOST_ATTRIBUTES a) refl h
-  where
-    by : (x : Bool) → nat_lt MOST_ATTRIBUTES a ≡ x → (x || nat_lt MOST_METHODS b) ≡ false → (a ≤ MOST_ATTRIBUTES) × (b ≤ MOST_METHODS)
-    by true e t = absurd (true≢false t)
-    by false e t = (ltb-false MOST_ATTRIBUTES a e, ltb-false MOST_METHODS b t)
 
 keeps_chain : (p : List Class) (c : ClassId) → is_over_limit p (c ∷ above p c) ≡ false → (ds : List ClassId) → IsChain p (Some c) ds → KeepsChain p ds
 keeps_chain p c over [] h = absurd h

@@ -78,7 +78,3 @@ pub all_found : {I T : Type 0} (IsGood : ℕ → I → T → Type 0) (IsBad : �
 all_found IsGood IsBad (none i) e = tt
 all_found IsGood IsBad (good i x xs t ts fs g rest) e = (g, all_found IsGood IsBad rest e)
 all_found IsGood IsBad (bad i x xs f ts fs b rest) e = absurd (cc)
-
--- what a loop has left is an item and the rest after it
-pub item_here : {X : Type 0} (xs : List X) (i : ℕ) (x : X) → i < length xs → x ≡ get_or xs i x → drop i xs ≡ x ∷ drop (i + 1) xs
-item_here {X} xs i x h is = drop_more xs i x h ∙ ap (λ (y : X). y ∷ drop (i + 1) xs) (sym is)

@@ -3,7 +3,7 @@
 use Rattle.std.proofs.Common.{◌≡◌, inl, inr, ℕ, zero, suc, ◌+◌, ◌-◌, ◌<◌, ◌≤◌, List, [], ◌∷◌, ◌++◌, length, get_or, set, Option, Some, None, Bool, true, false, ap, sym, ◌∙◌, refl, subst, arith}
 use Rattle.std.specs.Prelude.{IsSome, nat_lt, replicate}
 use Rattle.std.specs.List.{AllByRecursion}
-use Rattle.std.proofs.lemmas.Bool.{ltb-true, ltb-false}
+use Rattle.std.proofs.lemmas.Bool.{ltb-true, ltb-false, cases_eq}
 use Rattle.std.proofs.lemmas.List.{length-set}
 use Rattle.cool_classes.specs.declared.class_id.ClassId.{ClassId}
 use Rattle.cool_classes.specs.Chains.{class_number}
@@ -12,7 +12,7 @@ use Rattle.cool_classes.specs.Depths.{AreDepths, HasDepth, parents_with_basic}
 use Rattle.cool_classes.specs.Walks.{AreWalked, cycle_of, settled, unpassed}
 use Rattle.cool_classes.proofs.BasicDepths.{basic_top, basic_below}
 use Rattle.cool_classes.proofs.CyclesCaught.{all_caught}
-use Rattle.cool_classes.proofs.PassingDefinitions.{Climbing, climb_on, climb_done, count_less, same_or_other}
+use Rattle.cool_classes.proofs.PassingDefinitions.{Climbing, climb_on, climb_done, count_less}
 use Rattle.cool_classes.proofs.WalksFind.{all_known, walked_cycle, walked_known, walked_lost, walked_none}
 
 -- the depth of a basic class
@@ -23,7 +23,7 @@ record BasicDepth (parents : List ClassId) (c : ℕ) : Type 0 where
 
 basic_depth : (parents : List ClassId) (c : ℕ) → c < 5 → BasicDepth parents c
 basic_depth parents c less =
-    elim (same_or_other c 0) [
+    elim (cases_eq c 0) [
       | inl same ↦ record { depth = 0; has = basic_top parents c same; low = omega arith }
       | inr other ↦ record { depth = 1; has = basic_below parents c less other; low = omega arith }
     ]

@@ -1,10 +1,10 @@
 pub mod AcceptedFiles
-pub mod AllItems
 mod AlwaysOneVerdict
 pub mod DefinitionsOfTrees
 mod EarlyRefusals
 mod EarlyVerdicts
 mod FaultlessTables
+pub mod FileSizes
 mod FilesRead
 pub mod FindingsInARow
 mod HierarchiesFound

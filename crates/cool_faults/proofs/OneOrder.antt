@@ -3,6 +3,7 @@ use Rattle.std.proofs.Common.{◌≡◌, ◌⊎◌, inl, inr, ℕ, ◌+◌, ◌<
 use Rattle.std.proofs.lemmas.Bool.{cases_eq}
 use Rattle.std.proofs.lemmas.List.Sums.{sum_by-cons}
 use Rattle.cool_syntax.specs.FaultOrder.{Standing, IsLessOr, IsNoLater, AreInOrder}
+use Rattle.lists.proofs.Numbers.{le_on}
 
 -- a standing is no later than itself
 no_later_self : (a : Standing) → IsNoLater a a
@@ -22,10 +23,7 @@ less_or_same m n f (inl a) (inr (e, q)) = absurd (omega (arith, a, e))
 less_or_same m n f (inr (e, p)) (inl b) = absurd (omega (arith, e, b))
 less_or_same m n f (inr (e, p)) (inr (g, q)) = (e, f p q)
 
--- the same of the last number
-at_most : (l m n : ℕ) → l ≤ m → m ≤ n → l ≤ n
-at_most l m n a b = omega (arith, a, b)
-
+-- two numbers are one where neither is greater
 level : (m n : ℕ) → m ≤ n → n ≤ m → m ≡ n
 level m n a b = omega (arith, a, b)
 
@@ -33,7 +31,7 @@ level m n a b = omega (arith, a, b)
 no_later_then : (a b c : Standing) → IsNoLater a b → IsNoLater b c → IsNoLater a c
 no_later_then a b c h g =
     less_or_less a.at.file b.at.file c.at.file
-    (less_or_less a.at.byte b.at.byte c.at.byte (less_or_less a.rank b.rank c.rank (at_most a.at.line b.at.line c.at.line))) h g
+    (less_or_less a.at.byte b.at.byte c.at.byte (less_or_less a.rank b.rank c.rank (le_on a.at.line b.at.line c.at.line))) h g
 
 -- two standings of which each is no later than the other are one
 same_standing : (a b : Standing) → IsNoLater a b → IsNoLater b a → a ≡ b

@@ -13,6 +13,7 @@ use Rattle.cool_check.specs.Faults.{rank as type_rank}
 use Rattle.cool_faults.specs.declared.fault.Fault.{Fault}
 use Rattle.cool_faults.specs.declared.fault.Fault.TheVariants.{Lex, Syntax, Class as OfClasses, Typing}
 use Rattle.cool_faults.specs.Verdicts.{lex_rank, standing_of}
+use Rattle.cool_check.proofs.OrderOfKinds.{all_kinds}
 
 -- all kinds of lexical faults in their order; each stands at its rank
 abbrev lex_kinds : List LexKind
@@ -50,11 +51,8 @@ class_kind_at F7 = refl
 class_kind_at F8 = refl
 class_kind_at F9 = refl
 
--- all kinds of faults of typing in their order; each stands at its rank
-abbrev type_kinds : List TypeKind
-type_kinds = E1 ∷ E2 ∷ E3 ∷ E4 ∷ E5 ∷ E6 ∷ E7 ∷ E8 ∷ E9 ∷ E10 ∷ E11 ∷ E12 ∷ E13 ∷ E14 ∷ E15 ∷ E16 ∷ E17 ∷ E18 ∷ []
-
-type_kind_at : (k : TypeKind) → slice_get type_kinds (type_rank k) ≡ Some k
+-- each kind of typing fault stands at its rank
+type_kind_at : (k : TypeKind) → slice_get all_kinds (type_rank k) ≡ Some k
 type_kind_at E1 = refl
 type_kind_at E2 = refl
 type_kind_at E3 = refl
@@ -86,7 +84,7 @@ one_class_kind : (k l : ClassKind) → class_rank k ≡ class_rank l → k ≡ l
 one_class_kind k l e = one_at class_kinds (class_rank k) (class_rank l) k l (class_kind_at k) (class_kind_at l) e
 
 one_type_kind : (k l : TypeKind) → type_rank k ≡ type_rank l → k ≡ l
-one_type_kind k l e = one_at type_kinds (type_rank k) (type_rank l) k l (type_kind_at k) (type_kind_at l) e
+one_type_kind k l e = one_at all_kinds (type_rank k) (type_rank l) k l (type_kind_at k) (type_kind_at l) e
 
 -- the kinds of one phase come before those of the next
 few_lex_kinds : (k : LexKind) → lex_rank k < 8

@@ -25,7 +25,7 @@ use Rattle.cool_faults.proofs.OneOrder.{one_order}
 use Rattle.cool_faults.proofs.OneStanding.{one_fault as one_of_standing}
 
 -- a list in another order than none is none
-none_moved : {X : Type 0} (xs : List X) → IsPermutation [] xs → xs ≡ []
+pub none_moved : {X : Type 0} (xs : List X) → IsPermutation [] xs → xs ≡ []
 none_moved [] h = refl
 none_moved (x ∷ xs) h = let long = length_permutation [] (x ∷ xs) h in absurd (omega arith)
 

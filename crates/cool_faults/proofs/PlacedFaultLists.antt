@@ -29,24 +29,20 @@ use Rattle.cool_classes.specs.ClimbedChains.{above}
 use Rattle.cool_classes.specs.FeatureFaults as faults
 use Rattle.cool_classes.specs.Features.{formals_of, result_of}
 use Rattle.cool_classes.specs.Settled.{names_with_basic}
-use Rattle.cool_classes.proofs.FaultPlaces.{all_both, class_places}
+use Rattle.cool_classes.proofs.FaultPlaces.{class_places}
 use Rattle.cool_classes.proofs.RowsExact.{phase_rows}
 use Rattle.cool_rules.specs.Rules.{is_among, same_type, type_meant, type_of_name}
 use Rattle.cool_rules.specs.Scopes.{Binding, found}
-use Rattle.cool_rules.specs.Typing.{has_values}
+use Rattle.cool_rules.specs.Typing.{has_values, object_type, int_type, bool_type}
 use Rattle.cool_check.specs.declared.fault.TypeFault.{TypeFault}
 use Rattle.cool_check.specs.declared.fault.TypeKind.{TypeKind}
 use Rattle.cool_check.specs.declared.fault.TypeKind.TheVariants.{E5, E15, E17, E18}
 use Rattle.cool_check.specs.Contexts.{Context, formal_bindings}
 use Rattle.cool_check.specs.Faults.{AreWithin}
-use Rattle.cool_check.specs.FirstFaults.{Checked, and_then, expect, refuse, object, int, bool, is_self, bind, conform, or_unknown, name_checked, assigned, or_no_type, named, static_among, static_class, misfit, resulting, or_misfit, called_with, initialized, bound_type, branch_among, branch_class, joined, compared, checked, all_checked, last_checked, maybe_checked, cases_checked}
+use Rattle.cool_check.specs.FirstFaults.{Checked, and_then, expect, refuse, is_self, bind, conform, or_unknown, name_checked, assigned, or_no_type, named, static_among, static_class, misfit, resulting, or_misfit, called_with, initialized, bound_type, branch_among, branch_class, joined, compared, checked, all_checked, last_checked, maybe_checked, cases_checked}
 use Rattle.cool_check.specs.TypingFaults.{class_context, classes_faults, fault_of, feature_checked, features_faults, initial_checked, typing_faults}
 use Rattle.cool_check.proofs.PlacesOfParts.{place_within}
-
-at_get : {X : Type 0} (P : X → Type 0) (xs : List X) (k : ℕ) (x : X) → AllByRecursion P xs → slice_get xs k ≡ Some x → P x
-at_get P [] k x h e = absurd (none-some x e)
-at_get P (y ∷ xs) zero x h e = subst P (same_Some y x e) h.0
-at_get P (y ∷ xs) (suc k) x h e = at_get P xs k x h.1 e
+use Rattle.lists.proofs.AllItems.{all_append, all_get}
 
 -- Classes and features
 
@@ -58,10 +54,10 @@ module _ (n : ℕ) where
   class_placed ds some within kind at row = by kind at row
     where
       name : (k : ℕ) (d : ClassDef) → slice_get ds k ≡ Some d → IsPlaced n d.at
-      name k d at = (at_get (IsClassWithin n) ds k d within at).0
+      name k d at = (all_get (IsClassWithin n) ds k d within at).0
 
       parent : (k : ℕ) (d : ClassDef) (r : TypeRef) → slice_get ds k ≡ Some d → d.parent ≡ Some r → IsPlaced n r.at
-      parent k d r at is = (subst (λ (o : Option TypeRef). IfSome o (IsTypeWithin n)) is (at_get (IsClassWithin n) ds k d within at).2).1
+      parent k d r at is = (subst (λ (o : Option TypeRef). IfSome o (IsTypeWithin n)) is (all_get (IsClassWithin n) ds k d within at).2).1
 
       by : (kind : ClassKind) (at : Place) → IsClassFault ds kind at → IsPlaced n at
       by kind at (twice k d there other before) = name k d there
@@ -102,7 +98,7 @@ module _ (n : ℕ) where
       → AllByRecursion (λ (f : ClassFault). IsPlaced n f.at) (features_from p k stand)
   from_placed p within k [] h = tt
   from_placed p within k (at ∷ stand) h =
-      all_both (λ (f : ClassFault). IsPlaced n f.at) (faults.class_faults p (class_number k) (above p (class_number k)) at) (features_from p (suc k) stand)
+      all_append (λ (f : ClassFault). IsPlaced n f.at) (faults.class_faults p (class_number k) (above p (class_number k)) at) (features_from p (suc k) stand)
       (class_places n p (class_number k) (above p (class_number k)) at (within k) h.0) (from_placed p within (suc k) stand h.1)
 
   -- the faults of features
@@ -187,9 +183,9 @@ module _ (n : ℕ) where
     branch_placed at name declared earlier here h = unless_placed (is_self name) _ at _ here (among_placed declared.at earlier (type_of_name s.table declared.name) h)
 
     compared_placed : (o : CompareOp) (a b : Ty) (at : Place) → IsPlaced n at → Placed (compared o a b at)
-    compared_placed op.Less a b at h = expect_placed (same_type a int) _ at _ h (expect_placed (same_type b int) _ at _ h tt)
-    compared_placed op.LessEqual a b at h = expect_placed (same_type a int) _ at _ h (expect_placed (same_type b int) _ at _ h tt)
-    compared_placed op.Equal a b at h = unless_placed (not (same_type a b) && (has_values a || has_values b)) E15 at (Ok bool) h tt
+    compared_placed op.Less a b at h = expect_placed (same_type a int_type) _ at _ h (expect_placed (same_type b int_type) _ at _ h tt)
+    compared_placed op.LessEqual a b at h = expect_placed (same_type a int_type) _ at _ h (expect_placed (same_type b int_type) _ at _ h tt)
+    compared_placed op.Equal a b at h = unless_placed (not (same_type a b) && (has_values a || has_values b)) E15 at (Ok bool_type) h tt
 
     mutual
       checked_placed : (o : List Binding) (t : Tree) → IsTreeWithin n t → Placed (checked s o t)
@@ -202,10 +198,10 @@ module _ (n : ℕ) where
           then_placed (static_class s class a) _ (static_placed class.at a (type_of_name s.table class.name) h.2.1) (λ c. called_placed at a ts types _ h.0 h.4)))
       checked_placed o (trees.If at t y e) h =
           then_placed (checked s o t) _ (checked_placed o t h.1) (λ a. then_placed (checked s o y) _ (checked_placed o y h.2) (λ b. then_placed (checked s o e) _ (checked_placed o e h.3) (λ c.
-          expect_placed (same_type a bool) _ (place_of t) _ (place_within n t h.1) tt)))
+          expect_placed (same_type a bool_type) _ (place_of t) _ (place_within n t h.1) tt)))
       checked_placed o (trees.While at t b) h =
-          then_placed (checked s o t) _ (checked_placed o t h.1) (λ a. then_placed (checked s o b) _ (checked_placed o b h.2) (λ c. expect_placed (same_type a bool) _ (place_of t) _ (place_within n t h.1) tt))
-      checked_placed o (trees.Block at ts) h = last_placed o object ts h.1
+          then_placed (checked s o t) _ (checked_placed o t h.1) (λ a. then_placed (checked s o b) _ (checked_placed o b h.2) (λ c. expect_placed (same_type a bool_type) _ (place_of t) _ (place_within n t h.1) tt))
+      checked_placed o (trees.Block at ts) h = last_placed o object_type ts h.1
       checked_placed o (trees.Let at name declared init t) h =
           then_placed (maybe_checked s o init) _ (maybe_placed o init h.3) (λ given. then_placed (bound_type s at name declared given) _ (bound_placed at name declared given h.0 h.2.1)
           (λ bound. checked_placed (bind name bound o) t h.4))
@@ -214,11 +210,11 @@ module _ (n : ℕ) where
       checked_placed o (trees.IsVoid at t) h = then_placed (checked s o t) _ (checked_placed o t h.1) (λ a. tt)
       checked_placed o (trees.Arith at op a b) h =
           then_placed (checked s o a) _ (checked_placed o a h.1) (λ x. then_placed (checked s o b) _ (checked_placed o b h.2)
-          (λ y. expect_placed (same_type x int) _ at _ h.0 (expect_placed (same_type y int) _ at _ h.0 tt)))
-      checked_placed o (trees.Neg at t) h = then_placed (checked s o t) _ (checked_placed o t h.1) (λ a. expect_placed (same_type a int) _ at _ h.0 tt)
+          (λ y. expect_placed (same_type x int_type) _ at _ h.0 (expect_placed (same_type y int_type) _ at _ h.0 tt)))
+      checked_placed o (trees.Neg at t) h = then_placed (checked s o t) _ (checked_placed o t h.1) (λ a. expect_placed (same_type a int_type) _ at _ h.0 tt)
       checked_placed o (trees.Compare at op a b) h =
           then_placed (checked s o a) _ (checked_placed o a h.1) (λ x. then_placed (checked s o b) _ (checked_placed o b h.2) (λ y. compared_placed op x y at h.0))
-      checked_placed o (trees.Not at t) h = then_placed (checked s o t) _ (checked_placed o t h.1) (λ a. expect_placed (same_type a bool) _ at _ h.0 tt)
+      checked_placed o (trees.Not at t) h = then_placed (checked s o t) _ (checked_placed o t h.1) (λ a. expect_placed (same_type a bool_type) _ at _ h.0 tt)
       checked_placed o (trees.Int at value) h = tt
       checked_placed o (trees.Str at bytes) h = tt
       checked_placed o (trees.Bool at value) h = tt
@@ -256,13 +252,13 @@ module _ (n : ℕ) where
   checks_placed : (p : List Class) (c : ClassId) (fs : List Feature) → AllByRecursion (IsFeatureWithin n) fs → AllByRecursion (λ (f : TypeFault). IsPlaced n f.at) (features_faults p c fs)
   checks_placed p c [] h = tt
   checks_placed p c (x ∷ fs) h =
-      all_both (λ (f : TypeFault). IsPlaced n f.at) (fault_of (feature_checked p c x)) (features_faults p c fs) (fault_placed (feature_checked p c x) (feature_placed p c x h.0)) (checks_placed p c fs h.1)
+      all_append (λ (f : TypeFault). IsPlaced n f.at) (fault_of (feature_checked p c x)) (features_faults p c fs) (fault_placed (feature_checked p c x) (feature_placed p c x h.0)) (checks_placed p c fs h.1)
 
   tables_placed : (p : List Class) (k : ℕ) (cs : List Class) → ((i : ℕ) → i < length cs → AllByRecursion (IsFeatureWithin n) (get_or cs i nothing).features)
       → AllByRecursion (λ (f : TypeFault). IsPlaced n f.at) (classes_faults p k cs)
   tables_placed p k [] h = tt
   tables_placed p k (x ∷ cs) h =
-      all_both (λ (f : TypeFault). IsPlaced n f.at) (features_faults p (class_number k) x.features) (classes_faults p (suc k) cs) (checks_placed p (class_number k) x.features (h zero (omega arith)))
+      all_append (λ (f : TypeFault). IsPlaced n f.at) (features_faults p (class_number k) x.features) (classes_faults p (suc k) cs) (checks_placed p (class_number k) x.features (h zero (omega arith)))
       (tables_placed p (suc k) cs (λ i less. h (suc i) (omega arith)))
 
   -- the faults of typing

@@ -20,17 +20,12 @@ use Rattle.cool_faults.specs.Laws.{AreOfRows}
 use Rattle.cool_faults.specs.Verdicts.{AreTrees, IsPhase, of_lexer, of_parser, of_classes, of_features, of_typing, IsFaultList, faultless, faulty}
 use Rattle.cool_faults.proofs.AcceptedFiles.{no_rows}
 use Rattle.cool_faults.proofs.OneVerdict.{one_trees, no_lexical, no_syntactic}
+use Rattle.lists.proofs.Membership.{first_there, contains_cases}
+use Rattle.cool_faults.proofs.FaultlessTables.{NoRow}
 
--- a list has its first item, and what its rest has
-pub has_first : {X : Type 0} (x : X) (xs : List X) → Contains (x ∷ xs) x
-has_first x xs = (zero, omega arith, refl)
-
+-- a list has what its rest has
 has_rest : {X : Type 0} (x y : X) (xs : List X) → Contains xs y → Contains (x ∷ xs) y
 has_rest x y xs (i, less, e) = (suc i, omega arith, e)
-
-pub first_or_rest : {X : Type 0} (x y : X) (xs : List X) → Contains (x ∷ xs) y → (x ≡ y) ⊎ Contains xs y
-first_or_rest x y xs (zero, less, e) = inl e
-first_or_rest x y xs (suc i, less, e) = inr (i, omega arith, e)
 
 pub has_nothing : {X : Type 0} (x : X) → Contains [] x → ⊥
 has_nothing x (i, less, e) = omega arith
@@ -50,8 +45,8 @@ same_class f g e = ap (as_class f) e
 has_mapped : (fs : List ClassFault) (f : ClassFault) → Contains fs f → Contains (map OfClasses fs) (OfClasses f)
 has_mapped [] f there = absurd (has_nothing f there)
 has_mapped (g ∷ fs) f there =
-    elim (first_or_rest g f fs there) [
-      | inl e ↦ subst (λ (h : ClassFault). Contains (map OfClasses (g ∷ fs)) (OfClasses h)) e (has_first (OfClasses g) (map OfClasses fs))
+    elim (contains_cases g f fs there) [
+      | inl e ↦ subst (λ (h : ClassFault). Contains (map OfClasses (g ∷ fs)) (OfClasses h)) e (first_there (OfClasses g) (map OfClasses fs))
       | inr rest ↦ has_rest (OfClasses g) (OfClasses f) (map OfClasses fs) (has_mapped fs f rest)
     ]
 
@@ -59,7 +54,7 @@ has_mapped (g ∷ fs) f there =
 holds_mapped : (P : ClassFault → Type 0) (fs : List ClassFault) (f : ClassFault) → AllByRecursion P fs → Contains (map OfClasses fs) (OfClasses f) → P f
 holds_mapped P [] f all there = absurd (has_nothing (OfClasses f) there)
 holds_mapped P (g ∷ fs) f all there =
-    elim (first_or_rest (OfClasses g) (OfClasses f) (map OfClasses fs) there) [
+    elim (contains_cases (OfClasses g) (OfClasses f) (map OfClasses fs) there) [
       | inl e ↦ subst P (same_class g f e) all.0
       | inr rest ↦ holds_mapped P fs f all.1 rest
     ]
@@ -80,7 +75,7 @@ no_class_fault f g e =
 no_class_among : (fs : List TypeFault) (g : ClassFault) → Contains (map Typing fs) (OfClasses g) → ⊥
 no_class_among [] g there = has_nothing (OfClasses g) there
 no_class_among (f ∷ fs) g there =
-    elim (first_or_rest (Typing f) (OfClasses g) (map Typing fs) there) [
+    elim (contains_cases (Typing f) (OfClasses g) (map Typing fs) there) [
       | inl e ↦ no_class_fault f g e
       | inr rest ↦ no_class_among fs g rest
     ]
@@ -90,10 +85,7 @@ fault : ClassKind → Place → ClassFault
 fault kind at = record { kind = kind; at = at }
 
 -- where no definition and no feature has a fault, no row holds
-abbrev NoClassRow : List ClassDef → Type 0
-NoClassRow ds = (kind : ClassKind) (at : Place) → IsClassFault ds kind at → ⊥
-
-no_class_row : (ds : List ClassDef) → HasClassPhase ds [] → NoClassRow ds
+no_class_row : (ds : List ClassDef) → HasClassPhase ds [] → NoRow ds
 unfolding fault
 no_class_row ds phase kind at row = has_nothing (fault kind at) ((phase_rows ds [] phase).all kind at row)
 

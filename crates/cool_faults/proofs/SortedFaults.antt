@@ -4,6 +4,7 @@ use Rattle.std.specs.List.Sorted.{IsPermutation}
 use Rattle.std.proofs.lemmas.Bool.{cases_order}
 use Rattle.std.proofs.lemmas.List.Sorted.{IsPermutation-cons, IsPermutation-insert, IsPermutation-refl, IsPermutation-trans}
 use Rattle.cool_syntax.specs.FaultOrder.{IsLessOr, IsNoLater, Standing, AreInOrder}
+use Rattle.lists.proofs.Numbers.{le_or_ge}
 
 -- of two standings one is no later
 less_or : (m n : ℕ) (P Q : Type 0) → P ⊎ Q → IsLessOr m n P ⊎ IsLessOr n m Q
@@ -13,12 +14,9 @@ less_or m n P Q follows =
       | inr other ↦ elim other [ inl less ↦ inl (inl less) | inr more ↦ inr (inl more) ]
     ]
 
-line_order : (m n : ℕ) → (m ≤ n) ⊎ (n ≤ m)
-line_order m n = elim (cases_order m n) [ inl same ↦ inl (omega arith) | inr other ↦ elim other [ inl less ↦ inl (omega arith) | inr more ↦ inr (omega arith) ] ]
-
 one_no_later : (a b : Standing) → IsNoLater a b ⊎ IsNoLater b a
 one_no_later a b =
-    less_or a.at.file b.at.file _ _ (less_or a.at.byte b.at.byte _ _ (less_or a.rank b.rank _ _ (line_order a.at.line b.at.line)))
+    less_or a.at.file b.at.file _ _ (less_or a.at.byte b.at.byte _ _ (less_or a.rank b.rank _ _ (le_or_ge a.at.line b.at.line)))
 
 module _ {X : Type 0} (standing : X → Standing) where
   -- a list in order with one item more

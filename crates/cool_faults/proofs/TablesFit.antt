@@ -14,7 +14,8 @@ use Rattle.cool_classes.specs.Limits.{KeepsLimits}
 use Rattle.cool_classes.specs.Tables.{IsTable, basic_classes}
 use Rattle.cool_rules.specs.Fits.{Fits, weight_of}
 use Rattle.cool_check.specs.Faults.{AreWithin}
-use Rattle.cool_faults.proofs.AllItems.{all_append, all_at}
+use Rattle.lists.proofs.AllItems.{all_append}
+use Rattle.cool_classes.proofs.FeaturesChecked.{all_at}
 
 -- a name and features keep the limits, and stand in so many files
 pub record IsGoodClass (count : ℕ) (name : List ℕ) (features : List Feature) : Type 0 where

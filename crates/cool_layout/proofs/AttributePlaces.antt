@@ -128,7 +128,7 @@ any_cases a (x ∷ xs) ys h = by (is_attribute a x) h (λ k. any_cases a xs ys k
     by true t more = inl refl
     by false t more = more t
 
-same_attribute : (a : AttributeRef) → is_attribute a a ≡ true
+pub same_attribute : (a : AttributeRef) → is_attribute a a ≡ true
 same_attribute a = let e : nat_eq a.owner.0 a.owner.0 ≡ true = grind arith in let f : nat_eq a.index a.index ≡ true = grind arith in rw (e, f) refl
 
 pub any_contains : (a : AttributeRef) (xs : List AttributeRef) → Contains xs a → list_any (is_attribute a) xs ≡ true

@@ -9,7 +9,6 @@ use Rattle.cool_classes.specs.declared.method.AttributeRef.{AttributeRef}
 use Rattle.cool_classes.specs.Chains.{Class, parent_of, features_of}
 use Rattle.cool_classes.specs.Features.{own_attributes, HasAttribute}
 use Rattle.cool_classes.specs.ClimbedChains.{chain}
-use Rattle.cool_classes.proofs.AllOfLists.{all_at}
 use Rattle.cool_classes.proofs.AttributesOfChains.{attributes_have}
 use Rattle.cool_layout.specs.AttributeLists.{AreAttributes}
 use Rattle.cool_layout.specs.Members.{attributes}
@@ -17,6 +16,7 @@ use Rattle.cool_layout.specs.Roots.{IsRooted}
 use Rattle.cool_layout.specs.SlotTables.{class_of, IsAbove}
 use Rattle.cool_layout.proofs.ShortChains.{chain_in, chain_is}
 use Rattle.cool_layout.proofs.AttributePlaces.{attributes_step, attributes_top}
+use Rattle.lists.proofs.AllItems.{all_at}
 
 -- the attributes of a class are there
 pub attributes_there : (p : List Class) → IsRooted p → (c : ClassId) → c.0 < length p → AllByRecursion (HasAttribute p) (attributes p c)

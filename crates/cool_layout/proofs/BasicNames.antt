@@ -8,7 +8,7 @@ use Rattle.cool_classes.specs.Chains.{Class, class_number, name_of, nothing}
 use Rattle.cool_classes.specs.Tables.{IsTable, basic_classes}
 use Rattle.cool_runtime.specs.RoutineLabels.{default_int, default_string}
 use Rattle.cool_layout.specs.LinesOfLayout.{default_value}
-use Rattle.cool_layout.proofs.SlotNames.{same_bytes}
+use Rattle.lists.proofs.EqualBytes.{bytes_equal}
 
 -- the five basic classes are there
 pub five : (p : List Class) → take 5 p ≡ basic_classes → 5 ≤ length p
@@ -35,7 +35,7 @@ module _ (p : List Class) (table : IsTable p) (c : ClassId) (within : c.0 < leng
       by false e = refl
       by true e =
           let l = five p table.basic in
-          let same : c ≡ class_number k = table.names c (class_number k) within (omega arith) (same_bytes (name_of p c) (name_of basic_classes (class_number k)) e ∙ sym (basic_name p table.basic k low)) in
+          let same : c ≡ class_number k = table.names c (class_number k) within (omega arith) (bytes_equal (name_of p c) (name_of basic_classes (class_number k)) e ∙ sym (basic_name p table.basic k low)) in
           let self : nat_eq k k ≡ true = grind arith in
           absurd (true≢false (sym (other ∙ ap (λ (d : ClassId). nat_eq d.0 k) same ∙ self)))
 

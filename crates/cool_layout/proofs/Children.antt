@@ -1,5 +1,5 @@
 -- The children of all classes, with those of one more number.
-use Rattle.std.proofs.Common.{◌≡◌, ◌≢◌, ℕ, zero, suc, ◌+◌, ◌<◌, List, [], ◌∷◌, ◌++◌, length, filter, get_or, set, Option, Some, None, Bool, true, false, cond, refl, sym, ap, ◌∙◌, subst, arith, inl, inr, ◌⊎◌}
+use Rattle.std.proofs.Common.{◌≡◌, ◌≢◌, ℕ, zero, suc, ◌+◌, ◌<◌, List, [], ◌∷◌, ◌++◌, length, filter, get_or, set, Option, Some, None, Bool, true, false, cond, refl, sym, ap, ◌∙◌, subst, arith, inl, inr, ◌⊎◌, append-nil}
 use Rattle.std.specs.Prelude.{nat_eq}
 use Rattle.std.specs.Global.{Vec}
 use Rattle.std.proofs.lemmas.List.{length-set, get_or-set_same, get_or-set_other}
@@ -55,14 +55,10 @@ more_children p q n =
     let z : 0 + n ≡ n = omega arith in
     ap (λ m. filter test (numbers_from 0 m)) e ∙ ap (filter test) (numbers_last 0 n) ∙ filter-append test (numbers_from 0 n) (class_number (0 + n) ∷ []) ∙ ap (λ j. filter test (numbers_from 0 n) ++ filter test (class_number j ∷ [])) z
 
-nil_after : {X : Type 0} (xs : List X) → xs ++ [] ≡ xs
-nil_after [] = refl
-nil_after (x ∷ xs) = ap (λ ys. x ∷ ys) (nil_after xs)
-
 pub no_parent : (p : List Class) (n : ℕ) (all : List (Vec ClassId)) → AreChildren p n all → parent_of p (class_number n) ≡ None → AreChildren p (n + 1) all
 no_parent p n all h e = record {
   same = h.same;
-  children = λ q d l. h.children q d l ∙ sym (more_children p q n ∙ ap (λ (o : Option ClassId). filter (λ c. is_parent (class_number q) (parent_of p c)) (numbers_from 0 n) ++ cond (is_parent (class_number q) o) (class_number n ∷ []) []) e ∙ nil_after _);
+  children = λ q d l. h.children q d l ∙ sym (more_children p q n ∙ ap (λ (o : Option ClassId). filter (λ c. is_parent (class_number q) (parent_of p c)) (numbers_from 0 n) ++ cond (is_parent (class_number q) o) (class_number n ∷ []) []) e ∙ append-nil _);
 }
 
 pub one_parent : (p : List Class) (n : ℕ) (all : List (Vec ClassId)) (q : ClassId) (v w : Vec ClassId) → AreChildren p n all → parent_of p (class_number n) ≡ Some q → q.0 < length p
@@ -82,7 +78,7 @@ one_parent p n all q v w h e within read pushed = record {
         let no : is_parent (class_number k) (Some q) ≡ false = differ q.0 k (λ s. other (sym s)) in
         ap (λ (x : Vec ClassId). x.items) (get_or-set_other all q.0 k w d other) ∙ h.children k d l
         ∙ sym (more_children p k n ∙ ap (λ (o : Option ClassId). filter (λ c. is_parent (class_number k) (parent_of p c)) (numbers_from 0 n) ++ cond (is_parent (class_number k) o) (class_number n ∷ []) []) e
-        ∙ ap (λ b. filter (λ c. is_parent (class_number k) (parent_of p c)) (numbers_from 0 n) ++ cond b (class_number n ∷ []) []) no ∙ nil_after _)
+        ∙ ap (λ b. filter (λ c. is_parent (class_number k) (parent_of p c)) (numbers_from 0 n) ++ cond b (class_number n ∷ []) []) no ∙ append-nil _)
   ];
 }
   where

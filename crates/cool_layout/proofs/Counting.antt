@@ -82,7 +82,7 @@ among_numbers d P k (suc n) l u = by (nat_eq d.0 k) refl (λ m. among_numbers d 
         both true t = omega arith
         both false t = refl
 
-climb_none : (p : List Class) (n : ℕ) → climbed n p None ≡ []
+pub climb_none : (p : List Class) (n : ℕ) → climbed n p None ≡ []
 unfolding climbed
 climb_none p zero = refl
 climb_none p (suc n) = refl

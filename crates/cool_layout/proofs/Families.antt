@@ -12,6 +12,7 @@ use Rattle.cool_layout.specs.Preorder.{numbers_from, is_class, is_parent, childr
 use Rattle.cool_layout.specs.Roots.{IsRooted}
 use Rattle.cool_layout.proofs.ShortChains.{same_number, short, chain_is}
 use Rattle.cool_layout.proofs.Counting.{one, times, total, among_numbers}
+use Rattle.lists.proofs.AllItems.{all_append}
 
 -- the children of a class are classes that inherit from it
 abbrev pub IsChild : List Class → ClassId → ClassId → Type 0
@@ -64,10 +65,6 @@ family_step p r c within = by (length p) refl
             at : (ds : List ClassId) → IsChain p (Some c) ds → 1 ≤ length ds
             at [] h = absurd h
             at (d ∷ ds) h = omega arith
-
-all_append : (P : ClassId → Type 0) (xs ys : List ClassId) → AllByRecursion P xs → AllByRecursion P ys → AllByRecursion P (xs ++ ys)
-all_append P [] ys a b = b
-all_append P (x ∷ xs) ys a b = (a.0, all_append P xs ys a.1 b)
 
 all_flat : (P Q : ClassId → Type 0) (f : ClassId → List ClassId) (xs : List ClassId) → AllByRecursion P xs → ((x : ClassId) → P x → AllByRecursion Q (f x)) → AllByRecursion Q (flat_map f xs)
 all_flat P Q f [] all h = tt

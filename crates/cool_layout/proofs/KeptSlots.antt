@@ -7,7 +7,7 @@ use Rattle.std.proofs.lemmas.List.Folds.{list_any-append}
 use Rattle.cool_classes.specs.declared.class_id.ClassId.{ClassId}
 use Rattle.cool_classes.specs.Chains.{Class, IsChain, Below}
 use Rattle.cool_classes.specs.Features.{implementation}
-use Rattle.cool_classes.specs.Limits.{AreDifferent, IsImplemented}
+use Rattle.cool_classes.specs.Limits.{IsImplemented}
 use Rattle.cool_classes.specs.ClimbedChains.{chain}
 use Rattle.cool_layout.specs.declared.layout.Layout.{Layout}
 use Rattle.cool_layout.specs.Layouts.{IsLayoutOf}
@@ -16,21 +16,23 @@ use Rattle.cool_layout.specs.Members.{own_names, with_new, slots_of, slots, slot
 use Rattle.cool_layout.specs.SlotTables.{class_of}
 use Rattle.cool_layout.proofs.ShortChains.{chain_is, chain_only}
 use Rattle.cool_layout.proofs.TagRanges.{at_tag}
-use Rattle.cool_layout.proofs.SlotNames.{has, place, position_is, position_some, place_here, equal_self, slots_any, same_slot}
+use Rattle.cool_layout.proofs.SlotNames.{has, place, position_is, position_some, place_here, slots_any, same_slot}
+use Rattle.lists.specs.Different.{AreDifferent}
+use Rattle.lists.proofs.EqualBytes.{bytes_eq-same}
 
-others : (x y : List ℕ) (xs : List (List ℕ)) → AllByRecursion (λ o. o ≢ x) xs → y ≢ x → AllByRecursion (λ o. o ≢ x) (xs ++ y ∷ [])
+pub others : (x y : List ℕ) (xs : List (List ℕ)) → AllByRecursion (λ o. o ≢ x) xs → y ≢ x → AllByRecursion (λ o. o ≢ x) (xs ++ y ∷ [])
 others x y [] all new = (new, tt)
 others x y (z ∷ xs) all new = (all.0, others x y xs all.1 new)
 
-different_more : (xs : List (List ℕ)) (y : List ℕ) → AreDifferent xs → has y xs ≡ false → AreDifferent (xs ++ y ∷ [])
+pub different_more : (xs : List (List ℕ)) (y : List ℕ) → AreDifferent xs → has y xs ≡ false → AreDifferent (xs ++ y ∷ [])
 different_more [] y d new = (tt, tt)
 different_more (x ∷ xs) y d new = by (bytes_eq y x) refl new (λ t. different_more xs y d.1 t)
   where
     by : (b : Bool) → bytes_eq y x ≡ b → (b || has y xs) ≡ false → (has y xs ≡ false → AreDifferent (xs ++ y ∷ [])) → AreDifferent (x ∷ (xs ++ y ∷ []))
     by true e t more = absurd (true≢false t)
-    by false e t more = (others x y xs d.0 (λ same. true≢false (sym (equal_self y) ∙ ap (bytes_eq y) same ∙ e)), more t)
+    by false e t more = (others x y xs d.0 (λ same. true≢false (sym (bytes_eq-same y) ∙ ap (bytes_eq y) same ∙ e)), more t)
 
-different_with_new : (xs ys : List (List ℕ)) → AreDifferent xs → AreDifferent (with_new xs ys)
+pub different_with_new : (xs ys : List (List ℕ)) → AreDifferent xs → AreDifferent (with_new xs ys)
 different_with_new xs [] d = d
 different_with_new xs (y ∷ ys) d = by (has y xs) refl (λ l o. different_with_new l ys o)
   where
@@ -38,14 +40,14 @@ different_with_new xs (y ∷ ys) d = by (has y xs) refl (λ l o. different_with_
     by true e more = more xs d
     by false e more = more (xs ++ y ∷ []) (different_more xs y d e)
 
-different : (p : List Class) (ds : List ClassId) → AreDifferent (slots_of p ds)
+pub different : (p : List Class) (ds : List ClassId) → AreDifferent (slots_of p ds)
 different p [] = tt
 different p (d ∷ ds) = different_with_new (slots_of p ds) (own_names p d) (different p ds)
 
-all_there : (ys xs : List (List ℕ)) → AllByRecursion (λ f. has f (ys ++ xs) ≡ true) xs
+pub all_there : (ys xs : List (List ℕ)) → AllByRecursion (λ f. has f (ys ++ xs) ≡ true) xs
 all_there ys [] = tt
 all_there ys (x ∷ xs) = (
-  list_any-append (bytes_eq x) ys (x ∷ xs) ∙ ap (λ b. has x ys || (b || has x xs)) (equal_self x) ∙ or_true (has x ys),
+  list_any-append (bytes_eq x) ys (x ∷ xs) ∙ ap (λ b. has x ys || (b || has x xs)) (bytes_eq-same x) ∙ or_true (has x ys),
   subst (λ (l : List (List ℕ)). AllByRecursion (λ f. has f l ≡ true) xs) (append_assoc ys (x ∷ []) xs) (all_there (ys ++ x ∷ []) xs),
 )
   where
@@ -53,11 +55,11 @@ all_there ys (x ∷ xs) = (
     or_true true = refl
     or_true false = refl
 
-weaker : (P Q : List ℕ → Type 0) → ((f : List ℕ) → P f → Q f) → (xs : List (List ℕ)) → AllByRecursion P xs → AllByRecursion Q xs
+pub weaker : (P Q : List ℕ → Type 0) → ((f : List ℕ) → P f → Q f) → (xs : List (List ℕ)) → AllByRecursion P xs → AllByRecursion Q xs
 weaker P Q h [] all = tt
 weaker P Q h (x ∷ xs) all = (h x all.0, weaker P Q h xs all.1)
 
-implemented : (p : List Class) (ds : List ClassId) → AllByRecursion (IsImplemented p ds) (slots_of p ds)
+pub implemented : (p : List Class) (ds : List ClassId) → AllByRecursion (IsImplemented p ds) (slots_of p ds)
 implemented p ds = weaker (λ f. has f (slots_of p ds) ≡ true) (IsImplemented p ds) (λ f h e. true≢false (sym h ∙ slots_any p ds f ∙ ap is_some e)) (slots_of p ds) (all_there [] (slots_of p ds))
 
 module _ (l : Layout) (p : List Class) (is : IsLayoutOf l p) (c : ClassId) (within : c.0 < length p) where

@@ -15,6 +15,8 @@ use Rattle.cool_classes.specs.Features.{NamedMethod, basic_methods, method_among
 use Rattle.cool_layout.specs.Members.{method_name, own_names, with_new, slots_of, slots, slot}
 use Rattle.cool_layout.specs.Roots.{IsRooted}
 use Rattle.cool_layout.proofs.ShortChains.{chain_step, chain_end}
+use Rattle.lists.proofs.EqualBytes.{bytes_equal, bytes_eq-turned}
+use Rattle.lists.proofs.TruthValues.{or_true, or_false}
 
 abbrev pub has : List ℕ → List (List ℕ) → Bool
 has f names = list_any (bytes_eq f) names
@@ -22,39 +24,16 @@ has f names = list_any (bytes_eq f) names
 abbrev pub place : List ℕ → List (List ℕ) → ℕ
 place f names = position_or_len (bytes_eq f) names
 
-pub same_bytes : (f g : List ℕ) → bytes_eq f g ≡ true → f ≡ g
-same_bytes f g e = (bytes_eq-Decides f g).0 e
-
-pub equal_self : (f : List ℕ) → bytes_eq f f ≡ true
-equal_self f = (bytes_eq-Decides f f).1 refl
-
-pub equal_comm : (f g : List ℕ) → bytes_eq f g ≡ bytes_eq g f
-equal_comm f g = by (bytes_eq f g) refl (bytes_eq g f) refl
-  where
-    by : (a : Bool) → bytes_eq f g ≡ a → (b : Bool) → bytes_eq g f ≡ b → a ≡ b
-    by true e true k = refl
-    by false e false k = refl
-    by true e false k = absurd (true≢false (sym ((bytes_eq-Decides g f).1 (sym (same_bytes f g e))) ∙ k))
-    by false e true k = absurd (true≢false (sym ((bytes_eq-Decides f g).1 (sym (same_bytes g f k))) ∙ e))
-
--- names with new ones after them
-or_true : (b : Bool) → (b || true) ≡ true
-or_true true = refl
-or_true false = refl
-
+-- three tests joined by or
 or_assoc : (a b c : Bool) → ((a || b) || c) ≡ (a || (b || c))
 or_assoc true b c = refl
 or_assoc false b c = refl
-
-or_false : (b : Bool) → (b || false) ≡ b
-or_false true = refl
-or_false false = refl
 
 pub has_added : (f y : List ℕ) (xs : List (List ℕ)) → has f (if has y xs then xs else xs ++ y ∷ []) ≡ (has f xs || bytes_eq f y)
 has_added f y xs = by (has y xs) refl (bytes_eq f y) refl
   where
     by : (a : Bool) → has y xs ≡ a → (b : Bool) → bytes_eq f y ≡ b → has f (if a then xs else xs ++ y ∷ []) ≡ (has f xs || b)
-    by true e true k = ap (λ g. has g xs) (same_bytes f y k) ∙ e ∙ sym (or_true (has f xs))
+    by true e true k = ap (λ g. has g xs) (bytes_equal f y k) ∙ e ∙ sym (or_true (has f xs))
     by true e false k = sym (or_false (has f xs))
     by false e b k = list_any-append (bytes_eq f) xs (y ∷ []) ∙ ap (λ c. has f xs || c) (or_false (bytes_eq f y) ∙ k)
 
@@ -65,7 +44,7 @@ with_new_any f xs (y ∷ ys) = with_new_any f (if has y xs then xs else xs ++ y 
 -- the names of a class's own methods are those of which it has a method
 basic_any : (f : List ℕ) (ms : List NamedMethod) → has f (map (λ m. m.name) ms) ≡ is_some (option_map Basic (method_among ms f))
 basic_any f [] = refl
-basic_any f (m ∷ ms) = ap (λ b. b || has f (map (λ m. m.name) ms)) (equal_comm f m.name) ∙ by (bytes_eq m.name f) (basic_any f ms)
+basic_any f (m ∷ ms) = ap (λ b. b || has f (map (λ m. m.name) ms)) (bytes_eq-turned f m.name) ∙ by (bytes_eq m.name f) (basic_any f ms)
   where
     by : (b : Bool) → has f (map (λ m. m.name) ms) ≡ is_some (option_map Basic (method_among ms f)) → (b || has f (map (λ m. m.name) ms)) ≡ is_some (option_map Basic (if b then Some m.method else method_among ms f))
     by true h = refl
@@ -74,7 +53,7 @@ basic_any f (m ∷ ms) = ap (λ b. b || has f (map (λ m. m.name) ms)) (equal_co
 user_any : (f : List ℕ) (c : ClassId) (k : ℕ) (fs : List Feature) → has f (flat_map method_name fs) ≡ is_some (user_method c (first_method k fs f))
 user_any f c k [] = refl
 user_any f c k (Attribute a ∷ fs) = user_any f c (k + 1) fs
-user_any f c k (Method m ∷ fs) = ap (λ b. b || has f (flat_map method_name fs)) (equal_comm f m.name) ∙ by (bytes_eq m.name f) (user_any f c (k + 1) fs)
+user_any f c k (Method m ∷ fs) = ap (λ b. b || has f (flat_map method_name fs)) (bytes_eq-turned f m.name) ∙ by (bytes_eq m.name f) (user_any f c (k + 1) fs)
   where
     by : (b : Bool) → has f (flat_map method_name fs) ≡ is_some (user_method c (first_method (k + 1) fs f)) → (b || has f (flat_map method_name fs)) ≡ is_some (user_method c (if b then Some k else first_method (k + 1) fs f))
     by true h = refl

@@ -19,12 +19,10 @@ use Rattle.cool_classes.specs.Features.{first_of}
 use Rattle.cool_layout.specs.declared.slots.Table.{Table}
 use Rattle.cool_layout.specs.Members.{with_new}
 use Rattle.cool_layout.specs.SlotTables.{OwnMethod, names_of, own_among, slots_shown, AreOnce, IsTableFor}
-use Rattle.cool_layout.proofs.SlotNames.{has, place, position_in, same_bytes, equal_self, equal_comm, with_new_any, with_new_last, with_new_front, position_some, position_is, position_front, place_here}
+use Rattle.cool_layout.proofs.SlotNames.{has, place, position_in, with_new_any, with_new_last, with_new_front, position_some, position_is, position_front, place_here}
+use Rattle.lists.proofs.EqualBytes.{bytes_equal, bytes_eq-same, bytes_eq-turned, same_key}
 
 -- the entries of a map and the names of its keys
-
-abbrev pub same_key : Vec ℕ → Vec ℕ → Bool
-same_key x y = bytes_eq x.items y.items
 
 pub shown_lookup : (f : List ℕ) (entries : List (Vec ℕ × ℕ)) → lookup (λ key. bytes_eq f key.items) entries ≡ lookup (bytes_eq f) (slots_shown entries)
 shown_lookup f [] = refl
@@ -32,10 +30,6 @@ shown_lookup f (entry ∷ rest) = ap (λ (o : Option ℕ). cond (bytes_eq f entr
 
 pub shown_after : {S : Type 0} (m : IndexMap (Vec ℕ) ℕ S) (key : Vec ℕ) (k : ℕ) → get same_key m key ≡ None → slots_shown (insert_entry same_key m.entries key k) ≡ slots_shown m.entries ++ (key.items, k) ∷ []
 shown_after m key k none = ap slots_shown (insert_entry-new same_key m key k none) ∙ map-append (λ (entry : Vec ℕ × ℕ). (entry.0.items, entry.1)) m.entries ((key, k) ∷ [])
-
-pub copied_some : (o : Option (Bor ℕ)) → is_some (option_copied o) ≡ is_some o
-copied_some None = refl
-copied_some (Some c) = refl
 
 -- what is found among entries with one after them
 found_more : (f name : List ℕ) (es : List (List ℕ × ℕ)) (k j : ℕ) → lookup (bytes_eq f) (es ++ (name, k) ∷ []) ≡ Some j → (lookup (bytes_eq f) es ≡ Some j) ⊎ ((bytes_eq f name ≡ true) × (k ≡ j))
@@ -79,7 +73,7 @@ any_push f own m = ap (has f) (names_push own m) ∙ list_any-append (bytes_eq f
 
 among_seen : (f : List ℕ) (own : List OwnMethod) (m : OwnMethod) → has f (names_of own) ≡ true → own_among (own ++ m ∷ []) f ≡ own_among own f
 among_seen f [] m h = absurd (true≢false (sym h))
-among_seen f (x ∷ own) m h = by (bytes_eq x.name f) (sym (ap (λ b. b || has f (names_of own)) (equal_comm f x.name)) ∙ h) (λ t. among_seen f own m t)
+among_seen f (x ∷ own) m h = by (bytes_eq x.name f) (sym (ap (λ b. b || has f (names_of own)) (bytes_eq-turned f x.name)) ∙ h) (λ t. among_seen f own m t)
   where
     by : (b : Bool) → (b || has f (names_of own)) ≡ true → (has f (names_of own) ≡ true → own_among (own ++ m ∷ []) f ≡ own_among own f) → (if b then Some x.method else own_among (own ++ m ∷ []) f) ≡ (if b then Some x.method else own_among own f)
     by true t more = refl
@@ -90,8 +84,8 @@ among_other f [] m h = ap (λ b. if b then Some m.method else None) h
 among_other f (x ∷ own) m h = ap (λ o. if bytes_eq x.name f then Some x.method else o) (among_other f own m h)
 
 among_new : (own : List OwnMethod) (m : OwnMethod) → has m.name (names_of own) ≡ false → own_among (own ++ m ∷ []) m.name ≡ Some m.method
-among_new [] m h = ap (λ b. if b then Some m.method else None) (equal_self m.name)
-among_new (x ∷ own) m h = by (bytes_eq x.name m.name) (sym (ap (λ b. b || has m.name (names_of own)) (equal_comm m.name x.name)) ∙ h) (λ t. among_new own m t)
+among_new [] m h = ap (λ b. if b then Some m.method else None) (bytes_eq-same m.name)
+among_new (x ∷ own) m h = by (bytes_eq x.name m.name) (sym (ap (λ b. b || has m.name (names_of own)) (bytes_eq-turned m.name x.name)) ∙ h) (λ t. among_new own m t)
   where
     by : (b : Bool) → (b || has m.name (names_of own)) ≡ false → (has m.name (names_of own) ≡ false → own_among (own ++ m ∷ []) m.name ≡ Some m.method) → (if b then Some x.method else own_among (own ++ m ∷ []) m.name) ≡ Some m.method
     by true t more = absurd (true≢false t)
@@ -100,7 +94,7 @@ among_new (x ∷ own) m h = by (bytes_eq x.name m.name) (sym (ap (λ b. b || has
 map_same : (g h : List ℕ → MethodRef) (xs : List (List ℕ)) → ((x : List ℕ) → has x xs ≡ true → g x ≡ h x) → map g xs ≡ map h xs
 map_same g h [] same = refl
 map_same g h (x ∷ xs) same =
-    let here : has x (x ∷ xs) ≡ true = ap (λ b. b || has x xs) (equal_self x) in
+    let here : has x (x ∷ xs) ≡ true = ap (λ b. b || has x xs) (bytes_eq-same x) in
     ap (λ y. y ∷ map g xs) (same x here) ∙ ap (λ ys. h x ∷ ys) (map_same g h xs (λ y t. same y (by (bytes_eq y x) t)))
   where
     by : {t : Bool} (b : Bool) → t ≡ true → (b || t) ≡ true
@@ -121,11 +115,11 @@ at_place f [] d h = absurd (true≢false (sym h))
 at_place f (x ∷ xs) d h = by (bytes_eq f x) refl h (λ t. at_place f xs d t)
   where
     by : (b : Bool) → bytes_eq f x ≡ b → (b || has f xs) ≡ true → (has f xs ≡ true → get_or xs (place f xs) d ≡ f) → get_or (x ∷ xs) (cond (not b) (1 + place f xs) 0) d ≡ f
-    by true e t more = sym (same_bytes f x e)
+    by true e t more = sym (bytes_equal f x e)
     by false e t more = (let s : 1 + place f xs ≡ suc (place f xs) = omega arith in ap (λ n. get_or (x ∷ xs) n d) s) ∙ more t
 
 place_new : (f : List ℕ) (xs : List (List ℕ)) → has f xs ≡ false → place f (xs ++ f ∷ []) ≡ length xs
-place_new f [] h = ap (λ b. cond (not b) 1 0) (equal_self f)
+place_new f [] h = ap (λ b. cond (not b) 1 0) (bytes_eq-same f)
 place_new f (x ∷ xs) h = by (bytes_eq f x) h (λ t. place_new f xs t)
   where
     by : (b : Bool) → (b || has f xs) ≡ false → (has f xs ≡ false → place f (xs ++ f ∷ []) ≡ length xs) → cond (not b) (1 + place f (xs ++ f ∷ [])) 0 ≡ suc (length xs)
@@ -141,7 +135,7 @@ once_more xs y new once j d l = elim (cases_eq j (length xs)) [
       let long = length_push xs y in
       let less : j < length xs = omega arith in
       let at : get_or (xs ++ y ∷ []) j d ≡ get_or xs j d = get_or_append_left xs (y ∷ []) d j less in
-      let there : has (get_or xs j d) xs ≡ true = has_at (get_or xs j d) xs j d less (equal_self (get_or xs j d)) in
+      let there : has (get_or xs j d) xs ≡ true = has_at (get_or xs j d) xs j d less (bytes_eq-same (get_or xs j d)) in
       ap (λ f. place f (xs ++ y ∷ [])) at ∙ (place_here (get_or xs j d) xs (y ∷ []) there).0 ∙ once j d less
 ]
 
@@ -184,10 +178,10 @@ module _ (above : List (List ℕ)) (inherited : List ℕ → Option MethodRef) (
       not_name : (f : List ℕ) → lookup (bytes_eq f) (slots_shown t.own.entries) ≡ None → (b : Bool) → bytes_eq f m.name ≡ b → b ≡ false
       not_name f h false e = refl
       not_name f h true e =
-          let s : Some k ≡ None = sym there ∙ ap (λ g. lookup (bytes_eq g) (slots_shown t.own.entries)) (sym (same_bytes f m.name e)) ∙ h in absurd (cc)
+          let s : Some k ≡ None = sym there ∙ ap (λ g. lookup (bytes_eq g) (slots_shown t.own.entries)) (sym (bytes_equal f m.name e)) ∙ h in absurd (cc)
 
       among_same : (f : List ℕ) (b : Bool) → bytes_eq m.name f ≡ b → has m.name (names_of own) ≡ true → own_among (own ++ m ∷ []) f ≡ own_among own f
-      among_same f true e seen = among_seen f own m (ap (λ g. has g (names_of own)) (sym (same_bytes m.name f e)) ∙ seen)
+      among_same f true e seen = among_seen f own m (ap (λ g. has g (names_of own)) (sym (bytes_equal m.name f e)) ∙ seen)
       among_same f false e seen = among_other f own m e
 
   module _ (none : lookup (bytes_eq m.name) (slots_shown t.own.entries) ≡ None) (t' : Table) (k : ℕ) (entries : slots_shown t'.own.entries ≡ slots_shown t.own.entries ++ (m.name, k) ∷ []) where
@@ -229,7 +223,7 @@ module _ (above : List (List ℕ)) (inherited : List ℕ → Option MethodRef) (
         record {
           found = λ f j h. ap (position_in f) same ∙ elim (found_more f m.name (slots_shown t.own.entries) k j (ap (lookup (bytes_eq f)) (sym entries) ∙ h)) [
             | inl old ↦ is.found f j old
-            | inr new ↦ ap (λ g. position_in g names) (same_bytes f m.name new.0) ∙ there ∙ ap Some new.1
+            | inr new ↦ ap (λ g. position_in g names) (bytes_equal f m.name new.0) ∙ there ∙ ap Some new.1
           ];
           seen = seen_now;
           once = subst AreOnce (sym same) is.once;
@@ -259,7 +253,7 @@ module _ (above : List (List ℕ)) (inherited : List ℕ → Option MethodRef) (
             apart : (b : Bool) → bytes_eq m.name (get_or names j []) ≡ b → b ≡ false
             apart false e = refl
             apart true e =
-                let at : place m.name names ≡ j = ap (λ f. place f names) (same_bytes m.name (get_or names j []) e) ∙ is.once j [] (omega arith) in
+                let at : place m.name names ≡ j = ap (λ f. place f names) (bytes_equal m.name (get_or names j []) e) ∙ is.once j [] (omega arith) in
                 absurd (other (sym at ∙ is_place))
 
     -- the parent does not have it
@@ -269,7 +263,7 @@ module _ (above : List (List ℕ)) (inherited : List ℕ → Option MethodRef) (
         let not_there : has m.name names ≡ false = with_new_any m.name above (names_of own) ∙ ap (λ b. b || has m.name (names_of own)) not_above ∙ new_own in
         let same : with_new above (names_of (own ++ m ∷ [])) ≡ names ++ m.name ∷ [] = grown ∙ ap (λ b. if b then names else names ++ m.name ∷ []) not_there in
         let long : length t.methods.items ≡ length names = ap length is.methods ∙ length-map names (method_of own) in
-        let there : has m.name (names ++ m.name ∷ []) ≡ true = list_any-append (bytes_eq m.name) names (m.name ∷ []) ∙ ap (λ b. b || (bytes_eq m.name m.name || false)) not_there ∙ ap (λ b. b || false) (equal_self m.name) in
+        let there : has m.name (names ++ m.name ∷ []) ≡ true = list_any-append (bytes_eq m.name) names (m.name ∷ []) ∙ ap (λ b. b || (bytes_eq m.name m.name || false)) not_there ∙ ap (λ b. b || false) (bytes_eq-same m.name) in
         record {
           found = λ f j h. ap (position_in f) same ∙ elim (found_more f m.name (slots_shown t.own.entries) k j (ap (lookup (bytes_eq f)) (sym entries) ∙ h)) [
             | inl old ↦
@@ -277,7 +271,7 @@ module _ (above : List (List ℕ)) (inherited : List ℕ → Option MethodRef) (
                 let in_names : has f names ≡ true = sym (position_is f names) ∙ ap is_some before in
                 position_front f names (m.name ∷ []) in_names ∙ before
             | inr new ↦
-                ap (λ g. position_in g (names ++ m.name ∷ [])) (same_bytes f m.name new.0) ∙ position_some m.name (names ++ m.name ∷ []) there ∙ ap Some (place_new m.name names not_there ∙ sym long ∙ sym last ∙ new.1)
+                ap (λ g. position_in g (names ++ m.name ∷ [])) (bytes_equal f m.name new.0) ∙ position_some m.name (names ++ m.name ∷ []) there ∙ ap Some (place_new m.name names not_there ∙ sym long ∙ sym last ∙ new.1)
           ];
           seen = seen_now;
           once = subst AreOnce (sym same) (once_more names m.name not_there is.once);
@@ -289,13 +283,6 @@ module _ (above : List (List ℕ)) (inherited : List ℕ → Option MethodRef) (
       where
         apart : (f : List ℕ) → has f names ≡ true → has m.name names ≡ false → (b : Bool) → bytes_eq m.name f ≡ b → b ≡ false
         apart f h not_there false e = refl
-        apart f h not_there true e = absurd (true≢false (sym h ∙ ap (λ g. has g names) (sym (same_bytes m.name f e)) ∙ not_there))
+        apart f h not_there true e = absurd (true≢false (sym h ∙ ap (λ g. has g names) (sym (bytes_equal m.name f e)) ∙ not_there))
 
 -- nothing is there
-pub nothing_there : (o : Option ℕ) → is_some o ≡ false → o ≡ None
-nothing_there None h = refl
-nothing_there (Some k) h = absurd (true≢false h)
-
-pub something_there : (o : Option ℕ) → is_some o ≡ true → (k : ℕ) × (o ≡ Some k)
-something_there None h = absurd (true≢false (sym h))
-something_there (Some k) h = (k, refl)

@@ -14,6 +14,7 @@ use Rattle.cool_layout.specs.Tags.{AreTags}
 use Rattle.cool_layout.proofs.ShortChains.{same_number, chain_is, chain_only}
 use Rattle.cool_layout.proofs.Counting.{one, times, times-append, total, total_sum, total_zero, among_numbers, times_in_family}
 use Rattle.cool_layout.proofs.Families.{subtree_in, object_in, object_top, family_step, family_cut, member_cut}
+use Rattle.lists.proofs.Numbers.{nat_eq-same}
 
 -- places
 
@@ -39,13 +40,10 @@ place_here d (x ∷ xs) ys some = by (nat_eq x.0 d.0) refl some (λ h. place_her
 
 -- times in a list, and whether the list contains a class
 
-same_self : (n : ℕ) → nat_eq n n ≡ true
-same_self n = grind arith
-
 pub times_there : (d : ClassId) (xs : List ClassId) → Contains xs d → 1 ≤ times d xs
 times_there d [] (k, l, e) = absurd (omega arith)
 times_there d (x ∷ xs) (zero, l, e) =
-    let one_is : one (nat_eq x.0 d.0) ≡ 1 = ap (λ (c : ClassId). one (nat_eq c.0 d.0)) e ∙ ap one (same_self d.0) in omega arith
+    let one_is : one (nat_eq x.0 d.0) ≡ 1 = ap (λ (c : ClassId). one (nat_eq c.0 d.0)) e ∙ ap one (nat_eq-same d.0) in omega arith
 times_there d (x ∷ xs) (suc k, l, e) = let h : 1 ≤ times d xs = times_there d xs (k, omega arith, e) in omega arith
 
 pub there_times : (d : ClassId) (xs : List ClassId) → 1 ≤ times d xs → Contains xs d
@@ -102,7 +100,7 @@ pub head_first : (p : List Class) → IsRooted p → (c : ClassId) → c.0 < len
 head_first p r c within =
     let f : family p c ≡ c ∷ flat_map (family p) (children p c) = family_step p r c within in
     let rest : List ClassId = flat_map (family p) (children p c) in
-    let same : nat_eq c.0 c.0 ≡ true = same_self c.0 in
+    let same : nat_eq c.0 c.0 ≡ true = nat_eq-same c.0 in
     let one_is : one (nat_eq c.0 c.0) ≡ 1 = ap one same in (
       subst (λ (xs : List ClassId). 1 ≤ times c xs) (sym f) (let l : 1 ≤ one (nat_eq c.0 c.0) + times c rest = omega arith in l),
       ap (place c) f ∙ ap (λ b. cond (not b) (1 + place c rest) 0) same,
@@ -207,10 +205,10 @@ tag_at p r k l =
     let c_in : c.0 < length p = at xs k (preorder_in p r) (omega arith) in
     let cut : xs ≡ take k xs ++ (c ∷ drop (k + 1) xs) = sym (take-append-drop k xs) ∙ ap (λ (ys : List ClassId). take k xs ++ ys) (drop_more xs k (class_number 0) (omega arith)) in
     let all : times c xs ≡ times c (take k xs) + (one (nat_eq c.0 c.0) + times c (drop (k + 1) xs)) = ap (times c) cut ∙ times-append c (take k xs) (c ∷ drop (k + 1) xs) in
-    let one_is : one (nat_eq c.0 c.0) ≡ 1 = ap one (same_self c.0) in
+    let one_is : one (nat_eq c.0 c.0) ≡ 1 = ap one (nat_eq-same c.0) in
     let is : times c xs ≡ 1 = once p r c c_in in
     let none : times c (take k xs) ≡ 0 = omega arith in
-    let here : place c (c ∷ drop (k + 1) xs) ≡ 0 = ap (λ b. cond (not b) (1 + place c (drop (k + 1) xs)) 0) (same_self c.0) in
+    let here : place c (c ∷ drop (k + 1) xs) ≡ 0 = ap (λ b. cond (not b) (1 + place c (drop (k + 1) xs)) 0) (nat_eq-same c.0) in
     let before : length (take k xs) ≡ k = length-take-le k xs (omega arith) in
     (ap (place c) cut ∙ place_after c (take k xs) (c ∷ drop (k + 1) xs) none ∙ (let e : length (take k xs) + place c (c ∷ drop (k + 1) xs) ≡ k = omega arith in e), c_in)
   where

@@ -11,6 +11,7 @@ use Rattle.cool_layout.specs.Preorder.{children, family, preorder}
 use Rattle.cool_layout.specs.Roots.{IsRooted}
 use Rattle.cool_layout.specs.Walks.{AreNext}
 use Rattle.cool_layout.proofs.Families.{family_step, children_are, IsChild, object_in}
+use Rattle.lists.proofs.AllItems.{all_append}
 
 pub record Walking (p : List Class) (order : List ClassId) (next : List (Option ClassId)) (waiting : List ClassId) : Type 0 where
   pub rooted : IsRooted p
@@ -23,13 +24,9 @@ all_parts : (P : ClassId → Type 0) (xs ys : List ClassId) → AllByRecursion P
 all_parts P [] ys all = (tt, all)
 all_parts P (x ∷ xs) ys all = let h = all_parts P xs ys all.1 in ((all.0, h.0), h.1)
 
-all_joined : (P : ClassId → Type 0) (xs ys : List ClassId) → AllByRecursion P xs → AllByRecursion P ys → AllByRecursion P (xs ++ ys)
-all_joined P [] ys a b = b
-all_joined P (x ∷ xs) ys a b = (a.0, all_joined P xs ys a.1 b)
-
 all_turned : (P : ClassId → Type 0) (xs : List ClassId) → AllByRecursion P xs → AllByRecursion P (reverse xs)
 all_turned P [] all = tt
-all_turned P (x ∷ xs) all = subst (AllByRecursion P) (sym (reverse-append (x ∷ []) xs)) (all_joined P (reverse xs) (x ∷ []) (all_turned P xs all.1) (all.0, tt))
+all_turned P (x ∷ xs) all = subst (AllByRecursion P) (sym (reverse-append (x ∷ []) xs)) (all_append P (reverse xs) (x ∷ []) (all_turned P xs all.1) (all.0, tt))
 
 all_in : (p : List Class) (q : ClassId) (xs : List ClassId) → AllByRecursion (IsChild p q) xs → AllByRecursion (λ c. c.0 < length p) xs
 all_in p q [] all = tt
@@ -81,7 +78,7 @@ walking_step p order next waiting rest c o popped is w =
       split =
           ap (λ (xs : List ClassId). (order ++ c ∷ []) ++ flat_map f xs) back ∙ ap (λ (xs : List ClassId). (order ++ c ∷ []) ++ xs) (flat_map-append f (children p c) (reverse rest)) ∙ joined
           ∙ ap (λ (xs : List ClassId). order ++ (xs ++ after)) (sym (family_step p r c c_in)) ∙ sym cut;
-      within = all_joined (λ d. d.0 < length p) rest (reverse (children p c)) inside.0 (all_turned (λ d. d.0 < length p) (children p c) (all_in p c (children p c) (children_are p c)));
+      within = all_append (λ d. d.0 < length p) rest (reverse (children p c)) inside.0 (all_turned (λ d. d.0 < length p) (children p c) (all_in p c (children p c) (children_are p c)));
       same = (let a = length_push next o in let b = length_push order c in let s = w.same in omega arith);
       nexts = λ k l. elim (cases_eq k (length order)) [
         | inl e ↦

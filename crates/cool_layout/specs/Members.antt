@@ -12,6 +12,7 @@ use Rattle.cool_classes.specs.declared.method.AttributeRef.{AttributeRef}
 use Rattle.cool_classes.specs.Chains.{Class, class_number, features_of}
 use Rattle.cool_classes.specs.ClimbedChains.{climbed, above, chain}
 use Rattle.cool_classes.specs.Features.{basic_methods, implementation, attributes_of}
+use Rattle.cool_classes.specs.Tables.{basic_classes}
 
 abbrev pub attributes : List Class → ClassId → List AttributeRef
 attributes p c = attributes_of p (chain p c)
@@ -57,19 +58,10 @@ abbrev pub methods : List Class → ClassId → List MethodRef
 methods p c = map (method p c) (slots p c)
 
 -- Worked examples: `length` is the first method of String's own.
-abbrev basic : List Class
-basic =
-    record { name = codes "Object"; parent = None; features = [] }
-    ∷ record { name = codes "IO"; parent = Some (class_number 0); features = [] }
-    ∷ record { name = codes "Int"; parent = Some (class_number 0); features = [] }
-    ∷ record { name = codes "Bool"; parent = Some (class_number 0); features = [] }
-    ∷ record { name = codes "String"; parent = Some (class_number 0); features = [] }
-    ∷ []
-
-length_of_string : slot basic (class_number 4) (codes "length") ≡ Some 3
+length_of_string : slot basic_classes (class_number 4) (codes "length") ≡ Some 3
 unfolding climbed above chain
 length_of_string = refl
 
-length_of_int : slot basic (class_number 2) (codes "length") ≡ None
+length_of_int : slot basic_classes (class_number 2) (codes "length") ≡ None
 unfolding climbed above chain
 length_of_int = refl

@@ -16,9 +16,10 @@ use Rattle.cool_lexer.specs.declared.front.Front.TheVariants.{Item, Fault}
 use Rattle.cool_lexer.specs.declared.front.Scan.TheVariants as scan
 use Rattle.cool_lexer.specs.declared.span.Span.TheVariants as span
 use Rattle.cool_lexer.specs.Fronts.{takes, single_front, angle_front, equals_front, star_front, integer_front, string_front, dash_front, block_front, open_front, front_of, IsFront}
-use Rattle.cool_lexer.proofs.Prefixes.{both_hold, front_passes, no_longer}
+use Rattle.cool_lexer.proofs.Prefixes.{front_passes, no_longer}
 use Rattle.cool_lexer.proofs.ClosedComments.{closed_front, closed_there}
 use Rattle.cool_lexer.proofs.StringConstants.{Stands, string_stands, mapped, constant_longest}
+use Rattle.std.proofs.lemmas.Bool.{and_parts}
 
 -- Signs and white space
 
@@ -155,14 +156,14 @@ string_is b bs (Item f n) s =
 dash_longest : (b : ℕ) (bs : List ℕ) (m : ℕ) (other : Form) → (b == 45) ≡ false → m ≤ length (b ∷ bs) → dash (take m (b ∷ bs)) ≡ Some other → m ≤ 0
 dash_longest b bs zero other no_dash l h = omega arith
 dash_longest b bs (suc m) other no_dash l h =
-    let holds = both_hold (b == 45) (list_all (takes span.Line) (take m bs)) (comment_holds _ other h) in
+    let holds = and_parts (b == 45) (list_all (takes span.Line) (take m bs)) (comment_holds _ other h) in
     absurd (cc (holds.0, no_dash))
 
 -- no comment goes beyond its line
 line_longest : (b : ℕ) (bs : List ℕ) (m : ℕ) (other : Form) → m ≤ length (b ∷ bs) → dash (take m (b ∷ bs)) ≡ Some other → m ≤ 1 + prefix_len (takes span.Line) bs
 line_longest b bs zero other l h = omega arith
 line_longest b bs (suc m) other l h =
-    let holds = both_hold (b == 45) (list_all (takes span.Line) (take m bs)) (comment_holds _ other h) in
+    let holds = and_parts (b == 45) (list_all (takes span.Line) (take m bs)) (comment_holds _ other h) in
     omega (arith, no_longer (takes span.Line) bs m (omega arith) holds.1)
 
 -- two dashes and a line are a comment
@@ -190,7 +191,7 @@ dash_is a (b ∷ bs) = dash_by a b bs (b == 45) refl
 paren_longest : (b : ℕ) (bs : List ℕ) (m : ℕ) (other : Form) → (b == 42) ≡ false → m ≤ length (b ∷ bs) → open_sign (take m (b ∷ bs)) ≡ Some other → m ≤ 0
 paren_longest b bs zero other no_star l h = omega arith
 paren_longest b bs (suc m) other no_star l h =
-    let holds = both_hold (b == 42) (is_whole (comment_size 1 0 (take m bs)) (take m bs)) (comment_holds _ other h) in
+    let holds = and_parts (b == 42) (is_whole (comment_size 1 0 (take m bs)) (take m bs)) (comment_holds _ other h) in
     absurd (cc (holds.0, no_star))
 
 -- a comment that is a whole text has its length
@@ -202,7 +203,7 @@ whole_size (Some n) bs h = ap Some (grind (arith, nat_tests))
 block_longest : (b : ℕ) (bs : List ℕ) (m n : ℕ) (other : Form) → comment_size 1 0 bs ≡ Some n → m ≤ length (b ∷ bs) → open_sign (take m (b ∷ bs)) ≡ Some other → m ≤ 1 + n
 block_longest b bs zero n other is l h = omega arith
 block_longest b bs (suc m) n other is l h =
-    let holds = both_hold (b == 42) (is_whole (comment_size 1 0 (take m bs)) (take m bs)) (comment_holds _ other h) in
+    let holds = and_parts (b == 42) (is_whole (comment_size 1 0 (take m bs)) (take m bs)) (comment_holds _ other h) in
     let there : comment_size 1 0 bs ≡ Some (length (take m bs)) = closed_front 1 0 m (length (take m bs)) bs (whole_size (comment_size 1 0 (take m bs)) (take m bs) holds.1) in
     let same : Some n ≡ Some (length (take m bs)) = sym is ∙ there in
     let sizes : n ≡ length (take m bs) = cc in

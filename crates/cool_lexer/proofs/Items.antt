@@ -9,6 +9,7 @@ use Rattle.cool_lexer.specs.Views.{form_seen}
 use Rattle.cool_lexer.specs.Fronts.{IsAfter, IsFront, front_of, Begins}
 use Rattle.std.proofs.lemmas.List.{take_all}
 use Rattle.cool_lexer.proofs.FrontsAreItems.{front_is}
+use Rattle.lists.proofs.ItemsLeft.{first_and_tail}
 
 -- no longer form begins the text than one after its first byte
 after_longest : (b : ℕ) (bs : List ℕ) (f : Form) (n : ℕ) → IsAfter (class_of b) b bs f n → (m : ℕ) (other : Form) → m ≤ length (b ∷ bs) → form (take m (b ∷ bs)) ≡ Some other → m ≤ n + 1
@@ -34,11 +35,6 @@ begins_by b bs (Fault k n) h = (h.0, omega (arith, h.1))
 -- each text that has a byte begins with the front of its class
 pub begins : (b : ℕ) (bs : List ℕ) → Begins (b ∷ bs) (front_of (class_of b) b bs)
 begins b bs = begins_by b bs _ (front_is b bs)
-
--- the code's first byte and those after it are the rest
-pub first_and_tail : (rest : List ℕ) → 0 < length rest → get_or rest 0 0 ∷ take (length rest - 1) (drop 1 rest) ≡ rest
-first_and_tail [] h = absurd (omega arith)
-first_and_tail (b ∷ bs) h = ap (λ l. b ∷ l) (take_all _ bs (omega arith))
 
 -- the same, for the first byte and the rest as the code takes them
 pub begins_code : (rest : List ℕ) (r : Front) → 0 < length rest → r ≡ front_of (class_of (get_or rest 0 0)) (get_or rest 0 0) (take (length rest - 1) (drop 1 rest)) → Begins rest r

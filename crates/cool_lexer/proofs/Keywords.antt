@@ -4,8 +4,8 @@ use Rattle.std.specs.Prelude.{◌==◌, not, ◌||◌, nat_lt, codes, bytes_eq, 
 use Rattle.std.specs.List.{list_all}
 use Rattle.std.proofs.lemmas.Bool.Decides.{nat_tests}
 use Rattle.std.proofs.lemmas.Slice.Eq.{bytes_eq-Decides}
-use Rattle.cool_lexer.proofs.Prefixes.{both_hold}
 use Rattle.cool_syntax.specs.Lexemes.{Keyword, key_among, keywords}
+use Rattle.std.proofs.lemmas.Bool.{and_parts}
 
 -- a word that fails a test which a spelling passes is not spelled so
 unlike : (q : List ℕ → Bool) (s w : List ℕ) (e : Bool) → Decides e (s ≡ w) → q s ≡ true → q w ≡ false → e ≡ false
@@ -16,7 +16,7 @@ unlike q s w true d passes fails = absurd (let same = d.0 refl in let both : q s
 pub no_spelling : (q : List ℕ → Bool) (ks : List Keyword) (w : List ℕ) → q w ≡ false → list_all (λ k. q k.spelling) ks ≡ true → None ≡ key_among ks w
 no_spelling q [] w fails all = refl
 no_spelling q (k ∷ ks) w fails all =
-    let h = both_hold (q k.spelling) (list_all (λ j. q j.spelling) ks) all in
+    let h = and_parts (q k.spelling) (list_all (λ j. q j.spelling) ks) all in
     let other : bytes_eq k.spelling w ≡ false = unlike q k.spelling w (bytes_eq k.spelling w) (bytes_eq-Decides k.spelling w) h.0 fails in
     rw other (no_spelling q ks w fails h.1)
 

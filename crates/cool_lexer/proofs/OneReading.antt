@@ -9,6 +9,7 @@ use Rattle.cool_syntax.specs.Lexemes.{Form, Lexeme}
 use Rattle.cool_syntax.specs.LexicalStructure.{fault, Fault, fault_at, IsItem, Item, Leads, token_of, tokens_of, place_at, Run, first_run, run_of, FitsRuns, Lexes, LexFault, Shows}
 use Rattle.cool_lexer.proofs.Items.{item_size, one_size, one_form}
 use Rattle.cool_lexer.proofs.ItemsInARow.{fits_front, fits_after, run_append}
+use Rattle.std.proofs.lemmas.Option.{same_Some}
 
 -- no item begins an empty text
 no_item : (f : Form) (n : ℕ) (rest : List ℕ) → rest ≡ [] → IsItem rest f n → ⊥
@@ -51,14 +52,10 @@ shown_stops file bytes at rest r k p q f n (inl h) item fits = absurd (let good 
 shown_stops file bytes at rest r k p q f n (inr h) item fits =
     omega (arith, full_run f q r (Lexeme h.0) (one_form rest (Lexeme h.0) f h.1 n h.2 item) _ refl fits, h.3)
 
--- two faults that are given are one
-some_same : (f g : Fault) → Some f ≡ Some g → f ≡ g
-some_same f g h = cc
-
 -- and have one kind and one offset
 fault_same : (k l : LexKind) (m n : ℕ) → fault_at k m ≡ fault_at l n → (k ≡ l) × (m ≡ n)
 fault_same k l m n h =
-    let same = some_same (record { kind = k; offset = m }) (record { kind = l; offset = n }) h in
+    let same = same_Some (record { kind = k; offset = m }) (record { kind = l; offset = n }) h in
     (ap (λ (f : Fault). f.kind) same, ap (λ (f : Fault). f.offset) same)
 
 -- one place shows one fault

@@ -2,19 +2,8 @@
 use Rattle.std.proofs.Common.{◌≡◌, ◌∙◌, ap, refl, arith, ℕ, zero, suc, ◌≤◌, Bool, true, false, List, [], ◌∷◌, length, take}
 use Rattle.std.specs.Prelude.{◌&&◌}
 use Rattle.std.specs.List.{list_all, prefix_len}
-
--- two tests that hold together hold each
-pub both_hold : (a b : Bool) → (a && b) ≡ true → (a ≡ true) × (b ≡ true)
-both_hold true b h = (refl, h)
-both_hold false b h = absurd (cc)
-
--- a byte that passes is one more
-pub prefix_yes : (p : ℕ → Bool) (b : ℕ) (bs : List ℕ) → p b ≡ true → prefix_len p (b ∷ bs) ≡ suc (prefix_len p bs)
-prefix_yes p b bs h = rw h (omega arith)
-
--- a byte that does not pass ends it
-prefix_no : (p : ℕ → Bool) (b : ℕ) (bs : List ℕ) → p b ≡ false → prefix_len p (b ∷ bs) ≡ 0
-prefix_no p b bs h = rw h refl
+use Rattle.std.proofs.lemmas.Bool.{and_parts}
+use Rattle.lists.proofs.Fronts.{prefix_yes, prefix_no}
 
 -- the front passes with one more byte before it
 passes_more : (p : ℕ → Bool) (b : ℕ) (bs : List ℕ) (e : Bool) → p b ≡ e → list_all p (take (prefix_len p bs) bs) ≡ true → list_all p (take (prefix_len p (b ∷ bs)) (b ∷ bs)) ≡ true
@@ -31,5 +20,5 @@ pub no_longer : (p : ℕ → Bool) (bs : List ℕ) (m : ℕ) → m ≤ length bs
 no_longer p bs zero l h = omega arith
 no_longer p [] (suc m) l h = omega arith
 no_longer p (b ∷ bs) (suc m) l h =
-    let both = both_hold (p b) (list_all p (take m bs)) h in
+    let both = and_parts (p b) (list_all p (take m bs)) h in
     omega (arith, prefix_yes p b bs both.0, no_longer p bs m (omega arith) both.1)

@@ -7,7 +7,8 @@ use Rattle.cool_classes.specs.Chains.{Class, class_number, class_at, nothing, na
 use Rattle.cool_classes.specs.Tables.{basic_classes}
 use Rattle.cool_classes.specs.LawfulTables.{MayInherit}
 use Rattle.cool_rules.specs.TypedTables.{IsTypedTable}
-use Rattle.cool_rules.proofs.ChainsOfTables.{contains_cases, nothing_in, below_alone}
+use Rattle.cool_rules.proofs.ChainsOfTables.{nothing_in, below_alone}
+use Rattle.lists.proofs.Membership.{contains_cases}
 
 -- a class by its number
 pub by_number : (c : ClassId) (n : ℕ) → c.0 ≡ n → c ≡ class_number n

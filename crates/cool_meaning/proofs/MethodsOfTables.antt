@@ -17,15 +17,10 @@ use Rattle.cool_classes.specs.Chains.{Class, class_number, features_of}
 use Rattle.cool_classes.specs.Features.{NamedMethod, own_method, user_method, first_method, first_of, implementation, method_among, basic_methods, formals_of, HasMethod, IsMethod, IsAttribute, own_attributes, attributes_of, formals_in}
 use Rattle.cool_classes.specs.Tables.{IsTyped, IsClassName}
 use Rattle.cool_rules.specs.TypedTables.{IsTypedTable}
-use Rattle.cool_rules.proofs.ChainsOfTables.{contains_later}
 use Rattle.cool_meaning.proofs.BasicClasses.{by_number, basic_within, basic_name}
 use Rattle.cool_meaning.proofs.SoundMethods.{IsOfString}
-
--- what holds of all holds of the one at a place
-pub all_get : {X : Type 0} (P : X → Type 0) (xs : List X) (k : ℕ) (x : X) → AllByRecursion P xs → slice_get xs k ≡ Some x → P x
-all_get P [] k x h e = absurd (cc)
-all_get P (y ∷ xs) zero x h e = let same : y ≡ x = cc in subst P same h.0
-all_get P (y ∷ xs) (suc k) x h e = all_get P xs k x h.1 e
+use Rattle.std.proofs.lemmas.List.Elements.{Contains-append_right}
+use Rattle.lists.proofs.AllItems.{all_get, all_append, all_then}
 
 -- a method of a name that a chain has is a class's own
 pub implementation_own : (p : List Class) (ds : List ClassId) (f : List ℕ) (m : MethodRef) → implementation p ds f ≡ Some m → (d : ClassId) × Contains ds d × (own_method p d f ≡ Some m)
@@ -34,7 +29,7 @@ implementation_own p (d ∷ ds) f m e = by (own_method p d f) refl e (implementa
   where
     by : (o : Option MethodRef) → own_method p d f ≡ o → first_of o (implementation p ds f) ≡ Some m → (implementation p ds f ≡ Some m → (d : ClassId) × Contains ds d × (own_method p d f ≡ Some m))
         → (x : ClassId) × Contains (d ∷ ds) x × (own_method p x f ≡ Some m)
-    by None own e more = let (x, there, is) = more e in (x, contains_later (d ∷ []) ds x there, is)
+    by None own e more = let (x, there, is) = more e in (x, Contains-append_right (d ∷ []) ds x there, is)
     by (Some n) own e more = (d, (0, omega arith, refl), own ∙ e)
 
 -- a method of String is String's own
@@ -108,20 +103,12 @@ own_owned d k [] = tt
 own_owned d k (Method m ∷ fs) = own_owned d (k + 1) fs
 own_owned d k (Attribute a ∷ fs) = (refl, own_owned d (k + 1) fs)
 
-all_of_both : (P : AttributeRef → Type 0) (xs ys : List AttributeRef) → AllByRecursion P xs → AllByRecursion P ys → AllByRecursion P (xs ++ ys)
-all_of_both P [] ys h k = k
-all_of_both P (x ∷ xs) ys h k = (h.0, all_of_both P xs ys h.1 k)
-
-all_under : (P Q : AttributeRef → Type 0) (xs : List AttributeRef) → ((x : AttributeRef) → P x → Q x) → AllByRecursion P xs → AllByRecursion Q xs
-all_under P Q [] f h = tt
-all_under P Q (x ∷ xs) f h = (f x h.0, all_under P Q xs f h.1)
-
 pub attributes_owned : (p : List Class) (ds : List ClassId) → AllByRecursion (λ (r : AttributeRef). Contains ds r.owner) (attributes_of p ds)
 attributes_owned p [] = tt
 attributes_owned p (d ∷ ds) =
-    all_of_both (λ (r : AttributeRef). Contains (d ∷ ds) r.owner) (attributes_of p ds) (own_attributes d 0 (features_of p d))
-    (all_under (λ (r : AttributeRef). Contains ds r.owner) (λ (r : AttributeRef). Contains (d ∷ ds) r.owner) (attributes_of p ds) (λ r there. contains_later (d ∷ []) ds r.owner there) (attributes_owned p ds))
-    (all_under (λ (r : AttributeRef). r.owner ≡ d) (λ (r : AttributeRef). Contains (d ∷ ds) r.owner) (own_attributes d 0 (features_of p d)) (λ r is. (0, omega arith, sym is)) (own_owned d 0 (features_of p d)))
+    all_append (λ (r : AttributeRef). Contains (d ∷ ds) r.owner) (attributes_of p ds) (own_attributes d 0 (features_of p d))
+    (all_then (λ (r : AttributeRef). Contains ds r.owner) (λ (r : AttributeRef). Contains (d ∷ ds) r.owner) (attributes_of p ds) (λ r there. Contains-append_right (d ∷ []) ds r.owner there) (attributes_owned p ds))
+    (all_then (λ (r : AttributeRef). r.owner ≡ d) (λ (r : AttributeRef). Contains (d ∷ ds) r.owner) (own_attributes d 0 (features_of p d)) (λ r is. (0, omega arith, sym is)) (own_owned d 0 (features_of p d)))
 
 module _ (p : List Class) (typed : IsTypedTable p) where
   names_of_formals : (fs : List Formal) → AllByRecursion (λ (f : Formal). IsClassName p f.declared.name) fs → AllByRecursion (IsClassName p) (map (λ (f : Formal). f.declared.name) fs)

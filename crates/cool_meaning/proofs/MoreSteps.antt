@@ -209,7 +209,7 @@ line_by b rest true newline taken e = (b ∷ taken, ap (λ (xs : List ℕ). b �
 line_by b rest false true taken e = (b ∷ [], refl)
 line_by b rest false false taken e = (b ∷ taken, ap (λ (xs : List ℕ). b ∷ xs) e)
 
-line_taken : (input : List ℕ) → (taken : List ℕ) × (input ≡ taken ++ (line_of input).rest)
+pub line_taken : (input : List ℕ) → (taken : List ℕ) × (input ≡ taken ++ (line_of input).rest)
 line_taken [] = ([], refl)
 line_taken (b ∷ rest) = let more = line_taken rest in line_by b rest (b == 0) (b == 10) more.0 more.1
 

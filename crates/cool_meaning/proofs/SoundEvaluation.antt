@@ -29,7 +29,7 @@ use Rattle.cool_meaning.specs.Lookups.{class_made}
 use Rattle.cool_meaning.specs.Evaluation.{Calls, value_named, assign, is_void, make, dispatch, Branch, eval, eval_all, eval_items, eval_init, branch_of}
 use Rattle.cool_rules.proofs.ChainsOfTables.{below_trans, below_within, below_itself, chain_within, implementation_below}
 use Rattle.cool_classes.proofs.ChainsOfTables.{chain_is}
-use Rattle.cool_rules.proofs.NamesOfTables.{class_by_name, bytes_differ, bytes_same}
+use Rattle.cool_rules.proofs.NamesOfTables.{class_by_name}
 use Rattle.cool_rules.proofs.RulesOfTables.{meant_is}
 use Rattle.cool_meaning.proofs.BasicClasses.{basic_within}
 use Rattle.cool_meaning.proofs.FittingValues.{World, Grown, not_grown, grown_on, Fits, AllFit, still_fits, still_all_fit, meant, Holds, still_holds, found_at, fits_above, fits_conforming, below_conforming, class_fits}
@@ -37,6 +37,7 @@ use Rattle.cool_meaning.proofs.SoundComputations.{Sound, bind_sound, then_sound,
 use Rattle.cool_meaning.proofs.SoundMethods.{number_sound, truth_sound, int_fits, bool_fits, string_fits}
 use Rattle.cool_meaning.proofs.MethodsOfTables.{implementation_own, formals_are_classes}
 use Rattle.cool_meaning.proofs.SoundParts.{wider_sound, class_or_sound, AllCallsSound, default_fits, arguments_fit, negated_sound, arithmetic_sound, compare_sound, loop_sound, make_sound, dispatch_sound, IsSoundBranch, nearest_sound}
+use Rattle.lists.proofs.EqualBytes.{bytes_differ, bytes_same}
 
 -- Where an expression of class c is evaluated: by an object of a class k below it, with each name in scope at a location made for its type.
 pub record Scene (p : List Class) (w : World) (c k : ClassId) (self : Value) (scope : List Binding) (env : Environment) : Type 0 where

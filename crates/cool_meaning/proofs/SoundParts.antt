@@ -35,15 +35,18 @@ use Rattle.cool_classes.specs.ClimbedChains.{chain as chain_of}
 use Rattle.cool_meaning.specs.Lookups.{attributes, default_values}
 use Rattle.cool_meaning.specs.BasicMethods.{as_number, new_number, new_truth, new_string}
 use Rattle.cool_meaning.specs.Evaluation.{Body, Initials, Calls, class_or, exact, arithmetic, compare, same, bytes_compared, turns, loop, new_object, make, invoke, dispatch, Branch, or_else, nearest, take_branch}
-use Rattle.cool_rules.proofs.ChainsOfTables.{below_trans, below_itself, contains_later, chain_within}
+use Rattle.cool_rules.proofs.ChainsOfTables.{below_trans, below_itself, chain_within}
 use Rattle.cool_classes.proofs.ChainsOfTables.{chain_is}
-use Rattle.cool_rules.proofs.NamesOfTables.{bytes_same}
 use Rattle.cool_rules.proofs.RulesOfTables.{meant_is}
 use Rattle.cool_meaning.proofs.BasicClasses.{by_number, basic_within, basic_name, high_inherits, only_string}
 use Rattle.cool_meaning.proofs.FittingValues.{World, Grown, not_grown, grown_on, still_all_made, Fits, AllFit, still_fits, meant, attribute_classes, fits_conforming}
 use Rattle.cool_meaning.proofs.SoundComputations.{NotStuck, Sound, bind_sound, then_sound, give_sound, stop_sound, working_sound, giving_sound, holding_sound, rule_sound, if_sound, spend_sound, locate_all_sound}
 use Rattle.cool_meaning.proofs.SoundMethods.{Any, draw_sound, number_sound, truth_sound, new_number_sound, new_truth_sound, new_string_sound, basic_sound, int_fits, bool_fits, string_fits}
-use Rattle.cool_meaning.proofs.MethodsOfTables.{implementation_own, string_own, user_own, all_get, defined_attribute}
+use Rattle.cool_meaning.proofs.MethodsOfTables.{implementation_own, string_own, user_own, defined_attribute}
+use Rattle.std.proofs.lemmas.List.Elements.{Contains-append_right}
+use Rattle.lists.proofs.EqualBytes.{bytes_same}
+use Rattle.lists.proofs.AllItems.{all_get}
+use Rattle.std.proofs.lemmas.Bool.{eqb-true}
 
 -- what is less than said is so too
 wider_by : {A : Type 0} (p : List Class) (w : World) (n : ℕ) (Q R : World → A → Type 0) (o : _) → ((w' : World) (v : A) → Q w' v → R w' v) → NotStuck p w n Q o → NotStuck p w n R o
@@ -62,9 +65,6 @@ class_or_sound e (Int n) = give_sound (class_number 2) refl
 class_or_sound e (Truth c) = give_sound (class_number 3) refl
 class_or_sound e (Str bytes) = give_sound (class_number 4) refl
 class_or_sound e (Obj k i ls) = give_sound k refl
-
-pub is_number : (n m : ℕ) → (n == m) ≡ true → n ≡ m
-is_number n m e = grind arith
 
 pub is_other : (n m : ℕ) → (n == m) ≡ false → n ≢ m
 is_other n m e = grind arith
@@ -210,9 +210,9 @@ module _ (p : List Class) (typed : IsTypedTable p) where
         by : (x y z : Bool) → (k.0 == 2) ≡ x → (k.0 == 3) ≡ y → (k.0 == 4) ≡ z
             → Sound p b w (λ w' v. Fits p w' v k)
             (if x then rule (spend (new_number (pos 0))) else (if y then rule (spend (new_truth false)) else (if z then rule (spend (new_string [])) else working 1 (holding (length (chain_of p k)) (spend (new_object p calls k))))))
-        by true y z ex ey ez = value_sound w k 2 (new_number (pos 0)) (is_number k.0 2 ex) (λ m. new_number_sound p typed (pos 0))
-        by false true z ex ey ez = value_sound w k 3 (new_truth false) (is_number k.0 3 ey) (λ m. new_truth_sound p typed false)
-        by false false true ex ey ez = value_sound w k 4 (new_string []) (is_number k.0 4 ez) (λ m. new_string_sound p typed [])
+        by true y z ex ey ez = value_sound w k 2 (new_number (pos 0)) (eqb-true k.0 2 ex) (λ m. new_number_sound p typed (pos 0))
+        by false true z ex ey ez = value_sound w k 3 (new_truth false) (eqb-true k.0 3 ey) (λ m. new_truth_sound p typed false)
+        by false false true ex ey ez = value_sound w k 4 (new_string []) (eqb-true k.0 4 ez) (λ m. new_string_sound p typed [])
         by false false false ex ey ez =
             let may : MayInherit k = record { no_int = is_other k.0 2 ex; no_bool = is_other k.0 3 ey; no_string = is_other k.0 4 ez } in
             working_sound 1 (holding_sound _ (spend_sound (λ m less. object_sound m less w k within may)))
@@ -256,7 +256,7 @@ module _ (p : List Class) (typed : IsTypedTable p) where
     nearest_sound w at c k v branch [] h = stop_sound (NoBranch at c)
     nearest_sound w at c k v branch (d ∷ ds) h =
         let (fit, sound) = h d (0, omega arith, refl) in
-        by (branch (name_of p d)) fit sound (nearest_sound w at c k v branch ds (λ e there. h e (contains_later (d ∷ []) ds e there)))
+        by (branch (name_of p d)) fit sound (nearest_sound w at c k v branch ds (λ e there. h e (Contains-append_right (d ∷ []) ds e there)))
       where
         by : (o : Option Branch) → Fits p w v d → IsSoundBranch w d k o → Sound p b w (λ w' r. Fits p w' r k) (take_branch at c v (nearest p branch ds))
             → Sound p b w (λ w' r. Fits p w' r k) (take_branch at c v (or_else o (nearest p branch ds)))

@@ -12,15 +12,7 @@ use Rattle.cool_names.specs.Marks.{Context, declared_marks}
 use Rattle.cool_names.specs.Meanings.{separated}
 use Rattle.cool_names.specs.Programs.{class_marks, feature_marks, features_marks, formal_variable, formals_marks, marks_from}
 use Rattle.cool_names.specs.Scopes.{Variable, entered}
-
--- the items from one position on
-drop_first : {X : Type 0} (xs : List X) (i : ℕ) (x : X) → i < length xs → x ≡ get_or xs i x → drop i xs ≡ x ∷ drop (suc i) xs
-drop_first [] i x within is = absurd (omega arith)
-drop_first (y ∷ xs) zero x within is = ap (λ z. z ∷ xs) (sym is)
-drop_first (y ∷ xs) (suc i) x within is = drop_first xs i x (omega arith) is
-
-pub drop_one : {X : Type 0} (xs : List X) (i : ℕ) (x : X) → i < length xs → x ≡ get_or xs i x → drop i xs ≡ x ∷ drop (i + 1) xs
-drop_one xs i x within is = subst (λ (j : ℕ). drop i xs ≡ x ∷ drop j xs) (sym (add-one i)) (drop_first xs i x within is)
+use Rattle.lists.proofs.ItemsLeft.{drop_one}
 
 -- the name of a formal's type, after a sign, is followed by those after it
 pub name_later : (text sign : List ℕ) (fs : List Formal) (i : ℕ) (f : Formal) → i < length fs → f ≡ get_or fs i f

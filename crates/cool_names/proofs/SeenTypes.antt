@@ -28,7 +28,7 @@ use Rattle.cool_names.specs.Meanings.{self_meaning, variable_meaning}
 use Rattle.cool_names.specs.Scopes.{Variable, bound_in}
 
 -- the class that a type stands for is one of the table
-class_within : (p : List Class) (c : ClassId) (a : Ty) → c.0 < length p → IsType p a → (class_of c a).0 < length p
+pub class_within : (p : List Class) (c : ClassId) (a : Ty) → c.0 < length p → IsType p a → (class_of c a).0 < length p
 class_within p c (IsClass a) less is = is
 class_within p c SelfType less is = less
 

@@ -14,6 +14,7 @@ use Rattle.cool_opt.specs.Expressions.{expression_at, expressions_of, expression
 use Rattle.cool_opt.specs.FoldedNodes.{expression_of}
 use Rattle.cool_opt.specs.Folding.{fold_feature, fold_table}
 use Rattle.cool_opt.proofs.FoldedTables.{folded_shape, features_folded, feature_at}
+use Rattle.lists.proofs.ItemsAt.{there_is}
 
 -- Classes
 
@@ -54,12 +55,6 @@ feature_first c n (y ∷ fs) zero x is =
     ap (λ (o : Option Feature). expression_at c n (expression_of (unwrap_or o x)) ++ expressions_of c (n + 1) fs) is
 feature_first c n (y ∷ fs) (suc k) x is = feature_first c n fs k x is
 
--- there is a feature at each number below their count
-feature_there : (fs : List Feature) (k : ℕ) → k < length fs → (x : Feature) × (slice_get fs k ≡ Some x)
-feature_there [] k within = absurd (omega arith)
-feature_there (x ∷ fs) zero within = (x, refl)
-feature_there (x ∷ fs) (suc k) within = feature_there fs k (omega arith)
-
 module _ (p : List Class) (c : ClassId) where
   -- the folded expression of a feature is found before those of the features after it
   pub features_later : (before : List Expression) (k : ℕ) (o : Option Tree) → k < length (features_of p c)
@@ -67,7 +62,7 @@ module _ (p : List Class) (c : ClassId) where
       → (before ++ expression_at c k o) ++ expressions_of c (k + 1) (drop (k + 1) (features_of (fold_table p) c))
       ≡ before ++ expressions_of c k (drop k (features_of (fold_table p) c))
   features_later before k o within each =
-      let (x, there) = feature_there (features_of p c) k within in
+      let (x, there) = there_is (features_of p c) k within in
       let fs = features_of (fold_table p) c in
       let folded : slice_get fs k ≡ Some (fold_feature p c x) = feature_at p c k ∙ ap (option_map (fold_feature p c)) there in
       let y = expression_of (fold_feature p c x) in

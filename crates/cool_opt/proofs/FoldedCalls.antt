@@ -12,6 +12,7 @@ use Rattle.cool_classes.specs.declared.method.MethodRef.TheVariants.{Basic, User
 use Rattle.cool_classes.specs.declared.method.AttributeRef.{AttributeRef}
 use Rattle.cool_classes.specs.Chains.{Class, class_number, name_of, features_of, Below}
 use Rattle.cool_classes.specs.Features.{Denotes, implementation, formals_of, HasMethod, attribute_type, HasAttribute, result_in}
+use Rattle.cool_classes.specs.Features.{attribute_name}
 use Rattle.cool_classes.specs.Tables.{IsTyped}
 use Rattle.cool_classes.proofs.Methods.{found_has}
 use Rattle.cool_classes.proofs.AttributesOfChains.{attributes_have}
@@ -21,28 +22,29 @@ use Rattle.cool_rules.specs.Scopes.{found}
 use Rattle.cool_classes.specs.LawfulTables.{MayInherit}
 use Rattle.cool_rules.specs.TypedTables.{IsTypedTable}
 use Rattle.cool_meaning.specs.Values.{Value, Void, Int, Bool as Truth, Str, Obj, class_of, default_of}
+use Rattle.cool_meaning.specs.Values.{State}
 use Rattle.cool_meaning.specs.Meters.{NoBranch, Computation, ◌>>=◌, ◌>>◌, give, stop, stuck, spend, rule, working, giving, holding, given}
+use Rattle.cool_meaning.specs.Meters.{Metered}
 use Rattle.cool_classes.specs.ClimbedChains.{chain as chain_of}
 use Rattle.cool_meaning.specs.Lookups.{attributes, default_values}
 use Rattle.cool_meaning.specs.BasicMethods.{new_number, new_truth, new_string}
+use Rattle.cool_meaning.specs.BasicMethods.{as_truth, basic, copy, draw, locate_all, load_all}
 use Rattle.cool_meaning.specs.Evaluation.{Body, Initials, Calls, same, turns, loop, new_object, make, invoke, dispatch, Branch, or_else, nearest, take_branch}
-use Rattle.cool_rules.proofs.ChainsOfTables.{below_trans, below_itself, contains_later, chain_within}
+use Rattle.cool_rules.proofs.ChainsOfTables.{below_trans, below_itself, chain_within}
 use Rattle.cool_classes.proofs.ChainsOfTables.{chain_is}
 use Rattle.cool_rules.proofs.RulesOfTables.{meant_is}
 use Rattle.cool_meaning.proofs.BasicClasses.{high_inherits}
 use Rattle.cool_meaning.proofs.FittingValues.{World, AreMade, Grown, not_grown, grown_on, still_all_made, Fits, AllFit, meant, attribute_classes}
 use Rattle.cool_meaning.proofs.SoundComputations.{Sound, locate_all_sound}
 use Rattle.cool_meaning.proofs.SoundMethods.{Any, draw_sound, truth_sound}
-use Rattle.cool_meaning.proofs.MethodsOfTables.{implementation_own, user_own, all_get, defined_attribute}
+use Rattle.cool_meaning.proofs.MethodsOfTables.{implementation_own, user_own, defined_attribute}
 use Rattle.cool_rules.specs.Rules.{class_named}
 use Rattle.cool_meaning.proofs.SoundParts.{is_other, AllCallsSound, default_fits}
-use Rattle.cool_meaning.specs.Values.{State}
-use Rattle.cool_meaning.specs.Meters.{Metered}
-use Rattle.cool_meaning.specs.BasicMethods.{as_truth, basic, copy, draw, locate_all, load_all}
 use Rattle.cool_classes.specs.declared.method.BasicMethod.{BasicMethod}
 use Rattle.cool_classes.specs.declared.method.BasicMethod.TheVariants.{Abort, TypeName, Copy, OutString, OutInt, InString, InInt, Length, Concat, Substr}
-use Rattle.cool_classes.specs.Features.{attribute_name}
 use Rattle.cool_opt.proofs.NoMoreMeters.{NoMore, Keeps, no_more_same, keeps_same, bind_keeps, then_keeps, working_keeps, giving_keeps, holding_keeps, spend_keeps, if_keeps}
+use Rattle.std.proofs.lemmas.List.Elements.{Contains-append_right}
+use Rattle.lists.proofs.AllItems.{all_get}
 
 -- Tables of one shape: classes of the same names, chains, methods and attributes
 pub record SameTables (p p' : List Class) : Type 0 where
@@ -214,7 +216,7 @@ module _ (p p' : List Class) (typed : IsTypedTable p) (same_tables : SameTables 
     nearest_keeps w at c v branch branch' [] h = keeps_same (stop (NoBranch at c))
     nearest_keeps w at c v branch branch' (d ∷ ds) h =
         let (fit, kept) = h d (0, omega arith, refl) in
-        by (branch (name_of p d)) (branch' (name_of p' d)) fit kept (nearest_keeps w at c v branch branch' ds (λ e there. h e (contains_later (d ∷ []) ds e there)))
+        by (branch (name_of p d)) (branch' (name_of p' d)) fit kept (nearest_keeps w at c v branch branch' ds (λ e there. h e (Contains-append_right (d ∷ []) ds e there)))
       where
         by : (o o' : Option Branch) → Fits p w v d → KeptBranch w d o o' → Keeps p b w (take_branch at c v (nearest p branch ds)) (take_branch at c v (nearest p' branch' ds))
             → Keeps p b w (take_branch at c v (or_else o (nearest p branch ds))) (take_branch at c v (or_else o' (nearest p' branch' ds)))

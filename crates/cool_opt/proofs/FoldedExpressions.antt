@@ -9,6 +9,7 @@ use Rattle.cool_classes.specs.declared.class_id.Ty.TheVariants.{Class as IsClass
 use Rattle.cool_classes.specs.Chains.{Class, class_number, name_of, Below}
 use Rattle.cool_classes.specs.Features.{Denotes}
 use Rattle.cool_rules.specs.Conformance.{class_of as class_meant}
+use Rattle.cool_rules.specs.Conformance.{IsType}
 use Rattle.cool_rules.specs.Scopes.{Binding}
 use Rattle.cool_rules.specs.Typing.{int_type, bool_type, object_type, with_name, HasType, HaveTypes, HaveItems, HasInit, HaveBranches}
 use Rattle.cool_classes.specs.LawfulTables.{MayInherit}
@@ -19,10 +20,12 @@ use Rattle.cool_meaning.specs.Numbers.{signed}
 use Rattle.cool_classes.specs.ClimbedChains.{chain as chain_of}
 use Rattle.cool_meaning.specs.Lookups.{class_made}
 use Rattle.cool_meaning.specs.BasicMethods.{as_number}
+use Rattle.cool_meaning.specs.BasicMethods.{as_truth}
 use Rattle.cool_meaning.specs.Evaluation.{Calls, class_or, exact, arithmetic, compare, make, Branch, nearest, take_branch, value_named, assign, is_void, eval, eval_all, eval_items, eval_init, branch_of}
+use Rattle.cool_meaning.specs.Evaluation.{branch_count}
 use Rattle.cool_rules.proofs.ChainsOfTables.{below_within}
 use Rattle.cool_classes.proofs.ChainsOfTables.{chain_is}
-use Rattle.cool_rules.proofs.NamesOfTables.{bytes_same, class_by_name, bytes_differ}
+use Rattle.cool_rules.proofs.NamesOfTables.{class_by_name}
 use Rattle.cool_rules.proofs.RulesOfTables.{meant_is}
 use Rattle.cool_meaning.proofs.FittingValues.{World, grown_on, Fits, AllFit, still_fits, fits_above, class_fits}
 use Rattle.cool_meaning.proofs.SoundComputations.{fewer_sound, locate_sound}
@@ -32,11 +35,8 @@ use Rattle.cool_classes.specs.Names.{self_type}
 use Rattle.cool_rules.specs.Rules.{class_named}
 use Rattle.cool_meaning.proofs.SoundParts.{wider_sound, class_or_sound, AllCallsSound}
 use Rattle.cool_syntax.specs.Tree as trees
-use Rattle.cool_meaning.specs.BasicMethods.{as_truth}
 use Rattle.cool_opt.proofs.NoMoreMeters.{Keeps, keeps_same, keeps_then, bind_keeps, working_keeps, holding_keeps, rule_keeps, fewer_keeps, if_keeps}
 use Rattle.cool_meaning.proofs.SoundEvaluation.{Scene, scene_later, scene_with, eval_sound, all_sound, init_sound}
-use Rattle.cool_meaning.specs.Evaluation.{branch_count}
-use Rattle.cool_rules.specs.Conformance.{IsType}
 use Rattle.cool_rules.proofs.RulesDecided.{denotes_type}
 use Rattle.cool_rules.specs.StaticTypes.{type_of}
 use Rattle.cool_opt.specs.Folding.{fold, fold_all, fold_maybe, fold_cases, dispatch_by}
@@ -44,6 +44,7 @@ use Rattle.cool_opt.proofs.Rows.{arith_folds, compare_row, neg_folds, not_folds,
 use Rattle.cool_opt.proofs.FoldedCalls.{SameTables, AllCallsKeep, loop_keeps, make_keeps, KeptBranch, nearest_keeps}
 use Rattle.cool_rules.proofs.StaticTypesAreGiven.{type_is}
 use Rattle.cool_opt.proofs.FoldedDispatches.{named_there, dispatch_folds, static_folds}
+use Rattle.lists.proofs.EqualBytes.{bytes_same, bytes_differ}
 
 module _ (p p' : List Class) (typed : IsTypedTable p) (same_tables : SameTables p p') (calls calls' : Calls) (b : ℕ) (calls_sound : AllCallsSound p calls b) (keep : AllCallsKeep p calls calls' b) (c k : ClassId) (self : Value)
     (within : c.0 < length p) where

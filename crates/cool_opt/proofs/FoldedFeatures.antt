@@ -4,21 +4,20 @@ use Rattle.std.specs.Prelude.{slice_get}
 use Rattle.std.specs.List.{AllByRecursion}
 use Rattle.cool_syntax.specs.declared.file_tree.Feature.{Feature}
 use Rattle.cool_syntax.specs.declared.file_tree.Feature.TheVariants.{Attribute}
+use Rattle.cool_syntax.specs.declared.file_tree.Feature.TheVariants.{Method}
 use Rattle.cool_classes.specs.declared.class_id.ClassId.{ClassId}
 use Rattle.cool_classes.specs.Chains.{Class, features_of}
 use Rattle.cool_classes.specs.Tables.{IsTyped}
 use Rattle.cool_rules.specs.Scopes.{Binding}
 use Rattle.cool_rules.specs.Typing.{HasType}
+use Rattle.cool_rules.specs.Typing.{FitsDeclared, IsTypedInit, formals_in_scope, attributes_in_scope}
 use Rattle.cool_rules.specs.TypedTables.{IsTypedTable}
 use Rattle.cool_classes.specs.ClimbedChains.{chain as chain_of}
 use Rattle.cool_meaning.specs.Lookups.{attributes}
-use Rattle.cool_meaning.proofs.MethodsOfTables.{all_get}
 use Rattle.cool_syntax.specs.Tree.{Tree}
-use Rattle.cool_syntax.specs.declared.file_tree.Feature.TheVariants.{Method}
 use Rattle.cool_classes.specs.Features.{attributes_of}
 use Rattle.cool_classes.proofs.ChainsOfTables.{chain_of as chain_by}
 use Rattle.cool_rules.specs.Conformance.{IsType}
-use Rattle.cool_rules.specs.Typing.{FitsDeclared, IsTypedInit, formals_in_scope, attributes_in_scope}
 use Rattle.cool_opt.specs.Folding.{fold, own_scope}
 use Rattle.cool_opt.specs.Foldable.{IsDone}
 use Rattle.cool_opt.proofs.FoldedTypes.{still_typed}
@@ -26,6 +25,7 @@ use Rattle.cool_opt.specs.Shrinking.{shrunk}
 use Rattle.cool_opt.proofs.NothingLeft.{is_done}
 use Rattle.cool_opt.proofs.ShrinkingFolds.{shrunk_is}
 use Rattle.cool_opt.proofs.FoldedRuns.{formal_types, attribute_types, scope_types, attributes_there}
+use Rattle.lists.proofs.AllItems.{all_get}
 
 -- a declared expression, folded in its scope, still fits, and nothing is left to fold; the code folds it to the same
 pub record FoldsDeclared (p : List Class) (c : ClassId) (inner : List Binding) (e : Tree) (declared : List ℕ) : Type 0 where

@@ -27,6 +27,7 @@ use Rattle.cool_rules.specs.StaticTypes.{type_of}
 use Rattle.cool_opt.specs.FoldedNodes.{value_of, number_constant, truth_constant, with_number, with_truth, Folds}
 use Rattle.cool_opt.proofs.NodesPlaced.{more_nodes}
 use Rattle.cool_opt.proofs.FoldedRows.{number_folds, stays_folds, truth_folds}
+use Rattle.cool_classes.proofs.BasicLimits.{five_classes}
 
 exact_fits : (n v : ℤ) → exactly n ≡ Some v → fits v ≡ true
 exact_fits n v e = by (fits n) refl e
@@ -53,10 +54,6 @@ computed_fits op (Some m) (Some n) v e = result_fits op m n v e
 negated_fits : (a : Option ℤ) (v : ℤ) → negated a ≡ Some v → fits v ≡ true
 negated_fits None v e = absurd cc
 negated_fits (Some n) v e = exact_fits (neg_ℤ n) v e
-
--- the basic classes are in each table
-pub five_classes : (p : List Class) → IsTable p → 5 ≤ length p
-five_classes p table = omega (arith, ap length table.basic, length-take 5 p)
 
 -- the nodes of two parts, one after the other
 pub two_placed : (before first second : List Node) (a b : Tree) → first ≡ before ++ nodes (length before) a → second ≡ first ++ nodes (length first) b

@@ -4,6 +4,7 @@ use Rattle.std.specs.Prelude.{option_map, Contains, slice_get}
 use Rattle.std.specs.List.{AllByRecursion}
 use Rattle.cool_syntax.specs.declared.file_tree.Feature.{Feature}
 use Rattle.cool_syntax.specs.declared.file_tree.Feature.TheVariants.{Attribute}
+use Rattle.cool_syntax.specs.declared.file_tree.Feature.TheVariants.{Method}
 use Rattle.cool_classes.specs.declared.class_id.ClassId.{ClassId}
 use Rattle.cool_classes.specs.declared.class_id.Ty.{Ty}
 use Rattle.cool_classes.specs.declared.class_id.Ty.TheVariants.{Class as IsClass}
@@ -11,42 +12,41 @@ use Rattle.cool_classes.specs.declared.method.MethodRef.TheVariants.{User}
 use Rattle.cool_classes.specs.declared.method.AttributeRef.{AttributeRef}
 use Rattle.cool_classes.specs.Chains.{Class, features_of, Below}
 use Rattle.cool_classes.specs.Features.{Denotes, formals_of, HasMethod, attribute_type, HasAttribute, result_in}
+use Rattle.cool_classes.specs.Features.{attribute_name}
+use Rattle.cool_classes.specs.Features.{attributes_of, formals_in}
 use Rattle.cool_classes.specs.Tables.{IsClassName, IsTyped}
 use Rattle.cool_classes.proofs.AttributesOfChains.{attributes_have}
 use Rattle.cool_classes.proofs.Climbs.{all_within}
 use Rattle.cool_rules.specs.Conformance.{class_of as class_meant}
+use Rattle.cool_rules.specs.Conformance.{IsType}
 use Rattle.cool_rules.specs.Scopes.{Binding}
 use Rattle.cool_rules.specs.Typing.{HasType}
+use Rattle.cool_rules.specs.Typing.{FitsDeclared, IsTypedInit, formals_in_scope, attributes_in_scope}
 use Rattle.cool_classes.specs.LawfulTables.{MayInherit}
 use Rattle.cool_rules.specs.TypedTables.{IsTypedTable}
 use Rattle.cool_meaning.specs.Values.{Value, class_of, Environment}
 use Rattle.cool_meaning.specs.Meters.{◌>>=◌, give, store}
 use Rattle.cool_classes.specs.ClimbedChains.{chain as chain_of}
 use Rattle.cool_meaning.specs.Lookups.{attributes}
+use Rattle.cool_meaning.specs.Lookups.{method_in, init_in, init_of, located, attribute_names, formal_names, locations_of, environment_of, attributes_at}
 use Rattle.cool_meaning.specs.Evaluation.{Body, Initials, Calls, eval}
+use Rattle.cool_meaning.specs.Evaluation.{run_method, run_initial, run_initials, run_call, calls_within}
 use Rattle.cool_rules.proofs.ChainsOfTables.{attributes_above, below_trans}
 use Rattle.cool_classes.proofs.ChainsOfTables.{chain_is}
+use Rattle.cool_classes.proofs.ChainsOfTables.{chain_of as chain_by}
 use Rattle.cool_rules.proofs.RulesOfTables.{meant_is}
 use Rattle.cool_meaning.proofs.FittingValues.{World, AreMade, still_all_made, Fits, AllFit, still_fits, meant, attribute_classes, Holds}
 use Rattle.cool_meaning.proofs.SoundComputations.{locate_all_sound}
 use Rattle.cool_meaning.proofs.SoundMethods.{Any}
-use Rattle.cool_meaning.proofs.MethodsOfTables.{all_get, defined_attribute}
+use Rattle.cool_meaning.proofs.MethodsOfTables.{defined_attribute}
+use Rattle.cool_meaning.proofs.MethodsOfTables.{defined, attributes_owned}
 use Rattle.cool_syntax.specs.Tree.{Tree}
 use Rattle.cool_meaning.proofs.SoundParts.{AllCallsSound}
 use Rattle.cool_meaning.specs.BasicMethods.{locate_all}
-use Rattle.cool_classes.specs.Features.{attribute_name}
 use Rattle.cool_opt.proofs.NoMoreMeters.{Keeps, keeps_same, bind_keeps, then_keeps, working_keeps}
-use Rattle.cool_syntax.specs.declared.file_tree.Feature.TheVariants.{Method}
 use Rattle.cool_syntax.specs.declared.file_tree.Formal.{Formal}
 use Rattle.cool_syntax.specs.declared.file_tree.MethodDef.{MethodDef}
-use Rattle.cool_classes.specs.Features.{attributes_of, formals_in}
-use Rattle.cool_classes.proofs.ChainsOfTables.{chain_of as chain_by}
-use Rattle.cool_rules.specs.Conformance.{IsType}
-use Rattle.cool_rules.specs.Typing.{FitsDeclared, IsTypedInit, formals_in_scope, attributes_in_scope}
 use Rattle.cool_rules.proofs.RulesDecided.{denotes_type}
-use Rattle.cool_meaning.specs.Lookups.{method_in, init_in, init_of, located, attribute_names, formal_names, locations_of, environment_of, attributes_at}
-use Rattle.cool_meaning.specs.Evaluation.{run_method, run_initial, run_initials, run_call, calls_within}
-use Rattle.cool_meaning.proofs.MethodsOfTables.{defined, attributes_owned}
 use Rattle.cool_meaning.proofs.SoundEvaluation.{Scene, eval_sound}
 use Rattle.cool_meaning.proofs.SoundRuns.{holds_formals, attributes_hold, own_locations, within_sound}
 use Rattle.cool_meaning.proofs.SoundRuns as runs
@@ -54,6 +54,7 @@ use Rattle.cool_opt.specs.Folding.{fold, fold_feature, fold_option, fold_table, 
 use Rattle.cool_opt.proofs.FoldedCalls.{CallsKeep, AllCallsKeep}
 use Rattle.cool_opt.proofs.FoldedExpressions.{folds}
 use Rattle.cool_opt.proofs.FoldedTables.{features_folded, got_folded, tables_same}
+use Rattle.lists.proofs.AllItems.{all_get}
 
 module _ (p : List Class) (typed : IsTypedTable p) where
   -- the names of attributes, and what they are located at

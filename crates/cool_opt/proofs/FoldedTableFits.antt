@@ -22,7 +22,6 @@ use Rattle.cool_rules.specs.Scopes.{Binding}
 use Rattle.cool_rules.specs.TypedTables.{IsTypedTable}
 use Rattle.cool_rules.specs.Typing.{FitsDeclared, IsTypedInit, formals_in_scope, attributes_in_scope, HasType}
 use Rattle.cool_meaning.specs.Lookups.{attributes}
-use Rattle.cool_meaning.proofs.MethodsOfTables.{all_get}
 use Rattle.cool_opt.specs.Folding.{fold, fold_option, fold_feature, fold_from, fold_table, own_scope}
 use Rattle.cool_opt.proofs.FoldedRuns.{formal_types, attribute_types, scope_types, attributes_there}
 use Rattle.cool_opt.proofs.FoldedSizes.{folded_most}
@@ -30,6 +29,7 @@ use Rattle.cool_opt.proofs.FoldedTableIsTyped.{each_folded}
 use Rattle.cool_opt.proofs.FoldedTables.{folded_shape, features_folded}
 use Rattle.cool_opt.proofs.FoldedWithin.{folded_within}
 use Rattle.cool_classes.proofs.AlikeTablesKept.{within_back, implementation_same, attributes_same, chain_kept}
+use Rattle.lists.proofs.AllItems.{all_get}
 
 -- Counts of classes, attributes and methods
 

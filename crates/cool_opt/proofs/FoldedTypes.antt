@@ -12,7 +12,6 @@ use Rattle.cool_classes.specs.declared.class_id.ClassId.{ClassId}
 use Rattle.cool_classes.specs.declared.class_id.Ty.{Ty}
 use Rattle.cool_classes.specs.declared.class_id.Ty.TheVariants.{Class as IsClass, SelfType}
 use Rattle.cool_classes.specs.Chains.{Class, name_of}
-use Rattle.cool_classes.specs.Limits.{AreDifferent}
 use Rattle.cool_classes.specs.Tables.{IsWholeTable}
 use Rattle.cool_rules.specs.Conformance.{IsType, Conforms, class_of}
 use Rattle.cool_rules.specs.Rules.{same_type}
@@ -27,6 +26,7 @@ use Rattle.cool_meaning.specs.Evaluation.{same}
 use Rattle.cool_rules.specs.StaticTypes.{type_of}
 use Rattle.cool_opt.specs.Folding.{constant_in, number_in, truth_in, one_sort, exactly, result, number_or, arith_by, neg_by, less_by, equal_by, compare_by, not_by, is_void_by, taken_by, if_by, is_redefined, dispatch_by, fold, fold_all, fold_maybe, fold_cases}
 use Rattle.cool_rules.proofs.StaticTypesAreGiven.{type_is, class_there}
+use Rattle.lists.specs.Different.{AreDifferent}
 
 module _ (p : List Class) (whole : IsWholeTable p) (c : ClassId) (within : c.0 < length p) where
   abbrev AreTypes : List Binding → Type 0

@@ -29,8 +29,9 @@ use Rattle.cool_rules.specs.Meant.{type_of_call}
 use Rattle.cool_rules.specs.StaticTypes.{type_of}
 use Rattle.cool_opt.specs.FoldedNodes.{Folds, FoldsAll, FoldsCases, FoldsMaybe}
 use Rattle.cool_opt.proofs.NodesPlaced.{more_nodes}
-use Rattle.cool_opt.proofs.FoldedForms.{five_classes, two_placed}
+use Rattle.cool_opt.proofs.FoldedForms.{two_placed}
 use Rattle.cool_opt.proofs.FoldedRows.{stays_folds}
+use Rattle.cool_classes.proofs.BasicLimits.{five_classes}
 
 taken_none : {A B : Type 0} (o : Option Truth) (v w whole : Ty) (a b : A) (x y : B) → taken o v w whole a b ≡ None → taken o v w whole x y ≡ None
 taken_none None v w whole a b x y e = refl

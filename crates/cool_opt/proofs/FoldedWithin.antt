@@ -30,15 +30,13 @@ use Rattle.cool_meaning.specs.Evaluation.{same}
 use Rattle.cool_rules.specs.StaticTypes.{type_of}
 use Rattle.cool_opt.specs.Folding.{constant_in, number_in, truth_in, one_sort, word_of, exactly, result, number_or, arith_by, neg_by, less_by, equal_by, compare_by, not_by, is_void_by, taken_by, if_by, is_redefined, dispatch_by, fold, fold_all, fold_maybe, fold_cases}
 use Rattle.cool_rules.proofs.StaticTypesAreGiven.{type_is, class_there}
+use Rattle.std.proofs.lemmas.Bool.{ltb-true}
 
 -- The rows
 
-less_than : (n bound : ℕ) → nat_lt n bound ≡ true → n < bound
-less_than n bound e = grind arith
-
 -- a number of 32 bits is a word
 word_small : (n : ℤ) → fits n ≡ true → word_of n < 2 ^ 32
-word_small (pos n) e = let low = less_than n 2147483648 e in omega arith
+word_small (pos n) e = let low = ltb-true n 2147483648 e in omega arith
 word_small (negsuc n) e = omega arith
 
 module _ (files : ℕ) where

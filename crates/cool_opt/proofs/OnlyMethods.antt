@@ -11,9 +11,11 @@ use Rattle.cool_classes.specs.Tables.{IsWholeTable}
 use Rattle.cool_classes.proofs.ChainsOfTables.{chain_is, above_of}
 use Rattle.cool_classes.proofs.Climbs.{chain_unique}
 use Rattle.cool_rules.specs.Rules.{is_among}
-use Rattle.cool_rules.proofs.ChainsOfTables.{contains_cases, rest_chain, split_by, chain_within, nothing_in}
+use Rattle.cool_rules.proofs.ChainsOfTables.{rest_chain, split_by, chain_within, nothing_in}
 use Rattle.cool_rules.proofs.ClassesAmong.{there_among}
 use Rattle.cool_opt.specs.Folding.{classes_from, defines_below, is_redefined}
+use Rattle.lists.proofs.Membership.{contains_cases}
+use Rattle.lists.proofs.Options.{none_is}
 
 none_of : {A : Type 0} (f : A → Truth) (xs : List A) (x : A) → list_any f xs ≡ false → Contains xs x → f x ≡ false
 none_of f [] x e (k, less, is) = absurd (omega arith)
@@ -41,10 +43,6 @@ class_there k (suc n) c low high = by order (λ more. class_there (k + 1) n c (o
     by : (c.0 ≡ k) ⊎ (k < c.0) → (k < c.0 → Contains (classes_from (k + 1) n) c) → Contains (classes_from k (suc n)) c
     by (inl e) more = let same : class_number k ≡ c = (λ i. record { 0 = sym e i }) in (0, omega arith, same)
     by (inr less) more = next (more less)
-
-none_is : (o : Option MethodRef) → is_some o ≡ false → o ≡ None
-none_is None e = refl
-none_is (Some x) e = absurd cc
 
 both_false : (a b : Truth) → a ≡ true → (a && b) ≡ false → b ≡ false
 both_false a b e h = grind arith

@@ -9,12 +9,13 @@ use Rattle.cool_syntax.specs.Tree.{Tree}
 use Rattle.cool_classes.specs.declared.class_id.ClassId.{ClassId}
 use Rattle.cool_classes.specs.Bodies.{body_in, body_at, with_body, changed_at, with_body_at}
 use Rattle.cool_classes.specs.Chains.{Class, class_number, features_of}
-use Rattle.cool_classes.proofs.AllOfLists.{all_append}
 use Rattle.cool_classes.proofs.SwappedBodies.{length_changed}
 use Rattle.cool_opt.specs.declared.program.Expression.{Expression}
 use Rattle.cool_opt.specs.Expressions.{expression_at, expressions_of, expressions_from}
 use Rattle.cool_opt.specs.FoldedNodes.{expression_of}
 use Rattle.cool_opt.specs.Folding.{fold, fold_option, fold_feature, fold_from, fold_table, own_scope}
+use Rattle.lists.proofs.AllItems.{all_append}
+use Rattle.lists.proofs.ItemsAt.{seam_get}
 
 -- a table with these expressions in their places, the last one first
 abbrev pub replaced : List Expression → List Class → List Class
@@ -35,10 +36,6 @@ changed_there f (y ∷ front) x back = ap (λ zs. y ∷ zs) (changed_there f fro
 changed_behind : {X : Type 0} (f : X → X) (front : List X) (x : X) (back : List X) (n : ℕ) → length front ≡ n
     → changed_at n f (front ++ x ∷ back) ≡ front ++ f x ∷ back
 changed_behind f front x back n long = subst (λ (k : ℕ). changed_at k f (front ++ x ∷ back) ≡ front ++ f x ∷ back) long (changed_there f front x back)
-
-got_behind : (front : List Feature) (x : Feature) (back : List Feature) → slice_get (front ++ x ∷ back) (length front) ≡ Some x
-got_behind [] x back = refl
-got_behind (y ∷ front) x back = got_behind front x back
 
 features_behind : (front : List Class) (d : Class) (back : List Class) → features_of (front ++ d ∷ back) (class_number (length front)) ≡ d.features
 features_behind [] d back = refl
@@ -137,7 +134,7 @@ features_placed p c before (x ∷ fs) k within here is =
     (is ∙ sym (append_assoc before (x ∷ []) fs)))
   where
     there : slice_get (features_of p c) k ≡ Some x
-    there = ap (λ (gs : List Feature). slice_get gs k) is ∙ subst (λ (n : ℕ). slice_get (before ++ x ∷ fs) n ≡ Some x) here (got_behind before x fs)
+    there = ap (λ (gs : List Feature). slice_get gs k) is ∙ subst (λ (n : ℕ). slice_get (before ++ x ∷ fs) n ≡ Some x) here (seam_get before x fs)
 
     by : (o : Option Tree) → (IsSome o → IsSome (body_in (Some x))) → AllByRecursion (HasPlace p) (expression_at c k o)
     by None some = tt

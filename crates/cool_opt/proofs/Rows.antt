@@ -21,11 +21,10 @@ use Rattle.cool_meaning.specs.Evaluation.{Calls, eval, exact, arithmetic, compar
 use Rattle.cool_rules.specs.StaticTypes.{type_of}
 use Rattle.cool_opt.specs.Folding.{constant_in, number_in, truth_in, one_sort, word_of, exactly, result, number_or, arith_by, neg_by, less_by, equal_by, compare_by, not_by, is_void_by, taken_by, if_by}
 use Rattle.cool_opt.proofs.NoMoreMeters.{NoMore, Always, no_more_same}
+use Rattle.std.proofs.lemmas.Bool.{ltb-true}
+use Rattle.std.proofs.lemmas.Option.{same_Some}
 
 -- Numbers and words
-
-less_yes : (n m : ℕ) → nat_lt n m ≡ true → n < m
-less_yes n m e = grind arith
 
 signed_low : (n : ℕ) → n < 2147483648 → signed n ≡ pos n
 signed_low n h =
@@ -41,17 +40,14 @@ signed_high n h =
     rw (low, no, back) refl
 
 pub read_back : (n : ℤ) → fits n ≡ true → signed (word_of n) ≡ n
-read_back (pos n) fit = signed_low n (less_yes n 2147483648 fit)
-read_back (negsuc n) fit = signed_high n (less_yes n 2147483648 fit)
+read_back (pos n) fit = signed_low n (ltb-true n 2147483648 fit)
+read_back (negsuc n) fit = signed_high n (ltb-true n 2147483648 fit)
 
 -- Constants
 
-some_is : {A : Type 0} (x y : A) → Some x ≡ Some y → x ≡ y
-some_is x y e = cc
-
 number_is : (o : Option Value) (n : ℤ) → number_in o ≡ Some n → o ≡ Some (Int n)
 number_is None n e = absurd cc
-number_is (Some (Int m)) n e = ap (λ (x : ℤ). Some (Int x)) (some_is m n e)
+number_is (Some (Int m)) n e = ap (λ (x : ℤ). Some (Int x)) (same_Some m n e)
 number_is (Some Void) n e = absurd cc
 number_is (Some (Bool b)) n e = absurd cc
 number_is (Some (Str bytes)) n e = absurd cc
@@ -61,7 +57,7 @@ truth_is : (o : Option Value) (b : Truth) → truth_in o ≡ Some b → o ≡ So
 truth_is None b e = absurd cc
 truth_is (Some (Int m)) b e = absurd cc
 truth_is (Some Void) b e = absurd cc
-truth_is (Some (Bool a)) b e = ap (λ (x : Truth). Some (Bool x)) (some_is a b e)
+truth_is (Some (Bool a)) b e = ap (λ (x : Truth). Some (Bool x)) (same_Some a b e)
 truth_is (Some (Str bytes)) b e = absurd cc
 truth_is (Some (Obj c i ls)) b e = absurd cc
 
@@ -71,9 +67,9 @@ module _ (p : List Class) (calls : Calls) (self : Value) (env : Environment) whe
 
   -- a constant comes to its value at once
   pub constant_gives : (t : Tree) (v : Value) → constant_in t ≡ Some v → (s : State) (n : ℕ) → eval p calls self env t s n ≡ rule (give v) s n
-  constant_gives (trees.Int at m) v e s n = ap (λ (x : Value). rule (give x) s n) (some_is (Int (signed m)) v e)
-  constant_gives (trees.Str at bytes) v e s n = ap (λ (x : Value). rule (give x) s n) (some_is (Str bytes) v e)
-  constant_gives (trees.Bool at b) v e s n = ap (λ (x : Value). rule (give x) s n) (some_is (Bool b) v e)
+  constant_gives (trees.Int at m) v e s n = ap (λ (x : Value). rule (give x) s n) (same_Some (Int (signed m)) v e)
+  constant_gives (trees.Str at bytes) v e s n = ap (λ (x : Value). rule (give x) s n) (same_Some (Str bytes) v e)
+  constant_gives (trees.Bool at b) v e s n = ap (λ (x : Value). rule (give x) s n) (same_Some (Bool b) v e)
   constant_gives (trees.Assign at name t1) v e s n = absurd cc
   constant_gives (trees.Dispatch at t1 name es) v e s n = absurd cc
   constant_gives (trees.StaticDispatch at t1 class name es) v e s n = absurd cc

@@ -36,6 +36,7 @@ use Rattle.cool_parser.proofs.ConcreteMachine.{Need, Identifier, Have, StaticCla
 use Rattle.cool_parser.proofs.ConcreteMachine.{File, ClassName, ClassHead, ParentName, ClassBrace, InClass, ClassEnd, FeatureName, FirstFormal, FormalName, FormalColon, FormalType, FormalEnd, ResultColon, ResultType, MethodBrace, MethodEnd, AttributeType, AttributeEnd, Inside}
 use Rattle.cool_parser.proofs.ConcreteMachine.{Top, reduce, with_branch, callee_of}
 use Rattle.cool_parser.proofs.ConcreteMachine as concrete
+use Rattle.lists.proofs.Numbers.{nothing_more}
 
 -- The nodes of what was read
 
@@ -450,10 +451,6 @@ same_top : (k : ℕ) (ns : List Node) (n : Node) (t : Tree) (l : Laid) (st : Lis
     → reduced k (ns ++ n ∷ []) st (record { 0 = length ns }) ≡ reduced k (lay_tree t l).list st (root l.count t)
 same_top k ns n t l st h e = let id = own_number ns n t l h e in λ i. reduced k (e i) st (record { 0 = id i })
 
--- nothing more
-no_more : (n : ℕ) → n ≡ n + 0
-no_more n = omega arith
-
 -- a binding ends to its let
 binding_reduced : (k : ℕ) (b : Binding) (t : Tree) (l : Laid) (st : List Item) → IsCounted l → nat_le k 0 ≡ true
     → reduced k (lay_tree t (binding_laid b l)).list (binding_item b l ∷ st) (root (binding_laid b l).count t) ≡ reduced k (lay_tree (plain_binding b t) l).list st (root l.count (plain_binding b t))
@@ -461,7 +458,7 @@ binding_reduced k (Default v) t l st h e =
     let ns = (lay_tree t l).list in
     let n = node.Let v.at v.name v.declared None (root l.count t) in
     let same : ns ++ n ∷ [] ≡ (lay_tree (plain_binding (Default v) t) l).list =
-    append_assoc l.list (nodes l.count t) (n ∷ []) ∙ ap (λ c. l.list ++ (nodes c t ++ node.Let v.at v.name v.declared None (root c t) ∷ [])) (no_more l.count) in
+    append_assoc l.list (nodes l.count t) (n ∷ []) ∙ ap (λ c. l.list ++ (nodes c t ++ node.Let v.at v.name v.declared None (root c t) ∷ [])) (nothing_more l.count) in
     ap (λ b. if is_some (node_if b n) then reduced k (ns ++ nodes_of (node_if b n)) st (record { 0 = length ns }) else record { nodes = ns; stack = item.Bound (variable v) None ∷ st; operand = root l.count t }) e
     ∙ same_top k ns n (plain_binding (Default v) t) l st h same
 binding_reduced k (Init v arrow x) t l st h e =

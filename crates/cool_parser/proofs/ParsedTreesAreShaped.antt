@@ -1,6 +1,6 @@
 -- What the machine makes is shaped, and reads as the tokens.
 use Rattle.std.proofs.Common.{◌≡◌, ℕ, ◌<◌, ◌≤◌, nat_le, List, [], ◌∷◌, ◌++◌, refl, ap, sym, subst, ◌∙◌, arith, append_assoc, append-nil, Option, Some, None, IfSome, cond, true, false}
-use Rattle.std.proofs.lemmas.Bool.{leb-true}
+use Rattle.std.proofs.lemmas.Bool.{leb-true, leb-false}
 use Rattle.std.proofs.lemmas.Bool.Decides.{leb_tells}
 use Rattle.cool_syntax.specs.declared.place.Place.{Place}
 use Rattle.cool_syntax.specs.declared.token.Token.{Token}
@@ -51,10 +51,6 @@ method_end_words a b c d e s t = simp append_assoc
 -- the end of a class
 class_end_words : (a b c : List Token) (s t : Token) → ((a ++ b) ++ c) ++ s ∷ t ∷ [] ≡ ((a ++ (b ++ c)) ++ s ∷ []) ++ t ∷ []
 class_end_words a b c s t = simp append_assoc
-
--- a test that failed
-below : (k n : ℕ) → nat_le k n ≡ false → n < k
-below k n e = grind (arith, leb_tells k n)
 
 -- The tokens of a state
 
@@ -274,12 +270,12 @@ reduce_good k a [] t g s f h = record { good = g; shaped = s; fits = f; spine = 
 reduce_good k a (Left l op at ∷ st) t g s f h =
     elim (nat_le k (level op)) as (λ b. nat_le k (level op) ≡ b → IsGoodTop k a (cond b (reduce k st (Binary l op at t)) (record { stack = Left l op at ∷ st; operand = t }))) [
       | true ↦ (λ e. reduce_good k a st (Binary l op at t) g.4 (g.0, f, g.1, s) (fits_binary l t op at st g.3 g.2) (leb-true k (level op) e, h))
-      | false ↦ (λ e. record { good = g; shaped = s; fits = f; spine = h; stops = below k (level op) e })
+      | false ↦ (λ e. record { good = g; shaped = s; fits = f; spine = h; stops = leb-false k (level op) e })
     ] refl
 reduce_good k a (Front p ∷ st) t g s f h =
     elim (nat_le k (prefix_level p)) as (λ b. nat_le k (prefix_level p) ≡ b → IsGoodTop k a (cond b (reduce k st (Before p t)) (record { stack = Front p ∷ st; operand = t }))) [
       | true ↦ (λ e. reduce_good k a st (Before p t) g.1 (g.0, f, s) (fits_before p t st) (leb-true k (prefix_level p) e, h))
-      | false ↦ (λ e. record { good = g; shaped = s; fits = f; spine = h; stops = below k (prefix_level p) e })
+      | false ↦ (λ e. record { good = g; shaped = s; fits = f; spine = h; stops = leb-false k (prefix_level p) e })
     ] refl
 reduce_good k a (Open form ∷ st) t g s f h = record { good = g; shaped = s; fits = f; spine = h; stops = tt }
 

@@ -10,6 +10,7 @@ use Rattle.cool_syntax.specs.Tree as trees
 use Rattle.cool_syntax.specs.NodeLists.{root, roots, branch_roots, nodes, nodes_of_all, nodes_of_cases, HasPartsBelow, IsPostorder}
 use Rattle.cool_syntax.proofs.TreesOfLists.{length-nodes_of_all}
 use Rattle.cool_parser.specs.Waiting.{option_parts, Holds}
+use Rattle.cool_syntax.specs.Falls.{one_le_size}
 
 -- the parts of a node, in order
 abbrev pub node_parts : Node → List NodeId
@@ -204,32 +205,12 @@ placed ns ids n (ts, list, whole) =
     number us vs t ns e f = omega (arith, e, f)
 
 -- each root of trees is a number of their lists
-size_positive : (t : Tree) → 1 ≤ tree_size t
-size_positive (trees.Assign at name a) = omega arith
-size_positive (trees.Dispatch at a name ts) = omega arith
-size_positive (trees.StaticDispatch at a class name ts) = omega arith
-size_positive (trees.If at a b c) = omega arith
-size_positive (trees.While at a b) = omega arith
-size_positive (trees.Block at ts) = omega arith
-size_positive (trees.Let at name declared o a) = omega arith
-size_positive (trees.Case at a cs) = omega arith
-size_positive (trees.New at class) = omega arith
-size_positive (trees.IsVoid at a) = omega arith
-size_positive (trees.Arith at op a b) = omega arith
-size_positive (trees.Neg at a) = omega arith
-size_positive (trees.Compare at op a b) = omega arith
-size_positive (trees.Not at a) = omega arith
-size_positive (trees.Id at name) = omega arith
-size_positive (trees.Int at value) = omega arith
-size_positive (trees.Str at bytes) = omega arith
-size_positive (trees.Bool at value) = omega arith
-
 abbrev AreBelow : ℕ → List NodeId → Type 0
 AreBelow k = AllByRecursion (λ c. c.0 < k)
 
 roots_below : (ts : Trees) (base k : ℕ) → base + trees_size ts ≤ k → AreBelow k (roots base ts)
 roots_below Last base k h = tt
-roots_below (More t ts) base k h = (omega (arith, h, size_positive t), roots_below ts (base + tree_size t) k (omega (arith, h)))
+roots_below (More t ts) base k h = (omega (arith, h, one_le_size t), roots_below ts (base + tree_size t) k (omega (arith, h)))
 
 after : (ids ps : List NodeId) (k : ℕ) → AreBelow k (ids ++ ps) → AreBelow k ps
 after [] ps k h = h

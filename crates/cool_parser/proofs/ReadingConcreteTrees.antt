@@ -17,6 +17,7 @@ use Rattle.cool_parser.specs.Machine.{is_right_parenthesis, is_right_brace}
 use Rattle.cool_parser.proofs.ConcreteMachine.{Opened, OpenMethod, Around, InMethod, InAttribute, Dot, OpenCase, Parenthesis, Arguments, IfTest, IfYes, IfNo, WhileTest, WhileBody, Items, Value, CaseValue, BranchBody, Item, Left, Front, Open}
 use Rattle.cool_parser.proofs.ConcreteMachine.{Need, Identifier, Have, MethodName, StaticClass, FirstArgument, NextItem, LetName, BranchName, BranchColon, NextBranch, State, File, InClass, FirstFormal, FormalColon, Inside}
 use Rattle.cool_parser.proofs.ConcreteMachine.{reduce, shift, have, identifier, need, close, with_feature, step, run, bind, start}
+use Rattle.std.proofs.lemmas.Bool.{lt-leb}
 
 -- the state after a tree: the forms on its right spine are still open
 abbrev pub state_after : Around → List Item → Concrete → State
@@ -172,10 +173,6 @@ level_high (Arith arith_op.Mul) = omega arith
 level_high (Arith arith_op.Div) = omega arith
 level_high (Compare op) = omega arith
 
--- a test that fails
-above : (k n : ℕ) → n < k → nat_le k n ≡ false
-above k n h = grind (arith, leb_tells k n)
-
 -- an operator that fits the stack stays on it
 shift_fits : (op : Operator) (at : Place) (l r : Concrete) (a : Around) (st : List Item) → Fits st (Binary l op at r)
     → shift op at a (reduce (left_level op) st l) ≡ Some (Inside a (Left l op at ∷ st) Need)
@@ -184,12 +181,12 @@ shift_fits (Compare op) at l r a [] h = refl
 shift_fits (Arith op) at l r a (Open f ∷ st) h = refl
 shift_fits (Compare op) at l r a (Open f ∷ st) h = refl
 shift_fits (Arith op) at l r a (Left m p here ∷ st) h =
-    ap (λ b. shift (Arith op) at a (cond b (reduce (level (Arith op)) st (Binary m p here l)) (record { stack = Left m p here ∷ st; operand = l }))) (above (level (Arith op)) (level p) h.0)
+    ap (λ b. shift (Arith op) at a (cond b (reduce (level (Arith op)) st (Binary m p here l)) (record { stack = Left m p here ∷ st; operand = l }))) (lt-leb (level (Arith op)) (level p) h.0)
 shift_fits (Compare op) at l r a (Left m p here ∷ st) h = absurd (omega (arith, h.0, level_high p))
 shift_fits (Arith op) at l r a (Front p ∷ st) h =
-    ap (λ b. shift (Arith op) at a (cond b (reduce (level (Arith op)) st (Before p l)) (record { stack = Front p ∷ st; operand = l }))) (above (level (Arith op)) (prefix_level p) h.0)
+    ap (λ b. shift (Arith op) at a (cond b (reduce (level (Arith op)) st (Before p l)) (record { stack = Front p ∷ st; operand = l }))) (lt-leb (level (Arith op)) (prefix_level p) h.0)
 shift_fits (Compare op) at l r a (Front p ∷ st) h =
-    ap (λ b. shift (Compare op) at a (cond b (reduce 4 st (Before p l)) (record { stack = Front p ∷ st; operand = l }))) (above 4 (prefix_level p) (omega (arith, h.0)))
+    ap (λ b. shift (Compare op) at a (cond b (reduce 4 st (Before p l)) (record { stack = Front p ∷ st; operand = l }))) (lt-leb 4 (prefix_level p) (omega (arith, h.0)))
 
 -- tokens that begin as an operand does: with no closing parenthesis and no closing brace
 record BeginsOperand (ts : List Token) : Type 0 where

@@ -36,7 +36,7 @@ use Rattle.cool_parser.proofs.WeightsOfNodes.{node_weight, weight, weight-placed
 -- What is owed
 
 -- the case that is open is a node, and has these branches
-abbrev case_owes : OpenCase → ℕ
+abbrev pub case_owes : OpenCase → ℕ
 case_owes k = 1 + length k.branches
 
 -- the nodes that an item will make, and the formals and branches that it holds

@@ -85,13 +85,9 @@ operator_shown op at a st t =
     ∙ ap (machine.shift_on (between_of op) at c) (reduced_shown (left_level op) a st t)
     ∙ shift_shown op at a c (reduce (left_level op) st t) refl
 
--- the context of an operand, with any stack
-abbrev over : Around → Laid → List Item → Context
-over a l st = record { nodes = l.list; stack = st; classes = plain_file (classes_of a) }
-
 -- a form gets its expression
 form_closes : (f : Form) (k : TokenKind) (at : Place) (a : Around) (st : List concrete.Item) (t : Concrete) (above : List Item)
-    → machine.close k (form_items f (laid st) (items a st)) (over a (lay t (form_laid f (laid st))) above) (number t (form_laid f (laid st))) ≡ option_map shown (concrete.close_on f k at a st t)
+    → machine.close k (form_items f (laid st) (items a st)) (context a (lay t (form_laid f (laid st))) above) (number t (form_laid f (laid st))) ≡ option_map shown (concrete.close_on f k at a st t)
 form_closes (Parenthesis lparen) (kind.Sign sign.RParen) at a st t above = refl
 form_closes (Arguments callee lparen firsts) (kind.Sign sign.RParen) at a st t above =
     let l = callee_laid callee (laid st) in
@@ -119,7 +115,7 @@ form_closes _ _ at a st t above = refl
 
 -- the body of a feature ends
 body_closes : (a : Around) (k : TokenKind) (at : Place) (t : Concrete) (above : List Item)
-    → machine.close k (body_item a ∷ []) (over a (lay t (laid [])) above) (number t (laid [])) ≡ option_map shown (concrete.close_body a k at t)
+    → machine.close k (body_item a ∷ []) (context a (lay t (laid [])) above) (number t (laid [])) ≡ option_map shown (concrete.close_body a k at t)
 body_closes (InMethod o s) (kind.Sign sign.RBrace) at t above =
     ap (λ body. Some (outside_end o s body)) (tree_of-nodes (plain t))
   where
@@ -149,10 +145,10 @@ front_closes (Mark Neg at) k l st c id = refl
 
 -- a token comes where all operators have ended
 top_closes : (k : TokenKind) (at : Place) (a : Around) (st : List concrete.Item) (t : Concrete) (above : List Item)
-    → machine.close k (items a st) (over a (lay t (laid st)) above) (number t (laid st)) ≡ option_map shown (concrete.close_stack k at a st t)
+    → machine.close k (items a st) (context a (lay t (laid st)) above) (number t (laid st)) ≡ option_map shown (concrete.close_stack k at a st t)
 top_closes k at a [] t above = body_closes a k at t above
 top_closes k at a (Left l op here ∷ st) t above = refl
-top_closes k at a (Front p ∷ st) t above = front_closes p k (laid st) (items a st) (over a (lay t (laid (Front p ∷ st))) above) (number t (laid (Front p ∷ st)))
+top_closes k at a (Front p ∷ st) t above = front_closes p k (laid st) (items a st) (context a (lay t (laid (Front p ∷ st))) above) (number t (laid (Front p ∷ st)))
 top_closes k at a (Open f ∷ st) t above = form_closes f k at a st t above
 
 -- a token that is no operator comes after an operand

@@ -37,6 +37,7 @@ use Rattle.cool_parser.specs.Machine.{Context, State, Outcome, Whole, Unexpected
 use Rattle.cool_parser.specs.Waiting.{IsGood, IsGoodState}
 use Rattle.cool_parser.proofs.GoodStates.{on, operates, bodied, reduce_good, step_good, start_good}
 use Rattle.cool_parser.proofs.TextsOfNodes.{node_burden, burden, burden-placed, body_burden}
+use Rattle.cool_parser.proofs.RunsOfFeatures.{case_owes}
 
 -- What is held
 
@@ -47,10 +48,6 @@ open_holds c = 1 + length c.name + features_weight c.features
 -- an open method: its class, itself and its formals so far
 abbrev method_holds : OpenMethod → ℕ
 method_holds m = open_holds m.class + 1 + length m.formals
-
--- an open case: its node and its branches so far
-abbrev case_holds : OpenCase → ℕ
-case_holds k = 1 + length k.branches
 
 -- an item: the node that it will make, or the feature that waits for its expression
 abbrev item_holds : Item → ℕ
@@ -68,7 +65,7 @@ item_holds (item.WhileBody at test) = 1
 item_holds (item.Block at items) = 1
 item_holds (item.Init v) = 1
 item_holds (item.CaseValue at) = 1
-item_holds (item.BranchBody k v) = case_holds k
+item_holds (item.BranchBody k v) = case_owes k
 item_holds (item.MethodBody m result) = method_holds m
 item_holds (item.AttributeInit class v) = open_holds class + 1
 
@@ -80,7 +77,7 @@ abbrev purpose_holds : Purpose → ℕ
 purpose_holds (purpose.Attribute class) = open_holds class
 purpose_holds (purpose.Formal m) = method_holds m
 purpose_holds purpose.Let = 1
-purpose_holds (purpose.Branch k) = case_holds k
+purpose_holds (purpose.Branch k) = case_owes k
 
 -- a mode: a name that was read for an attribute or a formal counts before its type does
 abbrev mode_holds : Mode → ℕ
@@ -103,8 +100,8 @@ mode_holds (mode.VariableName p) = purpose_holds p
 mode_holds (mode.VariableColon p name at) = purpose_holds p + 1
 mode_holds (mode.VariableType p name at) = purpose_holds p + 1
 mode_holds (mode.LetEnd v) = 1
-mode_holds (mode.BranchArrow k v) = case_holds k
-mode_holds (mode.NextBranch k) = case_holds k
+mode_holds (mode.BranchArrow k v) = case_owes k
+mode_holds (mode.NextBranch k) = case_owes k
 mode_holds (mode.NextItem at items) = 1
 mode_holds (mode.FirstArgument call) = 1
 mode_holds mode.Need = 0

@@ -1,3 +1,4 @@
+pub mod FilesHeld
 pub mod GettingBytes
 pub mod GivingBytes
 pub mod InputsInParts

@@ -1,6 +1,6 @@
 -- The files of a shelf. `Some` is the map from names to bytes of a shelf that tells it, and `None` is a shelf that
 -- does not tell.
-use Rattle.std.specs.Prelude.{◌≡◌, List, ℕ, ◌<◌, length, Option, Some, None}
+use Rattle.std.specs.Prelude.{◌≡◌, List, [], ◌∷◌, ℕ, ◌<◌, length, Option, Some, None}
 use Rattle.cool_ports.specs.Counts.{Rose}
 
 abbrev pub FileMap : Type 0
@@ -10,6 +10,13 @@ FileMap = List ℕ → Option (List ℕ)
 abbrev pub MayHold : Option FileMap → List ℕ → List ℕ → Type 0
 MayHold None name bytes = Unit {0}
 MayHold (Some files) name bytes = files name ≡ Some bytes
+
+-- the files of these names have these bytes, as far as the shelf tells
+abbrev pub AreHeld : Option FileMap → List (List ℕ) → List (List ℕ) → Type 0
+AreHeld files [] [] = Unit {0}
+AreHeld files [] (bytes ∷ contents) = ⊥
+AreHeld files (name ∷ names) [] = ⊥
+AreHeld files (name ∷ names) (bytes ∷ contents) = MayHold files name bytes × AreHeld files names contents
 
 -- There is no such file: so says the map and no fault rose, or the shelf does not tell and one rose.
 abbrev pub IsMissing : Option FileMap → List ℕ → ℕ → ℕ → Type 0

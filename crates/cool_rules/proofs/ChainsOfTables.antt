@@ -10,15 +10,8 @@ use Rattle.cool_classes.proofs.Climbs.{chain_unique, all_within, below_self}
 use Rattle.cool_classes.specs.LawfulTables.{MayInherit, SameSignature}
 use Rattle.cool_classes.specs.Tables.{IsWholeTable}
 use Rattle.cool_rules.specs.TypedTables.{IsTypedTable}
-
--- what stands in a list stands first or among the others
-pub contains_cases : {X : Type 0} (d b : X) (ds : List X) → Contains (d ∷ ds) b → (d ≡ b) ⊎ Contains ds b
-contains_cases d b ds (zero, within, is) = inl is
-contains_cases d b ds (suc k, within, is) = inr (k, omega arith, is)
-
-pub contains_later : {X : Type 0} (front ds : List X) (b : X) → Contains ds b → Contains (front ++ ds) b
-contains_later [] ds b h = h
-contains_later (x ∷ front) ds b h = let (k, within, is) = contains_later front ds b h in (suc k, omega arith, is)
+use Rattle.lists.proofs.Membership.{contains_cases}
+use Rattle.std.proofs.lemmas.List.Elements.{Contains-append_right}
 
 pub nothing_in : {X : Type 0} {Y : Type 0} (b : X) → Contains [] b → Y
 nothing_in b (k, within, is) = absurd (omega arith)
@@ -44,7 +37,7 @@ pub below_trans : (p : List Class) (a b c : ClassId) → Below p a b → Below p
 below_trans p a b c (ds, chain, there) (es, chain', there') =
     let (front, fs, is, end) = split_chain p (Some a) ds chain b there in
     let same : es ≡ fs = chain_unique p (Some b) es fs chain' end in
-    (ds, chain, subst (λ (xs : List ClassId). Contains xs c) (sym is) (contains_later front fs c (subst (λ (xs : List ClassId). Contains xs c) same there')))
+    (ds, chain, subst (λ (xs : List ClassId). Contains xs c) (sym is) (Contains-append_right front fs c (subst (λ (xs : List ClassId). Contains xs c) same there')))
 
 -- the attributes of a class after others on a chain are the first of the chain's
 attributes_first : (p : List Class) (front es : List ClassId) → (more : List AttributeRef) × (attributes_of p (front ++ es) ≡ attributes_of p es ++ more)

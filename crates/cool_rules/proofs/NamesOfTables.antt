@@ -22,17 +22,6 @@ first_named_by k (x ∷ p) f i less is = by (bytes_eq f x.name) refl i less is (
     by false e zero less is more = absurd (true≢false (sym ((bytes_eq-Decides f x.name).1 (sym is)) ∙ e))
     by false e (suc i) less is more = let (j, n, sum, found, within, named) = more i (omega arith) is in (suc j, n, omega arith, found, omega arith, named)
 
--- two names are one, or the test of them fails
-pub bytes_differ : (xs ys : List ℕ) → xs ≢ ys → bytes_eq xs ys ≡ false
-bytes_differ xs ys apart = by (bytes_eq xs ys) refl
-  where
-    by : (b : Bool) → bytes_eq xs ys ≡ b → bytes_eq xs ys ≡ false
-    by true e = absurd (apart ((bytes_eq-Decides xs ys).0 e))
-    by false e = e
-
-pub bytes_same : (xs ys : List ℕ) → xs ≡ ys → bytes_eq xs ys ≡ true
-bytes_same xs ys e = (bytes_eq-Decides xs ys).1 e
-
 -- the class of a name is found by it
 pub class_by_name : (p : List Class) → IsTable p → (c : ClassId) (name : List ℕ) → c.0 < length p → name_of p c ≡ name → class_named p name ≡ Some c
 class_by_name p table c name within is =

@@ -17,9 +17,11 @@ use Rattle.cool_classes.proofs.ClassesNamed.{named_back}
 use Rattle.cool_classes.proofs.Climbs.{below_depth}
 use Rattle.cool_rules.specs.Conformance.{IsType, Conforms, IsJoinOfTypes}
 use Rattle.cool_rules.specs.Rules.{is_among, first_among, same_type, join_in, class_named, type_of_name}
-use Rattle.cool_rules.proofs.ChainsOfTables.{contains_cases, contains_later, nothing_in, below_within, parent_within, split_by, rest_chain}
+use Rattle.cool_rules.proofs.ChainsOfTables.{nothing_in, below_within, parent_within, split_by, rest_chain}
 use Rattle.cool_rules.proofs.ClassesAmong.{below_among, among_below, among_there, there_among}
 use Rattle.cool_rules.proofs.RulesOfTables.{type_of_name_is}
+use Rattle.lists.proofs.Membership.{contains_cases}
+use Rattle.std.proofs.lemmas.List.Elements.{Contains-append_right}
 
 -- two types are one exactly where the function says so
 pub same_types : (t u : Ty) → same_type t u ≡ true → t ≡ u
@@ -68,7 +70,7 @@ module _ (p : List Class) (whole : IsWholeTable p) where
       by (Some q) e h1 = absurd h1
   object_on c within (d ∷ e ∷ ds) h =
       let up = parent_within p whole c within (parent_of p c) refl e ds h.1 in
-      contains_later (d ∷ []) (e ∷ ds) (class_number 0) (object_on e up.0 (e ∷ ds) (subst (λ (o : Option ClassId). IsChain p o (e ∷ ds)) up.1 h.1))
+      Contains-append_right (d ∷ []) (e ∷ ds) (class_number 0) (object_on e up.0 (e ∷ ds) (subst (λ (o : Option ClassId). IsChain p o (e ∷ ds)) up.1 h.1))
 
   -- the first class of a list that is among others
   first_found : (es ds : List ClassId) (x : ClassId) → Contains ds x → is_among es x ≡ true → Contains ds (first_among ds es) × (is_among es (first_among ds es) ≡ true)
@@ -82,7 +84,7 @@ module _ (p : List Class) (whole : IsWholeTable p) where
       by false is more =
           let there : Contains ds x = elim (contains_cases d x ds h) [ inl same ↦ absurd (true≢false (sym e ∙ (ap (is_among es) (sym same) ∙ is))) | inr t ↦ t ] in
           let rest = more there in
-          (contains_later (d ∷ []) ds (first_among ds es) rest.0, rest.1)
+          (Contains-append_right (d ∷ []) ds (first_among ds es) rest.0, rest.1)
 
   -- on a chain it is below each that is among them
   least_by : (es ds : List ClassId) (o : Option ClassId) → IsChain p o ds → (k : ClassId) → Contains ds k → is_among es k ≡ true → Below p (first_among ds es) k

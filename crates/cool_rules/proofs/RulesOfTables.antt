@@ -15,8 +15,9 @@ use Rattle.cool_classes.specs.ClimbedChains.{chain}
 use Rattle.cool_classes.proofs.ChainsOfTables.{chain_is}
 use Rattle.cool_rules.specs.Rules.{is_among, first_among, do_conform, join_in, class_named, type_of_name, type_meant, method_of}
 use Rattle.cool_classes.proofs.ClassesNamed.{named_back}
-use Rattle.cool_rules.proofs.NamesOfTables.{class_by_name, bytes_differ, bytes_same}
+use Rattle.cool_rules.proofs.NamesOfTables.{class_by_name}
 use Rattle.cool_rules.proofs.ClassesAmong.{below_among, among_below, among_there, same_answers}
+use Rattle.lists.proofs.EqualBytes.{bytes_differ, bytes_same}
 
 -- the function of conformance decides it
 pub do_conform_true : (p : List Class) (c : ClassId) (a b : Ty) → IsTable p → c.0 < length p → IsType p a → do_conform p c a b ≡ true → Conforms p c a b

@@ -22,12 +22,7 @@ use Rattle.cool_rules.specs.Conformance.{IsType}
 use Rattle.cool_rules.specs.Scopes.{Binding, found}
 use Rattle.cool_rules.specs.Typing.{HasType, HaveItems, HaveBranches, IsJoinOfBranches, type_in_scope, result_on, with_name, object_type}
 use Rattle.cool_rules.proofs.RulesDecided.{denotes_type, conforming_type}
-
--- what holds of all holds of the one at a place
-all_get : {X : Type 0} (P : X → Type 0) (xs : List X) (k : ℕ) (x : X) → AllByRecursion P xs → slice_get xs k ≡ Some x → P x
-all_get P [] k x h e = absurd (cc)
-all_get P (y ∷ xs) zero x h e = let same : y ≡ x = cc in subst P same h.0
-all_get P (y ∷ xs) (suc k) x h e = all_get P xs k x h.1 e
+use Rattle.lists.proofs.AllItems.{all_get}
 
 -- a name that is found has the type of its binding
 found_type : (p : List Class) (scope : List Binding) (name : List ℕ) (t : Ty) → AllByRecursion (λ (b : Binding). IsType p b.type) scope → found scope name ≡ Some t → IsType p t

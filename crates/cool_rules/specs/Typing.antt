@@ -15,10 +15,10 @@ use Rattle.cool_classes.specs.declared.method.MethodRef.{MethodRef}
 use Rattle.cool_classes.specs.declared.method.AttributeRef.{AttributeRef}
 use Rattle.cool_classes.specs.Chains.{Class, class_number, IsChain}
 use Rattle.cool_classes.specs.Features.{Denotes, implementation, attributes_of, formals_of, result_of}
-use Rattle.cool_classes.specs.Limits.{AreDifferent}
 use Rattle.cool_rules.specs.Conformance.{Conforms, IsJoinOfTypes, class_of}
 use Rattle.cool_rules.specs.Rules.{same_type, attribute_binding, formal_binding}
 use Rattle.cool_rules.specs.Scopes.{Binding, found}
+use Rattle.lists.specs.Different.{AreDifferent}
 
 -- Types that rules name
 

@@ -18,12 +18,7 @@ use Rattle.cool_runtime.proofs.Walking.{walk}
 use Rattle.cool_runtime.proofs.Words.{load_eq}
 use Rattle.cool_runtime.proofs.Pieces.{done, next, never, has_front, has_back, has_at}
 use Rattle.cool_runtime.proofs.Copying.{differ, same_numbers}
-
-equal_numbers : (x y : ℕ) → (x == y) ≡ true → x ≡ y
-equal_numbers x y t = grind arith
-
-other_numbers : (x y : ℕ) → (x == y) ≡ false → x ≡ y → ⊥
-other_numbers x y t e = grind arith
+use Rattle.std.proofs.lemmas.Bool.{eqb-true, eqb-false}
 
 -- where the tests on addresses and tags lead
 pub data Way (w : World) (p : Pointers) (m : Bytes) (c : Console) (a b ta tb : ℕ) (s : State) : Type 0 where
@@ -62,7 +57,7 @@ module _ (w : World) where
                       (
                         (let l = x2.lies in omega arith),
                         (
-                          (λ v. let et : ta ≡ tb = sym va ∙ equal_numbers _ _ v ∙ vb in (
+                          (λ v. let et : ta ≡ tb = sym va ∙ eqb-true _ _ v ∙ vb in (
                             omega arith,
                             (
                               omega arith,
@@ -94,7 +89,7 @@ module _ (w : World) where
                               ),
                             ),
                           )),
-                          (λ v. here w _ _ (Others ne (λ e. other_numbers _ _ v (va ∙ e ∙ sym vb))
+                          (λ v. here w _ _ (Others ne (λ e. eqb-false _ _ v (va ∙ e ∙ sym vb))
                               (record { numbers = omega arith; memory_is = at.memory_is; input_is = at.input_is; ended_is = at.ended_is; output_is = at.output_is }))),
                         ),
                       ),
@@ -216,12 +211,12 @@ module _ (w : World) where
               omega arith,
               (
                 (λ z. here w _ _ (inr (
-                  sym la ∙ equal_numbers _ _ z ∙ lb,
+                  sym la ∙ eqb-true _ _ z ∙ lb,
                   record { at = record { numbers = omega arith; memory_is = at.memory_is; input_is = at.input_is; ended_is = at.ended_is; output_is = at.output_is }; t1_is = omega arith; t2_is = omega arith },
                   la,
                 ))),
                 (λ z. here w _ _ (inl (
-                  (λ e. other_numbers _ _ z (la ∙ e ∙ sym lb)),
+                  (λ e. eqb-false _ _ z (la ∙ e ∙ sym lb)),
                   record { numbers = omega arith; memory_is = at.memory_is; input_is = at.input_is; ended_is = at.ended_is; output_is = at.output_is },
                 ))),
               ),

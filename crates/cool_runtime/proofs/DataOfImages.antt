@@ -12,13 +12,14 @@ use Rattle.mips_isa.specs.Assembly.{Need, Nothing, Words, Item, Switch, Padding,
 use Rattle.mips_asm.proofs.Assembled.{length_of_item, bytes_needed, HasUnit, unit_of, up_from}
 use Rattle.cool_runtime.specs.Reaches.{World}
 use Rattle.cool_runtime.specs.Standing.{PlacedAt}
-use Rattle.cool_runtime.specs.Images.{IsImageOf, after_lines}
+use Rattle.cool_runtime.specs.Images.{IsImageOf}
 use Rattle.cool_runtime.proofs.PlacesOfLabels.{placed_there}
 use Rattle.cool_runtime.proofs.LinesOfImages.{placed_all, first_none}
+use Rattle.mips_asm.specs.Passes.{after_lines}
 
 -- the bytes of lines, in parts
 
-bytes_split : (address : Name → ℕ) (p : Position) (front back : List Line) → bytes_from address p (front ++ back) ≡ bytes_from address p front ++ bytes_from address (after_lines p front) back
+pub bytes_split : (address : Name → ℕ) (p : Position) (front back : List Line) → bytes_from address p (front ++ back) ≡ bytes_from address p front ++ bytes_from address (after_lines p front) back
 bytes_split address p [] back = refl
 bytes_split address p (line ∷ front) back =
     let zeros : List ℕ = replicate (padding (need line.statement) p) 0 in
@@ -27,7 +28,7 @@ bytes_split address p (line ∷ front) back =
     ∙ ap (λ l. zeros ++ l) (sym (append_assoc item (bytes_from address (after_line line p) front) _))
     ∙ sym (append_assoc zeros (item ++ bytes_from address (after_line line p) front) _)
 
-bytes_after : (n : Need) (p : Position) → HasUnit n → p.bytes + (padding n p + bytes_needed n) ≡ (after_need n p).bytes
+pub bytes_after : (n : Need) (p : Position) → HasUnit n → p.bytes + (padding n p + bytes_needed n) ≡ (after_need n p).bytes
 bytes_after Nothing p unit = omega arith
 bytes_after (Words n) p unit = omega arith
 bytes_after (Item unit size) p some = let h = up_from unit p.bytes some in omega arith
@@ -38,7 +39,7 @@ bytes_after (Padding unit) p some = by p.segment
     by Text = omega arith
     by Data = let h = up_from unit p.bytes some in omega arith
 
-bytes_length : (address : Name → ℕ) (p : Position) (front : List Line) → p.bytes + length (bytes_from address p front) ≡ (after_lines p front).bytes
+pub bytes_length : (address : Name → ℕ) (p : Position) (front : List Line) → p.bytes + length (bytes_from address p front) ≡ (after_lines p front).bytes
 bytes_length address p [] = omega arith
 bytes_length address p (line ∷ front) =
     let n = need line.statement in

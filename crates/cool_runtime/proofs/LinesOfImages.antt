@@ -23,9 +23,14 @@ use Rattle.mips_asm.proofs.Targets.{instruction_in_range, expansion_of_target}
 use Rattle.mips_asm.proofs.Assembled.{using_is, length_of_instructions}
 use Rattle.mips_asm.proofs.AllAssembled.{word_place}
 use Rattle.cool_runtime.specs.Reaches.{World}
-use Rattle.cool_runtime.specs.Standing.{InstructionsAt, IsTarget, InstructionHolds, Holds, PlacedAt, LineAt, HasLines, words_of_need, size}
-use Rattle.cool_runtime.specs.Images.{IsImageOf, after_lines, IsTextNeed, AreText}
-use Rattle.cool_runtime.proofs.PlacesOfLabels.{none_here, placed_there, words_after, after_append, below_end, InTextBelow, address_fits}
+use Rattle.cool_runtime.specs.Standing.{InstructionsAt, IsTarget, InstructionHolds, Holds, PlacedAt, LineAt, HasLines, size}
+use Rattle.cool_runtime.specs.Images.{IsImageOf, IsTextNeed, AreText}
+use Rattle.cool_runtime.proofs.PlacesOfLabels.{placed_there, below_end, InTextBelow, address_fits}
+use Rattle.mips_asm.specs.TextWords.{words_needed}
+use Rattle.mips_asm.specs.Passes.{after_lines}
+use Rattle.mips_asm.proofs.LinePlaces.{fine_here}
+use Rattle.mips_asm.proofs.FirstPasses.{after_both}
+use Rattle.mips_asm.proofs.WordsOfText.{words_after}
 
 -- the words of a text
 
@@ -51,14 +56,14 @@ text_split address p (line ∷ front) back =
     let words = map word_of (instructions address (TEXT_START + 4 * p.words) line.statement) in
     ap (λ l. words ++ l) (text_split address (after_line line p) front back) ∙ sym (append_assoc words (text_from address (after_line line p) front) _)
 
-text_length : (address : Name → ℕ) (p : Position) (front : List Line) → p.words + length (text_from address p front) ≡ (after_lines p front).words
+pub text_length : (address : Name → ℕ) (p : Position) (front : List Line) → p.words + length (text_from address p front) ≡ (after_lines p front).words
 text_length address p [] = omega arith
 text_length address p (line ∷ front) =
     let list = instructions address (TEXT_START + 4 * p.words) line.statement in
     let more : text_from address p (line ∷ front) ≡ map word_of list ++ text_from address (after_line line p) front = refl in
     let a : length (text_from address p (line ∷ front)) ≡ length (map word_of list) + length (text_from address (after_line line p) front) = length-append (map word_of list) _ in
-    let b : length (map word_of list) ≡ words_of_need (need line.statement) = length-map list word_of ∙ length_of_instructions address (TEXT_START + 4 * p.words) line.statement in
-    let c : (after_line line p).words ≡ p.words + words_of_need (need line.statement) = words_after (need line.statement) p in
+    let b : length (map word_of list) ≡ words_needed (need line.statement) = length-map list word_of ∙ length_of_instructions address (TEXT_START + 4 * p.words) line.statement in
+    let c : (after_line line p).words ≡ p.words + words_needed (need line.statement) = words_after (need line.statement) p in
     let d : (after_line line p).words + length (text_from address (after_line line p) front) ≡ (after_lines p (line ∷ front)).words = text_length address (after_line line p) front in
     omega arith
 
@@ -70,9 +75,9 @@ first_none (Some fault) other h = cc
 
 using_none : (place : Name → Option Place) (p : Position) (number : ℕ) (front : List Line) (line : Line) (rest : List Line)
     → second_pass place p number (front ++ line ∷ rest) ≡ None → using_fault place (after_lines p front) line ≡ None
-using_none place p number [] line rest fine = (none_here number (using_fault place p line) _ fine).0
+using_none place p number [] line rest fine = (fine_here number (using_fault place p line) _ fine).0
 using_none place p number (first ∷ front) line rest fine =
-    using_none place (after_line first p) (suc number) front line rest (none_here number (using_fault place p first) _ fine).1
+    using_none place (after_line first p) (suc number) front line rest (fine_here number (using_fault place p first) _ fine).1
 
 reaches_of : (a b : Bool) → (if a then Some A6 else (if not b then Some A7 else None)) ≡ None → b ≡ true
 reaches_of true b h = cc
@@ -210,8 +215,8 @@ module _ (w : World) (all : List Line) (image : IsImageOf w all) where
   has_lines front [] back split are text = tt
   has_lines front (line ∷ part) back split are text =
       let q : Position = after_lines start_position front in
-      let next : after_lines start_position (front ++ line ∷ []) ≡ after_line line q = after_append start_position front (line ∷ []) in
-      let grown : (after_line line q).words ≡ q.words + words_of_need (need line.statement) = words_after (need line.statement) q in
+      let next : after_lines start_position (front ++ line ∷ []) ≡ after_line line q = after_both start_position front (line ∷ []) in
+      let grown : (after_line line q).words ≡ q.words + words_needed (need line.statement) = words_after (need line.statement) q in
       let at : TEXT_START + 4 * (after_lines start_position (front ++ line ∷ [])).words ≡ TEXT_START + 4 * q.words + size line =
       ap (λ (p : Position). TEXT_START + 4 * p.words) next ∙ omega arith in (
         line_at front line (part ++ back) split text,

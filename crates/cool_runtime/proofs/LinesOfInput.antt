@@ -2,9 +2,12 @@
 use Rattle.std.proofs.Common.{◌≡◌, zero, suc, ◌≢◌, ℕ, ◌<◌, List, [], ◌∷◌, ◌++◌, length, refl, sym, ap, ◌∙◌, arith, Bool, true, false, append_assoc}
 use Rattle.std.specs.Prelude.{◌==◌, if◌then◌else◌}
 use Rattle.mips_isa.specs.Calls.{Taken, taken, asked_line}
-use Rattle.cool_runtime.specs.Reaches.{World, IsSuffix, OnTheWay}
+use Rattle.cool_runtime.specs.Reaches.{World, OnTheWay}
 use Rattle.cool_runtime.specs.Machines.{line_of, line_asked}
-use Rattle.cool_runtime.specs.Contents.{IsText, AreBytes}
+use Rattle.cool_runtime.specs.Contents.{IsText}
+use Rattle.lists.specs.Prefixes.{IsSuffix}
+use Rattle.lists.specs.Bytes.{AreBytes}
+use Rattle.lists.proofs.Prefixes.{suffix_more, suffix_then, suffix_same}
 
 abbrev pub taking : List ℕ → List ℕ → Bool → Taken
 taking got rest ended = record { got = got; rest = rest; ended = ended }
@@ -42,15 +45,6 @@ line_text (b ∷ input) bytes = by (b == 0) (b == 10) refl (line_text input byte
     by false false null more = ((grind arith, bytes.0), more)
 
 -- the input left after a line is a suffix
-
-pub suffix_more : (back whole front : List ℕ) → IsSuffix back whole → IsSuffix back (front ++ whole)
-suffix_more back whole front h = (front ++ h.0, ap (λ l. front ++ l) h.1 ∙ sym (append_assoc front h.0 back))
-
-pub suffix_then : (back middle whole : List ℕ) → IsSuffix back middle → IsSuffix middle whole → IsSuffix back whole
-suffix_then back middle whole h k = (k.0 ++ h.0, k.1 ∙ ap (λ l. k.0 ++ l) h.1 ∙ sym (append_assoc k.0 h.0 back))
-
-pub suffix_same : (whole : List ℕ) → IsSuffix whole whole
-suffix_same whole = ([], refl)
 
 suffix_line : (input : List ℕ) → IsSuffix (line_of input).rest input
 suffix_line [] = suffix_same []

@@ -12,15 +12,11 @@ use Rattle.mips_isa.specs.declared.place.Segment.TheVariants.{Text, Data}
 use Rattle.mips_isa.specs.Lines.{Name, Line}
 use Rattle.mips_isa.specs.declared.address_map.TheConstants.{TEXT_START}
 use Rattle.mips_isa.specs.Assembly.{Need, Nothing, Words, Item, Switch, Padding, need, Position, after_need, after_line, padded, first_pass, fault_or, defining_fault, is_wrong, any_twice, is_too_large, has, place_from, place_in, next_item, item_or, address_or_zero, is_text}
-use Rattle.mips_asm.specs.Passes.{Fits}
-use Rattle.mips_asm.proofs.LinePlaces.{position_fits}
-use Rattle.cool_runtime.specs.Standing.{words_of_need}
-use Rattle.cool_runtime.specs.Images.{after_lines}
-
--- the first of several faults is none
-pub none_here : (number : ℕ) (o : Option AsmKind) (other : Option AsmFault) → fault_or number o other ≡ None → (o ≡ None) × (other ≡ None)
-none_here number None other h = (refl, h)
-none_here number (Some kind) other h = cc
+use Rattle.mips_asm.specs.Passes.{Fits, after_lines}
+use Rattle.mips_asm.proofs.LinePlaces.{position_fits, fine_here}
+use Rattle.mips_asm.specs.TextWords.{words_needed}
+use Rattle.std.proofs.lemmas.Bool.{or_left, or_right, or_parts}
+use Rattle.mips_asm.proofs.WordsOfText.{words_after}
 
 -- no label of a line without a fault was seen before
 
@@ -29,23 +25,11 @@ not_twice true b d h = cc
 not_twice false true d h = cc
 not_twice false false d h = refl
 
-in_either : (a b : Bool) → a ≡ true → (a || b) ≡ true
-in_either true b h = refl
-in_either false b h = cc
-
-in_other : (a b : Bool) → b ≡ true → (a || b) ≡ true
-in_other true b h = refl
-in_other false b h = h
-
-neither : (a b : Bool) → (a || b) ≡ false → (a ≡ false) × (b ≡ false)
-neither true b h = cc
-neither false b h = (refl, h)
-
 seen_once : (seen labels : List Name) (name : Name) → any_twice seen labels ≡ false → has seen name ≡ true → has labels name ≡ true → ⊥
 seen_once seen [] name new before here = absurd (true≢false (sym here))
 seen_once seen (label ∷ rest) name new before here =
-    let parts = neither (has seen label) (any_twice (label ∷ seen) rest) new in
-    by (bytes_eq name label) refl here parts.0 (seen_once (label ∷ seen) rest name parts.1 (in_other (bytes_eq name label) (has seen name) before))
+    let parts = or_parts (has seen label) (any_twice (label ∷ seen) rest) new in
+    by (bytes_eq name label) refl here parts.0 (seen_once (label ∷ seen) rest name parts.1 (or_right (bytes_eq name label) (has seen name) before))
   where
     by : (t : Bool) → bytes_eq name label ≡ t → (t || has rest name) ≡ true → has seen label ≡ false → (has rest name ≡ true → ⊥) → ⊥
     by true e h fresh more =
@@ -56,12 +40,12 @@ seen_once seen (label ∷ rest) name new before here =
 seen_before : (seen : List Name) (p : Position) (number : ℕ) (front : List Line) (line : Line) (rest : List Line) (name : Name)
     → first_pass seen p number (front ++ line ∷ rest) ≡ None → has seen name ≡ true → has line.labels name ≡ true → ⊥
 seen_before seen p number [] line rest name fine before here =
-    let parts = none_here number (defining_fault seen p line) _ fine in
+    let parts = fine_here number (defining_fault seen p line) _ fine in
     seen_once seen line.labels name (not_twice (is_wrong (need line.statement) p.segment) (any_twice seen line.labels) (is_too_large (after_line line p)) parts.0) before here
 seen_before seen p number (first ∷ front) line rest name fine before here =
-    let parts = none_here number (defining_fault seen p first) _ fine in
+    let parts = fine_here number (defining_fault seen p first) _ fine in
     seen_before (seen ++ first.labels) (after_line first p) (suc number) front line rest name parts.1
-    (list_any-append (bytes_eq name) seen first.labels ∙ in_either (has seen name) (has first.labels name) before) here
+    (list_any-append (bytes_eq name) seen first.labels ∙ or_left (has seen name) (has first.labels name) before) here
 
 -- the place of a label is that of its line
 pub placed_there : (seen : List Name) (p : Position) (number : ℕ) (front : List Line) (line : Line) (rest : List Line) (name : Name)
@@ -70,10 +54,10 @@ pub placed_there : (seen : List Name) (p : Position) (number : ℕ) (front : Lis
 placed_there seen p number [] line rest name fine here =
     ap (λ t. if t then Some (place_in p.segment p (line ∷ rest)) else place_from (after_line line p) rest name) here
 placed_there seen p number (first ∷ front) line rest name fine here =
-    let parts = none_here number (defining_fault seen p first) _ fine in
+    let parts = fine_here number (defining_fault seen p first) _ fine in
     by (has first.labels name) _ _ _
     (λ e. seen_before (seen ++ first.labels) (after_line first p) (suc number) front line rest name parts.1
-    (list_any-append (bytes_eq name) seen first.labels ∙ in_other (has seen name) (has first.labels name) e) here)
+    (list_any-append (bytes_eq name) seen first.labels ∙ or_right (has seen name) (has first.labels name) e) here)
     (placed_there (seen ++ first.labels) (after_line first p) (suc number) front line rest name parts.1 here)
   where
     by : (t : Bool) (o other found : Option Place) → (t ≡ true → ⊥) → other ≡ found → (if t then o else other) ≡ found
@@ -82,24 +66,9 @@ placed_there seen p number (first ∷ front) line rest name fine here =
 
 -- how the words grow
 
-pub words_after : (n : Need) (p : Position) → (after_need n p).words ≡ p.words + words_of_need n
-words_after Nothing p = omega arith
-words_after (Words n) p = refl
-words_after (Item unit size) p = omega arith
-words_after (Switch segment) p = omega arith
-words_after (Padding unit) p = by p.segment ∙ omega arith
-  where
-    by : (g : Segment) → (padded g unit p).words ≡ p.words
-    by Text = refl
-    by Data = refl
-
 pub words_grow : (p : Position) (lines : List Line) → p.words ≤ (after_lines p lines).words
 words_grow p [] = omega arith
 words_grow p (line ∷ rest) = let h = words_grow (after_line line p) rest in let k = words_after (need line.statement) p in omega arith
-
-pub after_append : (p : Position) (front back : List Line) → after_lines p (front ++ back) ≡ after_lines (after_lines p front) back
-after_append p [] back = refl
-after_append p (line ∷ front) back = after_append (after_line line p) front back
 
 -- a place in text is at most at the end of the text
 
@@ -135,7 +104,7 @@ item_or_fits (Padding unit) p other fits h = h
 next_fits : (seen : List Name) (p : Position) (number : ℕ) (lines : List Line) → Fits p.words p.bytes → first_pass seen p number lines ≡ None → next_item p lines ≤ 268435456
 next_fits seen p number [] fits fine = fits.bytes_fit
 next_fits seen p number (line ∷ rest) fits fine =
-    let parts = none_here number (defining_fault seen p line) _ fine in
+    let parts = fine_here number (defining_fault seen p line) _ fine in
     let after : Fits (after_line line p).words (after_line line p).bytes = position_fits seen p number (line ∷ rest) 1 fits fine in
     item_or_fits (need line.statement) p _ after (next_fits (seen ++ line.labels) (after_line line p) (suc number) rest after parts.1)
 
@@ -143,7 +112,7 @@ pub address_fits : (seen : List Name) (p : Position) (number : ℕ) (lines : Lis
     → address_or_zero (place_from p lines name) < 4294967296
 address_fits seen p number [] name fits fine = omega arith
 address_fits seen p number (line ∷ rest) name fits fine =
-    let parts = none_here number (defining_fault seen p line) _ fine in
+    let parts = fine_here number (defining_fault seen p line) _ fine in
     let after : Fits (after_line line p).words (after_line line p).bytes = position_fits seen p number (line ∷ rest) 1 fits fine in
     by (has line.labels name) _ _ (here p.segment (next_fits seen p number (line ∷ rest) fits fine)) (address_fits (seen ++ line.labels) (after_line line p) (suc number) rest name after parts.1)
   where

@@ -3,12 +3,12 @@ use Rattle.std.proofs.Common.{◌≡◌, ◌≢◌, ℕ, zero, suc, ◌+◌, ◌
 use Rattle.std.specs.Prelude.{nat_le, not, ◌==◌}
 use Rattle.mips_isa.specs.Bytes.{Bytes, set_byte, set_word}
 use Rattle.mips_isa.specs.Calls.{State, Taken, asked, char_of}
-use Rattle.cool_runtime.specs.Reaches.{World, Reaches, stands, OnTheWay, IsSuffix}
+use Rattle.cool_runtime.specs.Reaches.{World, Reaches, stands, OnTheWay}
 use Rattle.cool_runtime.specs.Standing.{HasLines}
 use Rattle.cool_runtime.specs.Walk.{beside, ReadChar}
 use Rattle.cool_runtime.specs.Labels.{heap_limit, int_prototype, int_table, string_prototype, in_string, in_string_bytes, in_string_end}
 use Rattle.cool_runtime.specs.Instructions.{j}
-use Rattle.cool_runtime.specs.Contents.{IntAt, StringAt, IsText, Same, AreBytes}
+use Rattle.cool_runtime.specs.Contents.{IntAt, StringAt, IsText, Same}
 use Rattle.cool_runtime.specs.Premises.{Limits}
 use Rattle.cool_runtime.specs.Machines.{At, Numbers, Pointers, Console, Temporaries, Holding, got, with_int, with_string_head, line_of, line_asked, filled, with_text}
 use Rattle.cool_runtime.specs.Routines.{int_head_lines, string_head_lines, in_string_begin_lines, in_string_byte_lines, in_string_zeros_lines, in_string_room_lines, in_string_word_lines, in_string_bytes_lines, in_string_end_lines, string_return_lines, in_string_lines}
@@ -22,6 +22,9 @@ use Rattle.cool_runtime.proofs.MadeStrings.{filled_other, filled_at, filled_zero
 use Rattle.cool_runtime.proofs.Pieces.{done, next, has_front, has_back, has_at}
 use Rattle.cool_runtime.proofs.Copying.{differ, same_numbers}
 use Rattle.cool_runtime.proofs.LinesOfInput.{taking, Front, AtEnd, AtNewline, AtByte, front, suffix_asked, on_the_way}
+use Rattle.lists.specs.Prefixes.{IsSuffix}
+use Rattle.lists.specs.Bytes.{AreBytes}
+use Rattle.std.proofs.lemmas.Bool.{eqb-true, eqb-false}
 
 -- what `bgez` found
 not_negative : (v : ℕ) → not (nat_le 2147483648 v) ≡ true → v < 2147483648
@@ -29,13 +32,6 @@ not_negative v t = grind arith
 
 negative : (v : ℕ) → not (nat_le 2147483648 v) ≡ false → 2147483648 ≤ v
 negative v t = grind arith
-
--- what `beq` found
-equal : (x y : ℕ) → (x == y) ≡ true → x ≡ y
-equal x y t = grind arith
-
-unequal : (x y : ℕ) → (x == y) ≡ false → x ≡ y → ⊥
-unequal x y f e = grind arith
 
 -- How the room for a line stands: k bytes are there, and so many bytes of the last word are after the next one.
 pub record Filling (w : World) (p : Pointers) (t : Temporaries) (k left : ℕ) : Type 0 where
@@ -128,7 +124,7 @@ module _ (w : World) where
       let at = hold.at in
       let here' = has_at w in_string_word_lines (p.pc + 32) s.core.pc (omega arith) has in
       single w _ s.core.registers s.core.pc s.core.memory (beside s) 1 _ here'.0.words.0 (
-        (λ z. let same = equal _ _ z in absurd (omega arith)),
+        (λ z. let same = eqb-true _ _ z in absurd (omega arith)),
         (λ z. walk w (j in_string_bytes ∷ []) 0 s.core.registers (s.core.pc + 4) s.core.memory (beside s) (s.core.pc + 4) 0 0 _ (has_front w (j in_string_bytes ∷ []) in_string_room_lines (s.core.pc + 4) here'.1) (omega arith)
             (here w _ _ (record {
               at = record { numbers = omega arith; memory_is = at.memory_is; input_is = at.input_is; ended_is = at.ended_is; output_is = at.output_is };
@@ -176,7 +172,7 @@ module _ (w : World) where
               walk w (j heap_limit ∷ []) 0 s.core.registers (s.core.pc + 8 + 4) s.core.memory (beside s) (s.core.pc + 8 + 4) 0 3 _ (has_front w (j heap_limit ∷ []) in_string_zeros_lines (s.core.pc + 8 + 4) there.1) (omega arith)
               (heap_exit w _ _ c limits refl at.numbers.zero_is (omega arith) at.input_is at.output_is way)),
         )),
-        (λ z. absurd (unequal _ _ z (omega arith))),
+        (λ z. absurd (eqb-false _ _ z (omega arith))),
       )
 
   -- where the loop comes to, with the bytes of a line

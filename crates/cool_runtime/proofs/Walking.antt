@@ -24,9 +24,10 @@ use Rattle.mips_isa.specs.Run.{cycle, after}
 use Rattle.mips_isa.specs.Lines.{Name, AsmInstr, Plain, ToTwo, ToOne, ToJump, La, Li, Move, B, BranchZero, Statement, Empty, Instruction, Line}
 use Rattle.mips_isa.specs.Assembly.{need, words_of_instruction, zero_branch, offset, expansion, instructions, load_address}
 use Rattle.cool_runtime.specs.Reaches.{World, Goal, Reaches, Limited}
-use Rattle.cool_runtime.specs.Standing.{InstructionAt, InstructionsAt, IsTarget, InstructionHolds, Holds, HasLines, words_of_need, size}
+use Rattle.cool_runtime.specs.Standing.{InstructionAt, InstructionsAt, IsTarget, InstructionHolds, Holds, HasLines, size}
 use Rattle.cool_runtime.specs.Walk.{Beside, st, Ending, Next, OkWord, OkByte, Service, PrintInt, PrintString, ReadInt, ReadChar, Exit, ExitWith, w_service, w_value, w_mem, w_branch, w_hi_lo, w_from, w_plain, w_jump, w_to, w_instruction, w_statement, w_over_words, w_lines, steps}
 use Rattle.cool_runtime.proofs.Runs.{wider, one, ended}
+use Rattle.mips_asm.specs.TextWords.{words_needed}
 
 -- a word of a register and memory
 
@@ -221,7 +222,7 @@ module _ (w : World) where
 
     -- what follows a statement, after any number of lines that are passed over
     abbrev Behind : Statement → ℕ → Next → Type 0
-    Behind s pc go = (k : ℕ) (r : Registers) (pc' : ℕ) (m : Bytes) (x : Beside) → pc' ≡ pc + 4 * words_of_need (need s) + 4 * k → go k r pc' m x → Reaches w (st r pc' m x) lo hi goal
+    Behind s pc go = (k : ℕ) (r : Registers) (pc' : ℕ) (m : Bytes) (x : Beside) → pc' ≡ pc + 4 * words_needed (need s) + 4 * k → go k r pc' m x → Reaches w (st r pc' m x) lo hi goal
 
     always : (r : Registers) (pc : ℕ) (m : Bytes) (x : Beside) (l : Name)
         → act w.segments (BranchTwo Beq 0 0 (offset pc (w.place l))) (st r pc m x).core ≡ machine.branch (st r pc m x).core true (offset pc (w.place l))
@@ -247,7 +248,7 @@ module _ (w : World) where
     c_statement : (less : ℕ) → less ≤ hi → (s : Statement) (r : Registers) (pc : ℕ) (m : Bytes) (x : Beside) (go : Next)
         → InstructionsAt w pc (instructions w.place pc s) → Holds w s
         → w_statement w s r pc m x go (λ r pc m x. Reaches w (st r pc m x) lo less goal) (Ending' goal) → Behind s pc go
-        → Reaches w (st r pc m x) (words_of_need (need s) + lo) (words_of_need (need s) + hi) goal
+        → Reaches w (st r pc m x) (words_needed (need s) + lo) (words_needed (need s) + hi) goal
     c_statement less le Empty r pc m x go at names h next = wider w _ lo (0 + lo) hi (0 + hi) goal (omega arith) (omega arith) (next 0 r pc m x (omega arith) h)
     c_statement less le (Instruction i) r pc m x go at names h next = c_instruction less le i r pc m x go at names h next
     c_statement less le _ r pc m x go at names h next = absurd h
@@ -265,20 +266,20 @@ module _ (w : World) where
   walk [] (suc k) r pc m x pc0 lo hi goal has e h = absurd h
   walk (line ∷ ls) zero r pc m x pc0 lo hi goal has e h =
       let z : pc0 ≡ pc = omega arith in
-      let n = words_of_need (need line.statement) in
+      let n = words_needed (need line.statement) in
       wider w (st r pc m x) (n + lo) lo (n + (steps ls + hi)) (n + steps ls + hi) goal (omega arith) (omega arith)
       (c_statement lo (steps ls + hi) goal hi (omega arith) line.statement r pc m x _ (subst (λ q. InstructionsAt w q (instructions w.place q line.statement)) z has.0.words) has.0.names h
       (λ k r' pc' m' x' p q. walk ls k r' pc' m' x' (pc0 + 4 * n) lo hi goal has.1 (omega arith) q))
   walk (line ∷ ls) (suc k) r pc m x pc0 lo hi goal has e h =
-      let passed = over (words_of_need (need line.statement)) _ h in
-      wider w (st r pc m x) lo lo (steps ls + hi) (words_of_need (need line.statement) + steps ls + hi) goal (omega arith) (omega arith)
+      let passed = over (words_needed (need line.statement)) _ h in
+      wider w (st r pc m x) lo lo (steps ls + hi) (words_needed (need line.statement) + steps ls + hi) goal (omega arith) (omega arith)
       (walk ls k r pc m x (pc0 + size line) lo hi goal has.1 (omega (arith, passed.0)) passed.1)
 
   -- the same, where the first line is no jump and is counted
-  pub walk_more : (line : Line) (ls : List Line) (r : Registers) (pc : ℕ) (m : Bytes) (x : Beside) (pc0 lo hi : ℕ) (goal : Goal) → 0 < words_of_need (need line.statement) → HasLines w pc0 (line ∷ ls) → pc ≡ pc0
+  pub walk_more : (line : Line) (ls : List Line) (r : Registers) (pc : ℕ) (m : Bytes) (x : Beside) (pc0 lo hi : ℕ) (goal : Goal) → 0 < words_needed (need line.statement) → HasLines w pc0 (line ∷ ls) → pc ≡ pc0
       → w_lines w (line ∷ ls) 0 r pc m x (λ r pc m x. Reaches w (st r pc m x) lo hi goal) (Ending' goal) → Reaches w (st r pc m x) (suc lo) (steps (line ∷ ls) + hi) goal
   walk_more line ls r pc m x pc0 lo hi goal some has e h =
-      let n = words_of_need (need line.statement) in
+      let n = words_needed (need line.statement) in
       wider w (st r pc m x) (n + lo) (suc lo) (n + (steps ls + hi)) (n + steps ls + hi) goal (omega arith) (omega arith)
       (c_statement lo (steps ls + hi) goal hi (omega arith) line.statement r pc m x _ (subst (λ q. InstructionsAt w q (instructions w.place q line.statement)) (sym e) has.0.words) has.0.names h
       (λ k r' pc' m' x' p q. walk ls k r' pc' m' x' (pc0 + 4 * n) lo hi goal has.1 (omega arith) q))

@@ -99,7 +99,3 @@ pub record NameAt (w : World) (m : Bytes) (gp tag : ℕ) (name : List ℕ) : Typ
   pub from : DATA_START ≤ w.place name_table
   pub to : w.place name_table + 4 * tag + 4 ≤ w.segments.data_end
   pub string : StringAt w m gp (word m (w.place name_table + 4 * tag)) name
-
--- an input of bytes
-abbrev pub AreBytes : List ℕ → Type 0
-AreBytes input = AllByRecursion (λ b. b < 256) input

@@ -14,11 +14,6 @@ pub record IsImageOf (w : World) (all : List Line) : Type 0 where
   pub end_is : w.segments.text_end ≡ TEXT_START + 4 * length w.text
   pub room : length w.text < MOST_TEXT_WORDS
 
--- the position after lines
-abbrev pub after_lines : Position → List Line → Position
-after_lines p [] = p
-after_lines p (line ∷ rest) = after_lines (after_line line p) rest
-
 -- a line that takes words of text, or nothing
 abbrev pub IsTextNeed : Need → Type 0
 IsTextNeed Nothing = Unit {0}

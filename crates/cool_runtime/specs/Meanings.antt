@@ -2,7 +2,7 @@
 -- instructions, or to an exit by a limit.
 use Rattle.mips_isa.specs.declared.register.TheConstants.{T8, T9}
 use Rattle.cool_runtime.specs.Comparison.{Operands, ValueAt, Verdict, constant_place}
-use Rattle.cool_runtime.specs.Contents.{IntAt, StringAt, AreBytes, TextAt, Lies, Tagged, Prototypes, NameAt}
+use Rattle.cool_runtime.specs.Contents.{IntAt, StringAt, TextAt, Lies, Tagged, Prototypes, NameAt}
 use Rattle.cool_runtime.specs.Labels.{name_table, type_name, abort, case_abort, abort_text, newline_text, no_branch_text, stop_text, colon_text, copy, int_prototype, string_prototype, equality, main_prototype, main_init, main_main, end_text, int_table, string_concat, string_substr, substr_abort, dispatch_abort, div_abort, heap_limit, stack_limit, in_string, in_int, out_int, out_string, string_length}
 use Rattle.cool_runtime.specs.Machines.{At, Pointers, Console, got, with_int, with_string_head, with_cut, wrote, EndsWith, with_copy, Returned, line_asked, with_text, with_joined}
 use Rattle.cool_runtime.specs.Premises.{Limits}
@@ -19,6 +19,7 @@ use Rattle.mips_isa.specs.Calls.{State, Taken, signed, asked_line, number_of}
 use Rattle.mips_isa.specs.Lines.{Name}
 use Rattle.std.specs.Fmt.{signed_decimal}
 use Rattle.std.specs.Prelude.{◌≡◌, ℕ, ◌+◌, ◌*◌, ◌/◌, ◌<◌, ◌≤◌, ◌⊎◌, List, ◌++◌, length, Bool}
+use Rattle.lists.specs.Bytes.{AreBytes}
 
 -- the Int at the top of the stack is written
 abbrev pub WritesInt : World → Type 0

@@ -6,6 +6,7 @@ use Rattle.mips_isa.specs.Bytes.{Segments}
 use Rattle.mips_isa.specs.Calls.{State, Outcome, Running, Exited, Trapped}
 use Rattle.mips_isa.specs.Run.{run}
 use Rattle.mips_isa.specs.Lines.{Name}
+use Rattle.lists.specs.Prefixes.{IsPrefix, IsSuffix}
 
 -- Where the segments may end: data at 0x20000000, the heap has at most 256 MiB, and the stack 4 KiB to 64 MiB.
 pub record AreLaid (b : Segments) : Type 0 where
@@ -38,12 +39,6 @@ pub record World : Type 0 where
   pub left : List ℕ
 
 -- bytes before others, and bytes after others
-
-abbrev pub IsPrefix : List ℕ → List ℕ → Type 0
-IsPrefix front whole = (more : List ℕ) × (whole ≡ front ++ more)
-
-abbrev pub IsSuffix : List ℕ → List ℕ → Type 0
-IsSuffix back whole = (taken : List ℕ) × (whole ≡ taken ++ back)
 
 -- no more was written than is at the end, and no more taken
 pub record OnTheWay (w : World) (output input : List ℕ) : Type 0 where

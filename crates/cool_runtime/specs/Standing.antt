@@ -7,6 +7,7 @@ use Rattle.mips_isa.specs.Machine.{word_of_text}
 use Rattle.mips_isa.specs.Lines.{Name, AsmInstr, Plain, ToTwo, ToOne, ToJump, La, Li, Move, Neg, Nop, B, BranchZero, BranchOrder, Mul, Statement, Empty, Instruction, Data, Directive, Line}
 use Rattle.mips_isa.specs.Assembly.{Need, Nothing, Words, Item, Switch, Padding, need, instructions}
 use Rattle.cool_runtime.specs.Reaches.{World}
+use Rattle.mips_asm.specs.TextWords.{words_needed}
 
 -- an instruction stands at an address
 pub record InstructionAt (w : World) (pc : ℕ) (i : Instr) : Type 0 where
@@ -48,17 +49,9 @@ Holds w (Instruction i) = InstructionHolds w i
 Holds w (Data item) = Unit {0}
 Holds w (Directive directive) = Unit {0}
 
--- the words of text that a statement takes
-abbrev pub words_of_need : Need → ℕ
-words_of_need Nothing = 0
-words_of_need (Words n) = n
-words_of_need (Item unit size) = 0
-words_of_need (Switch segment) = 0
-words_of_need (Padding unit) = 0
-
 -- the bytes of text that a line takes
 abbrev pub size : Line → ℕ
-size line = 4 * words_of_need (need line.statement)
+size line = 4 * words_needed (need line.statement)
 
 abbrev pub sizes : List Line → ℕ
 sizes [] = 0

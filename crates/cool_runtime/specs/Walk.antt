@@ -20,7 +20,7 @@ use Rattle.mips_isa.specs.Calls.{State, Taken, asked, asked_line, number_of, cha
 use Rattle.mips_isa.specs.Lines.{AsmInstr, Plain, ToTwo, ToOne, ToJump, La, Li, Move, Neg, Nop, B, BranchZero, BranchOrder, Mul, Statement, Empty, Instruction, Data, Directive, Line}
 use Rattle.mips_isa.specs.Assembly.{need, zero_branch}
 use Rattle.cool_runtime.specs.Reaches.{World}
-use Rattle.cool_runtime.specs.Standing.{words_of_need}
+use Rattle.mips_asm.specs.TextWords.{words_needed}
 
 -- What stands beside registers, pc and memory: HI and LO, the break, and the console.
 pub record Beside : Type 0 where
@@ -182,7 +182,7 @@ w_over_words (suc zero) go = go
 w_over_words (suc (suc n)) go = ⊥
 
 abbrev pub w_over : Statement → Type 0 → Type 0
-w_over s go = w_over_words (words_of_need (need s)) go
+w_over s go = w_over_words (words_needed (need s)) go
 
 -- what the lines have to show, where the first k of them are passed over
 abbrev pub w_lines : World → List Line → ℕ → Registers → ℕ → Bytes → Beside → Parts → Ending → Type 0
@@ -194,4 +194,4 @@ w_lines w (line ∷ rest) (suc k) r pc m x jump end = w_over line.statement (w_l
 -- the instructions of lines, at most
 abbrev pub steps : List Line → ℕ
 steps [] = 0
-steps (line ∷ rest) = words_of_need (need line.statement) + steps rest
+steps (line ∷ rest) = words_needed (need line.statement) + steps rest

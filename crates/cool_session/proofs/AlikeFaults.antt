@@ -25,9 +25,11 @@ use Rattle.cool_classes.specs.Features.{basic_methods, first_method, implementat
 use Rattle.cool_classes.specs.FirstNames.{first_index, is_index, attribute_name}
 use Rattle.cool_classes.specs.MethodNames.{is_new, new_name, new_among, method_names, methods_of}
 use Rattle.cool_classes.specs.Names.{self_type}
-use Rattle.cool_classes.proofs.AlikeTables.{FindSame, features_alike, find_same}
+use Rattle.cool_classes.proofs.AlikeTables.{FindSame, features_alike, find_same, first_alike}
 use Rattle.cool_classes.proofs.AlikeTablesKept.{implementation_same, attributes_same}
-use Rattle.cool_classes.proofs.NamesOfFeatures.{none_both, not_noted}
+use Rattle.cool_classes.proofs.NamesOfFeatures.{not_noted}
+use Rattle.lists.proofs.JoinedLists.{none_both}
+use Rattle.cool_classes.proofs.SwappedBodies.{attribute_row_same, class_names_same}
 
 -- Faults
 
@@ -46,31 +48,6 @@ keeps_noted b b' kind at at' same none = ap (λ (c : Bool). noted c kind at') (s
 
 -- Names of features and of classes
 
-first_same : (f : List ℕ) (k : ℕ) (xs xs' : List Feature) → AllDeclareSame xs xs' → first_method k xs' f ≡ first_method k xs f
-first_same f k [] [] h = refl
-first_same f k [] (x' ∷ xs') h = absurd h
-first_same f k (x ∷ xs) [] h = absurd h
-first_same f k (Method m ∷ xs) (Method m' ∷ xs') (h, hs) =
-    λ i. if bytes_eq (h.0 i) f then Some k else first_same f (k + 1) xs xs' hs i
-first_same f k (Method m ∷ xs) (Attribute a ∷ xs') (h, hs) = absurd h
-first_same f k (Attribute a ∷ xs) (Method m ∷ xs') (h, hs) = absurd h
-first_same f k (Attribute a ∷ xs) (Attribute a' ∷ xs') (h, hs) = first_same f (k + 1) xs xs' hs
-
-attribute_row : (xs xs' : List Feature) → AllDeclareSame xs xs' → map attribute_name xs' ≡ map attribute_name xs
-attribute_row [] [] h = refl
-attribute_row [] (x' ∷ xs') h = absurd h
-attribute_row (x ∷ xs) [] h = absurd h
-attribute_row (Method m ∷ xs) (Method m' ∷ xs') (h, hs) = λ i. None ∷ attribute_row xs xs' hs i
-attribute_row (Method m ∷ xs) (Attribute a ∷ xs') (h, hs) = absurd h
-attribute_row (Attribute a ∷ xs) (Method m ∷ xs') (h, hs) = absurd h
-attribute_row (Attribute a ∷ xs) (Attribute a' ∷ xs') (h, hs) = λ i. Some (h.0 i) ∷ attribute_row xs xs' hs i
-
-class_row : (p p' : List Class) → AreAllAlike p p' → map (λ (c : Class). Some c.name) p' ≡ map (λ (c : Class). Some c.name) p
-class_row [] [] h = refl
-class_row [] (d' ∷ ds') h = absurd h
-class_row (d ∷ ds) [] h = absurd h
-class_row (d ∷ ds) (d' ∷ ds') (h, hs) = λ i. Some (h.0 i) ∷ class_row ds ds' hs i
-
 module _ (p p' : List Class) (alike : AreAllAlike p p') where
   abbrev same : FindSame p p'
   same = find_same p p' alike
@@ -82,7 +59,7 @@ module _ (p p' : List Class) (alike : AreAllAlike p p') where
   -- Types and formals
 
   class_same : (name name' : List ℕ) → name' ≡ name → is_class p' name' ≡ is_class p name
-  class_same name name' e = λ i. is_some (first_index 0 (class_row p p' alike i) (e i))
+  class_same name name' e = λ i. is_some (first_index 0 (class_names_same p p' alike i) (e i))
 
   keeps_type : (r r' : TypeRef) → r'.name ≡ r.name → Keeps (type_faults p r) (type_faults p' r')
   keeps_type r r' e =
@@ -116,7 +93,7 @@ module _ (p p' : List Class) (alike : AreAllAlike p p') where
   -- Methods
 
   method_same : (c : ClassId) (f f' : List ℕ) → f' ≡ f → first_method 0 (features_of p' c) f' ≡ first_method 0 (features_of p c) f
-  method_same c f f' e = ap (first_method 0 (features_of p' c)) e ∙ first_same f 0 (features_of p c) (features_of p' c) (own c)
+  method_same c f f' e = ap (first_method 0 (features_of p' c)) e ∙ first_alike f 0 (features_of p c) (features_of p' c) (own c)
 
   implemented : (up : List ClassId) (f f' : List ℕ) → f' ≡ f → implementation p' up f' ≡ implementation p up f
   implemented up f f' e = ap (implementation p' up) e ∙ implementation_same p p' same up f
@@ -142,11 +119,11 @@ module _ (p p' : List Class) (alike : AreAllAlike p p') where
   attribute_same : (ds : List ClassId) (f f' : List ℕ) → f' ≡ f → have_attribute p' ds f' ≡ have_attribute p ds f
   attribute_same [] f f' e = refl
   attribute_same (d ∷ ds) f f' e =
-      λ i. is_some (first_index 0 (attribute_row (features_of p d) (features_of p' d) (own d) i) (e i)) || attribute_same ds f f' e i
+      λ i. is_some (first_index 0 (attribute_row_same (features_of p d) (features_of p' d) (own d) i) (e i)) || attribute_same ds f f' e i
 
   doubled : (c : ClassId) (up : List ClassId) (k : ℕ) (f f' : List ℕ) → f' ≡ f → is_doubled p' c up k f' ≡ is_doubled p c up k f
   doubled c up k f f' e =
-      let row = attribute_row (features_of p c) (features_of p' c) (own c) in
+      let row = attribute_row_same (features_of p c) (features_of p' c) (own c) in
       λ i. not (is_index k (first_index 0 (row i) (e i))) || attribute_same up f f' e i
 
   keeps_attribute : (c : ClassId) (up : List ClassId) (k : ℕ) (a a' : AttributeDef) → DeclareSame (Attribute a) (Attribute a')

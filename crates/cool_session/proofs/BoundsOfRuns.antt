@@ -12,6 +12,7 @@ use Rattle.cool_session.specs.declared.runs.Run.{Run}
 use Rattle.cool_session.specs.Bases.{tokens_of}
 use Rattle.cool_session.specs.FeatureTokens.{run_ended, runs_from, runs_of}
 use Rattle.cool_session.specs.Runs.{bounds_ended, bounds_from, bounds_in, bounds_of, file_tokens, IsWithin, run_tokens}
+use Rattle.lists.proofs.AllItems.{all_append}
 
 -- Pieces of a list
 
@@ -85,10 +86,6 @@ pub record Stands (all : List Token) (k : ℕ) (run : Run) : Type 0 where
   pub start : run.start ≤ run.end
   pub end : run.end ≤ length all
 
-all_both : {X : Type 0} (P : X → Type 0) (xs ys : List X) → AllByRecursion P xs → AllByRecursion P ys → AllByRecursion P (xs ++ ys)
-all_both P [] ys h g = g
-all_both P (x ∷ xs) ys (h, hs) g = (h, all_both P xs ys hs g)
-
 ended_stands : (all : List Token) (file : ℕ) (k : TokenKind) (run : Run) → Stands all file run → AllByRecursion (Stands all file) (bounds_ended k run)
 ended_stands all file (kind.Sign sign.Semi) run h = (h, tt)
 ended_stands all file _ run h = tt
@@ -109,7 +106,7 @@ stand all file d start at (t ∷ ts) le h =
     by true anew on =
         let run : Run = record { file = file; start = start; end = at + 1 } in
         let within : at + 1 ≤ length all = omega (arith, left_length at t all ts h) in
-        all_both (Stands all file) (bounds_ended t.kind run) _
+        all_append (Stands all file) (bounds_ended t.kind run) _
         (ended_stands all file t.kind run (record { file = refl; start = omega (arith, le); end = within })) anew
     by false anew on = on
 
@@ -152,7 +149,7 @@ module _ (files : List Lexed) where
   within_there k [] h = tt
   within_there k (l ∷ ls) h =
       let all = l.tokens.items in
-      all_both (IsWithin files) (bounds_in k all) (bounds_of (k + 1) ls)
+      all_append (IsWithin files) (bounds_in k all) (bounds_of (k + 1) ls)
       (stands_within all k (bounds_in k all) (left_length k l files ls h) (file_there k files l ls h) (stand all k 0 0 0 all (omega arith) refl))
       (within_there (k + 1) ls (drop_next k l files ls h))
 

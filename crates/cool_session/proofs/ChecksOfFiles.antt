@@ -65,7 +65,7 @@ few_files files ls p h few = few_lexed files ls h.lexed few
 
 -- Files come to be typed in one way
 
-one_features : (file : ℕ) (files : List (List ℕ)) (fs gs : List (List TokenKind)) → HaveFeatures file files fs → HaveFeatures file files gs → fs ≡ gs
+pub one_features : (file : ℕ) (files : List (List ℕ)) (fs gs : List (List TokenKind)) → HaveFeatures file files fs → HaveFeatures file files gs → fs ≡ gs
 one_features file [] fs gs h g = h ∙ sym g
 one_features file (bytes ∷ files) fs gs (ts, rest, lexes, is, h) (us, more, also, as', g) =
     let same = one_cutting file bytes ts us lexes also in

@@ -122,11 +122,6 @@ module _ (number : ℕ) (h : Held) (input : List ℕ) where
       check_cut WriteFault got = (reply_lines h.names faults typed, with_base h base, checks faults typed base left ask some list types, got)
       check_cut Memory got = inr (inl (reply_lines h.names faults typed, with_base h base, checks faults typed base left ask some list types, got))
 
--- a list of no items
-pub none_of : {X : Type 0} (xs : List X) → length xs ≡ 0 → xs ≡ []
-none_of [] e = refl
-none_of (x ∷ xs) e = absurd (omega (arith, e))
-
 -- what a line asks that stands at the head of an input
 pub asks_of : (input line rest left : List ℕ) (what : Option Command) → head input ≡ Line line rest → left ≡ rest → what ≡ command line
     → Asks input what left
@@ -144,8 +139,3 @@ no_items (x ∷ xs) h = absurd (grind (arith, h))
 pub some_items : {X Y Z : Type 0} (xs : List X) (ys : List Y) (f : X → Z) → length ys ≡ length xs → false ≡ (length ys == 0) → map f xs ≡ [] → ⊥
 some_items [] ys f same h e = let none : length ys ≡ 0 = same in grind (arith, none, h)
 some_items (x ∷ xs) ys f same h e = absurd cc
-
--- what is known of an answer that is no error
-pub on_ok : {T E P : Type 0} (result : Result T E) → is_err result ≡ false → OnOk result P → P
-on_ok (Ok x) e p = p
-on_ok (Err x) e p = absurd cc

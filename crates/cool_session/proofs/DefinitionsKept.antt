@@ -18,6 +18,7 @@ use Rattle.cool_classes.specs.Names.{first_named}
 use Rattle.cool_classes.specs.Settled.{basic_names, names_in, names_with_basic, parent_meant, parents_meant, or_object}
 use Rattle.cool_session.specs.Signatures.{OfMethod, OfAttribute, feature_signature, parent_name, class_signature, signatures}
 use Rattle.cool_session.proofs.AlikeFaults.{Keeps, keeps_both, keeps_from}
+use Rattle.cool_classes.proofs.LawfulByFaults.{no_kind}
 
 -- the name of the parent, where one is named
 abbrev parent_names : Option TypeRef → Option (List ℕ)
@@ -84,7 +85,7 @@ meant_alike names names' (d ∷ ds) (d' ∷ ds') named (h, hs) =
 
 -- Signatures
 
-feature_same : (x x' : Feature) → DeclareSame x x' → feature_signature x' ≡ feature_signature x
+pub feature_same : (x x' : Feature) → DeclareSame x x' → feature_signature x' ≡ feature_signature x
 feature_same (Method m) (Method m') h = λ i. OfMethod (h.0 i) (h.1 i) (h.2 i)
 feature_same (Method m) (Attribute a) h = absurd h
 feature_same (Attribute a) (Method m) h = absurd h
@@ -119,10 +120,6 @@ all_same (d ∷ ds) [] h = absurd h
 all_same (d ∷ ds) (d' ∷ ds') (h, hs) = λ i. class_same d d' h i ∷ all_same ds ds' hs i
 
 -- Faults of classes
-
-no_kind : (o : Option ClassKind) (at : Place) → of_kind o at ≡ [] → o ≡ None
-no_kind None at none = refl
-no_kind (Some kind) at none = absurd cc
 
 -- a kind that is the same is none at the one place where it is none at the other
 keeps_kind : (o o' : Option ClassKind) (at at' : Place) → o' ≡ o → Keeps (of_kind o at) (of_kind o' at')

@@ -31,6 +31,7 @@ use Rattle.cool_session.proofs.NewFeaturesCounted.{seen_at, differ_by}
 use Rattle.cool_session.proofs.ReadFiles.{views_read}
 use Rattle.cool_session.proofs.TablesOfSignatures.{views_same}
 use Rattle.cool_session.proofs.TypedFiles.{are_features, are_typed}
+use Rattle.std.proofs.lemmas.Bool.{cases_eq}
 
 -- What is kept at each position is kept of all
 
@@ -46,13 +47,6 @@ all_kept_at (run ∷ runs) (r ∷ rs) (k ∷ more) many as_many h = (
   h 0 (omega arith),
   all_kept_at runs rs more (omega (arith, many)) (omega (arith, as_many)) (λ i less. h (suc i) (omega (arith, less))),
 )
-
--- one position or another
-here_or_not : (i j : ℕ) → (i ≡ j) ⊎ (i ≢ j)
-here_or_not zero zero = inl refl
-here_or_not zero (suc j) = inr (λ e. absurd (omega (arith, e)))
-here_or_not (suc i) zero = inr (λ e. absurd (omega (arith, e)))
-here_or_not (suc i) (suc j) = elim (here_or_not i j) [ inl e ↦ inl (ap suc e) | inr n ↦ inr (λ e. n (omega (arith, e))) ]
 
 module _ (files files' : List (List ℕ)) (ls ls' : List Lexed) (p p' : List Class) (h : IsRead files ls p) (h' : IsRead files' ls' p')
     (signed : table_signatures p' ≡ table_signatures p) (kept : List (Option KeptFault))
@@ -112,7 +106,7 @@ module _ (files files' : List (List ℕ)) (ls ls' : List Lexed) (p p' : List Cla
       all_kept_at runs' (results_of h'.trees) (slice_set kept number fault)
       (as_many_results ∙ (results_many ∙ sym many))
       (length-set kept number fault ∙ (faults_many ∙ sym many))
-      (λ i less. at i less (here_or_not i number))
+      (λ i less. at i less (cases_eq i number))
     where
       many : length runs' ≡ length runs
       many =

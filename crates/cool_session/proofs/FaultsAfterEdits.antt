@@ -3,7 +3,7 @@
 use Rattle.std.proofs.Common.{◌≡◌, ◌≢◌, ◌⊎◌, inl, inr, ℕ, zero, suc, ◌+◌, ◌<◌, List, [], ◌∷◌, map, length, get_or, drop, Option, Some, None, IfSome, Bool, true, false, if◌then◌else◌, Ok, Err, refl, sym, ap, ◌∙◌, subst, arith}
 use Rattle.std.specs.Prelude.{nat_eq}
 use Rattle.std.specs.Option.{option_map}
-use Rattle.std.proofs.lemmas.Bool.{eq-eqb}
+use Rattle.std.proofs.lemmas.Bool.{eq-eqb, ne_eqb}
 use Rattle.std.proofs.lemmas.Bool.Decides.{eqb_tells}
 use Rattle.std.proofs.lemmas.List.{length-map}
 use Rattle.cool_syntax.specs.declared.place.Place.{Place}
@@ -33,12 +33,13 @@ use Rattle.cool_session.specs.Bases.{view}
 use Rattle.cool_session.specs.declared.base.KeptFault.{KeptFault}
 use Rattle.cool_session.specs.KeptFaults.{place_of_token, result_kept, IsKeptOf}
 use Rattle.cool_session.specs.FeatureTokens.{kinds, ParsesFeature}
-use Rattle.cool_session.specs.OneFeature.{class_of_one, nowhere}
+use Rattle.cool_session.specs.OneFeature.{class_of_one}
 use Rattle.cool_session.specs.Signatures.{signatures}
 use Rattle.cool_session.proofs.RenamedTrees.{renamed_token, renamed_type, renamed_tree, renamed_formal, renamed_feature, feature_renamed}
 use Rattle.cool_session.proofs.RenamedChecks.{renamed_result, then_renamed, expect_renamed, checked_renamed}
 use Rattle.cool_session.proofs.TablesOfSignatures.{meant_same, contexts_agree, views_same}
 use Rattle.cool_parser.proofs.ParsingIsTheGrammar.{one_tree}
+use Rattle.cool_syntax.specs.Bare.{nowhere}
 
 -- A feature whose places are renamed, checked in a table of the same classes, has the result that it has, renamed
 
@@ -99,10 +100,6 @@ pub one_feature : (tokens : List Token) (x y : Feature) → ParsesFeature tokens
 unfolding first_feature
 one_feature tokens x y h g = ap (first_feature y) (one_tree (class_of_one tokens) _ _ (class_parses tokens x h) (class_parses tokens y g))
 
--- numbers that differ are not the same
-not_same : (a b : ℕ) → a ≢ b → nat_eq a b ≡ false
-not_same a b h = grind (arith, eqb_tells a b, h)
-
 -- The renaming that takes the places of some tokens to those of others
 
 abbrev pub renaming : Place → List Token → List Token → Place → Place
@@ -115,7 +112,7 @@ skips : (d : Place) (t u : Token) (ts us : List Token) (file low : ℕ) (vs : Li
     → map (renamed_token (renaming d (t ∷ ts) (u ∷ us))) vs ≡ map (renamed_token (renaming d ts us)) vs
 skips d t u ts us file low [] h less = refl
 skips d t u ts us file low (v ∷ vs) (in_file, after, h) less =
-    let other : nat_eq t.at.byte v.at.byte ≡ false = not_same t.at.byte v.at.byte (omega (arith, after, less)) in
+    let other : nat_eq t.at.byte v.at.byte ≡ false = ne_eqb t.at.byte v.at.byte (omega (arith, after, less)) in
     let later : t.at.byte < v.at.byte + 1 = omega (arith, after, less) in
     λ i. record { kind = v.kind; at = if other i then u.at else renaming d ts us v.at } ∷ skips d t u ts us file (v.at.byte + 1) vs h later i
 

@@ -4,7 +4,7 @@ use Rattle.std.specs.List.{AllByRecursion, slice_get}
 use Rattle.std.specs.Borrow.{Bor}
 use Rattle.std.proofs.Math.Logic.{∥∥₁_elim}
 use Rattle.std.proofs.Props.{props}
-use Rattle.std.proofs.lemmas.List.{length-map, get_or-map}
+use Rattle.std.proofs.lemmas.List.{length-map, get_or-map, drop_all}
 use Rattle.cool_syntax.specs.declared.place.Place.{Place}
 use Rattle.cool_syntax.specs.declared.token.Token.{Token}
 use Rattle.cool_syntax.specs.declared.file_tree.Feature.{Feature}
@@ -245,12 +245,7 @@ base_as_many u faults files now base h same =
     (λ (b : IsBase u faults).
     as_many_features b.files files u.lexed.items now.lexed.items u.classes now.classes b.base.read h same)
 
--- a position, whichever value stands for none
-pub default_same : {X : Type 0} (xs : List X) (i : ℕ) (d e : X) → i < length xs → get_or xs i d ≡ get_or xs i e
-default_same [] i d e less = absurd (omega (arith, less))
-default_same (x ∷ xs) zero d e less = refl
-default_same (x ∷ xs) (suc i) d e less = let fewer : i < length xs = omega (arith, less) in default_same xs i d e fewer
-
+-- what holds of a value that is there
 pub of_some : {X : Type 0} (P : X → Type 0) (o : Option X) (x : X) → o ≡ Some x → IfSome o P → P x
 of_some {X} P o x is h = subst (λ (q : Option X). IfSome q P) is h
 
@@ -386,15 +381,9 @@ faults_left (run ∷ runs) (kept ∷ more) (suc i) d less few =
     faults_left runs more i d fewer within
     ∙ ap (λ (n : ℕ). fault_kept (get_or runs i []) (get_or more i d) ++ faults_kept (drop n (run ∷ runs)) (drop n (kept ∷ more))) next
 
-drop_past : {X : Type 0} (n : ℕ) (xs : List X) → length xs ≤ n → drop n xs ≡ []
-drop_past zero [] h = refl
-drop_past zero (x ∷ xs) h = absurd (omega (arith, h))
-drop_past (suc n) [] h = refl
-drop_past (suc n) (x ∷ xs) h = let less : length xs ≤ n = omega (arith, h) in drop_past n xs less
-
 pub no_faults_left : (runs : List (List Token)) (more : List (Option KeptFault)) (i : ℕ) → length runs ≤ i
     → faults_kept (drop i runs) (drop i more) ≡ []
-no_faults_left runs more i past = ap (λ (rs : List (List Token)). faults_kept rs (drop i more)) (drop_past i runs past)
+no_faults_left runs more i past = ap (λ (rs : List (List Token)). faults_kept rs (drop i more)) (drop_all i runs past)
 
 module _ (runs : List (List Token)) (more : List (Option KeptFault)) (i : ℕ) (less : i < length runs) (few : i < length more)
     (before all : List TypeFault)

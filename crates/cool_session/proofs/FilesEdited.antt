@@ -3,7 +3,7 @@
 use Rattle.std.proofs.Common.{◌≡◌, ℕ, zero, suc, ◌+◌, ◌≤◌, List, [], ◌∷◌, map, length, get_or, take, drop, unwrap_or, Option, Some, refl, sym, ap, ◌∙◌, subst, arith}
 use Rattle.std.specs.Prelude.{slice_get, slice_set}
 use Rattle.std.specs.List.{slice_range}
-use Rattle.std.proofs.lemmas.Option.{none-some}
+use Rattle.std.proofs.lemmas.Option.{none-some, get_or_from_slice_get}
 use Rattle.cool_syntax.specs.declared.file_tree.Feature.{Feature}
 use Rattle.cool_syntax.specs.declared.file_tree.FileTree.{FileTree}
 use Rattle.cool_lexer.specs.declared.lexer.Lexed.{Lexed}
@@ -23,12 +23,6 @@ use Rattle.cool_session.proofs.AlikeInTurn.{alike_back, alike_on, same_signature
 use Rattle.cool_session.proofs.DefinitionsKept.{AllDefineSame, alike_kept, classes_kept, features_kept, signatures_kept}
 use Rattle.cool_session.proofs.EditedTrees.{DiffersAt, EditedTrees, trees_edited, trees_moved}
 use Rattle.cool_session.proofs.TreesOfTokens.{AreTreesOf, trees_found, trees_lexed}
-
--- an item that is there is what is got
-get_there : {X : Type 0} (xs : List X) (n : ℕ) (x d : X) → slice_get xs n ≡ Some x → get_or xs n d ≡ x
-get_there [] n x d is = absurd (none-some x is)
-get_there {X} (y ∷ xs) zero x d is = ap (λ (o : Option X). unwrap_or o y) is
-get_there (y ∷ xs) (suc n) x d is = get_there xs n x d is
 
 module _ (files files' : List (List ℕ)) (ls ls' : List Lexed) (p : List Class) (h : IsRead files ls p)
     (lexed : AreFound IsLexed IsLexical 0 files' ls' []) where
@@ -108,4 +102,4 @@ module _ (files files' : List (List ℕ)) (ls ls' : List Lexed) (p : List Class)
     runs_edited = edited.runs
 
     pub run_edited : get_or (runs_of (tokens_of ls')) number [] ≡ run_tokens ls' run
-    run_edited = get_there (runs_of (tokens_of ls')) number (run_tokens ls' run) [] edited.run
+    run_edited = get_or_from_slice_get (runs_of (tokens_of ls')) number (run_tokens ls' run) [] edited.run

@@ -2,12 +2,13 @@
 use Rattle.std.proofs.Common.{◌≡◌, true≢false, is_ok, is_some, subst, not, bytes_eq, if◌then◌else◌, Result, ℕ, zero, suc, ◌+◌, ◌<◌, ◌≤◌, Bool, true, false, List, [], ◌∷◌, ◌++◌, map, length, get_or, slice_set, Option, Some, None, IfSome, unwrap_or, ap, sym, ◌∙◌, refl, arith}
 use Rattle.std.specs.Prelude.{remove, nat_lt, Ok, Err}
 use Rattle.std.proofs.lemmas.Slice.Eq.{bytes_eq-Decides}
-use Rattle.std.proofs.lemmas.List.{length-set}
+use Rattle.std.proofs.lemmas.List.{length-set, length_push}
 use Rattle.cool_syntax.specs.declared.TheConstants.{MOST_FILES, MOST_SOURCE_BYTES}
 use Rattle.cool_faults.specs.Files.{total}
 use Rattle.cool_session.specs.declared.error.SetError.{SetError}
 use Rattle.cool_session.specs.declared.error.SetError.TheVariants.{TooMany, TooLarge}
 use Rattle.cool_session.specs.Files.{placed, length_at, position_from, position, room, set_room}
+use Rattle.cool_faults.proofs.FileSizes.{total-push}
 
 pub removed_map : {X Y : Type 0} (f : X → Y) (xs : List X) (k : ℕ) → map f (remove xs k) ≡ remove (map f xs) k
 removed_map f [] zero = refl
@@ -15,20 +16,11 @@ removed_map f [] (suc k) = refl
 removed_map f (x ∷ xs) zero = refl
 removed_map f (x ∷ xs) (suc k) = ap (λ ys. f x ∷ ys) (removed_map f xs k)
 
-pub removed_length : {X : Type 0} (xs : List X) (k : ℕ) → k < length xs → length (remove xs k) + 1 ≡ length xs
-removed_length [] k h = absurd (omega (arith, h))
-removed_length (x ∷ xs) zero h = omega arith
-removed_length (x ∷ xs) (suc k) h = let less : k < length xs = omega (arith, h) in omega (arith, removed_length xs k less)
-
 pub removed_less : (fs : List (List ℕ)) (k : ℕ) → total (remove fs k) ≤ total fs
 removed_less [] zero = omega arith
 removed_less [] (suc k) = omega arith
 removed_less (f ∷ fs) zero = omega arith
 removed_less (f ∷ fs) (suc k) = omega (arith, removed_less fs k)
-
-end_total : (fs : List (List ℕ)) (b : List ℕ) → total (fs ++ b ∷ []) ≡ total fs + length b
-end_total [] b = omega arith
-end_total (f ∷ fs) b = omega (arith, end_total fs b)
 
 set_total : (fs : List (List ℕ)) (k : ℕ) (b : List ℕ) → k < length fs → total (slice_set fs k b) + length (get_or fs k []) ≡ total fs + length b
 set_total [] k b h = absurd (omega (arith, h))
@@ -38,7 +30,7 @@ set_total (f ∷ fs) (suc k) b h = let less : k < length fs = omega (arith, h) i
 -- the bytes together with those of the file that was there are the bytes before with the new ones
 pub placed_total : (place : Option ℕ) (fs : List (List ℕ)) (b : List ℕ) → IfSome place (λ k. k < length fs)
     → total (placed place fs b) + unwrap_or (length_at fs place) 0 ≡ total fs + length b
-placed_total None fs b h = omega (arith, end_total fs b)
+placed_total None fs b h = omega (arith, total-push fs b)
 placed_total (Some k) fs b h = set_total fs k b h
 
 at_most : (fs : List (List ℕ)) (k : ℕ) → length (get_or fs k []) ≤ total fs
@@ -49,10 +41,6 @@ at_most (f ∷ fs) (suc k) = omega (arith, at_most fs k)
 pub length_within : (place : Option ℕ) (fs : List (List ℕ)) → unwrap_or (length_at fs place) 0 ≤ total fs
 length_within None fs = omega arith
 length_within (Some k) fs = at_most fs k
-
-pub end_length : {X : Type 0} (xs : List X) (x : X) → length (xs ++ x ∷ []) ≡ length xs + 1
-end_length [] x = refl
-end_length (y ∷ xs) x = omega (arith, end_length xs x)
 
 pub not_held : (place : Option ℕ) (b : Bool) → is_some place ≡ not b → b ≡ true → place ≡ None
 not_held None b e h = refl
@@ -94,13 +82,13 @@ placed_few : {X : Type 0} (place : Option ℕ) (xs : List X) (x : X) (most : ℕ
 placed_few None xs x most h g = by_size (length xs) refl
   where
     by_size : (n : ℕ) → length xs ≡ n → length (xs ++ x ∷ []) ≤ most
-    by_size n e = let other : length xs ≡ most → ⊥ = g refl in grind (arith, end_length xs x, other, h)
+    by_size n e = let other : length xs ≡ most → ⊥ = g refl in grind (arith, length_push xs x, other, h)
 placed_few (Some k) xs x most h g = omega (arith, length-set xs k x, h)
 
 module _ (names files : List (List ℕ)) (name bytes : List ℕ) (place : Option ℕ) (is : place ≡ position names name) where
   pub too_many : place ≡ None → length names ≡ MOST_FILES → set_room names files name bytes ≡ Err TooMany
   unfolding set_room
-  too_many e h = rw (sym is, e) (room_many (names ++ name ∷ []) _ (omega (arith, end_length names name, h)))
+  too_many e h = rw (sym is, e) (room_many (names ++ name ∷ []) _ (omega (arith, length_push names name, h)))
 
   pub too_large : length names ≤ MOST_FILES → (place ≡ None → length names ≡ MOST_FILES → ⊥) → IfSome place (λ k. k < length files)
       → MOST_SOURCE_BYTES + unwrap_or (length_at files place) 0 < total files + length bytes → set_room names files name bytes ≡ Err TooLarge
@@ -159,7 +147,7 @@ set_size (f ∷ fs) zero a b e = ap (λ (n : ℕ). n + total fs) e
 set_size (f ∷ fs) (suc k) a b e = ap (λ (n : ℕ). length f + n) (set_size fs k a b e)
 
 placed_size : (place : Option ℕ) (fs : List (List ℕ)) (a b : List ℕ) → length a ≡ length b → total (placed place fs a) ≡ total (placed place fs b)
-placed_size None fs a b e = omega (arith, end_total fs a, end_total fs b, e)
+placed_size None fs a b e = omega (arith, total-push fs a, total-push fs b, e)
 placed_size (Some k) fs a b e = set_size fs k a b e
 
 room_by_total : (ns fs gs : List (List ℕ)) → total fs ≡ total gs → room ns fs ≡ room ns gs

@@ -22,6 +22,8 @@ use Rattle.cool_session.specs.Fresh as fresh
 use Rattle.cool_session.specs.Held.{Held, with_file, without_file, with_base}
 use Rattle.cool_session.specs.Replies.{reply_lines}
 use Rattle.cool_session.specs.Signatures.{ClassSignature, features_in, signatures}
+use Rattle.cool_session.proofs.ChecksOfFiles.{one_base}
+use Rattle.std.proofs.lemmas.Bool.{cases_lt}
 
 -- What is kept of files is one
 
@@ -51,30 +53,14 @@ one_fresh now base n m (fresh.signed_anew old other) (fresh.edited old' k same d
 one_fresh now base n m (fresh.edited old k same d) (fresh.signed_anew old' other) = absurd (other same)
 one_fresh now base n m (fresh.edited old k same d) (fresh.edited old' j same' e) = one_differ _ _ _ _ k j d e refl refl
 
-one_features : (file : ℕ) (files : List (List ℕ)) (fs gs : List (List TokenKind)) → HaveFeatures file files fs → HaveFeatures file files gs
-    → fs ≡ gs
-one_features file [] fs gs p q = p ∙ sym q
-one_features file (bytes ∷ files) fs gs (ts, rest, lexes, is, later) (us, rest', lexes', is', later') =
-    let tokens : ts ≡ us = one_cutting file bytes ts us lexes lexes' in
-    let others : rest ≡ rest' = one_features (suc file) files rest rest' later later' in
-    is ∙ ap (λ (ts : List Token). features_in (map (λ t. t.kind) ts) ++ rest) tokens
-    ∙ ap (λ (rest : List (List TokenKind)). features_in (map (λ t. t.kind) us) ++ rest) others ∙ sym is'
-
 base_is : (a b : List ClassSignature) (fs gs : List (List TokenKind)) → a ≡ b → fs ≡ gs
     → ◌≡◌ {A = Base} (record { signatures = a; features = fs }) (record { signatures = b; features = gs })
 base_is a b fs gs p q = rw (p, q) refl
 
-one_typed : (files : List (List ℕ)) (a b : Base) → AreTyped files a → AreTyped files b → a ≡ b
-one_typed files a b s t =
-    let trees : s.trees ≡ t.trees = one_trees 0 files s.trees t.trees s.are_trees t.are_trees in
-    base_is a.signatures b.signatures a.features b.features
-    (s.signed ∙ ap (λ (ts : List FileTree). signatures (definitions ts)) trees ∙ sym t.signed)
-    (one_features 0 files a.features b.features s.tokens t.tokens)
-
 one_types : (files : List (List ℕ)) (base : Option Base) (n m : ℕ) (b c : Option Base) → Types files base n b → Types files base m c
     → (n ≡ m) × (b ≡ c)
 one_types files base n m b c (fresh.typed now k t f) (fresh.typed now' j t' f') =
-    let same : now ≡ now' = one_typed files now now' t t' in
+    let same : now ≡ now' = one_base files now now' t t' in
     (one_fresh now' base k j (subst (λ (x : Base). IsFresh x base k) same f) f', ap Some same)
 one_types files base n m b c (fresh.typed now k t f) (fresh.untyped never) = absurd (never now t)
 one_types files base n m b c (fresh.untyped never) (fresh.typed now k t f) = absurd (never now t)
@@ -239,13 +225,6 @@ one_did input n a h l (more i c g mid ls h' l' d does) m b k r (more j c' g' mid
     let last = one_doing g' (turn mid') ls ls' h' k' l' r' (does_so g' mid' ls h' l' here) (does_so g' mid' ls' k' r' does') in
     (ap (λ (x : List (List ℕ)). x ++ ls) before.0 ∙ ap (λ (x : List (List ℕ)). c' ++ x) last.0, last.1, last.2)
 
-less_or_not : (n m : ℕ) → (n < m) ⊎ (m ≤ n)
-less_or_not n m = decided (nat_lt n m) refl
-  where
-    decided : (b : Bool) → nat_lt n m ≡ b → (n < m) ⊎ (m ≤ n)
-    decided true e = inl (grind (arith, e))
-    decided false e = inr (grind (arith, e))
-
 -- before the last of more commands one of this number was done
 record Passed (input : List ℕ) (n : ℕ) : Type 0 where
   replies : List (List ℕ)
@@ -259,7 +238,7 @@ record Passed (input : List ℕ) (n : ℕ) : Type 0 where
 
 passed : (input : List ℕ) (n m : ℕ) (b : List (List ℕ)) (k : Held) (r : List ℕ) → Did input m b k r → n < m → Passed input n
 passed input n m b k r none less = absurd (omega (arith, less))
-passed input n m b k r (more i c g mid ls k' r' d does) less = by (less_or_not n i) (λ before. passed input n i c g mid d before)
+passed input n m b k r (more i c g mid ls k' r' d does) less = by (cases_lt n i) (λ before. passed input n i c g mid d before)
   where
     by : (n < i) ⊎ (i ≤ n) → (n < i → Passed input n) → Passed input n
     by (inl before) earlier = earlier before
@@ -304,7 +283,7 @@ did_front : (input : List ℕ) (n : ℕ) (a : List (List ℕ)) (h : Held) (l : L
 did_front input n a h l d m b k r none less =
     let same = one_did input n a h l d 0 [] _ input none (omega (arith, less)) in
     ([], sym (append-nil a ∙ same.0))
-did_front input n a h l d m b k r (more i c g mid ls k' r' e does) less = by (less_or_not i n) (λ later. did_front input n a h l d i c g mid e later)
+did_front input n a h l d m b k r (more i c g mid ls k' r' e does) less = by (cases_lt i n) (λ later. did_front input n a h l d i c g mid e later)
   where
     by : (i < n) ⊎ (n ≤ i) → (n ≤ i → (others : List (List ℕ)) × (c ≡ a ++ others)) → (others : List (List ℕ)) × (c ++ ls ≡ a ++ others)
     by (inl last) earlier =
@@ -317,7 +296,7 @@ did_front input n a h l d m b k r (more i c g mid ls k' r' e does) less = by (le
 -- the replies of a part of a session are a front of those of the whole
 pub part_front : (input : List ℕ) (a b : List (List ℕ)) (e : Ending) (l r : List ℕ) → Part input a l → Exchange input b e r
     → (others : List (List ℕ)) × (b ≡ a ++ others)
-part_front input a b e l r x y = by (less_or_not y.count x.count)
+part_front input a b e l r x y = by (cases_lt y.count x.count)
   where
     by : (y.count < x.count) ⊎ (x.count ≤ y.count) → (others : List (List ℕ)) × (b ≡ a ++ others)
     by (inl less) =

@@ -18,7 +18,8 @@ use Rattle.cool_parser.specs.declared.fault.ParseError.{ParseError}
 use Rattle.cool_parser.specs.declared.fault.ParseError.TheVariants.{Fault, Memory}
 use Rattle.cool_parser.specs.declared.fault.ParseFault.{ParseFault}
 use Rattle.cool_session.specs.FeatureTokens.{ParsesFeature}
-use Rattle.cool_session.specs.OneFeature.{class_of_one, HaveOnly, nowhere}
+use Rattle.cool_session.specs.OneFeature.{class_of_one, HaveOnly}
+use Rattle.cool_syntax.specs.Bare.{nowhere}
 
 -- a list that ends with an element is this one alone: nothing stands before it
 alone : {X : Type 0} (xs : List X) (x y : X) → xs ++ x ∷ [] ≡ y ∷ [] → (xs ≡ []) × (x ≡ y)

@@ -24,6 +24,8 @@ use Rattle.cool_session.specs.NewFeatures.{runs_seen}
 use Rattle.cool_session.specs.Signatures.{OfMethod, OfAttribute, feature_signature, parent_name, signatures}
 use Rattle.cool_session.proofs.ChecksAfterEdits.{member_features}
 use Rattle.cool_session.proofs.TypedFiles.{are_features}
+use Rattle.cool_classes.proofs.SwappedBodies.{all_alike_self}
+use Rattle.cool_session.proofs.DefinitionsKept.{features_same}
 
 -- The signatures of a table
 
@@ -45,37 +47,13 @@ signatures_seen p (d ∷ ds) (c ∷ cs) object ((named, features, parent), hs) =
 
 -- Alike classes
 
-declares_itself : (x : Feature) → DeclareSame x x
-declares_itself (Method m) = (refl, refl, refl, refl)
-declares_itself (Attribute a) = (refl, refl)
-
-all_declare : (xs : List Feature) → AllDeclareSame xs xs
-all_declare [] = tt
-all_declare (x ∷ xs) = (declares_itself x, all_declare xs)
-
-all_alike : (p : List Class) → AreAllAlike p p
-all_alike [] = tt
-all_alike (d ∷ p) = ((refl, refl, all_declare d.features), all_alike p)
-
-feature_alike : (x y : Feature) → DeclareSame x y → feature_signature y ≡ feature_signature x
-feature_alike (Method m) (Method n) (name, types, result, names) = λ i. OfMethod (name i) (types i) (result i)
-feature_alike (Method m) (Attribute b) h = absurd h
-feature_alike (Attribute a) (Method n) h = absurd h
-feature_alike (Attribute a) (Attribute b) (name, type) = λ i. OfAttribute (name i) (type i)
-
-features_alike : (xs ys : List Feature) → AllDeclareSame xs ys → map feature_signature ys ≡ map feature_signature xs
-features_alike [] [] h = refl
-features_alike [] (y ∷ ys) h = absurd h
-features_alike (x ∷ xs) [] h = absurd h
-features_alike (x ∷ xs) (y ∷ ys) (h, hs) = λ i. feature_alike x y h i ∷ features_alike xs ys hs i
-
 -- they are seen to be the same
 pub views_alike : (q p : List Class) → AreAllAlike q p → views p ≡ views q
 views_alike [] [] h = refl
 views_alike [] (e ∷ p) h = absurd h
 views_alike (d ∷ q) [] h = absurd h
 views_alike (d ∷ q) (e ∷ p) ((name, parent, features), hs) =
-    λ i. record { name = name i; parent = parent i; features = features_alike d.features e.features features i } ∷ views_alike q p hs i
+    λ i. record { name = name i; parent = parent i; features = features_same d.features e.features features i } ∷ views_alike q p hs i
 
 pub views_read : (files : List (List ℕ)) (ls : List Lexed) (p : List Class) (h : IsRead files ls p)
     → views p ≡ views (classes_meant (definitions h.trees))
@@ -95,7 +73,7 @@ module _ (files : List (List ℕ)) (u : Untyped) (h : IsUntyped files u) where
     are_trees = are_trees 0 files h.trees (files_whole files u.lexed.items h.trees h.lexed h.parsed);
     classes = h.classes;
     features = h.features;
-    alike = subst (AreAllAlike (classes_meant (definitions h.trees))) (sym h.meant) (all_alike (classes_meant (definitions h.trees)));
+    alike = subst (AreAllAlike (classes_meant (definitions h.trees))) (sym h.meant) (all_alike_self (classes_meant (definitions h.trees)));
     signed = signed;
   }
 

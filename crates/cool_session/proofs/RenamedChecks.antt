@@ -17,12 +17,12 @@ use Rattle.cool_classes.specs.Features.{formals_of, result_of}
 use Rattle.cool_rules.specs.Conformance.{class_of}
 use Rattle.cool_rules.specs.Rules.{join_in, type_of_name, type_meant, method_of, is_among, same_type}
 use Rattle.cool_rules.specs.Scopes.{Binding, found}
-use Rattle.cool_rules.specs.Typing.{has_values}
+use Rattle.cool_rules.specs.Typing.{has_values, object_type, int_type, bool_type}
 use Rattle.cool_check.specs.declared.fault.TypeFault.{TypeFault}
 use Rattle.cool_check.specs.declared.fault.TypeKind.{TypeKind}
 use Rattle.cool_check.specs.declared.fault.TypeKind.TheVariants.{E2, E3, E5, E8, E9, E10, E13, E14, E15, E16, E17}
 use Rattle.cool_check.specs.Contexts.{Context}
-use Rattle.cool_check.specs.FirstFaults.{Checked, and_then, expect, refuse, object, int, bool, is_self, bind, conform, or_unknown, name_checked, assigned, or_no_type, named, static_among, static_class, misfit, resulting, or_misfit, called_with, call_checked, initialized, bound_type, branch_among, branch_class, joined, compared, checked, all_checked, last_checked, maybe_checked, cases_checked}
+use Rattle.cool_check.specs.FirstFaults.{Checked, and_then, expect, refuse, is_self, bind, conform, or_unknown, name_checked, assigned, or_no_type, named, static_among, static_class, misfit, resulting, or_misfit, called_with, call_checked, initialized, bound_type, branch_among, branch_class, joined, compared, checked, all_checked, last_checked, maybe_checked, cases_checked}
 use Rattle.cool_session.proofs.RenamedTrees.{renamed_type, renamed_tree, renamed_trees, renamed_maybe, renamed_cases}
 
 abbrev pub renamed_fault : (Place → Place) → TypeFault → TypeFault
@@ -108,13 +108,13 @@ module _ (f : Place → Place) where
 
   compared_renamed : (o : CompareOp) (a b : Ty) (at : Place) → compared o a b (f at) ≡ renamed_result f (compared o a b at)
   compared_renamed op.Less a b at =
-      expect_renamed f (same_type a int) (same_type a int) E14 at (f at) _ _ refl refl
-      (expect_renamed f (same_type b int) (same_type b int) E14 at (f at) (Ok bool) (Ok bool) refl refl refl)
+      expect_renamed f (same_type a int_type) (same_type a int_type) E14 at (f at) _ _ refl refl
+      (expect_renamed f (same_type b int_type) (same_type b int_type) E14 at (f at) (Ok bool_type) (Ok bool_type) refl refl refl)
   compared_renamed op.LessEqual a b at =
-      expect_renamed f (same_type a int) (same_type a int) E14 at (f at) _ _ refl refl
-      (expect_renamed f (same_type b int) (same_type b int) E14 at (f at) (Ok bool) (Ok bool) refl refl refl)
+      expect_renamed f (same_type a int_type) (same_type a int_type) E14 at (f at) _ _ refl refl
+      (expect_renamed f (same_type b int_type) (same_type b int_type) E14 at (f at) (Ok bool_type) (Ok bool_type) refl refl refl)
   compared_renamed op.Equal a b at =
-      if_renamed f (not (same_type a b) && (has_values a || has_values b)) (refuse E15 at) (refuse E15 (f at)) (Ok bool) (Ok bool) refl refl
+      if_renamed f (not (same_type a b) && (has_values a || has_values b)) (refuse E15 at) (refuse E15 (f at)) (Ok bool_type) (Ok bool_type) refl refl
 
   module _ (s s' : Context) (agree : Agree s s') where
     name_renamed : (o : List Binding) (at : Place) (name : List ℕ) → name_checked s' o (f at) name ≡ renamed_result f (name_checked s o at name)
@@ -218,14 +218,14 @@ module _ (f : Place → Place) where
           then_renamed f (checked s o t) (checked s' o (renamed_tree f t)) _ _ (checked_renamed t o)
           (λ a. then_renamed f (checked s o y) (checked s' o (renamed_tree f y)) _ _ (checked_renamed y o)
           (λ b. then_renamed f (checked s o n) (checked s' o (renamed_tree f n)) _ _ (checked_renamed n o)
-          (λ c. expect_renamed f (same_type a bool) (same_type a bool) E9 (place_of t) (place_of (renamed_tree f t)) _ _ refl (place_renamed t)
+          (λ c. expect_renamed f (same_type a bool_type) (same_type a bool_type) E9 (place_of t) (place_of (renamed_tree f t)) _ _ refl (place_renamed t)
           (ap Ok (agree.joins b c)))))
       checked_renamed (trees.While at t b) o =
           then_renamed f (checked s o t) (checked s' o (renamed_tree f t)) _ _ (checked_renamed t o)
           (λ a. then_renamed f (checked s o b) (checked s' o (renamed_tree f b)) _ _ (checked_renamed b o)
-          (λ c. expect_renamed f (same_type a bool) (same_type a bool) E9 (place_of t) (place_of (renamed_tree f t)) (Ok object) (Ok object)
+          (λ c. expect_renamed f (same_type a bool_type) (same_type a bool_type) E9 (place_of t) (place_of (renamed_tree f t)) (Ok object_type) (Ok object_type)
           refl (place_renamed t) refl))
-      checked_renamed (trees.Block at ts) o = last_renamed ts o object
+      checked_renamed (trees.Block at ts) o = last_renamed ts o object_type
       checked_renamed (trees.Let at name declared init t) o =
           then_renamed f (maybe_checked s o init) (maybe_checked s' o (renamed_maybe f init)) _ _ (maybe_renamed init o)
           (λ given. then_renamed f (bound_type s at name declared given) (bound_type s' (f at) name (renamed_type f declared) given) _ _
@@ -238,17 +238,17 @@ module _ (f : Place → Place) where
       checked_renamed (trees.Arith at op a b) o =
           then_renamed f (checked s o a) (checked s' o (renamed_tree f a)) _ _ (checked_renamed a o)
           (λ x. then_renamed f (checked s o b) (checked s' o (renamed_tree f b)) _ _ (checked_renamed b o)
-          (λ y. expect_renamed f (same_type x int) (same_type x int) E14 at (f at) _ _ refl refl
-          (expect_renamed f (same_type y int) (same_type y int) E14 at (f at) (Ok int) (Ok int) refl refl refl)))
+          (λ y. expect_renamed f (same_type x int_type) (same_type x int_type) E14 at (f at) _ _ refl refl
+          (expect_renamed f (same_type y int_type) (same_type y int_type) E14 at (f at) (Ok int_type) (Ok int_type) refl refl refl)))
       checked_renamed (trees.Neg at t) o =
           then_renamed f (checked s o t) (checked s' o (renamed_tree f t)) _ _ (checked_renamed t o)
-          (λ a. expect_renamed f (same_type a int) (same_type a int) E14 at (f at) (Ok int) (Ok int) refl refl refl)
+          (λ a. expect_renamed f (same_type a int_type) (same_type a int_type) E14 at (f at) (Ok int_type) (Ok int_type) refl refl refl)
       checked_renamed (trees.Compare at op a b) o =
           then_renamed f (checked s o a) (checked s' o (renamed_tree f a)) _ _ (checked_renamed a o)
           (λ x. then_renamed f (checked s o b) (checked s' o (renamed_tree f b)) _ _ (checked_renamed b o) (λ y. compared_renamed op x y at))
       checked_renamed (trees.Not at t) o =
           then_renamed f (checked s o t) (checked s' o (renamed_tree f t)) _ _ (checked_renamed t o)
-          (λ a. expect_renamed f (same_type a bool) (same_type a bool) E16 at (f at) (Ok bool) (Ok bool) refl refl refl)
+          (λ a. expect_renamed f (same_type a bool_type) (same_type a bool_type) E16 at (f at) (Ok bool_type) (Ok bool_type) refl refl refl)
       checked_renamed (trees.Int at value) o = refl
       checked_renamed (trees.Str at bytes) o = refl
       checked_renamed (trees.Bool at value) o = refl

@@ -19,17 +19,10 @@ use Rattle.cool_session.proofs.RunsOfFeatures.{feature_runs, file_runs, all_join
 use Rattle.cool_session.proofs.BoundsOfFeatures.{feature_bounds, file_bounds}
 use Rattle.cool_session.proofs.DifferingLists.{Differ, differ_left, differ_right, differ_last, differ_as, get_left, get_right, get_at}
 use Rattle.cool_session.proofs.DefinitionsKept.{DefineSame, AllDefineSame}
+use Rattle.std.proofs.lemmas.Bool.{cases_lt}
+use Rattle.cool_classes.proofs.SwappedBodies.{declare_self, all_declare_self}
 
 -- Features of a class
-
-less_or_not : (n k : ℕ) → (n < k) ⊎ (k ≤ n)
-less_or_not n zero = inr (omega arith)
-less_or_not zero (suc k) = inl (omega arith)
-less_or_not (suc n) (suc k) =
-    elim (less_or_not n k) as (λ _. (suc n < suc k) ⊎ (suc k ≤ suc n)) [
-      | inl h ↦ inl (omega (arith, h))
-      | inr h ↦ inr (omega (arith, h))
-    ]
 
 abbrev pub feature_count : Features → ℕ
 feature_count NoFeature = 0
@@ -104,7 +97,7 @@ changed_last before e new n size =
 
 pub features_hold : (fs : Features) (n : ℕ) → n < feature_count fs → Holds fs n
 features_hold NoFeature n h = absurd (omega (arith, h))
-features_hold (Another before e) n h = by (features_hold before n) (less_or_not n (feature_count before))
+features_hold (Another before e) n h = by (features_hold before n) (cases_lt n (feature_count before))
   where
     by : (n < feature_count before → Holds before n) → (n < feature_count before) ⊎ (feature_count before ≤ n) → Holds (Another before e) n
     by there (inl less) =
@@ -164,17 +157,9 @@ file_plain_count (Class before h fs rbrace semi) =
 
 -- Definitions
 
-pub declares_itself : (x : Feature) → DeclareSame x x
-declares_itself (feature.Method m) = (refl, refl, refl, refl)
-declares_itself (feature.Attribute a) = (refl, refl)
-
-all_declare_themselves : (xs : List Feature) → AllDeclareSame xs xs
-all_declare_themselves [] = tt
-all_declare_themselves (x ∷ xs) = (declares_itself x, all_declare_themselves xs)
-
 pub all_define_themselves : (ds : List ClassDef) → AllDefineSame ds ds
 all_define_themselves [] = tt
-all_define_themselves (d ∷ ds) = ((refl, refl, all_declare_themselves d.features), all_define_themselves ds)
+all_define_themselves (d ∷ ds) = ((refl, refl, all_declare_self d.features), all_define_themselves ds)
 
 define_joined : (ds ds' : List ClassDef) (d d' : ClassDef) → AllDefineSame ds ds' → DefineSame d d'
     → AllDefineSame (ds ++ d ∷ []) (ds' ++ d' ∷ [])
@@ -185,8 +170,8 @@ define_joined (e ∷ ds) (e' ∷ ds') d d' (h, hs) same = (h, define_joined ds d
 
 middle_declares : (before after : List Feature) (x y : Feature) → DeclareSame x y
     → AllDeclareSame (before ++ x ∷ after) (before ++ y ∷ after)
-middle_declares [] after x y same = (same, all_declare_themselves after)
-middle_declares (z ∷ before) after x y same = (declares_itself z, middle_declares before after x y same)
+middle_declares [] after x y same = (same, all_declare_self after)
+middle_declares (z ∷ before) after x y same = (declare_self z, middle_declares before after x y same)
 
 differ_declares : (n : ℕ) (old now : List Feature) (x y : Feature) → Differ Feature n old x now y → DeclareSame x y → AllDeclareSame old now
 differ_declares n old now x y h same =
@@ -242,7 +227,7 @@ module _ (before : Classes) (h : Heading) (fs : Features) (rbrace semi : Place) 
             (differ_left n (features_of_all (plain_file before)) (features_of_all (plain_file c.now)) (plain_features fs)
             (plain_feature old) (plain_feature new) c.plain);
         same = λ s. define_joined (plain_file before) (plain_file c.now) (plain_class h fs) (plain_class h fs) (c.same s)
-            (refl, refl, all_declare_themselves (plain_features fs));
+            (refl, refl, all_declare_self (plain_features fs));
       }
 
   changed_here : (m n : ℕ) (front back : List Token) (old new : ConcreteFeature) → file_count before + m ≡ n
@@ -302,7 +287,7 @@ module _ (before : Classes) (h : Heading) (fs : Features) (rbrace semi : Place) 
 
 pub file_holds : (f : Classes) (n : ℕ) → n < file_count f → FileHolds f n
 file_holds NoClass n less = absurd (omega (arith, less))
-file_holds (Class before h fs rbrace semi) n less = by (file_holds before n) (less_or_not n (file_count before))
+file_holds (Class before h fs rbrace semi) n less = by (file_holds before n) (cases_lt n (file_count before))
   where
     by : (n < file_count before → FileHolds before n) → (n < file_count before) ⊎ (file_count before ≤ n)
         → FileHolds (Class before h fs rbrace semi) n

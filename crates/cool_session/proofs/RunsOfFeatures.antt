@@ -19,6 +19,7 @@ use Rattle.cool_syntax.specs.Readings.{word, symbol, object, type, operator_sign
 use Rattle.cool_syntax.specs.Shapes.{AreShapedFeatures, IsShapedFile}
 use Rattle.cool_syntax.specs.TokenFacts.{AreRising}
 use Rattle.cool_session.specs.FeatureTokens.{AreFeatures, run_ended, runs_from, runs_in, features_of_all}
+use Rattle.std.proofs.lemmas.Bool.{ne_eqb}
 
 -- Walks over tokens
 
@@ -62,14 +63,11 @@ walks_lead d e (t ∷ ts) (on, more) run rest =
 leads_of : (d e : ℕ) (ts : List Token) → Passes d ts e → (run : List Token) → Leads d run ts e (run ++ ts) []
 leads_of d e ts h = walks_lead d e ts h.walks
 
-not_same : (a b : ℕ) → a ≢ b → nat_eq a b ≡ false
-not_same a b h = grind (arith, eqb_tells a b, h)
-
 not_zero : (d : ℕ) → 1 ≤ d → nat_eq d 0 ≡ false
-not_zero d h = not_same d 0 (λ e. absurd (omega (arith, h, e)))
+not_zero d h = ne_eqb d 0 (λ e. absurd (omega (arith, h, e)))
 
 not_one : (d : ℕ) → 1 ≤ d → nat_eq (d + 1) 1 ≡ false
-not_one d h = not_same (d + 1) 1 (λ e. absurd (omega (arith, h, e)))
+not_one d h = ne_eqb (d + 1) 1 (λ e. absurd (omega (arith, h, e)))
 
 -- Expressions
 

@@ -80,9 +80,3 @@ module _ (p : List Class) (c : ClassId) (k : ℕ) (x y : Feature) (there : slice
         subst (λ (r : List Class). slice_get (features_of r c) k ≡ Some z) now there' in
         sym (get_or_from_slice_get (features_of (with_feature_at p c k x) c) k x x feature_now)
         ∙ get_or_from_slice_get (features_of (with_feature_at p c k x) c) k z x found
-
--- there is a feature at each index
-pub feature_there : (xs : List Feature) (k : ℕ) → k < length xs → (x : Feature) × (slice_get xs k ≡ Some x)
-feature_there [] k less = absurd (omega (arith, less))
-feature_there (x ∷ xs) zero less = (x, refl)
-feature_there (x ∷ xs) (suc k) less = let fewer : k < length xs = omega (arith, less) in feature_there xs k fewer

@@ -6,10 +6,7 @@ use Rattle.std.proofs.lemmas.Bool.{and_parts}
 use Rattle.std.proofs.lemmas.List.Folds.{list_all-append}
 use Rattle.cool_session.specs.Exchanges.{Line, NoLine, with_first, head_within, head}
 use Rattle.cool_session.specs.Obeying.{IsPartOfLine}
-
-pub end_length : (xs : List ℕ) (x : ℕ) → length (xs ++ x ∷ []) ≡ length xs + 1
-end_length [] x = refl
-end_length (y ∷ xs) x = omega (arith, end_length xs x)
+use Rattle.std.proofs.lemmas.List.{length_push}
 
 -- a byte was taken after a part
 pub part_and_byte : (input part left : List ℕ) (byte : ℕ) → input ≡ part ++ byte ∷ left → input ≡ (part ++ byte ∷ []) ++ left
@@ -89,7 +86,7 @@ longer_part input part left byte is short whole other = (
   part ++ byte ∷ [],
   record {
     is = part_and_byte input part left byte is;
-    short = omega (arith, end_length part byte, short);
+    short = omega (arith, length_push part byte, short);
     no_newline = still_no_newline part byte whole other;
   },
 )

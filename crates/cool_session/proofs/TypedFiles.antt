@@ -26,7 +26,7 @@ use Rattle.cool_faults.specs.Phases.{IsLexed, IsLexical}
 use Rattle.cool_faults.specs.Untyped.{IsEarly, IsRefusedEarly}
 use Rattle.cool_faults.specs.Verdicts.{IsPhase, of_lexer, of_parser, of_classes, of_features, of_typing, IsFaultList, faultless, faulty}
 use Rattle.cool_faults.proofs.FindingsInARow.{AllFound, all_found}
-use Rattle.cool_faults.proofs.OneVerdict.{one_trees, no_lexical, no_syntactic}
+use Rattle.cool_faults.proofs.OneVerdict.{one_trees, no_lexical, no_syntactic, none_moved}
 use Rattle.cool_session.specs.Bases.{tokens_of, seen}
 use Rattle.cool_session.specs.FeatureTokens.{AreFeatures, kinds, run_ended, runs_from, runs_in, runs_of, features_of_all}
 use Rattle.cool_session.specs.Fresh.{Base, HaveFeatures, AreTyped}
@@ -113,10 +113,6 @@ are_typed files u h = record {
 }
 
 -- Files that are refused before do not come to be typed
-
-none_moved : {X : Type 0} (xs : List X) → IsPermutation [] xs → xs ≡ []
-none_moved [] h = refl
-none_moved (x ∷ xs) h = absurd (omega (arith, length_permutation [] (x ∷ xs) h))
 
 none_early : (fs : List TypeFault) (faults : List Fault) → faults ≢ [] → AllByRecursion IsEarly faults → IsPermutation (map Typing fs) faults → ⊥
 none_early [] faults some early moved = some (none_moved faults moved)

@@ -2,6 +2,7 @@
 use Rattle.std.specs.Prelude.{◌≡◌, refl, ℕ, ◌==◌, ◌&&◌, nat_le, if◌then◌else◌, List, [], ◌∷◌, length, codes, bytes_eq, Bool, Option, Some, None}
 use Rattle.std.specs.List.{list_all, slice_split}
 use Rattle.cool_syntax.specs.Lexemes.{is_digit, value}
+use Rattle.lists.specs.Words.{words_in}
 
 pub data Command : Type 0 where
   -- set the file of this name to the next so many bytes
@@ -10,10 +11,6 @@ pub data Command : Type 0 where
   Drop : List ℕ → Command
   Check : Command
   Quit : Command
-
--- the words of a line, which is parted at each space
-abbrev pub words_in : List ℕ → List (List ℕ)
-words_in = slice_split (λ b. b == 32)
 
 -- a name: 1 to 255 bytes from 33 to 126
 abbrev pub is_name : List ℕ → Bool

@@ -7,10 +7,7 @@ use Rattle.cool_syntax.specs.declared.token.Sign.TheVariants as sign
 use Rattle.cool_syntax.specs.declared.file_tree.ClassDef.{ClassDef}
 use Rattle.cool_syntax.specs.declared.file_tree.Feature.{Feature}
 use Rattle.cool_syntax.specs.Readings.{symbol, type, word}
-
--- a place for tokens that stand in no file
-abbrev pub nowhere : Place
-nowhere = record { file = 0; line = 0; byte = 0 }
+use Rattle.cool_syntax.specs.Bare.{nowhere}
 
 -- the tokens of a class without a name and of one feature of these tokens
 abbrev pub class_of_one : List Token → List Token

@@ -5,7 +5,8 @@ ghost use Rattle.cool_syntax.specs.declared.TheConstants.{MOST_SOURCE_BYTES};
 ghost use Rattle.cool_syntax.specs.declared.file_tree.ClassDef as syntax_class;
 ghost use Rattle.cool_syntax.specs.declared.file_tree.Feature as syntax;
 ghost use Rattle.cool_session.specs.FeatureTokens.{ParsesFeature};
-ghost use Rattle.cool_session.specs.OneFeature.{HaveOnly, class_of_one, nowhere};
+ghost use Rattle.cool_session.specs.OneFeature.{HaveOnly, class_of_one};
+ghost use Rattle.cool_syntax.specs.Bare.{nowhere};
 
 use cool_parser::{ParseError, parse};
 use cool_syntax::{ClassDef, Feature, Key, MOST_SOURCE_BYTES, Name, Place, Sign, Token, TokenKind};

@@ -5,10 +5,10 @@ use Rattle.mips_isa.specs.ImageBounds.{ImageParts}
 use Rattle.mips_isa.specs.Calls.{Outcome, Running, Exited, Trapped}
 use Rattle.mips_isa.specs.Run.{run_image}
 use Rattle.cool_classes.specs.Chains.{Class}
-use Rattle.cool_runtime.specs.Reaches.{IsPrefix, IsSuffix}
-use Rattle.cool_runtime.specs.Contents.{AreBytes}
 use Rattle.cool_meaning.specs.SourceRun.{End, Done, Failed, GoesOn, IsStuck, Run, run}
 use Rattle.cool_meaning.specs.Laws.{IsOver}
+use Rattle.lists.specs.Prefixes.{IsPrefix, IsSuffix}
+use Rattle.lists.specs.Bytes.{AreBytes}
 
 -- the bytes of heap and stack, and the number of instructions
 pub record Limits : Type 0 where

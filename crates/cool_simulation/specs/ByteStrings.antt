@@ -6,7 +6,7 @@ use Rattle.cool_syntax.specs.declared.file_tree.Feature.TheVariants.{Method, Att
 use Rattle.cool_syntax.specs.Tree.{Tree, Trees, MaybeTree, Cases, Last, More, Without, With, NoCase, CaseOf}
 use Rattle.cool_syntax.specs.Tree as trees
 use Rattle.std.specs.List.{AllByRecursion}
-use Rattle.cool_runtime.specs.Contents.{AreBytes}
+use Rattle.lists.specs.Bytes.{AreBytes}
 
 -- each string constant of an expression has numbers below 256
 abbrev mutual

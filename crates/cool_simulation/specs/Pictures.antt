@@ -6,13 +6,14 @@ use Rattle.cool_classes.specs.declared.class_id.ClassId.{ClassId}
 use Rattle.cool_classes.specs.Chains.{Class}
 use Rattle.cool_classes.specs.LawfulTables.{MayInherit}
 use Rattle.cool_runtime.specs.Reaches.{World}
-use Rattle.cool_runtime.specs.Contents.{HeadAt, IntAt, BoolAt, StringAt, AreBytes, words_of_bytes}
+use Rattle.cool_runtime.specs.Contents.{HeadAt, IntAt, BoolAt, StringAt, words_of_bytes}
 use Rattle.cool_runtime.specs.Machines.{Console}
 use Rattle.cool_layout.specs.Preorder.{tag}
 use Rattle.cool_layout.specs.Labels.{dispatch_table}
 use Rattle.cool_meaning.specs.Values.{Value, Void, Int, Bool, Str, Obj, State}
 use Rattle.cool_meaning.specs.Lookups.{attributes}
 use Rattle.cool_meaning.specs.Numbers.{fits}
+use Rattle.lists.specs.Bytes.{AreBytes}
 
 -- Where a run's objects and variables are. An identity has the address, the class and the locations of its object; a location has a
 -- home, the address of its word, or 0 where no name reaches it any more; the words that are homes are marked (by their address over 4).

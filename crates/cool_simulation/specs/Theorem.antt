@@ -10,7 +10,7 @@ use Rattle.cool_classes.specs.Chains.{Class}
 use Rattle.cool_faults.specs.Verdicts.{IsAccepted}
 use Rattle.cool_meaning.specs.Evaluation.{calls_within}
 use Rattle.cool_meaning.specs.SourceRun.{GoesOn, Run, run}
-use Rattle.cool_runtime.specs.Contents.{AreBytes, IsText}
+use Rattle.cool_runtime.specs.Contents.{IsText}
 use Rattle.cool_emit.specs.FileNames.{AreShortNames}
 use Rattle.cool_emit.specs.Programs.{IsBuildable, program_constants, program_lines}
 use Rattle.cool_simulation.specs.Accord.{AreLimits, Limits, Means}
@@ -18,6 +18,7 @@ use Rattle.cool_simulation.specs.Loadings.{IsLoaded, Loading}
 use Rattle.cool_simulation.specs.MainRun.{AlwaysRuns}
 use Rattle.cool_simulation.specs.Simulation.{AllCallsCorrect}
 use Rattle.cool_simulation.specs.WrittenPrograms.{IsWritten}
+use Rattle.lists.specs.Bytes.{AreBytes}
 
 -- names of files: short texts
 abbrev pub AreFileNames : List (List ℕ) → Type 0

@@ -21,6 +21,7 @@ use Rattle.mips_asm.specs.Completing.{segment_after_need}
 use Rattle.mips_asm.specs.TextWords.{words_needed}
 use Rattle.mips_asm.specs.SecondPasses.{Assembled, filled}
 use Rattle.mips_asm.specs.Parts.{instruction_fault, statement_fault, target_fault, found, words_of_statement, bytes_of_statement, zeros}
+use Rattle.std.proofs.lemmas.Bool.{or_parts, ltb-false}
 
 -- How much a statement adds
 
@@ -186,17 +187,10 @@ last_test false true c e = cc
 last_test false false true e = cc
 last_test false false false e = refl
 
-neither : (a b : Bool) → (a || b) ≡ false → (a ≡ false) × (b ≡ false)
-neither true b e = cc
-neither false b e = (refl, e)
-
-at_most : (m n : ℕ) → nat_lt m n ≡ false → n ≤ m
-at_most m n e = grind arith
-
 small : (p : Position) → is_too_large p ≡ false → (p.words ≤ 66060288) × (p.bytes ≤ 268435456)
 small p e =
-    let both = neither (nat_lt 66060288 p.words) (nat_lt 268435456 p.bytes) e in
-    (at_most 66060288 p.words both.0, at_most 268435456 p.bytes both.1)
+    let both = or_parts (nat_lt 66060288 p.words) (nat_lt 268435456 p.bytes) e in
+    (ltb-false 66060288 p.words both.0, ltb-false 268435456 p.bytes both.1)
 
 -- Lines, one after another
 

@@ -11,6 +11,7 @@ use Rattle.mips_asm.specs.Passes.{names_of, marked, mark_in, item_in, items_from
 use Rattle.mips_asm.specs.FirstPasses.{Passed, IsPassed, HasTaken}
 use Rattle.mips_asm.proofs.LinePlaces.{fine_here, fits_after}
 use Rattle.std.proofs.lemmas.List.{map-append}
+use Rattle.lists.proofs.Options.{none_is}
 
 -- the labels of lines, one after another
 abbrev pub labels_of : List Line → List Name
@@ -49,7 +50,7 @@ pass_on seen p number (line ∷ rest) more fine =
 
 -- positions, items and tables of lines in two parts
 
-after_both : (p : Position) (lines more : List Line) → after_lines p (lines ++ more) ≡ after_lines (after_lines p lines) more
+pub after_both : (p : Position) (lines more : List Line) → after_lines p (lines ++ more) ≡ after_lines (after_lines p lines) more
 after_both p [] more = refl
 after_both p (line ∷ rest) more = after_both (after_line line p) rest more
 
@@ -164,10 +165,6 @@ taking_end pass taken lines t = subst (HasTaken pass) (sym (append-nil t.0) ∙ 
 
 -- What a line makes of the pass
 
-pub none_at : (o : Option AsmFault) → is_some o ≡ false → o ≡ None
-none_at None h = refl
-none_at (Some fault) h = cc
-
 -- lines without a fault were passed
 pub passed : (pass : FirstPass) (taken : List Line) → pass.fault ≡ None → HasTaken pass taken → Passed pass taken
 passed pass taken none h = subst (λ (fault : Option AsmFault). IsPassed fault pass taken) none h
@@ -192,8 +189,8 @@ pub taken_more : (old new : FirstPass) (taken : List Line) (line : Line) → is_
     → position_of new.position ≡ after_line line (position_of old.position) → new.lines ≡ old.lines + 1
     → HasTaken old taken → HasTaken new (taken ++ line ∷ [])
 taken_more old new taken line none same fine table items position number h =
-    subst (λ (fault : Option AsmFault). IsPassed fault new (taken ++ line ∷ [])) (sym (same ∙ none_at old.fault none))
-    (passed_more old new taken line (passed old taken (none_at old.fault none) h) fine table items position number)
+    subst (λ (fault : Option AsmFault). IsPassed fault new (taken ++ line ∷ [])) (sym (same ∙ none_is old.fault none))
+    (passed_more old new taken line (passed old taken (none_is old.fault none) h) fine table items position number)
 
 -- the fault of lines
 pub fault_of_taken : (pass : FirstPass) (taken : List Line) (fault : AsmFault) → pass.fault ≡ Some fault → HasTaken pass taken

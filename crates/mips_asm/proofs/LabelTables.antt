@@ -13,10 +13,8 @@ use Rattle.mips_isa.specs.Lines.{Name}
 use Rattle.mips_isa.specs.Assembly.{has, any_twice}
 use Rattle.mips_asm.specs.declared.mark.Mark.{Mark}
 use Rattle.mips_asm.specs.Passes.{shown, names_of, marked}
-
--- names are compared byte by byte, as lists
-abbrev pub same_name : Vec ℕ → Vec ℕ → Bool
-same_name x y = bytes_eq x.items y.items
+use Rattle.lists.proofs.EqualBytes.{same_key}
+use Rattle.lists.proofs.TruthValues.{or_false}
 
 -- a look-up finds a name where the table has it
 pub found_as_has : (name : Name) (entries : List (Vec ℕ × Mark)) → is_some (lookup (λ key. bytes_eq name key.items) entries) ≡ has (names_of (shown entries)) name
@@ -37,10 +35,6 @@ any_twice_same s t (label ∷ rest) same =
     ap (λ b. b || any_twice (label ∷ s) rest) here ∙ ap (λ b. has t label || b) next
 
 -- a name is added in front, or at the end
-or_false : (b : Bool) → (b || false) ≡ b
-or_false true = refl
-or_false false = refl
-
 pub has_after : (s : List Name) (label q : Name) → has (label ∷ s) q ≡ has (s ++ label ∷ []) q
 has_after s label q =
     or_comm (bytes_eq q label) (has s q) ∙ ap (λ b. has s q || b) (sym (or_false (bytes_eq q label))) ∙ sym (list_any-append (bytes_eq q) s (label ∷ []))
@@ -78,9 +72,9 @@ defining_end old now labels mark d = (sym d.twice, sym (append-nil now) ∙ d.en
 
 -- what a table has after a new name is put into it
 pub shown_after : {S : Type 0} (m : IndexMap (Vec ℕ) Mark S) (key : Vec ℕ) (mark : Mark)
-    → get same_name m key ≡ None → shown (insert_entry same_name m.entries key mark) ≡ shown m.entries ++ (key.items, mark) ∷ []
+    → get same_key m key ≡ None → shown (insert_entry same_key m.entries key mark) ≡ shown m.entries ++ (key.items, mark) ∷ []
 shown_after m key mark none =
-    ap shown (insert_entry-new same_name m key mark none) ∙ map-append (λ (entry : Vec ℕ × Mark). (entry.0.items, entry.1)) m.entries ((key, mark) ∷ [])
+    ap shown (insert_entry-new same_key m key mark none) ∙ map-append (λ (entry : Vec ℕ × Mark). (entry.0.items, entry.1)) m.entries ((key, mark) ∷ [])
 
 -- a look-up in the table sees the names alone
 pub shown_lookup : (name : Name) (entries : List (Vec ℕ × Mark)) → lookup (λ key. bytes_eq name key.items) entries ≡ lookup (bytes_eq name) (shown entries)

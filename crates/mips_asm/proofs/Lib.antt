@@ -1,7 +1,7 @@
 mod SmallUnits
 mod LabelTables
-pub mod LoopRests
-mod FirstPasses
+mod LoopRests
+pub mod FirstPasses
 pub mod LinePlaces
 mod PlacesOfMarks
 mod LinesLeft
@@ -10,5 +10,5 @@ pub mod Targets
 mod ItemsLeft
 pub mod Assembled
 pub mod AllAssembled
-mod WordsOfText
+pub mod WordsOfText
 mod LabelsOfText

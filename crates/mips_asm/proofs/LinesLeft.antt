@@ -21,10 +21,7 @@ use Rattle.mips_asm.specs.SecondPasses.{Assembled, LeftBy, IsLeft, HasLeft, Begi
 use Rattle.mips_asm.proofs.Assembled.{none_assembled, one_further}
 use Rattle.mips_asm.proofs.AllAssembled.{fault_at_line}
 use Rattle.mips_asm.proofs.PlacesOfMarks.{completed_fault}
-
-none_at : (o : Option AsmFault) → is_some o ≡ false → o ≡ None
-none_at None h = refl
-none_at (Some fault) h = cc
+use Rattle.lists.proofs.Options.{none_is}
 
 -- what is left without a fault
 pub left_here : (place : Name → Option Place) (all rest : List Line) (a : Assembly) → a.fault ≡ None → IsLeft place all rest a
@@ -34,7 +31,7 @@ left_here place all rest a none left = subst (λ (fault : Option AsmFault). Left
 -- no fault, by a test
 pub left_now : (place : Name → Option Place) (all rest : List Line) (a : Assembly) → is_some a.fault ≡ false → IsLeft place all rest a
     → Assembled place all rest a.number a.output.text.items a.output.bytes.items a.output.segment
-left_now place all rest a none left = left_here place all rest a (none_at a.fault none) left
+left_now place all rest a none left = left_here place all rest a (none_is a.fault none) left
 
 -- a line after a fault
 pub left_at_fault : (place : Name → Option Place) (all rest : List Line) (line : Line) (a : Assembly) → is_some a.fault ≡ true
@@ -57,7 +54,7 @@ left_more place all rest line old new none same number checked text bytes segmen
     record {
       places = left.places;
       state =
-          subst (λ (fault : Option AsmFault). LeftBy fault place all rest new) (sym (same ∙ none_at old.fault none))
+          subst (λ (fault : Option AsmFault). LeftBy fault place all rest new) (sym (same ∙ none_is old.fault none))
           (subst (λ (n : ℕ). Assembled place all rest n new.output.text.items new.output.bytes.items new.output.segment)
           (sym (number ∙ add-one old.number)) next);
     }

@@ -9,24 +9,6 @@ use borrow.Author.Tests.{ltb-true}
 use denote.Ref.{Bor}
 use Rattle.std.proofs.Math.Seq.{drop-cons}
 
--- the item, and the rest after it
-pub rest_here : {X : Type 0} (xs : List X) (i : ℕ) (x : X) → i < length xs → x ≡ get_or xs i x → drop i xs ≡ x ∷ drop (i + 1) xs
-rest_here {X} xs i x h is =
-    let e : drop i xs ≡ get_or xs i x ∷ drop (suc i) xs = drop-cons xs i x h in
-    let f : suc i ≡ i + 1 = omega arith in
-    e ∙ ap (λ (y : X). y ∷ drop (suc i) xs) (sym is) ∙ ap (λ (j : ℕ). x ∷ drop j xs) f
-
--- a test that fails finds nothing
-pub none_there : {X : Type 0} (o : Option X) → is_some o ≡ false → o ≡ None
-none_there None h = refl
-none_there (Some x) h = absurd (true≢false h)
-
--- within a list the default is not read
-pub get_or_same : {X : Type 0} (xs : List X) (i : ℕ) (d e : X) → i < length xs → get_or xs i d ≡ get_or xs i e
-get_or_same [] i d e h = absurd (omega arith)
-get_or_same (x ∷ xs) zero d e h = refl
-get_or_same (x ∷ xs) (suc i) d e h = let less : i < length xs = omega arith in get_or_same xs i d e less
-
 -- the numbers of the lines from an index on are in their ranges
 ranges_rest : (lines : List declared_line.Line) (k : ℕ) → AreInRange (lines_of lines) → AreInRange (lines_of (drop k lines))
 ranges_rest lines zero h = h

@@ -15,6 +15,7 @@ use Rattle.mips_asm.specs.declared.first_pass.FirstPass.{FirstPass}
 use Rattle.mips_asm.specs.Passes.{after_lines, item_in, items_from, mark_in, marked, table_from, shown, marks_text, is_lacking}
 use Rattle.mips_asm.specs.Places.{LabelParts, item_place, place_at, places_of}
 use Rattle.mips_asm.specs.FirstPasses.{HasTaken, IsPassed, Passed}
+use Rattle.lists.proofs.ItemsAt.{seam_get}
 
 -- a look-up in the labels of a line, and then in others
 marked_lookup : (name : Name) (mark : Mark) (labels : List Name) (more : List (Name × Mark))
@@ -30,10 +31,6 @@ marked_lookup name mark (label ∷ rest) more = by (bytes_eq name label) (has re
     by true b h = refl
     by false b h = h
 
-get_after : {X : Type 0} (xs : List X) (x : X) (more : List X) → slice_get (xs ++ x ∷ more) (length xs) ≡ Some x
-get_after [] x more = refl
-get_after (y ∷ xs) x more = get_after xs x more
-
 -- the address after the data of lines
 abbrev end_of : Position → List Line → ℕ
 end_of p lines = DATA_START + (after_lines p lines).bytes
@@ -41,7 +38,7 @@ end_of p lines = DATA_START + (after_lines p lines).bytes
 -- The item that comes after those before lines is the next one.
 next_there : (front : List ℕ) (p : Position) (lines : List Line)
     → slice_get (front ++ (items_from p lines ++ end_of p lines ∷ [])) (length front) ≡ Some (DATA_START + next_item p lines)
-next_there front p [] = get_after front (DATA_START + p.bytes) []
+next_there front p [] = seam_get front (DATA_START + p.bytes) []
 next_there front p (line ∷ rest) = by (need line.statement) (next_there front (after_line line p) rest)
   where
     by : (n : Need) → slice_get (front ++ (items_from (after_line line p) rest ++ end_of (after_line line p) rest ∷ [])) (length front) ≡ Some (DATA_START + next_item (after_line line p) rest)
@@ -49,7 +46,7 @@ next_there front p (line ∷ rest) = by (need line.statement) (next_there front 
         ≡ Some (DATA_START + item_or n p (next_item (after_line line p) rest))
     by Nothing later = later
     by (Words n) later = later
-    by (Item unit size) later = get_after front (DATA_START + up unit p.bytes) (items_from (after_line line p) rest ++ end_of (after_line line p) rest ∷ [])
+    by (Item unit size) later = seam_get front (DATA_START + up unit p.bytes) (items_from (after_line line p) rest ++ end_of (after_line line p) rest ∷ [])
     by (Switch segment) later = later
     by (Padding unit) later = later
 

@@ -11,6 +11,8 @@ use Rattle.mips_isa.specs.Words.{InRange, IsSigned, bits_of}
 use Rattle.mips_isa.specs.Lines.{Name, IsInstructionInRange, IsWord, AsmInstr, Plain, ToTwo, ToOne, ToJump, La, Li, Move, Neg, Nop, B, BranchZero, BranchOrder, Mul}
 use Rattle.mips_isa.specs.Assembly.{expansion, address_or_zero, offset, load_address, order_branch, is_text, is_reach, branch_reaches, jump_reaches, instruction_reaches}
 use Rattle.mips_asm.specs.Parts.{found, target_in, target_address, target_fault, instruction_fault}
+use Rattle.std.proofs.lemmas.Bool.{ltb-true}
+use Rattle.lists.proofs.TruthValues.{and_second}
 
 address_of_found : (o : Option Place) → address_or_zero o ≡ target_address (found o)
 address_of_found None = refl
@@ -32,16 +34,9 @@ expansion_of_target place at (BranchZero op rs target) = ap (λ a. expansion (λ
 expansion_of_target place at (BranchOrder op rs rt target) = ap (λ a. expansion (λ name. a) at (BranchOrder op rs rt target)) (address_of_found (place target))
 expansion_of_target place at (Mul rd rs rt) = refl
 
-lt_of_test : (m n : ℕ) → nat_lt m n ≡ true → m < n
-lt_of_test m n e = grind (arith)
-
-second_of : (a b : Bool) → (a && b) ≡ true → b ≡ true
-second_of true b e = e
-second_of false b e = cc
-
 signed_of_reach : (z : ℤ) → is_reach z ≡ true → IsSigned z
-signed_of_reach (pos n) e = lt_of_test n 32768 e
-signed_of_reach (negsuc n) e = lt_of_test n 32768 e
+signed_of_reach (pos n) e = ltb-true n 32768 e
+signed_of_reach (negsuc n) e = ltb-true n 32768 e
 
 passes : (b : Bool) → (if b then None else Some A7) ≡ None → b ≡ true
 passes true e = refl
@@ -51,13 +46,13 @@ passes false e = cc
 near : (at from : ℕ) (s : AsmInstr) (o : Option Place) → ((p : Place) → instruction_reaches (λ name. Some p) at s ≡ branch_reaches from (Some p)) → target_fault at s (found o) ≡ None → IsSigned (offset from (target_address (found o)))
 near at from s None same e = cc
 near at from s (Some p) same e =
-    signed_of_reach (offset from p.address) (second_of (is_text p.segment) (is_reach (offset from p.address)) (sym (same p) ∙ passes (instruction_reaches (λ name. Some p) at s) e))
+    signed_of_reach (offset from p.address) (and_second (is_text p.segment) (is_reach (offset from p.address)) (sym (same p) ∙ passes (instruction_reaches (λ name. Some p) at s) e))
 
 -- the index of a jump with no fault is in range
 low : (at : ℕ) (op : JumpOp) (name : Name) (o : Option Place) → target_fault at (ToJump op name) (found o) ≡ None → target_address (found o) / 4 < 67108864
 low at op name None e = cc
 low at op name (Some p) e =
-    let below : p.address < 268435456 = lt_of_test p.address 268435456 (second_of (is_text p.segment) (nat_lt p.address 268435456) (passes (jump_reaches (Some p)) e)) in
+    let below : p.address < 268435456 = ltb-true p.address 268435456 (and_second (is_text p.segment) (nat_lt p.address 268435456) (passes (jump_reaches (Some p)) e)) in
     omega arith
 
 bits_below : (z : ℤ) → IsWord z → bits_of z < 4294967296

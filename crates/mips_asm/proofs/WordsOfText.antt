@@ -13,20 +13,18 @@ use Rattle.mips_asm.specs.Passes.{Fits}
 use Rattle.mips_asm.specs.TextWords.{words_needed, words_in}
 use Rattle.mips_asm.proofs.Assembled.{length_of_instructions}
 use Rattle.mips_asm.proofs.LinePlaces.{fine_here, fine_fits}
-
-no_words : (n : ℕ) → n ≡ n + 0
-no_words n = omega arith
+use Rattle.lists.proofs.Numbers.{nothing_more}
 
 padded_words : (segment : Segment) (unit : ℕ) (p : Position) → (padded segment unit p).words ≡ p.words + 0
-padded_words Text unit p = no_words p.words
-padded_words Data unit p = no_words p.words
+padded_words Text unit p = nothing_more p.words
+padded_words Data unit p = nothing_more p.words
 
 -- a need adds its words to a position
 pub words_after : (n : Need) (p : Position) → (after_need n p).words ≡ p.words + words_needed n
-words_after Nothing p = no_words p.words
+words_after Nothing p = nothing_more p.words
 words_after (Words n) p = refl
-words_after (Item unit size) p = no_words p.words
-words_after (Switch segment) p = no_words p.words
+words_after (Item unit size) p = nothing_more p.words
+words_after (Switch segment) p = nothing_more p.words
 words_after (Padding unit) p = padded_words p.segment unit p
 
 -- a text has the words of its lines
@@ -51,7 +49,7 @@ words_with_added (line ∷ rest) =
 -- lines without a fault of the first pass fit into the text
 words_fit : (seen : List Name) (p : Position) (number : ℕ) (lines : List Line)
     → Fits p.words p.bytes → first_pass seen p number lines ≡ None → p.words + words_in lines ≤ 66060288
-words_fit seen p number [] fits fine = subst (λ (n : ℕ). n ≤ 66060288) (no_words p.words) fits.words_fit
+words_fit seen p number [] fits fine = subst (λ (n : ℕ). n ≤ 66060288) (nothing_more p.words) fits.words_fit
 words_fit seen p number (line ∷ rest) fits fine =
     let q : Position = after_line line p in
     let both = fine_here number (defining_fault seen p line) (first_pass (seen ++ line.labels) q (suc number) rest) fine in

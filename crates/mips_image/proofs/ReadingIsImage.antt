@@ -10,12 +10,13 @@ use Rattle.mips_image.specs.declared.stored_image.TheConstants.{MAGIC}
 use Rattle.mips_image.specs.ImageBytes.{word_bytes, IsVersion, image_bytes, HasWords}
 use Rattle.mips_image.specs.ImageReading.{word_at, words_at, is_version, are_sizes, size_of, first_fault, parts_of}
 use Rattle.mips_image.proofs.ReadingParts.{length-words_at, sizes_of_image}
+use Rattle.std.proofs.lemmas.Bool.{not-false}
 
 -- each number of a list is a byte
 abbrev pub AreBytes : List ℕ → Type 0
 AreBytes bytes = (i : ℕ) → get_or bytes i 0 < 256
 
-drop_bytes : (k : ℕ) (bytes : List ℕ) → AreBytes bytes → AreBytes (drop k bytes)
+pub drop_bytes : (k : ℕ) (bytes : List ℕ) → AreBytes bytes → AreBytes (drop k bytes)
 drop_bytes k bytes h i = rw get_or-drop (h (k + i))
 
 same_four : {a b c d e f g h : ℕ} {xs : List ℕ} → a ≡ e → b ≡ f → c ≡ g → d ≡ h → a ∷ b ∷ c ∷ d ∷ xs ≡ e ∷ f ∷ g ∷ h ∷ xs
@@ -47,13 +48,9 @@ unfolding word_at
 number_first bytes k h f = four_bytes (drop k bytes) (omega (arith, length-drop k bytes)) (drop_bytes k bytes f) ∙ ap (λ xs. word_bytes (word_at bytes k) ++ xs) (drop-drop 4 k bytes)
 
 -- a test that was passed
-passed : {X : Type 0} (failed : Bool) (fault : X) (rest : Option X) → cond failed (Some fault) rest ≡ None → (failed ≡ false) × (rest ≡ None)
+pub passed : {X : Type 0} (failed : Bool) (fault : X) (rest : Option X) → cond failed (Some fault) rest ≡ None → (failed ≡ false) × (rest ≡ None)
 passed true fault rest e = absurd cc
 passed false fault rest e = (refl, e)
-
-not_false : (b : Bool) → not b ≡ false → b ≡ true
-not_false true e = refl
-not_false false e = sym e
 
 -- the number that passes the test is a version
 version_known : (v : ℕ) → is_version v ≡ true → IsVersion v
@@ -85,9 +82,9 @@ sound bytes e =
     let no_more = g.0 in
     record {
       long = grind arith;
-      begins = (bytes_eq-Decides _ _).0 (not_false _ b.0);
-      version = version_known (word_at bytes 4) (not_false _ c.0);
-      sizes = not_false _ d.0;
+      begins = (bytes_eq-Decides _ _).0 (not-false _ b.0);
+      version = version_known (word_at bytes 4) (not-false _ c.0);
+      sizes = not-false _ d.0;
       size = grind arith;
     }
 

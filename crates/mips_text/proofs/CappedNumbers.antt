@@ -2,8 +2,9 @@
 use Rattle.std.proofs.Common.{◌≡◌, ap, sym, ◌∙◌, arith, ℕ, suc, ◌+◌, ◌*◌, ◌<◌, ◌≤◌, ◌⊎◌, inl, inr, List, [], ◌∷◌, length, drop, get_or, drop-cons, min, add-one}
 use Rattle.std.specs.List.{fold}
 use Rattle.mips_text.specs.Words.{digit_value}
+use Rattle.lists.proofs.Numbers.{le_or_ge}
 
-abbrev step : ℕ → ℕ → ℕ → ℕ
+abbrev pub step : ℕ → ℕ → ℕ → ℕ
 step base n byte = n * base + digit_value byte
 
 -- one more digit makes no number smaller
@@ -28,10 +29,6 @@ capped_fold base n bound ds h (inr above) =
     let reached : bound ≤ min n bound = omega arith in
     past base (min n bound) bound ds h reached ∙ sym (past base n bound ds h above)
 
--- either side of a bound
-sides : (n bound : ℕ) → (n ≤ bound) ⊎ (bound ≤ n)
-sides n bound = grind arith
-
 -- one more digit was read
 pub capped_more : (base bound n next i total : ℕ) (ds : List ℕ) → 1 ≤ base → i < length ds → next ≡ min (n * base + digit_value (get_or ds i 0)) bound → min (fold (λ k byte. k * base + digit_value byte) n (drop i ds)) bound ≡ total → min (fold (λ k byte. k * base + digit_value byte) next (drop (i + 1) ds)) bound ≡ total
 capped_more base bound n next i total ds h l e inv =
@@ -40,5 +37,5 @@ capped_more base bound n next i total ds h l e inv =
     ap (λ l. min (fold (step base) n l) bound) cut in
     let whole : min (fold (step base) next (drop (suc i) ds)) bound ≡ total =
     ap (λ k. min (fold (step base) k (drop (suc i) ds)) bound) e
-    ∙ (capped_fold base (step base n (get_or ds i 0)) bound (drop (suc i) ds) h (sides _ bound) ∙ (sym split ∙ inv)) in
+    ∙ (capped_fold base (step base n (get_or ds i 0)) bound (drop (suc i) ds) h (le_or_ge _ bound) ∙ (sym split ∙ inv)) in
     rw add-one whole

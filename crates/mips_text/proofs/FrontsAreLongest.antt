@@ -10,20 +10,18 @@ use Rattle.mips_text.specs.Letters.{name_rest}
 use Rattle.mips_text.specs.Words.{Name, Register, Text, Colon, Open, Close, front, magnitude, enclosed, number, number_below_zero}
 use Rattle.mips_text.specs.Fronts.{Magnitude, takes, front_found, digits_front, minus_front, text_front}
 use Rattle.mips_text.proofs.Longest.{IsLongest, behind_longest, behind_none, front_fails, front_finds, seen_longest, seen_none}
-use Rattle.mips_text.proofs.LongestWords.{all_longest, alone_longest, left, none_left, some_longest, some_none}
+use Rattle.mips_text.proofs.LongestWords.{all_longest, alone_longest, none_left, some_longest, some_none}
 use Rattle.mips_text.proofs.LongestStrings.{IsQuote, quote_is}
 use Rattle.mips_text.proofs.LongestNumbers.{IsFound, magnitude_is}
+use Rattle.lists.proofs.Numbers.{zero_less, none_or_some}
 
 name_is : (b : ℕ) (bs : List ℕ) → front start.Name b bs ≡ front_found start.Name b bs
 name_is b bs = front_finds start.Name b bs _ _ (all_longest name_rest (λ xs. Name (b ∷ xs)) bs)
 
-none_or_some : (n : ℕ) → (0 < n) ⊎ (n ≤ 0)
-none_or_some n = grind arith
-
 register_is : (b : ℕ) (bs : List ℕ) → front start.Register b bs ≡ front_found start.Register b bs
 register_is b bs =
     let n : ℕ = prefix_len (takes span.Register) bs in
-    ⊎_elim (λ h. front_finds start.Register b bs _ _ (some_longest is_ascii_alphanumeric Register bs h) ∙ sym (ap (λ (t : Bool). if t then Some (record { word = Register (take n bs); after = n }) else None) (left n h)))
+    ⊎_elim (λ h. front_finds start.Register b bs _ _ (some_longest is_ascii_alphanumeric Register bs h) ∙ sym (ap (λ (t : Bool). if t then Some (record { word = Register (take n bs); after = n }) else None) (zero_less n h)))
     (λ h. front_fails start.Register b bs (some_none is_ascii_alphanumeric Register bs h) ∙ sym (ap (λ (t : Bool). if t then Some (record { word = Register (take n bs); after = n }) else None) (none_left n h)))
     (none_or_some n)
 

@@ -1,4 +1,4 @@
-mod CappedNumbers
+pub mod CappedNumbers
 mod CutTexts
 mod FrontsAreLongest
 mod KindsOfReading

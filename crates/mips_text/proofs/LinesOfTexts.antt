@@ -4,9 +4,7 @@ use Rattle.std.specs.Prelude.{not, ◌==◌}
 use Rattle.std.specs.List.{prefix_len}
 use Rattle.std.proofs.lemmas.List.{take_all}
 use Rattle.mips_text.specs.Reading.{lines_in, with_byte}
-
-abbrev in_line : ℕ → Bool
-in_line b = not (b == 10)
+use Rattle.mips_text.proofs.SpelledWords.{in_line}
 
 -- a first line by its first byte
 line_by : (b : ℕ) (bs : List ℕ) (newline : Bool) → (b == 10) ≡ newline → prefix_len in_line (b ∷ bs) < length (b ∷ bs) → (prefix_len in_line bs < length bs → lines_in bs ≡ take (prefix_len in_line bs) bs ∷ lines_in (drop (suc (prefix_len in_line bs)) bs)) → lines_in (b ∷ bs) ≡ take (prefix_len in_line (b ∷ bs)) (b ∷ bs) ∷ lines_in (drop (suc (prefix_len in_line (b ∷ bs))) (b ∷ bs))

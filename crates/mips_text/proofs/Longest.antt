@@ -3,6 +3,7 @@ use Rattle.std.proofs.Common.{◌≡◌, ◌∙◌, sym, ap, arith, ℕ, zero, s
 use Rattle.std.specs.Prelude.{Option, Some, None, option_map}
 use Rattle.mips_text.specs.declared.class.Start.{Start}
 use Rattle.mips_text.specs.Words.{Word, form_of, found, front, longest}
+use Rattle.lists.proofs.Numbers.{next_or_less}
 
 -- so many bytes are of this form, and no more bytes are of one
 pub record IsLongest {A : Type 0} (form : List ℕ → Option A) (bs : List ℕ) (x : A) (n : ℕ) : Type 0 where
@@ -36,10 +37,6 @@ behind_longest form b bs x n h = record {
 pub behind_none : {A : Type 0} (form : List ℕ → Option A) (b : ℕ) (bs : List ℕ) → HasNone form (b ∷ bs) → HasNone (λ xs. form (b ∷ xs)) bs
 behind_none form b bs h = λ m l. h (suc m) (omega arith)
 
--- either all of so many bytes, or fewer
-all_or_fewer : (n k : ℕ) → n ≤ suc k → (n ≡ suc k) ⊎ (n ≤ k)
-all_or_fewer n k h = grind arith
-
 -- the search for the longest word finds it
 search_finds : (s : Start) (b : ℕ) (bs : List ℕ) (w : Word) (n k : ℕ) → n ≤ k → form_of s b (take n bs) ≡ Some w → ((m : ℕ) → n < m → m ≤ k → form_of s b (take m bs) ≡ None) → longest s b bs k ≡ Some (record { word = w; after = n })
 search_finds s b bs w n zero l f none =
@@ -53,7 +50,7 @@ search_finds s b bs w n (suc k) l f none =
     (λ g.
     let above : form_of s b (take (suc k) bs) ≡ None = none (suc k) (omega arith) (omega arith) in
     ap (λ o. found o (suc k) (longest s b bs k)) above ∙ search_finds s b bs w n k g f (λ m a c. none m a (omega arith)))
-    (all_or_fewer n k l)
+    (next_or_less n k l)
 
 search_fails : (s : Start) (b : ℕ) (bs : List ℕ) (k : ℕ) → ((m : ℕ) → m ≤ k → form_of s b (take m bs) ≡ None) → longest s b bs k ≡ None
 search_fails s b bs zero none = ap (λ o. found o 0 None) (none 0 (omega arith))

@@ -10,21 +10,20 @@ use Rattle.mips_text.specs.Letters.{hex_digit}
 use Rattle.mips_text.specs.Fronts.{Magnitude, takes, decimal_found, hexadecimal_of, hexadecimal_found, magnitude_found}
 use Rattle.mips_text.specs.Words.{value, some_all, decimal, hexadecimal, magnitude}
 use Rattle.mips_text.proofs.Longest.{IsLongest, HasNone}
-use Rattle.mips_text.proofs.LongestWords.{left, none_left, some_longest, some_none}
+use Rattle.mips_text.proofs.LongestWords.{none_left, some_longest, some_none}
+use Rattle.lists.proofs.Numbers.{zero_less, none_or_some}
+use Rattle.lists.proofs.TruthValues.{and_false, and_second}
 
 -- what is found is the longest of a form, or there is none
 abbrev pub IsFound : (List ℕ → Option ℕ) → List ℕ → Option Magnitude → Type 0
 IsFound form bs (Some m) = IsLongest form bs m.value m.size
 IsFound form bs None = HasNone form bs
 
-none_or_some : (n : ℕ) → (0 < n) ⊎ (n ≤ 0)
-none_or_some n = grind arith
-
 -- digits
 decimal_is : (bs : List ℕ) → IsFound decimal bs (decimal_found bs)
 decimal_is bs =
     let n : ℕ = prefix_len (takes span.Digits) bs in
-    ⊎_elim (λ h. rw (left n h) (some_longest is_ascii_digit (value 10) bs h))
+    ⊎_elim (λ h. rw (zero_less n h) (some_longest is_ascii_digit (value 10) bs h))
     (λ h. rw (none_left n h) (some_none is_ascii_digit (value 10) bs h))
     (none_or_some n)
 
@@ -56,17 +55,13 @@ and_no : (a b : Bool) → (a && (false && b)) ≡ false
 and_no true b = refl
 and_no false b = refl
 
-and_last : (a : Bool) → (a && false) ≡ false
-and_last true = refl
-and_last false = refl
-
 no_decimal : (z x : ℕ) (ds : List ℕ) → (x == 120) ≡ true → (k : ℕ) → 2 ≤ k → decimal (take k (z ∷ x ∷ ds)) ≡ None
 no_decimal z x ds h zero l = absurd (omega arith)
 no_decimal z x ds h (suc zero) l = absurd (omega arith)
 no_decimal z x ds h (suc (suc k)) l =
     let not_all : list_all is_ascii_digit (z ∷ x ∷ take k ds) ≡ false =
     ap (λ (t : Bool). is_ascii_digit z && (t && list_all is_ascii_digit (take k ds))) (x_is_no_digit x h) ∙ and_no (is_ascii_digit z) (list_all is_ascii_digit (take k ds)) in
-    let none : some_all is_ascii_digit (z ∷ x ∷ take k ds) ≡ false = ap (λ (t : Bool). nat_lt 0 (length (z ∷ x ∷ take k ds)) && t) not_all ∙ and_last (nat_lt 0 (length (z ∷ x ∷ take k ds))) in
+    let none : some_all is_ascii_digit (z ∷ x ∷ take k ds) ≡ false = ap (λ (t : Bool). nat_lt 0 (length (z ∷ x ∷ take k ds)) && t) not_all ∙ and_false (nat_lt 0 (length (z ∷ x ∷ take k ds))) in
     ap (λ (t : Bool). if t then Some (value 10 (z ∷ x ∷ take k ds)) else None) none
 
 -- what is found of a hexadecimal number, which is no decimal one
@@ -83,16 +78,12 @@ one_none z zero = refl
 one_none z (suc zero) = refl
 one_none z (suc (suc m)) = refl
 
-both : (a b : Bool) → (a && b) ≡ true → b ≡ true
-both true b h = h
-both false b h = absurd (cc)
-
 hexadecimal_by : (z x : ℕ) (ds : List ℕ) (t : Bool) → (z == 48 && x == 120) ≡ t → IsHexadecimal (z ∷ x ∷ ds) (if t then hexadecimal_of (prefix_len (takes span.HexDigits) ds) ds else None)
 hexadecimal_by z x ds true h =
     let n : ℕ = prefix_len (takes span.HexDigits) ds in
     let same : (xs : List ℕ) → hexadecimal (z ∷ x ∷ xs) ≡ (if some_all hex_digit xs then Some (value 16 xs) else None) =
     λ xs. ap (λ (t : Bool). if t && some_all hex_digit xs then Some (value 16 xs) else None) h in
-    ⊎_elim (λ l. rw (left n l) (two_more hexadecimal _ z x ds _ n same (some_longest hex_digit (value 16) ds l), omega arith, no_decimal z x ds (both (z == 48) (x == 120) h)))
+    ⊎_elim (λ l. rw (zero_less n l) (two_more hexadecimal _ z x ds _ n same (some_longest hex_digit (value 16) ds l), omega arith, no_decimal z x ds (and_second (z == 48) (x == 120) h)))
     (λ l. rw (none_left n l) (two_more_none hexadecimal _ z x ds same refl refl (some_none hex_digit (value 16) ds l)))
     (none_or_some n)
 hexadecimal_by z x ds false h =

@@ -7,11 +7,10 @@ use Rattle.std.proofs.lemmas.Bool.Decides.{nat_tests}
 use Rattle.mips_text.specs.Words.{Word, alone, some_all}
 use Rattle.mips_text.proofs.Longest.{IsLongest, HasNone}
 use Rattle.mips_text.proofs.Prefixes.{passes, fails}
+use Rattle.lists.proofs.Numbers.{zero_less}
+use Rattle.lists.proofs.TruthValues.{and_false}
 
--- whether a byte is left
-pub left : (n : ℕ) → 0 < n → nat_lt 0 n ≡ true
-left n h = grind (arith, nat_tests)
-
+-- no byte is left
 pub none_left : (n : ℕ) → n ≤ 0 → nat_lt 0 n ≡ false
 none_left n h = grind (arith, nat_tests)
 
@@ -27,12 +26,8 @@ all_longest {A} p see bs = record {
 some_true : (p : ℕ → Bool) (bs : List ℕ) → 0 < prefix_len p bs → some_all p (take (prefix_len p bs) bs) ≡ true
 some_true p bs h =
     let size : length (take (prefix_len p bs) bs) ≡ prefix_len p bs = omega (arith, length-take (prefix_len p bs) bs, prefix_len-le-length p bs) in
-    let one : nat_lt 0 (length (take (prefix_len p bs) bs)) ≡ true = left _ (omega arith) in
+    let one : nat_lt 0 (length (take (prefix_len p bs) bs)) ≡ true = zero_less _ (omega arith) in
     ap (λ (t : Bool). t && list_all p (take (prefix_len p bs) bs)) one ∙ passes p bs (prefix_len p bs) (omega arith)
-
-and_false : (a : Bool) → (a && false) ≡ false
-and_false true = refl
-and_false false = refl
 
 some_false : (p : ℕ → Bool) (bs : List ℕ) (m : ℕ) → prefix_len p bs < m → m ≤ length bs → some_all p (take m bs) ≡ false
 some_false p bs m l w = ap (λ (t : Bool). nat_lt 0 (length (take m bs)) && t) (fails p bs m l w) ∙ and_false (nat_lt 0 (length (take m bs)))

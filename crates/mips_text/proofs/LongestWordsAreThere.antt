@@ -3,6 +3,7 @@ use Rattle.std.proofs.Common.{◌≡◌, ◌∙◌, sym, ap, refl, arith, ℕ, z
 use Rattle.std.specs.Prelude.{Option, Some, None}
 use Rattle.mips_text.specs.declared.class.Start.{Start}
 use Rattle.mips_text.specs.Words.{Word, Front, IsWordThere, form_of, found, front, longest}
+use Rattle.lists.proofs.Numbers.{next_or_less}
 
 -- the same, with at most so many bytes after the first
 record Within (s : Start) (b : ℕ) (bs : List ℕ) (k : ℕ) (f : Front) : Type 0 where
@@ -17,11 +18,8 @@ ThereWithin s b bs k None = (m : ℕ) → m ≤ k → form_of s b (take m bs) �
 one_less : (m k : ℕ) → m ≤ suc k → (m ≡ suc k → ⊥) → m ≤ k
 one_less m k h n = grind arith
 
-all_or_less : (m k : ℕ) → m ≤ suc k → (m ≡ suc k) ⊎ (m ≤ k)
-all_or_less m k h = grind arith
-
 none_upto : (s : Start) (b : ℕ) (bs : List ℕ) (k m : ℕ) → m ≤ suc k → form_of s b (take (suc k) bs) ≡ None → ((j : ℕ) → j ≤ k → form_of s b (take j bs) ≡ None) → form_of s b (take m bs) ≡ None
-none_upto s b bs k m l e h = ⊎_elim (λ q. ap (λ j. form_of s b (take j bs)) q ∙ e) (λ g. h m g) (all_or_less m k l)
+none_upto s b bs k m l e h = ⊎_elim (λ q. ap (λ j. form_of s b (take j bs)) q ∙ e) (λ g. h m g) (next_or_less m k l)
 
 -- no word of all these bytes: the shorter ones decide
 not_last : (s : Start) (b : ℕ) (bs : List ℕ) (k : ℕ) (o : Option Front) → form_of s b (take (suc k) bs) ≡ None → ThereWithin s b bs k o → ThereWithin s b bs (suc k) o

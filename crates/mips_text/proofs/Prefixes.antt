@@ -2,15 +2,9 @@
 use Rattle.std.proofs.Common.{◌≡◌, ◌∙◌, ap, refl, arith, ℕ, zero, suc, ◌≤◌, ◌<◌, Bool, true, false, List, [], ◌∷◌, length, take}
 use Rattle.std.specs.Prelude.{◌&&◌}
 use Rattle.std.specs.List.{list_all, prefix_len}
+use Rattle.lists.proofs.Fronts.{prefix_yes, prefix_no}
 
--- a byte that passes is one more
-pub prefix_yes : (p : ℕ → Bool) (b : ℕ) (bs : List ℕ) → p b ≡ true → prefix_len p (b ∷ bs) ≡ suc (prefix_len p bs)
-prefix_yes p b bs h = rw h (omega arith)
-
--- a byte that does not pass ends it
-pub prefix_no : (p : ℕ → Bool) (b : ℕ) (bs : List ℕ) → p b ≡ false → prefix_len p (b ∷ bs) ≡ 0
-prefix_no p b bs h = rw h refl
-
+-- the front passes with one more byte before it
 passes_by : (p : ℕ → Bool) (b : ℕ) (bs : List ℕ) (m : ℕ) (e : Bool) → p b ≡ e → suc m ≤ prefix_len p (b ∷ bs) → (m ≤ prefix_len p bs → list_all p (take m bs) ≡ true) → list_all p (take (suc m) (b ∷ bs)) ≡ true
 passes_by p b bs m true h l rest = ap (λ x. x && list_all p (take m bs)) h ∙ rest (omega (arith, prefix_yes p b bs h))
 passes_by p b bs m false h l rest = absurd (omega (arith, prefix_no p b bs h))

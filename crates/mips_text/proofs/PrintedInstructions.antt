@@ -41,6 +41,7 @@ use Rattle.mips_text.proofs.SpelledNumbers.{IsSmall, number_spells}
 use Rattle.mips_text.proofs.SpelledRegisters.{Known, known, memory_spells, register_spells}
 use Rattle.mips_text.proofs.SpelledRows.{Ends, Row, ends_nothing, operand_ends, row_reads, small_word}
 use Rattle.mips_text.proofs.SpelledWords.{name_spells}
+use Rattle.std.proofs.lemmas.Bool.{lt-ltb}
 
 -- a text that is read as a statement, with no label before it
 pub record Said (text : List ℕ) (statement : Statement) : Type 0 where
@@ -62,9 +63,6 @@ unsigned (negsuc n) h = absurd h
 pub word : (v : ℤ) → IsWord v → is_within range.Word v ≡ true
 word (pos n) h = grind (arith, nat_tests)
 word (negsuc n) h = grind (arith, nat_tests)
-
-pub below : (n bound : ℕ) → n < bound → nat_lt n bound ≡ true
-below n bound h = grind (arith, nat_tests)
 
 immediate : (op : ImmOp) (v : ℤ) → IsImmediate op v → is_within (imm_range op) v ≡ true
 immediate Addi v h = signed v h
@@ -228,7 +226,7 @@ shift : (op : ShiftOp) (rd rt : ℕ) (v : ℕ) → rd < 32 → rt < 32 → v < 3
 shift op rd rt v h0 h1 h2 =
     let k_rd : Known rd = known rd h0 in
     let k_rt : Known rt = known rt h1 in
-    let w_v : nat_lt v 32 ≡ true = below v 32 h2 in
+    let w_v : nat_lt v 32 ≡ true = lt-ltb v 32 h2 in
     instruction_said (mnemonics.Shift op) (register_operand rd ∷ register_operand rt ∷ signed_decimal (pos v) ∷ []) (Register (register_text rd) ∷ Register (register_text rt) ∷ Number (pos v) ∷ []) (lines.Plain (instr.Shift op rd rt v)) (reg 0 rd (register_operand rt ∷ signed_decimal (pos v) ∷ []) (Register (register_text rt) ∷ Number (pos v) ∷ []) h0 (reg 1 rt (signed_decimal (pos v) ∷ []) (Number (pos v) ∷ []) h1 (num 2 (pos v) (omega arith)))) refl (rw (k_rd.named, k_rt.named, w_v) refl) (rw (k_rd.named, k_rt.named, w_v) refl)
 
 imm : (op : ImmOp) (rt rs : ℕ) (v : ℤ) → rt < 32 → rs < 32 → IsImmediate op v → Said (row_text (mnemonic_text (mnemonics.Imm op)) (register_operand rt ∷ register_operand rs ∷ signed_decimal v ∷ [])) (lines.Instruction (lines.Plain (instr.Imm op rt rs v)))
@@ -259,7 +257,7 @@ branch_one op rs v h0 h1 =
 
 jump : (op : JumpOp) (v : ℕ) → v < 67108864 → Said (row_text (mnemonic_text (mnemonics.Jump op)) (signed_decimal (pos v) ∷ [])) (lines.Instruction (lines.Plain (instr.Jump op v)))
 jump op v h0 =
-    let w_v : nat_lt v 67108864 ≡ true = below v 67108864 h0 in
+    let w_v : nat_lt v 67108864 ≡ true = lt-ltb v 67108864 h0 in
     instruction_said (mnemonics.Jump op) (signed_decimal (pos v) ∷ []) (Number (pos v) ∷ []) (lines.Plain (instr.Jump op v)) (num 0 (pos v) (omega arith)) refl (rw (w_v) refl) (rw (w_v) refl)
 
 li : (rd : ℕ) (v : ℤ) → rd < 32 → IsWord v → Said (row_text (mnemonic_text mnemonics.Li) (register_operand rd ∷ signed_decimal v ∷ [])) (lines.Instruction (lines.Li rd v))

@@ -28,10 +28,10 @@ use Rattle.mips_text.proofs.LabelsOfLines.{no_label}
 use Rattle.mips_text.proofs.NamedMnemonics.{NamedDirective, directed}
 use Rattle.mips_text.proofs.PrintedInstructions.{Said, instruction_is_said, word}
 use Rattle.mips_text.proofs.SpelledNumbers.{IsSmall, number_spells}
-use Rattle.mips_text.proofs.SpelledRegisters.{and_both}
 use Rattle.mips_text.proofs.SpelledRows.{Ends, bytes_end, ends_nothing, item_word, items_end, operand_ends, row_reads}
 use Rattle.mips_text.proofs.SpelledStrings.{raw_known, raw_unescaped, string_spells}
 use Rattle.mips_text.proofs.SpelledWords.{Spells, in_line, name_spells, word_here}
+use Rattle.std.proofs.lemmas.Bool.{and_from, le-leb, not-true, and_parts}
 
 -- a directive and its operands
 directive_said : (d : Directive) (operands : List (List ℕ)) (words : List Word) (s : Statement) → Ends (operands_text 0 operands) words → has_label (Name (directive_text d) ∷ words) 0 ≡ false → directive_fault d words ≡ None → directive_made d words ≡ s → Said (row_text (directive_text d) operands) s
@@ -89,9 +89,6 @@ one_or_more w (x ∷ xs) h = refl
 
 -- Data and directives
 
-upto : (n bound : ℕ) → n ≤ bound → nat_le n bound ≡ true
-upto n bound h = grind (arith, nat_tests)
-
 num : (n : ℕ) → IsSmall (pos n) → Ends (operands_text 0 (signed_decimal (pos n) ∷ [])) (Number (pos n) ∷ [])
 num n h = operand_ends 0 (signed_decimal (pos n)) [] (Number (pos n) ∷ []) [] (number_spells (pos n) h) ends_nothing
 
@@ -114,7 +111,7 @@ data_said (lines.Ascii bytes) h g =
 data_said (lines.Asciiz bytes) h g =
     directive_said directives.Asciiz (string_operand bytes ∷ []) (Text (flat_map letter_text bytes) ∷ []) (lines.Data (lines.Asciiz bytes)) (text bytes) refl (rw (raw_known bytes) refl) (ap (λ l. lines.Data (lines.Asciiz l)) (raw_unescaped bytes))
 data_said (lines.Space n) h g =
-    let w : nat_le n MOST_DATA_BYTES ≡ true = upto n MOST_DATA_BYTES h in
+    let w : nat_le n MOST_DATA_BYTES ≡ true = le-leb n MOST_DATA_BYTES h in
     directive_said directives.Space (signed_decimal (pos n) ∷ []) (Number (pos n) ∷ []) (lines.Data (lines.Space n)) (num n (omega arith)) refl (rw w refl) (rw w refl)
 
 other_said : (d : lines.AsmDirective) → IsDirectiveInRange d → IsPrintableDirective d → Said (other_directive_text d) (lines.Directive d)
@@ -123,7 +120,7 @@ other_said lines.ToData h g = directive_said directives.Data [] [] (lines.Direct
 other_said (lines.Globl name) h g =
     directive_said directives.Globl (name ∷ []) (Name name ∷ []) (lines.Directive (lines.Globl name)) (operand_ends 0 name [] (Name name ∷ []) [] (name_spells name g) ends_nothing) refl refl refl
 other_said (lines.Align n) h g =
-    let w : nat_le n 12 ≡ true = upto n 12 h in
+    let w : nat_le n 12 ≡ true = le-leb n 12 h in
     directive_said directives.Align (signed_decimal (pos n) ∷ []) (Number (pos n) ∷ []) (lines.Directive (lines.Align n)) (num n (omega arith)) refl (rw w refl) (rw w refl)
 
 statement_said : (s : Statement) → IsInRange s → IsPrintableStatement s → Said (statement_text s) s
@@ -160,7 +157,7 @@ label_reads name rest h =
 label_in_line : (name : List ℕ) → is_name name ≡ true → list_all in_line (label_text name) ≡ true
 label_in_line name h =
     let n : Spells name (Name name ∷ []) = name_spells name h in
-    list_all-append in_line name (codes ":") ∙ and_both _ _ n.one_line refl
+    list_all-append in_line name (codes ":") ∙ and_from _ _ n.one_line refl
 
 -- a line without its newline
 abbrev labels_before : List (List ℕ) → List ℕ → List ℕ
@@ -177,24 +174,16 @@ one_line : (labels : List (List ℕ)) (text : List ℕ) → AllByRecursion IsNam
 one_line [] text h g = g
 one_line (name ∷ labels) text h g =
     ap (list_all in_line) (append_assoc (label_text name) (flat_map label_text labels) text)
-    ∙ (list_all-append in_line (label_text name) (labels_before labels text) ∙ and_both _ _ (label_in_line name h.0) (one_line labels text h.1 g))
+    ∙ (list_all-append in_line (label_text name) (labels_before labels text) ∙ and_from _ _ (label_in_line name h.0) (one_line labels text h.1 g))
 
 -- Lines
-
-not_true : (a : Bool) → not a ≡ true → a ≡ false
-not_true true h = absurd (let e : false ≡ true = h in cc)
-not_true false h = refl
-
-both_hold : (a b : Bool) → (a && b) ≡ true → (a ≡ true) × (b ≡ true)
-both_hold true b h = (refl, h)
-both_hold false b h = absurd (let e : false ≡ true = h in cc)
 
 -- a line of a text ends at its newline
 line_ends : (text rest : List ℕ) → list_all in_line text ≡ true → lines_in (text ++ (10 ∷ rest)) ≡ text ∷ lines_in rest
 line_ends [] rest h = refl
 line_ends (b ∷ bs) rest h =
-    let both = both_hold (in_line b) (list_all in_line bs) h in
-    let here : (b == 10) ≡ false = not_true (b == 10) both.0 in
+    let both = and_parts (in_line b) (list_all in_line bs) h in
+    let here : (b == 10) ≡ false = not-true (b == 10) both.0 in
     ap (λ (t : Bool). if t then [] ∷ lines_in (bs ++ (10 ∷ rest)) else with_byte b (lines_in (bs ++ (10 ∷ rest)))) here ∙ ap (with_byte b) (line_ends bs rest both.1)
 
 regroup : (labels statement rest : List ℕ) → (labels ++ (statement ++ (10 ∷ []))) ++ rest ≡ (labels ++ statement) ++ (10 ∷ rest)

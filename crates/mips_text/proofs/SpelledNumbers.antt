@@ -17,7 +17,10 @@ use Rattle.mips_text.specs.declared.numbers.TheConstants.{LARGEST}
 use Rattle.mips_text.specs.Letters.{class_of, name_rest}
 use Rattle.mips_text.specs.Words.{Word, Number, Front, capped, digit_value, value, words_of}
 use Rattle.mips_text.specs.Fronts.{decimal_found, decimal_of, digits_front, hexadecimal_found, magnitude_found, minus_front, takes}
-use Rattle.mips_text.proofs.SpelledWords.{Spells, all_in_line, both_hold, breaks, in_line, prefix_stop, stops, word_here}
+use Rattle.mips_text.proofs.SpelledWords.{Spells, all_in_line, breaks, in_line, prefix_stop, stops, word_here}
+use Rattle.std.proofs.lemmas.Bool.{and_parts}
+use Rattle.lists.proofs.Numbers.{digit_byte, zero_less}
+use Rattle.lists.proofs.TruthValues.{and_false}
 
 -- decimal digits, one at the least, and their value
 pub record Writes (n : ℕ) (ds : List ℕ) : Type 0 where
@@ -25,15 +28,12 @@ pub record Writes (n : ℕ) (ds : List ℕ) : Type 0 where
   pub some : 0 < length ds
   pub value_is : value 10 ds ≡ n
 
-one_digit : (n : ℕ) → n < 10 → is_ascii_digit (48 + n) ≡ true
-one_digit n h = grind (arith, nat_tests)
-
 one_value : (n : ℕ) → n < 10 → digit_value (48 + n) ≡ n
 one_value n h = grind (arith, nat_tests)
 
 writes_one : (n : ℕ) → n < 10 → Writes n ((48 + n) ∷ [])
 writes_one n h = record {
-  digits = ap (λ (t : Bool). t && true) (one_digit n h);
+  digits = ap (λ (t : Bool). t && true) (digit_byte n h);
   some = omega arith;
   value_is = let v : digit_value (48 + n) ≡ n = one_value n h in omega arith;
 }
@@ -43,7 +43,7 @@ writes_more n ds l h =
     let low : n % 10 < 10 = omega arith in
     let v : digit_value (48 + n % 10) ≡ n % 10 = one_value (n % 10) low in
     record {
-      digits = list_all-append is_ascii_digit ds ((48 + n % 10) ∷ []) ∙ (ap (λ (t : Bool). t && (is_ascii_digit (48 + n % 10) && true)) h.digits ∙ ap (λ (t : Bool). t && true) (one_digit (n % 10) low));
+      digits = list_all-append is_ascii_digit ds ((48 + n % 10) ∷ []) ∙ (ap (λ (t : Bool). t && (is_ascii_digit (48 + n % 10) && true)) h.digits ∙ ap (λ (t : Bool). t && true) (digit_byte (n % 10) low));
       some = omega (arith, Rattle.std.proofs.Common.length-append ds ((48 + n % 10) ∷ []));
       value_is = fold-append (λ k byte. k * 10 + digit_value byte) 0 ds ((48 + n % 10) ∷ []) ∙ (let e : value 10 ds ≡ n / 10 = h.value_is in omega arith);
     }
@@ -65,24 +65,17 @@ digits_stop : (rest : List ℕ) → breaks rest ≡ true → stops is_ascii_digi
 digits_stop [] h = refl
 digits_stop (c ∷ cs) h = break_no_digit c h
 
-and_no : (a : Bool) → (a && false) ≡ false
-and_no true = refl
-and_no false = refl
-
 second_is_no_x : (z x : ℕ) (bs : List ℕ) → (x == 120) ≡ false → hexadecimal_found (z ∷ x ∷ bs) ≡ None
-second_is_no_x z x bs h = let t : (z == 48 && x == 120) ≡ false = ap (λ (t : Bool). z == 48 && t) h ∙ and_no (z == 48) in rw t refl
+second_is_no_x z x bs h = let t : (z == 48 && x == 120) ≡ false = ap (λ (t : Bool). z == 48 && t) h ∙ and_false (z == 48) in rw t refl
 
 no_hexadecimal : (ds rest : List ℕ) → list_all is_ascii_digit ds ≡ true → 0 < length ds → breaks rest ≡ true → hexadecimal_found (ds ++ rest) ≡ None
 no_hexadecimal [] rest h l g = absurd (omega arith)
 no_hexadecimal (b ∷ []) [] h l g = refl
 no_hexadecimal (b ∷ []) (c ∷ cs) h l g = second_is_no_x b c cs (break_no_x c g)
 no_hexadecimal (b ∷ c ∷ ds) rest h l g =
-    let behind = both_hold (is_ascii_digit b) (list_all is_ascii_digit (c ∷ ds)) h in
-    let second = both_hold (is_ascii_digit c) (list_all is_ascii_digit ds) behind.1 in
+    let behind = and_parts (is_ascii_digit b) (list_all is_ascii_digit (c ∷ ds)) h in
+    let second = and_parts (is_ascii_digit c) (list_all is_ascii_digit ds) behind.1 in
     second_is_no_x b c (ds ++ rest) (digit_no_x c second.0)
-
-left : (n : ℕ) → 0 < n → nat_lt 0 n ≡ true
-left n h = grind (arith, nat_tests)
 
 -- what is found of digits before a break
 pub magnitude_read : (n : ℕ) (ds rest : List ℕ) → Writes n ds → breaks rest ≡ true → magnitude_found (ds ++ rest) ≡ Some (record { value = n; size = length ds })
@@ -90,7 +83,7 @@ magnitude_read n ds rest h g =
     let size : prefix_len (takes span.Digits) (ds ++ rest) ≡ length ds = prefix_stop is_ascii_digit ds rest h.digits (digits_stop rest g) in
     let found : decimal_found (ds ++ rest) ≡ decimal_of (length ds) (ds ++ rest) = ap (λ k. decimal_of k (ds ++ rest)) size in
     let some : decimal_of (length ds) (ds ++ rest) ≡ Some (record { value = value 10 (take (length ds) (ds ++ rest)); size = length ds }) =
-    ap (λ (t : Bool). if t then Some (record { value = value 10 (take (length ds) (ds ++ rest)); size = length ds }) else None) (left (length ds) h.some) in
+    ap (λ (t : Bool). if t then Some (record { value = value 10 (take (length ds) (ds ++ rest)); size = length ds }) else None) (zero_less (length ds) h.some) in
     ap (λ o. option_or o (decimal_found (ds ++ rest))) (no_hexadecimal ds rest h.digits h.some g)
     ∙ (found ∙ (some ∙ ap (λ v. Some (record { value = v; size = length ds })) (ap (value 10) (take-append_seam ds rest) ∙ h.value_is)))
 
@@ -103,7 +96,7 @@ digit_in_line b h = grind (arith, nat_tests)
 natural_read : (n : ℕ) (ds rest : List ℕ) → n ≤ LARGEST → Writes n ds → breaks rest ≡ true → words_of (ds ++ rest) ≡ Number (pos n) ∷ words_of rest
 natural_read n [] rest l h g = absurd (omega (arith, h.some))
 natural_read n (b ∷ bs) rest l h g =
-    let first = both_hold (is_ascii_digit b) (list_all is_ascii_digit bs) h.digits in
+    let first = and_parts (is_ascii_digit b) (list_all is_ascii_digit bs) h.digits in
     let cap : min n LARGEST ≡ n = omega arith in
     let size : length (b ∷ bs) - 1 ≡ length bs = omega arith in
     let e : option_map digits_front (magnitude_found (b ∷ (bs ++ rest))) ≡ Some (record { word = Number (pos (min n LARGEST)); after = length (b ∷ bs) - 1 }) = ap (option_map digits_front) (magnitude_read n (b ∷ bs) rest h g) in

@@ -18,6 +18,7 @@ use Rattle.mips_text.specs.Words.{Word, Number, Register, Open, Close, words_of}
 use Rattle.mips_text.specs.Fronts.{register_front, takes}
 use Rattle.mips_text.proofs.SpelledWords.{Spells, all_in_line, breaks, in_line, prefix_stop, stops, word_here}
 use Rattle.mips_text.proofs.SpelledNumbers.{IsSmall, number_spells}
+use Rattle.std.proofs.lemmas.Bool.{and_from}
 
 -- what is known of the name of a register
 pub record Known (register : ℕ) : Type 0 where
@@ -108,9 +109,6 @@ memory_read offset base rest h l =
     ∙ ap (λ ws. Number offset ∷ ws) (open_read (register_operand base ++ (41 ∷ rest))
     ∙ ap (λ ws. Open ∷ ws) (register.reads (41 ∷ rest) refl ∙ ap (λ ws. Register (register_text base) ∷ ws) (close_read rest))))
 
-pub and_both : (a b : Bool) → a ≡ true → b ≡ true → (a && b) ≡ true
-and_both a b h g = ap (λ (t : Bool). t && b) h ∙ g
-
 pub memory_spells : (offset : ℤ) (base : ℕ) → IsSmall offset → base < 32 → Spells (memory_operand offset base) (memory_words offset base)
 memory_spells offset base h l =
     let number : Spells (signed_decimal offset) (Number offset ∷ []) = number_spells offset h in
@@ -118,5 +116,5 @@ memory_spells offset base h l =
     record {
       reads = λ rest r. memory_read offset base rest h l;
       one_line = list_all-append in_line (signed_decimal offset) (40 ∷ (register_operand base ++ (41 ∷ [])))
-          ∙ and_both _ _ number.one_line (list_all-append in_line (register_operand base) (41 ∷ []) ∙ and_both _ _ register.one_line refl);
+          ∙ and_from _ _ number.one_line (list_all-append in_line (register_operand base) (41 ∷ []) ∙ and_from _ _ register.one_line refl);
     }

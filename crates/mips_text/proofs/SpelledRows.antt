@@ -14,7 +14,7 @@ use Rattle.mips_text.specs.Spelling.{gap_text, operands_text, row_text}
 use Rattle.mips_text.specs.Words.{Word, Name, Number, words_of}
 use Rattle.mips_text.proofs.SpelledWords.{Spells, breaks, in_line, name_spells}
 use Rattle.mips_text.proofs.SpelledNumbers.{IsSmall, number_spells}
-use Rattle.mips_text.proofs.SpelledRegisters.{and_both}
+use Rattle.std.proofs.lemmas.Bool.{and_from}
 
 -- the rest of a line, which ends the word before it
 pub record Ends (text : List ℕ) (words : List Word) : Type 0 where
@@ -39,7 +39,7 @@ pub operand_ends : (index : ℕ) (operand : List ℕ) (operands : List (List ℕ
 operand_ends index operand operands first rest h e =
     gap_by index (operand ++ operands_text (suc index) operands) (first ++ rest) (index == 0) refl
     (h.reads (operands_text (suc index) operands) e.breaks_word ∙ ap (λ ws. first ++ ws) e.reads)
-    (list_all-append in_line operand (operands_text (suc index) operands) ∙ and_both _ _ h.one_line e.one_line)
+    (list_all-append in_line operand (operands_text (suc index) operands) ∙ and_from _ _ h.one_line e.one_line)
 
 -- a name before its operands
 pub row_reads : (name : List ℕ) (operands : List (List ℕ)) (words : List Word) → is_name name ≡ true → Ends (operands_text 0 operands) words → Row (row_text name operands) (Name name ∷ words)
@@ -47,7 +47,7 @@ row_reads name operands words h e =
     let n : Spells name (Name name ∷ []) = name_spells name h in
     record {
       reads = n.reads (operands_text 0 operands) e.breaks_word ∙ ap (λ ws. Name name ∷ ws) e.reads;
-      one_line = list_all-append in_line name (operands_text 0 operands) ∙ and_both _ _ n.one_line e.one_line;
+      one_line = list_all-append in_line name (operands_text 0 operands) ∙ and_from _ _ n.one_line e.one_line;
     }
 
 -- words of data

@@ -13,8 +13,9 @@ use Rattle.mips_text.specs.Names.{is_name}
 use Rattle.mips_text.specs.Words.{Word, Name, front, with_class, with_front, words_behind, words_of}
 use Rattle.mips_text.specs.Fronts.{front_found, name_front, takes}
 use Rattle.mips_text.proofs.FrontsAreLongest.{front_is}
-use Rattle.mips_text.proofs.Prefixes.{prefix_no, prefix_yes}
 use Rattle.mips_text.proofs.WordsBehind.{behind_is}
+use Rattle.lists.proofs.Fronts.{prefix_no, prefix_yes}
+use Rattle.std.proofs.lemmas.Bool.{and_parts, not-true}
 
 abbrev pub in_line : ℕ → Bool
 in_line b = not (b == 10)
@@ -33,20 +34,12 @@ pub record Spells (text : List ℕ) (words : List Word) : Type 0 where
   pub reads : (rest : List ℕ) → breaks rest ≡ true → words_of (text ++ rest) ≡ words ++ words_of rest
   pub one_line : list_all in_line text ≡ true
 
-pub both_hold : (a b : Bool) → (a && b) ≡ true → (a ≡ true) × (b ≡ true)
-both_hold true b h = (refl, h)
-both_hold false b h = absurd (let e : false ≡ true = h in cc)
-
-not_true : (a : Bool) → not a ≡ true → a ≡ false
-not_true true h = absurd (let e : false ≡ true = h in cc)
-not_true false h = refl
-
 -- what passes ends where a text stops
 pub prefix_stop : (p : ℕ → Bool) (bs rest : List ℕ) → list_all p bs ≡ true → stops p rest ≡ true → prefix_len p (bs ++ rest) ≡ length bs
 prefix_stop p [] [] h g = refl
-prefix_stop p [] (c ∷ cs) h g = let no : p c ≡ false = not_true (p c) g in prefix_no p c cs no
+prefix_stop p [] (c ∷ cs) h g = let no : p c ≡ false = not-true (p c) g in prefix_no p c cs no
 prefix_stop p (b ∷ bs) rest h g =
-    let both = both_hold (p b) (list_all p bs) h in
+    let both = and_parts (p b) (list_all p bs) h in
     prefix_yes p b (bs ++ rest) both.0 ∙ ap (λ n. suc n) (prefix_stop p bs rest both.1 g)
 
 -- the words of a text that begins with one
@@ -67,7 +60,7 @@ in_name b h = grind (arith, nat_tests)
 pub all_in_line : (p : ℕ → Bool) → ((b : ℕ) → p b ≡ true → in_line b ≡ true) → (bs : List ℕ) → list_all p bs ≡ true → list_all in_line bs ≡ true
 all_in_line p h [] g = refl
 all_in_line p h (b ∷ bs) g =
-    let both = both_hold (p b) (list_all p bs) g in
+    let both = and_parts (p b) (list_all p bs) g in
     ap (λ (t : Bool). t && list_all in_line bs) (h b both.0) ∙ all_in_line p h bs both.1
 
 or_left : (b : ℕ) → name_start b ≡ true → name_rest b ≡ true
@@ -82,7 +75,7 @@ name_read b bs rest h g r =
 pub name_spells : (name : List ℕ) → is_name name ≡ true → Spells name (Name name ∷ [])
 name_spells [] h = absurd (let e : false ≡ true = h in cc)
 name_spells (b ∷ bs) h =
-    let both = both_hold (name_start b) (list_all name_rest bs) h in
+    let both = and_parts (name_start b) (list_all name_rest bs) h in
     record {
       reads = λ rest r. name_read b bs rest both.0 both.1 r;
       one_line = ap (λ (t : Bool). t && list_all in_line bs) (in_name b (or_left b both.0)) ∙ all_in_line name_rest in_name bs both.1;

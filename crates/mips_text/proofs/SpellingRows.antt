@@ -3,10 +3,7 @@ use Rattle.std.proofs.Common.{◌≡◌, ℕ, List, [], ◌∷◌, ◌++◌, ◌
 use Rattle.std.proofs.lemmas.List.{append-nil, drop_all, length-map}
 use Rattle.std.proofs.Math.Seq.{drop-cons}
 use Rattle.mips_text.specs.Spelling.{gap_text, operands_text, register_operand}
-
--- the same bytes, grouped from the right
-regroup : (a b c d : List ℕ) → ((a ++ b) ++ c) ++ d ≡ a ++ (b ++ (c ++ d))
-regroup a b c d = simp append_assoc
+use Rattle.lists.proofs.JoinedLists.{four_joined}
 
 -- what the operands from an index on are printed as
 abbrev pub operands_left : {A : Type 0} → (A → List ℕ) → ℕ → List A → List ℕ
@@ -17,7 +14,7 @@ pub operand_written : {A : Type 0} → (text : A → List ℕ) (out total : List
 operand_written {A} text out total xs index x h e inv =
     let cut = drop-cons xs index x h ∙ ap (λ (y : A). y ∷ drop (suc index) xs) (sym e) in
     let split = ap (λ (ys : List A). out ++ operands_text index (map text ys)) cut in
-    rw add-one (regroup out (gap_text index) (text x) (operands_left text (suc index) xs) ∙ (sym split ∙ inv))
+    rw add-one (four_joined out (gap_text index) (text x) (operands_left text (suc index) xs) ∙ (sym split ∙ inv))
 
 -- all operands were written
 pub operands_written : {A : Type 0} → (text : A → List ℕ) (out old start name : List ℕ) (xs : List A) (index : ℕ) → length xs ≤ index → start ≡ old ++ name → out ++ operands_left text index xs ≡ start ++ operands_left text 0 xs → out ≡ old ++ (name ++ operands_left text 0 xs)
@@ -52,11 +49,6 @@ row_ended old name last registers =
 pub row_finished : (old named parted out name last registers : List ℕ) (count : ℕ) → named ≡ old ++ (name ++ operands_text 0 (map register_operand registers)) → count ≡ length registers → parted ≡ named ++ gap_text count → out ≡ parted ++ last → out ≡ old ++ (name ++ operands_text 0 (map register_operand registers ++ last ∷ []))
 row_finished old named parted out name last registers count e n p o =
     o ∙ (ap (λ (t : List ℕ). t ++ last) (p ∙ (ap (λ (t : List ℕ). t ++ gap_text count) e ∙ ap (λ (k : ℕ). (old ++ (name ++ operands_text 0 (map register_operand registers))) ++ gap_text k) n)) ∙ row_ended old name last registers)
-
--- what a call gave, carried on to the result
-pub then_ok : {A E P Q : Type 0} → (r : Result A E) → (P → Q) → OnOk r P → OnOk r Q
-then_ok (Ok x) f h = f h
-then_ok (Err e) f h = h
 
 -- what an appending call gave
 pub appended : {A E : Type 0} → (r : Result A E) (out old all : List ℕ) → out ≡ (if is_ok r then all else old) → OnOk r (out ≡ all)

@@ -6,6 +6,7 @@ use Rattle.mips_text.specs.declared.class.Class.TheVariants as class
 use Rattle.mips_text.specs.declared.class.Start.{Start}
 use Rattle.mips_text.specs.Letters.{class_of}
 use Rattle.mips_text.specs.Words.{Word, Front, front, with_class, with_front, words_behind, words_of}
+use Rattle.lists.proofs.ItemsLeft.{first_and_tail}
 
 -- the words behind so many bytes are those of what is behind them
 pub behind_is : (n : ℕ) (bs : List ℕ) → words_behind n bs ≡ words_of (drop n bs)
@@ -17,11 +18,6 @@ behind_is (suc n) (b ∷ bs) = behind_is n bs
 pub behind_taken : (n : ℕ) (bs : List ℕ) → words_of (take (length bs - n) (drop n bs)) ≡ words_behind n bs
 behind_taken n bs =
     ap words_of (take_all _ (drop n bs) (omega (arith, length-drop n bs))) ∙ sym (behind_is n bs)
-
--- the code's first byte and those after it are the rest
-pub first_and_tail : (rest : List ℕ) → 0 < length rest → get_or rest 0 0 ∷ take (length rest - 1) (drop 1 rest) ≡ rest
-first_and_tail [] h = absurd (omega arith)
-first_and_tail (b ∷ bs) h = ap (λ l. b ∷ l) (take_all _ bs (omega arith))
 
 -- the first word of a line whose first byte begins one, and the words behind it
 pub word_first : (rest : List ℕ) (s : Start) (found : Option Front) (word : Word) (behind : List ℕ) → 0 < length rest → class_of (get_or rest 0 0) ≡ class.Word s → found ≡ front s (get_or rest 0 0) (take (length rest - 1) (drop 1 rest)) → word ∷ words_of behind ≡ with_front found (λ n. words_behind n (take (length rest - 1) (drop 1 rest))) → words_of rest ≡ word ∷ words_of behind

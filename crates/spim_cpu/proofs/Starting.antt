@@ -9,6 +9,7 @@ use Rattle.mips_isa.specs.Machine.{Core, Registers}
 use Rattle.mips_isa.specs.Run.{start_registers, start_core}
 use Rattle.spim_memory.specs.Memory.{MemoryParts, bytes_of}
 use Rattle.spim_cpu.specs.Cpu.{core_of}
+use Rattle.lists.proofs.ItemsAt.{get_zeros, get_set}
 
 abbrev zeros : List ℕ
 zeros = 0 ∷ 0 ∷ 0 ∷ 0 ∷ 0 ∷ 0 ∷ 0 ∷ 0 ∷ 0 ∷ 0 ∷ 0 ∷ 0 ∷ 0 ∷ 0 ∷ 0 ∷ 0 ∷ 0 ∷ 0 ∷ 0 ∷ 0 ∷ 0 ∷ 0 ∷ 0 ∷ 0 ∷ 0 ∷ 0 ∷ 0 ∷ 0 ∷ 0 ∷ 0 ∷ 0 ∷ 0 ∷ []
@@ -16,15 +17,6 @@ zeros = 0 ∷ 0 ∷ 0 ∷ 0 ∷ 0 ∷ 0 ∷ 0 ∷ 0 ∷ 0 ∷ 0 ∷ 0 ∷ 0 ∷ 
 -- these 32 registers
 abbrev pub first_registers : ℕ → ℕ → List ℕ
 first_registers low end = 0 ∷ 0 ∷ 0 ∷ 0 ∷ 0 ∷ 0 ∷ 0 ∷ 0 ∷ 0 ∷ 0 ∷ 0 ∷ 0 ∷ 0 ∷ 0 ∷ 0 ∷ 0 ∷ 0 ∷ 0 ∷ 0 ∷ 0 ∷ 0 ∷ 0 ∷ low ∷ end ∷ 0 ∷ 0 ∷ 0 ∷ 0 ∷ 536870912 ∷ 2147483648 ∷ 0 ∷ 0 ∷ []
-
--- each element of zeros is 0
-get_zeros : (n q : ℕ) → get_or {A = ℕ} (replicate n 0) q 0 ≡ 0
-get_zeros zero q = refl
-get_zeros (suc n) zero = refl
-get_zeros (suc n) (suc q) = get_zeros n q
-
-get_set : (l : List ℕ) (i x j : ℕ) → i < length l → get_or (slice_set l i x) j 0 ≡ cond (j == i) x (get_or l j 0)
-get_set l i x j h = grind (arith, get_or-set_same, get_or-set_other)
 
 -- four registers are set, one after another
 started : (low end q : ℕ) → get_or (first_registers low end) q 0

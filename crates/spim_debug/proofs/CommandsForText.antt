@@ -11,7 +11,8 @@ use Rattle.spim_debug.specs.declared.script.ScriptFault.{ScriptFault}
 use Rattle.spim_debug.specs.declared.script.ScriptError.{ScriptError}
 use Rattle.spim_debug.specs.declared.script.ScriptError.TheVariants.{Memory, Fault}
 use Rattle.spim_debug.specs.Debugging.{IsTextAddress, IsCommandFor, IsScriptFor}
-use Rattle.spim_debug.specs.Scripts.{Said, says, IsReadAs, number_in, address_in, with_number, at_label, with_label, with_both, alone, with_operand, with_operands, said_by, words_in, said, then_commands, commands_from}
+use Rattle.spim_debug.specs.Scripts.{Said, says, IsReadAs, number_in, address_in, with_number, at_label, with_label, with_both, alone, with_operand, with_operands, said_by, said, then_commands, commands_from}
+use Rattle.lists.specs.Words.{words_in}
 
 -- each name has the address of a word of the text, or none
 abbrev pub NamesWords : List ℕ → (lines.Name → Option ℕ) → Type 0

@@ -17,6 +17,7 @@ use Rattle.spim_debug.specs.Moves.{Debuggee, Progress, beginning, moves, all_mov
 use Rattle.spim_debug.specs.Notes.{notes, all_notes}
 use Rattle.spim_debug.specs.Debugging.{StandsEarlier, FailsWithin, BrokenOff, StoppedIn, Debugged, PutOfFront, PutInCommand, NotesPut}
 use Rattle.spim_debug.specs.Obeying.{Stands, EndsFrom, Obeyed}
+use Rattle.lists.proofs.ItemsLeft.{drop_one}
 
 -- where commands and one more lead
 moves_more : (d : Debuggee) (front : List DebugCommand) (c : DebugCommand) (p : Progress)
@@ -52,14 +53,6 @@ pub so_far_none : (d : Debuggee) (script : List DebugCommand) (first : Option (L
     (noted : SinkSeen) → Stands d beginning first x left held → SoFar d script script first x left held noted noted
 so_far_none d script first x left held noted st = record { front = []; script_is = refl; stands = st; noted_is = sym (after-nil noted) }
 
--- the command at an index, and those behind it
-command_at : (script : List DebugCommand) (i : ℕ) (c : DebugCommand) → i < length script → c ≡ get_or script i c
-    → drop i script ≡ c ∷ drop (i + 1) script
-command_at script i c inside is =
-    let cut : drop i script ≡ get_or script i c ∷ drop (suc i) script = drop-cons script i c inside in
-    let next : drop i script ≡ c ∷ drop (suc i) script = cut ∙ ap (λ (k : DebugCommand). k ∷ drop (suc i) script) (sym is) in
-    rw add-one next
-
 -- after one more command
 pub so_far_more : (d : Debuggee) (script : List DebugCommand) (i : ℕ) (c : DebugCommand) (first : Option (List ℕ)) (x x' : Debugger)
     (left held left' held' : Option (List ℕ)) (noted mid noted' : SinkSeen) → i < length script → c ≡ get_or script i c
@@ -71,7 +64,7 @@ so_far_more d script i c first x x' left held left' held' noted mid noted' insid
     let c_notes : List (List ℕ) = notes d c (moves d c p).executed in
     record {
       front = so.front ++ c ∷ [];
-      script_is = so.script_is ∙ ap (λ (l : List DebugCommand). so.front ++ l) (command_at script i c inside is) ∙ sym (append_assoc so.front (c ∷ []) (drop (i + 1) script));
+      script_is = so.script_is ∙ ap (λ (l : List DebugCommand). so.front ++ l) (drop_one script i c inside is) ∙ sym (append_assoc so.front (c ∷ []) (drop (i + 1) script));
       stands = subst (λ (q : Progress). Stands d q first x' left' held') (sym (moves_more d so.front c beginning)) st;
       noted_is = put ∙ ap (λ (sink : SinkSeen). after_puts sink c_notes) so.noted_is ∙ after-append noted (all_notes d so.front beginning) c_notes
           ∙ ap (after_puts noted) (sym (notes_more d so.front c beginning));
@@ -118,7 +111,7 @@ stopped_at d script i c first x left held noted mid noted' inside is so put =
     let rest : List DebugCommand = drop (i + 1) script in
     let front_notes : List (List ℕ) = all_notes d so.front beginning in
     let c_notes : List (List ℕ) = notes d c (moves d c p).executed in
-    let cut : script ≡ so.front ++ c ∷ rest = so.script_is ∙ ap (λ (l : List DebugCommand). so.front ++ l) (command_at script i c inside is) in
+    let cut : script ≡ so.front ++ c ∷ rest = so.script_is ∙ ap (λ (l : List DebugCommand). so.front ++ l) (drop_one script i c inside is) in
     let here : PutSome (after_puts noted front_notes) c_notes noted' = subst (λ (sink : SinkSeen). PutSome sink c_notes noted') so.noted_is put in
     let all : PutSome noted (front_notes ++ (c_notes ++ all_notes d rest (moves d c p))) noted' =
     some_after noted noted' front_notes (c_notes ++ all_notes d rest (moves d c p))
@@ -156,7 +149,7 @@ broken_at : (d : Debuggee) (script : List DebugCommand) (i : ℕ) (c : DebugComm
     → noted' ≡ mid → Broken d script halt first left' held' noted noted'
 broken_at d script i c first halt x left held left' held' noted mid noted' inside is so fails same =
     broken_behind d script so.front (c ∷ drop (i + 1) script) halt first left' held' noted noted'
-    (so.script_is ∙ ap (λ (l : List DebugCommand). so.front ++ l) (command_at script i c inside is)) (same ∙ so.noted_is) fails
+    (so.script_is ∙ ap (λ (l : List DebugCommand). so.front ++ l) (drop_one script i c inside is)) (same ∙ so.noted_is) fails
 
 -- a call failed in a command
 pub stopped_in : (d : Debuggee) (script : List DebugCommand) (i : ℕ) (c : DebugCommand) (first : Option (List ℕ)) (stop : DebugEnd)

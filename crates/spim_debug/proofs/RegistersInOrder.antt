@@ -2,22 +2,14 @@
 use Rattle.std.proofs.Common.{◌≡◌, ◌∙◌, sym, ap, ℕ, zero, suc, ◌+◌, List, ◌++◌, append_assoc, append-nil, arith}
 use Rattle.std.specs.Prelude.{flat_map}
 use Rattle.std.specs.List.{range_with_len}
-
--- with one number more
-one_more : (f : ℕ → List ℕ) (a n : ℕ) → flat_map f (range_with_len a (suc n)) ≡ flat_map f (range_with_len a n) ++ f (a + n)
-one_more f a zero = append-nil (f a) ∙ ap f (omega arith)
-one_more f a (suc n) =
-    let behind : a + 1 + n ≡ a + suc n = omega arith in
-    ap (λ (r : List ℕ). f a ++ r) (one_more f (a + 1) n)
-    ∙ sym (append_assoc (f a) (flat_map f (range_with_len (a + 1) n)) (f (a + 1 + n)))
-    ∙ ap (λ (k : ℕ). (f a ++ flat_map f (range_with_len (a + 1) n)) ++ f k) behind
+use Rattle.lists.proofs.JoinedLists.{flat_more}
 
 -- the same from 0 on
 pub next_number : (f : ℕ → List ℕ) (n : ℕ) → flat_map f (range_with_len 0 (n + 1)) ≡ flat_map f (range_with_len 0 n) ++ f n
 next_number f n =
     let one : n + 1 ≡ suc n = omega arith in
     let none : 0 + n ≡ n = omega arith in
-    ap (λ (k : ℕ). flat_map f (range_with_len 0 k)) one ∙ one_more f 0 n ∙ ap (λ (k : ℕ). flat_map f (range_with_len 0 n) ++ f k) none
+    ap (λ (k : ℕ). flat_map f (range_with_len 0 k)) one ∙ flat_more f 0 n ∙ ap (λ (k : ℕ). flat_map f (range_with_len 0 n) ++ f k) none
 
 -- and behind what stands in front of them
 pub in_front : (a b : List ℕ) (f : ℕ → List ℕ) (n : ℕ) → (a ++ (b ++ flat_map f (range_with_len 0 n))) ++ f n ≡ a ++ (b ++ flat_map f (range_with_len 0 (n + 1)))

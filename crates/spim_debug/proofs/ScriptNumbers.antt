@@ -6,9 +6,7 @@ use Rattle.std.proofs.lemmas.Bool.{and_parts}
 use Rattle.std.proofs.lemmas.Bool.Decides.{nat_tests}
 use Rattle.mips_text.specs.Letters.{hex_digit}
 use Rattle.mips_text.specs.Words.{digit_value, value}
-
-abbrev step : ℕ → ℕ → ℕ → ℕ
-step base n byte = n * base + digit_value byte
+use Rattle.mips_text.proofs.CappedNumbers.{step}
 
 -- a hexadecimal digit is at most 15
 digit_small : (b : ℕ) → hex_digit b ≡ true → digit_value b ≤ 15

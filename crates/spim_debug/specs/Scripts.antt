@@ -14,6 +14,7 @@ use Rattle.spim_debug.specs.declared.script.ScriptFault.{ScriptFault}
 use Rattle.spim_debug.specs.declared.script.ScriptError.{ScriptError}
 use Rattle.spim_debug.specs.declared.script.ScriptError.TheVariants.{Memory, Fault}
 use Rattle.std.specs.Global.{Vec}
+use Rattle.lists.specs.Words.{words_in}
 
 -- what a line says: a command, or nothing where it is empty; or its fault
 abbrev pub Said : Type 0
@@ -21,10 +22,6 @@ Said = Result (Option DebugCommand) ScriptKind
 
 abbrev pub says : DebugCommand → Said
 says command = Ok (Some command)
-
--- the words of a line, which is parted at each space
-abbrev pub words_in : List ℕ → List (List ℕ)
-words_in = slice_split (λ b. b == 32)
 
 -- a number from 1 on in at most so many digits, and at most so large
 abbrev pub up_to : ℕ → Option ℕ → Option ℕ

@@ -12,6 +12,7 @@ use Rattle.spim_machine.specs.declared.halt.Halt.TheVariants.{Exit, Trap}
 use Rattle.spim_machine.specs.Machine.{MachineParts, state_of, IsIn}
 use Rattle.spim_machine.specs.Ends.{stores_none, stores_string, call_stores, IsResultOf}
 use Rattle.spim_machine.proofs.SameResults.{results_as}
+use Rattle.std.proofs.lemmas.Bool.{ne_eqb}
 
 -- of a call of another number than read_string's no byte is stored
 stores_nothing : (k : ℕ) (s : State) (front : List ℕ) → s.core.registers 2 ≡ k → (k == 8) ≡ false
@@ -140,14 +141,10 @@ pub record IsNoCall (v : ℕ) : Type 0 where
   pub not_12 : v ≡ 12 → ⊥
   pub not_17 : v ≡ 17 → ⊥
 
--- the test of another number
-is_other : (v k : ℕ) → (v ≡ k → ⊥) → (v == k) ≡ false
-is_other v k differ = grind arith
-
 -- it traps
 calls_none : (b : Segments) (s : State) → IsNoCall (s.core.registers 2) → call b s ≡ bad_call s
 calls_none b s is =
-    rw (is_other _ 1 is.not_1, is_other _ 4 is.not_4, is_other _ 5 is.not_5, is_other _ 8 is.not_8, is_other _ 9 is.not_9, is_other _ 10 is.not_10, is_other _ 11 is.not_11, is_other _ 12 is.not_12, is_other _ 17 is.not_17) refl
+    rw (ne_eqb _ 1 is.not_1, ne_eqb _ 4 is.not_4, ne_eqb _ 5 is.not_5, ne_eqb _ 8 is.not_8, ne_eqb _ 9 is.not_9, ne_eqb _ 10 is.not_10, ne_eqb _ 11 is.not_11, ne_eqb _ 12 is.not_12, ne_eqb _ 17 is.not_17) refl
 
 -- the trap of such a call
 abbrev pub no_call : MachineParts → Halt

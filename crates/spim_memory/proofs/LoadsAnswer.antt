@@ -9,68 +9,62 @@ use Rattle.spim_memory.specs.Memory.{MemoryParts, IsMemory, segments, bytes_of, 
 use Rattle.spim_memory.specs.Places.{IsPlace, IsTextFrom}
 use Rattle.spim_memory.specs.declared.memory.Place.TheVariants.{StaticBytes, Heap, Stack}
 use Rattle.spim_memory.proofs.LoadingBytes.{reads_static, reads_heap, reads_stack, reads_half, reads_word, half_of_text, word_of_bytes}
+use Rattle.spim_memory.specs.Zeros.{two_at, four_at}
 
 -- a memory by another name
 pub same_memory : (p m : MemoryParts) → p ≡ m → IsMemory p → IsMemory m
 same_memory p m e h = rw (sym e) h
 
--- the number in two bytes of a list, and in four
-abbrev pub two_of : List ℕ → ℕ → ℕ
-two_of l i = get_or l i 0 + 256 * get_or l (i + 1) 0
-
-abbrev pub four_of : List ℕ → ℕ → ℕ
-four_of l i = get_or l i 0 + 256 * get_or l (i + 1) 0 + 65536 * get_or l (i + 2) 0 + 16777216 * get_or l (i + 3) 0
-
-pub half_of_static : (m : MemoryParts) (l : List ℕ) (a i v : ℕ) → IsMemory m → a % 2 ≡ 0 → IsPlace m a (Some (StaticBytes i)) → l ≡ m.static_bytes → v ≡ two_of l i → Ok v ≡ accessed 2 (readable (segments m) a 2) a (half (bytes_of m) a)
+pub half_of_static : (m : MemoryParts) (l : List ℕ) (a i v : ℕ) → IsMemory m → a % 2 ≡ 0 → IsPlace m a (Some (StaticBytes i)) → l ≡ m.static_bytes → v ≡ two_at l i → Ok v ≡ accessed 2 (readable (segments m) a 2) a (half (bytes_of m) a)
 half_of_static m l a i v is even at same value =
     let within : i + 2 ≤ length m.static_bytes = omega (arith, at.0, at.1, even, is.static_words, is.static_bytes) in
     let may : readable (segments m) a 2 ≡ true = grind (arith, at.0, within, is.static_bytes) in
-    let number : v ≡ two_of m.static_bytes i = value ∙ ap (λ bytes. two_of bytes i) same in
+    let number : v ≡ two_at m.static_bytes i = value ∙ ap (λ bytes. two_at bytes i) same in
     let found : v ≡ half (bytes_of m) a =
     number ∙ sym (reads_half (bytes_of m) DATA_START m.static_bytes (reads_static m is.static_bytes) i within) ∙ ap (λ place. half (bytes_of m) place) (sym at.0) in
     rw (even, may) (ap Ok found)
 
-pub half_of_heap : (m : MemoryParts) (l : List ℕ) (a i v : ℕ) → IsMemory m → a % 2 ≡ 0 → IsPlace m a (Some (Heap i)) → l ≡ m.heap → v ≡ two_of l i → Ok v ≡ accessed 2 (readable (segments m) a 2) a (half (bytes_of m) a)
+pub half_of_heap : (m : MemoryParts) (l : List ℕ) (a i v : ℕ) → IsMemory m → a % 2 ≡ 0 → IsPlace m a (Some (Heap i)) → l ≡ m.heap → v ≡ two_at l i → Ok v ≡ accessed 2 (readable (segments m) a 2) a (half (bytes_of m) a)
 half_of_heap m l a i v is even at same value =
     let within : i + 2 ≤ length m.heap = omega (arith, at.0, at.1, even, is.heap_words, is.heap) in
     let may : readable (segments m) a 2 ≡ true = grind (arith, at.0, within, is.heap) in
-    let number : v ≡ two_of m.heap i = value ∙ ap (λ bytes. two_of bytes i) same in
+    let number : v ≡ two_at m.heap i = value ∙ ap (λ bytes. two_at bytes i) same in
     let found : v ≡ half (bytes_of m) a =
     number ∙ sym (reads_half (bytes_of m) HEAP_START m.heap (reads_heap m is.heap is.stack) i within) ∙ ap (λ place. half (bytes_of m) place) (sym at.0) in
     rw (even, may) (ap Ok found)
 
-pub half_of_stack : (m : MemoryParts) (l : List ℕ) (a i v : ℕ) → IsMemory m → a % 2 ≡ 0 → IsPlace m a (Some (Stack i)) → l ≡ m.stack → v ≡ two_of l i → Ok v ≡ accessed 2 (readable (segments m) a 2) a (half (bytes_of m) a)
+pub half_of_stack : (m : MemoryParts) (l : List ℕ) (a i v : ℕ) → IsMemory m → a % 2 ≡ 0 → IsPlace m a (Some (Stack i)) → l ≡ m.stack → v ≡ two_at l i → Ok v ≡ accessed 2 (readable (segments m) a 2) a (half (bytes_of m) a)
 half_of_stack m l a i v is even at same value =
     let within : i + 2 ≤ length m.stack = omega (arith, at.0, at.1, even, is.stack_words, is.stack) in
     let may : readable (segments m) a 2 ≡ true = grind (arith, at.0, within, is.stack) in
-    let number : v ≡ two_of m.stack i = value ∙ ap (λ bytes. two_of bytes i) same in
+    let number : v ≡ two_at m.stack i = value ∙ ap (λ bytes. two_at bytes i) same in
     let found : v ≡ half (bytes_of m) a =
     number ∙ sym (reads_half (bytes_of m) (STACK_END - length m.stack) m.stack (reads_stack m is.stack) i within) ∙ ap (λ place. half (bytes_of m) place) (sym at.0) in
     rw (even, may) (ap Ok found)
 
-pub word_of_static : (m : MemoryParts) (l : List ℕ) (a i v : ℕ) → IsMemory m → a % 4 ≡ 0 → IsPlace m a (Some (StaticBytes i)) → l ≡ m.static_bytes → v ≡ four_of l i → Ok v ≡ accessed 4 (readable (segments m) a 4) a (word (bytes_of m) a)
+pub word_of_static : (m : MemoryParts) (l : List ℕ) (a i v : ℕ) → IsMemory m → a % 4 ≡ 0 → IsPlace m a (Some (StaticBytes i)) → l ≡ m.static_bytes → v ≡ four_at l i → Ok v ≡ accessed 4 (readable (segments m) a 4) a (word (bytes_of m) a)
 word_of_static m l a i v is even at same value =
     let within : i + 4 ≤ length m.static_bytes = omega (arith, at.0, at.1, even, is.static_words, is.static_bytes) in
     let may : readable (segments m) a 4 ≡ true = grind (arith, at.0, within, is.static_bytes) in
-    let number : v ≡ four_of m.static_bytes i = value ∙ ap (λ bytes. four_of bytes i) same in
+    let number : v ≡ four_at m.static_bytes i = value ∙ ap (λ bytes. four_at bytes i) same in
     let found : v ≡ word (bytes_of m) a =
     number ∙ sym (reads_word (bytes_of m) DATA_START m.static_bytes (reads_static m is.static_bytes) i within) ∙ ap (λ place. word (bytes_of m) place) (sym at.0) in
     rw (even, may) (ap Ok found)
 
-pub word_of_heap : (m : MemoryParts) (l : List ℕ) (a i v : ℕ) → IsMemory m → a % 4 ≡ 0 → IsPlace m a (Some (Heap i)) → l ≡ m.heap → v ≡ four_of l i → Ok v ≡ accessed 4 (readable (segments m) a 4) a (word (bytes_of m) a)
+pub word_of_heap : (m : MemoryParts) (l : List ℕ) (a i v : ℕ) → IsMemory m → a % 4 ≡ 0 → IsPlace m a (Some (Heap i)) → l ≡ m.heap → v ≡ four_at l i → Ok v ≡ accessed 4 (readable (segments m) a 4) a (word (bytes_of m) a)
 word_of_heap m l a i v is even at same value =
     let within : i + 4 ≤ length m.heap = omega (arith, at.0, at.1, even, is.heap_words, is.heap) in
     let may : readable (segments m) a 4 ≡ true = grind (arith, at.0, within, is.heap) in
-    let number : v ≡ four_of m.heap i = value ∙ ap (λ bytes. four_of bytes i) same in
+    let number : v ≡ four_at m.heap i = value ∙ ap (λ bytes. four_at bytes i) same in
     let found : v ≡ word (bytes_of m) a =
     number ∙ sym (reads_word (bytes_of m) HEAP_START m.heap (reads_heap m is.heap is.stack) i within) ∙ ap (λ place. word (bytes_of m) place) (sym at.0) in
     rw (even, may) (ap Ok found)
 
-pub word_of_stack : (m : MemoryParts) (l : List ℕ) (a i v : ℕ) → IsMemory m → a % 4 ≡ 0 → IsPlace m a (Some (Stack i)) → l ≡ m.stack → v ≡ four_of l i → Ok v ≡ accessed 4 (readable (segments m) a 4) a (word (bytes_of m) a)
+pub word_of_stack : (m : MemoryParts) (l : List ℕ) (a i v : ℕ) → IsMemory m → a % 4 ≡ 0 → IsPlace m a (Some (Stack i)) → l ≡ m.stack → v ≡ four_at l i → Ok v ≡ accessed 4 (readable (segments m) a 4) a (word (bytes_of m) a)
 word_of_stack m l a i v is even at same value =
     let within : i + 4 ≤ length m.stack = omega (arith, at.0, at.1, even, is.stack_words, is.stack) in
     let may : readable (segments m) a 4 ≡ true = grind (arith, at.0, within, is.stack) in
-    let number : v ≡ four_of m.stack i = value ∙ ap (λ bytes. four_of bytes i) same in
+    let number : v ≡ four_at m.stack i = value ∙ ap (λ bytes. four_at bytes i) same in
     let found : v ≡ word (bytes_of m) a =
     number ∙ sym (reads_word (bytes_of m) (STACK_END - length m.stack) m.stack (reads_stack m is.stack) i within) ∙ ap (λ place. word (bytes_of m) place) (sym at.0) in
     rw (even, may) (ap Ok found)

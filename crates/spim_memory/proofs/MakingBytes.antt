@@ -9,18 +9,15 @@ use Rattle.mips_isa.specs.declared.address_map.TheConstants.{DATA_START, HEAP_ST
 use Rattle.mips_isa.specs.Bytes.{bytes_of_image}
 use Rattle.spim_memory.specs.Memory.{bytes_of, IsMemory, IsLimits}
 use Rattle.spim_memory.specs.Places.{whole_words}
-
--- zeros, and nothing after them
-zeros : (n i : ℕ) → get_or {A = ℕ} (replicate n 0) i 0 ≡ 0
-zeros n i = grind (arith, get_or-replicate, get_or-eq_default, length-replicate)
+use Rattle.lists.proofs.ItemsAt.{get_zeros}
 
 -- zeros after a list change nothing
 padded : (l : List ℕ) (n i : ℕ) → get_or (l ++ replicate n 0) i 0 ≡ get_or l i 0
-padded l n i = grind (arith, zeros, get_or-append, get_or-append_right, get_or-eq_default)
+padded l n i = grind (arith, get_zeros, get_or-append, get_or-append_right, get_or-eq_default)
 
 -- the bytes of a memory of such lists
 made_of_zeros : (i : ImageParts) (pad heap stack : ℕ) → bytes_of (record { text = i.text; static_bytes = i.bytes ++ replicate pad 0; heap = replicate heap 0; stack = replicate stack 0 }) ≡ bytes_of_image i
-made_of_zeros i pad heap stack = fun_ext (λ q. rw (padded i.bytes pad (q - DATA_START), zeros heap (q - HEAP_START), zeros stack (q - (STACK_END - length (replicate {A = ℕ} stack 0)))) (grind arith))
+made_of_zeros i pad heap stack = fun_ext (λ q. rw (padded i.bytes pad (q - DATA_START), get_zeros heap (q - HEAP_START), get_zeros stack (q - (STACK_END - length (replicate {A = ℕ} stack 0)))) (grind arith))
 
 -- the bytes of a memory that is made
 pub made : (i : ImageParts) (t d h s : List ℕ) (heap stack : ℕ) → t ≡ i.text → d ≡ whole_words i.bytes → h ≡ replicate heap 0 → s ≡ replicate stack 0 → bytes_of (record { text = t; static_bytes = d; heap = h; stack = s }) ≡ bytes_of_image i

@@ -8,10 +8,7 @@ use Rattle.mips_isa.specs.declared.address_map.TheConstants.{DATA_START, HEAP_ST
 use Rattle.mips_isa.specs.Bytes.{Bytes, set_byte, set_half, set_word}
 use Rattle.spim_memory.specs.Memory.{bytes_of}
 use Rattle.spim_memory.specs.Places.{set_two, set_four}
-
--- what stands in a list after a write
-get_set : (l : List ℕ) (i x j : ℕ) → i < length l → get_or (slice_set l i x) j 0 ≡ cond (j == i) x (get_or l j 0)
-get_set l i x j h = grind (arith, get_or-set_same, get_or-set_other)
+use Rattle.lists.proofs.ItemsAt.{get_set}
 
 -- the place of one byte among the segments
 at_static : (q i v text here rest : ℕ) → i < 268435456 → cond (nat_lt q DATA_START) text (cond (nat_lt q HEAP_START) (cond (q - DATA_START == i) v here) rest) ≡ cond (q == DATA_START + i) v (cond (nat_lt q DATA_START) text (cond (nat_lt q HEAP_START) here rest))

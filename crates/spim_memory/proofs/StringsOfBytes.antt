@@ -5,6 +5,7 @@ use Rattle.mips_isa.specs.declared.address_map.TheConstants.{TEXT_START, DATA_ST
 use Rattle.mips_isa.specs.Bytes.{Bytes, Segments, lies, writable, readable}
 use Rattle.mips_isa.specs.Calls.{segment_end, up_to_zero, string_at, all_writable}
 use Rattle.spim_memory.specs.Strings.{bytes_from, storable_end}
+use Rattle.lists.proofs.TruthValues.{or_true, and_second}
 
 -- none of so many bytes from an address on is 0
 abbrev pub HasNoZero : Bytes → ℕ → ℕ → Type 0
@@ -67,10 +68,6 @@ third : (b c d : Bool) → (b || (c || (true || d))) ≡ true
 third true c d = refl
 third false c d = second c d
 
-or_true : (b : Bool) → (b || true) ≡ true
-or_true true = refl
-or_true false = refl
-
 third_or : (b c : Bool) → (b || (c || true)) ≡ true
 third_or true c = refl
 third_or false c = or_true c
@@ -100,14 +97,9 @@ pub load_within : (s : Segments) (a k end : ℕ) → segment_end s a ≡ Some en
 load_within s a k end is within = load_within_at s a k end _ _ _ _ refl refl refl refl is within
 
 -- a byte of the segment is a 0 where the memory has a 0 that may be loaded
-is_zero_at : (may zero_there : Bool) → (may && zero_there) ≡ true → zero_there ≡ true
-is_zero_at true zero_there both = both
-is_zero_at false true both = refl
-is_zero_at false false both = both
-
 pub string_found : (s : Segments) (m : Bytes) (a k end : ℕ) → Some end ≡ segment_end s a → a + k < end → (readable s (a + k) 1 && (m (a + k) == 0)) ≡ true → HasNoZero m a k → string_at s m a ≡ Some (bytes_from m a k)
 string_found s m a k end is within ends each =
-    rw (sym is) (first_zero m a k (end - a) (omega (arith, within)) (is_zero_at (readable s (a + k) 1) (m (a + k) == 0) ends) each)
+    rw (sym is) (first_zero m a k (end - a) (omega (arith, within)) (and_second (readable s (a + k) 1) (m (a + k) == 0) ends) each)
 
 pub string_goes_on : (s : Segments) (m : Bytes) (a k end : ℕ) → Some end ≡ segment_end s a → a + k < end → (readable s (a + k) 1 && (m (a + k) == 0)) ≡ false → HasNoZero m a k → HasNoZero m a (k + 1)
 string_goes_on s m a k end is within other each =

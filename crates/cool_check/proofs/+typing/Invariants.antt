@@ -6,8 +6,9 @@ use Rattle.cool_syntax.specs.Tree.{of_list, of_twigs}
 use Rattle.cool_syntax.specs.NodeLists.{all_trees, at_id, twig_at}
 use Rattle.cool_rules.specs.Conformance.{IsType}
 use Rattle.cool_check.specs.Contexts.{context}
-use Rattle.cool_check.specs.FirstFaults.{all_checked, cases_checked, last_checked, object}
+use Rattle.cool_check.specs.FirstFaults.{all_checked, cases_checked, last_checked}
 use Rattle.cool_check.proofs.+typing.Given as goal
+use Rattle.cool_rules.specs.Typing.{object_type}
 
 abbrev pub decreases-expression::type_of : goal.decreases-expression::type_of
 decreases-expression::type_of l = 8 * l.id.0 + 4
@@ -56,7 +57,7 @@ invariant-expression::type_of_last-loop-item l = record {
   scope : l.locals ≡ l.fn.locals;
   last : IsType l.setting.table.now l.last;
   walked : last_checked (context l.setting) l.fn.locals l.last (of_list (map (at_id (all_trees l.setting.body.now)) (drop l.item-index l.items)))
-      ≡ last_checked (context l.setting) l.fn.locals object (of_list (map (at_id (all_trees l.setting.body.now)) l.items));
+      ≡ last_checked (context l.setting) l.fn.locals object_type (of_list (map (at_id (all_trees l.setting.body.now)) l.items));
   below : AllByRecursion (λ item. item.0 < l.fn.end.0) (drop l.item-index l.items);
 }
 

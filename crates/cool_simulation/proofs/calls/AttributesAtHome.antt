@@ -7,7 +7,6 @@ use Rattle.cool_classes.specs.declared.class_id.ClassId.{ClassId}
 use Rattle.cool_classes.specs.declared.method.AttributeRef.{AttributeRef}
 use Rattle.cool_classes.specs.Chains.{Class, nothing}
 use Rattle.cool_classes.specs.Features.{attribute_name, name_in}
-use Rattle.cool_classes.specs.Limits.{AreDifferent}
 use Rattle.cool_rules.specs.Typing.{formals_in_scope, attributes_in_scope}
 use Rattle.cool_layout.specs.Members.{attributes, is_attribute}
 use Rattle.cool_codegen.specs.Features.{with_formals, attributes_in}
@@ -16,6 +15,9 @@ use Rattle.cool_runtime.specs.Machines.{Pointers}
 use Rattle.cool_simulation.specs.Pictures.{Map}
 use Rattle.cool_simulation.specs.Simulation.{Variables}
 use Rattle.cool_simulation.proofs.calls.Formals.{AllMatched, typed_by, homes_by, matched_both, formals_match, formals_named, attributes_named, found_in_order}
+use Rattle.lists.specs.Different.{AreDifferent}
+use Rattle.cool_layout.proofs.AttributePlaces.{same_attribute}
+use Rattle.cool_simulation.proofs.forms.Invoking.{each_length}
 
 -- Where names differ, an attribute's place is the number of those before it
 
@@ -25,15 +27,12 @@ one_name p a x e =
     let places : x.index ≡ a.index = grind arith in
     ap (λ (n : ℕ). name_in (slice_get (get_or p n nothing).features x.index)) owners ∙ ap (λ (i : ℕ). name_in (slice_get (get_or p a.owner.0 nothing).features i)) places
 
-itself : (a : AttributeRef) → is_attribute a a ≡ true
-itself a = let e : nat_eq a.owner.0 a.owner.0 ≡ true = grind arith in let f : nat_eq a.index a.index ≡ true = grind arith in rw (e, f) refl
-
 in_middle : (p : List Class) (Q : List ℕ → Type 0) (front rest : List AttributeRef) (a : AttributeRef) → AllByRecursion Q (each (attribute_name p) (front ++ a ∷ rest)) → Q (attribute_name p a)
 in_middle p Q [] rest a h = h.0
 in_middle p Q (x ∷ front) rest a h = in_middle p Q front rest a h.1
 
 pub place_is : (p : List Class) (front rest : List AttributeRef) (a : AttributeRef) → AreDifferent (each (attribute_name p) (front ++ a ∷ rest)) → position_or_len (is_attribute a) (front ++ a ∷ rest) ≡ length front
-place_is p [] rest a h = by (is_attribute a a) (itself a)
+place_is p [] rest a h = by (is_attribute a a) (same_attribute a)
   where
     by : (b : Truth) → b ≡ true → cond (not b) (1 + position_or_len (is_attribute a) rest) 0 ≡ 0
     by true e = refl
@@ -79,10 +78,6 @@ located_long [] ls e = refl
 located_long (x ∷ xs) [] e = absurd (omega arith)
 located_long (x ∷ xs) (l ∷ ls) e = ap suc (located_long xs ls (omega arith))
 
-each_long : {X Y : Type 0} (f : X → Y) (xs : List X) → length (each f xs) ≡ length xs
-each_long f [] = refl
-each_long f (x ∷ xs) = ap suc (each_long f xs)
-
 -- all names of a body
 pub variables_in : (p : List Class) (c : ClassId) (map : Map) (q : Pointers) (fs : List Formal) (more : List AttributeRef) (ls own : List ℕ)
     → AreDifferent (each (λ (f : Formal). f.name) fs) → AreDifferent (each (attribute_name p) (attributes p c)) → length ls ≡ length fs → length fs ≤ 8000 → length (attributes p c) ≤ 2000 → length (attributes p c) ≤ length own
@@ -92,7 +87,7 @@ variables_in p c map q fs more ls own differ differ' long few few' room frame se
     let first = formals_match p map q fs ls long few frame homes in
     let rest = attributes_match p c map q [] (attributes p c) more own refl differ' few' room self (λ j less. homes' j less ∙ omega arith) in
     let lengths : length (formals_in_scope p fs) ≡ length (located (formal_names fs) ls) =
-    each_long _ fs ∙ sym (located_long (formal_names fs) ls (each_long _ fs ∙ sym long) ∙ each_long _ fs) in
+    each_length _ fs ∙ sym (located_long (formal_names fs) ls (each_length _ fs ∙ sym long) ∙ each_length _ fs) in
     let all = matched_both map q (formals_in_scope p fs) (attributes_in_scope p (attributes p c)) (formals_named p fs) (attributes_named p c (attributes p c)) (located (formal_names fs) ls)
     (located (attribute_names p (attributes p c ++ more)) own) first lengths rest in
     record {

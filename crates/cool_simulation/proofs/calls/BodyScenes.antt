@@ -9,7 +9,6 @@ use Rattle.cool_classes.specs.declared.method.AttributeRef.{AttributeRef}
 use Rattle.cool_classes.specs.Chains.{Class, class_number, IsChain, Below}
 use Rattle.cool_classes.specs.ClimbedChains.{chain}
 use Rattle.cool_classes.specs.Features.{attributes_of, attribute_name}
-use Rattle.cool_classes.specs.Limits.{AreDifferent}
 use Rattle.cool_classes.specs.LawfulTables.{MayInherit}
 use Rattle.cool_classes.proofs.ChainsOfTables.{chain_is, chain_of}
 use Rattle.cool_rules.specs.Scopes.{Binding}
@@ -26,6 +25,8 @@ use Rattle.cool_simulation.specs.Loadings.{Loading, IsLoaded}
 use Rattle.cool_simulation.specs.Pictures.{Map, Pic, Pictures, Shows}
 use Rattle.cool_simulation.specs.Simulation.{Begins, Variables}
 use Rattle.cool_simulation.proofs.calls.AttributesAtHome.{variables_in}
+use Rattle.lists.specs.Different.{AreDifferent}
+use Rattle.cool_simulation.proofs.forms.Invoking.{each_length}
 
 -- formals at locations made for their types, in front of other names
 holds_formals : (p : List Class) (w : fitting.World) (k : ClassId) (fs : List Formal) (ls : List ℕ) (scope : List Binding) (env : Environment) → AreMade w ls (each (meant p k) (each (λ (f : Formal). f.declared.name) fs))
@@ -46,10 +47,6 @@ made_long w [] [] h = refl
 made_long w [] (d ∷ ds) h = absurd h
 made_long w (l ∷ ls) [] h = absurd h
 made_long w (l ∷ ls) (d ∷ ds) h = ap suc (made_long w ls ds h.1)
-
-each_long : {X Y : Type 0} (f : X → Y) (xs : List X) → length (each f xs) ≡ length xs
-each_long f [] = refl
-each_long f (x ∷ xs) = ap suc (each_long f xs)
 
 both_long : {X : Type 0} (xs ys : List X) → length xs ≤ length (xs ++ ys)
 both_long [] ys = omega arith
@@ -110,8 +107,8 @@ module _ (l : Loading) (loaded : IsLoaded l) (c k : ClassId) (self : Value) (fs 
       let chain_same : chain p c ≡ ds = chain_of p c ds is_chain in
       let own = own_object p l.world l.memory m map st q.gp q.sp made self k q.self pictures pic is plain fit in
       let high = own.high in
-      let long : length ls ≡ length fs = made_long made ls _ made_for ∙ (each_long (meant p k) _ ∙ each_long (λ (f : Formal). f.declared.name) fs) in
-      let own_long : length (locations_of self) ≡ length (attributes p k) = made_long made (locations_of self) _ own.made_for ∙ each_long _ (attributes p k) in
+      let long : length ls ≡ length fs = made_long made ls _ made_for ∙ (each_length (meant p k) _ ∙ each_length (λ (f : Formal). f.declared.name) fs) in
+      let own_long : length (locations_of self) ≡ length (attributes p k) = made_long made (locations_of self) _ own.made_for ∙ each_length _ (attributes p k) in
       let enough : length (attributes p c) ≤ length (attributes p k) = subst (λ (rs : List AttributeRef). length (attributes p c) ≤ length rs) (sym split) (both_long (attributes p c) more) in
       let differ' : AreDifferent (each (attribute_name p) (attributes p c)) = typed.lawful.attributes c (chain p c) within (chain_is p c typed.whole.table within) in
       let most : length (attributes p c) ≤ 2000 = loaded.buildable.fits.table.attributes c (chain p c) within (chain_is p c typed.whole.table within) in

@@ -14,10 +14,11 @@ use Rattle.cool_simulation.specs.Loadings.{Loading}
 use Rattle.cool_simulation.specs.Pictures.{Map, Pic, Pictures, Kept, Grown}
 use Rattle.cool_simulation.specs.Simulation.{Called, Done}
 use Rattle.cool_simulation.proofs.ground.PicturesStay.{kept_same, kept_then, grown_then}
-use Rattle.cool_simulation.proofs.ground.Between.{below_it, behind_it}
 use Rattle.cool_simulation.proofs.ground.PicturesStay.{pic_stays}
-use Rattle.cool_simulation.proofs.calls.Frames.{with_arguments, without_arguments, AtEntry, length_both, home_new, home_old, mark_out, staying, pictures_entered}
+use Rattle.cool_simulation.proofs.ground.Between.{below_it, behind_it}
+use Rattle.cool_simulation.proofs.calls.Frames.{with_arguments, without_arguments, AtEntry, home_new, home_old, mark_out, staying, pictures_entered}
 use Rattle.cool_simulation.proofs.calls.LeftFrames.{AtReturn, home_stays, mark_stays, left_staying, pictures_left}
+use Rattle.std.proofs.lemmas.List.{length-append}
 
 -- the pointers behind the entry
 abbrev pub entry_of : Pointers → Pointers
@@ -141,7 +142,7 @@ module _ (l : Loading) (k : ClassId) (self : Value) (vs : List Value) (made : fi
       let limits = done.at.numbers in
       let located = length st.store in
       let count = length vs in
-      let long : length (st.store ++ vs) ≡ located + count = length_both st.store vs in
+      let long : length (st.store ++ vs) ≡ located + count = length-append st.store vs in
       let low = q.sp - 12 in
       let high = q.sp + 4 * count in
       let map1 = entry_map map st vs q in

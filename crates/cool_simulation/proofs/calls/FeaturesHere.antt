@@ -5,7 +5,7 @@ use Rattle.std.specs.Prelude.{slice_get, nat_eq, bytes_eq, if◌then◌else◌}
 use Rattle.std.specs.List.{list_any}
 use Rattle.std.proofs.lemmas.List.{get_or-take}
 use Rattle.std.proofs.lemmas.Map.Views.{Contains-from_any}
-use Rattle.std.proofs.lemmas.List.Elements.{Contains-append_left, Contains-append_right}
+use Rattle.std.proofs.lemmas.List.Elements.{Contains-append_left, Contains-append_right, Contains-push}
 use Rattle.std.proofs.lemmas.Slice.Eq.{bytes_eq-Decides}
 use Rattle.cool_syntax.specs.declared.file_tree.Feature.{Feature}
 use Rattle.cool_syntax.specs.declared.file_tree.Feature.TheVariants.{Method, Attribute}
@@ -21,7 +21,10 @@ use Rattle.cool_codegen.specs.Features.{feature_integers, feature_strings}
 use Rattle.cool_emit.specs.Programs.{Placed, IsBuildable, attributes_from, methods_from, class_features, all_features, program_constants}
 use Rattle.cool_emit.proofs.LabelsOfParts.{number_there}
 use Rattle.cool_layout.specs.Preorder.{numbers_from}
-use Rattle.cool_meaning.proofs.MethodsOfTables.{all_get}
+use Rattle.lists.proofs.AllItems.{all_get}
+use Rattle.std.proofs.lemmas.Bool.{eqb-true}
+use Rattle.cool_emit.proofs.TextOfPrograms.{integer_stays, string_stays}
+use Rattle.lists.proofs.Membership.{later_there}
 
 -- The basic classes have no features
 
@@ -53,34 +56,20 @@ module _ (p : List Class) (typed : IsTypedTable p) where
 
 -- The constants of a feature are among those of its program
 
-last_there : {X : Type 0} (xs : List X) (x : X) → Contains (xs ++ x ∷ []) x
-last_there xs x = Contains-append_right xs (x ∷ []) x (0, omega arith, refl)
-
 added : {X : Type 0} (same : X → X → Truth) → ((x y : X) → same x y ≡ true → x ≡ y) → (xs : List X) (x : X) → Contains (if list_any (same x) xs then xs else xs ++ x ∷ []) x
 added same decides xs x = by (list_any (same x) xs) refl
   where
     by : (t : Truth) → list_any (same x) xs ≡ t → Contains (if t then xs else xs ++ x ∷ []) x
     by true e = Contains-from_any decides x xs e
-    by false e = last_there xs x
+    by false e = Contains-push xs x
 
 stays : {X : Type 0} (t : Truth) (xs : List X) (x y : X) → Contains xs y → Contains (if t then xs else xs ++ x ∷ []) y
 stays true xs x y h = h
 stays false xs x y h = Contains-append_left xs (x ∷ []) y h
 
-same_number : (m n : ℕ) → nat_eq m n ≡ true → m ≡ n
-same_number m n e = grind (arith, e)
-
-integer_stays : (xs ns : List ℕ) (n : ℕ) → Contains xs n → Contains (with_integers xs ns) n
-integer_stays xs [] n h = h
-integer_stays xs (m ∷ ns) n h = integer_stays (with_integer xs m) ns n (stays (list_any (nat_eq m) xs) xs m n h)
-
-string_stays : (xs bs : List (List ℕ)) (b : List ℕ) → Contains xs b → Contains (with_strings xs bs) b
-string_stays xs [] b h = h
-string_stays xs (c ∷ bs) b h = string_stays (with_string xs c) bs b (stays (list_any (bytes_eq c) xs) xs c b h)
-
 integer_asked : (xs ns : List ℕ) (n : ℕ) → Contains ns n → Contains (with_integers xs ns) n
 integer_asked xs [] n (k, less, e) = absurd (omega arith)
-integer_asked xs (m ∷ ns) n (zero, less, e) = subst (λ (x : ℕ). Contains (with_integers xs (m ∷ ns)) x) e (integer_stays (with_integer xs m) ns m (added nat_eq same_number xs m))
+integer_asked xs (m ∷ ns) n (zero, less, e) = subst (λ (x : ℕ). Contains (with_integers xs (m ∷ ns)) x) e (integer_stays (with_integer xs m) ns m (added nat_eq eqb-true xs m))
 integer_asked xs (m ∷ ns) n (suc k, less, e) = integer_asked (with_integer xs m) ns n (k, omega arith, e)
 
 string_asked : (xs bs : List (List ℕ)) (b : List ℕ) → Contains bs b → Contains (with_strings xs bs) b
@@ -94,9 +83,6 @@ among f [] x y (k, less, e) h = absurd (omega arith)
 among f (z ∷ xs) x y (zero, less, e) h = Contains-append_left (f z) (flat_map f xs) y (subst (λ (w : _). Contains (f w) y) (sym e) h)
 among f (z ∷ xs) x y (suc k, less, e) h = Contains-append_right (f z) (flat_map f xs) y (among f xs x y (k, omega arith, e) h)
 
-next_there : {X : Type 0} (z : X) (xs : List X) (x : X) → Contains xs x → Contains (z ∷ xs) x
-next_there z xs x (k, less, e) = (suc k, omega arith, e)
-
 -- a feature is among those of its class
 placed_there : (j : ℕ) (fs : List Feature) (k : ℕ) (x : Feature) → slice_get fs k ≡ Some x → (i : ℕ) × Contains (attributes_from j fs ++ methods_from j fs) (record { place = i; feature = x })
 placed_there j fs k x there = by x (parted j fs k x there)
@@ -106,10 +92,10 @@ placed_there j fs k x there = by x (parted j fs k x there)
     IsParted j fs (Attribute a) = (i : ℕ) × Contains (attributes_from j fs) (record { place = i; feature = Attribute a })
 
     skip : (y : Feature) (fs : List Feature) (j : ℕ) (x : Feature) → IsParted (j + 1) fs x → IsParted j (y ∷ fs) x
-    skip (Method n) fs j (Method m) (i, h) = (i, next_there _ (methods_from (j + 1) fs) _ h)
+    skip (Method n) fs j (Method m) (i, h) = (i, later_there _ (methods_from (j + 1) fs) _ h)
     skip (Method n) fs j (Attribute a) h = h
     skip (Attribute b) fs j (Method m) h = h
-    skip (Attribute b) fs j (Attribute a) (i, h) = (i, next_there _ (attributes_from (j + 1) fs) _ h)
+    skip (Attribute b) fs j (Attribute a) (i, h) = (i, later_there _ (attributes_from (j + 1) fs) _ h)
 
     here : (y : Feature) (fs : List Feature) (j : ℕ) → IsParted j (y ∷ fs) y
     here (Method m) fs j = (j, (0, omega arith, refl))

@@ -9,7 +9,6 @@ use Rattle.cool_classes.specs.declared.class_id.Ty.{Ty}
 use Rattle.cool_classes.specs.declared.method.AttributeRef.{AttributeRef}
 use Rattle.cool_classes.specs.Chains.{Class}
 use Rattle.cool_classes.specs.Features.{attribute_name, attribute_type}
-use Rattle.cool_classes.specs.Limits.{AreDifferent}
 use Rattle.cool_rules.specs.Rules.{type_meant}
 use Rattle.cool_rules.specs.Scopes.{Binding}
 use Rattle.cool_rules.specs.Scopes as scopes
@@ -24,6 +23,7 @@ use Rattle.cool_meaning.specs.Lookups.{located, formal_names}
 use Rattle.cool_runtime.specs.Machines.{Pointers}
 use Rattle.cool_simulation.specs.Pictures.{Map}
 use Rattle.cool_simulation.specs.Simulation.{IsVariableAt}
+use Rattle.lists.specs.Different.{AreDifferent}
 
 -- Names entered one after the other
 

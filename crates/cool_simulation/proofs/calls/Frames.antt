@@ -11,6 +11,8 @@ use Rattle.cool_simulation.specs.Pictures.{Map, Pic, HomeStands, Pictures}
 use Rattle.cool_simulation.proofs.ground.Between.{is_between, between, below_it, behind_it, is_in}
 use Rattle.cool_simulation.proofs.ground.PicturesStay.{Staying, pic_stays}
 use Rattle.cool_simulation.proofs.ground.ObjectsStay.{object_remapped}
+use Rattle.lists.proofs.ItemsAt.{after_get, there_is}
+use Rattle.std.proofs.lemmas.List.{length-append}
 
 -- where location number located + j is at home, the argument number j of so many: the last one is lowest
 abbrev pub argument_home : ℕ → ℕ → ℕ → ℕ → ℕ
@@ -31,24 +33,10 @@ without_arguments map located count low high = record map {
 
 -- Lists
 
-pub got_front : {X : Type 0} (xs ys : List X) (l : ℕ) (x : X) → slice_get xs l ≡ Some x → slice_get (xs ++ ys) l ≡ Some x
-got_front [] ys l x e = absurd (cc)
-got_front (z ∷ xs) ys zero x e = e
-got_front (z ∷ xs) ys (suc l) x e = got_front xs ys l x e
-
 pub got_back : {X : Type 0} (xs ys : List X) (l j : ℕ) (x : X) → l ≡ length xs + j → slice_get ys j ≡ Some x → slice_get (xs ++ ys) l ≡ Some x
 got_back [] ys l j x n e = let same : j ≡ l = omega arith in subst (λ i. slice_get ys i ≡ Some x) same e
 got_back (z ∷ xs) ys zero j x n e = absurd (omega arith)
 got_back (z ∷ xs) ys (suc l) j x n e = got_back xs ys l j x (omega arith) e
-
-pub there_is : {X : Type 0} (xs : List X) (j : ℕ) → j < length xs → (x : X) × (slice_get xs j ≡ Some x)
-there_is [] j less = absurd (omega arith)
-there_is (x ∷ xs) zero less = (x, refl)
-there_is (x ∷ xs) (suc j) less = there_is xs j (omega arith)
-
-pub length_both : {X : Type 0} (xs ys : List X) → length (xs ++ ys) ≡ length xs + length ys
-length_both [] ys = omega arith
-length_both (x ∷ xs) ys = let h = length_both xs ys in omega arith
 
 -- What is known at the entry: the arguments picture values and are no homes, and the memory changes within the frame's three words alone.
 pub record AtEntry (w : World) (m m' : Bytes) (map : Map) (drawn gp sp : ℕ) (vs : List Value) : Type 0 where
@@ -125,7 +113,7 @@ module _ (p : List Class) (w : World) (loaded m m' : Bytes) (map : Map) (s : Sta
         marked = ap (λ b. (with_arguments map (length s.store) (length vs) sp).marked (b / 4)) same ∙ (mark_out (map.home l / 4) out ∙ marked);
         room = elim h.room [ inl x ↦ let y = x.1 in let z = x.0 in inl (omega arith, omega arith) | inr x ↦ let y = x.1 in let z = x.0 in inr (omega arith, omega arith) ];
         value = h.value;
-        stored = got_front s.store vs l h.value h.stored;
+        stored = after_get s.store vs l h.value h.stored;
         picture = subst (λ a. Pic w m' (with_arguments map (length s.store) (length vs) sp) s.drawn gp h.value a) (sym same_word)
             (pic_stays w m m' map (with_arguments map (length s.store) (length vs) sp) s.drawn s.drawn gp gp h.value (word m (map.home l)) (omega arith) (omega arith) staying h.picture);
       }
@@ -194,7 +182,7 @@ module _ (p : List Class) (w : World) (loaded m m' : Bytes) (map : Map) (s : Sta
         injective = pictures.injective;
         homes = homes_entered;
         apart = apart_entered;
-        fresh = λ l more. let both = length_both s.store vs in home_out l (behind_it (length s.store) (length s.store + length vs) l (omega arith)) ∙ pictures.fresh l (omega arith);
+        fresh = λ l more. let both = length-append s.store vs in home_out l (behind_it (length s.store) (length s.store + length vs) l (omega arith)) ∙ pictures.fresh l (omega arith);
         as_loaded = λ q less. entry.below q (omega arith) ∙ pictures.as_loaded q less;
         unmarked_data = λ k less. mark_out k (below_it sp (sp + 4 * length vs) (4 * k) (omega arith)) ∙ pictures.unmarked_data k less;
         unmarked_room = λ k low up. mark_out k (below_it sp (sp + 4 * length vs) (4 * k) (omega arith)) ∙ pictures.unmarked_room k low (omega arith);

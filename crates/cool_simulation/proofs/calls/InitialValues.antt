@@ -16,7 +16,6 @@ use Rattle.cool_classes.specs.Chains.{Below, features_of}
 use Rattle.cool_classes.specs.Features.{attributes_of, attribute_name}
 use Rattle.cool_classes.specs.ClimbedChains.{chain}
 use Rattle.cool_classes.specs.LawfulTables.{MayInherit}
-use Rattle.cool_classes.specs.Limits.{AreDifferent}
 use Rattle.cool_classes.proofs.ChainsOfTables.{chain_is}
 use Rattle.cool_rules.specs.Conformance.{class_of as class_meant}
 use Rattle.cool_rules.specs.Typing.{FitsDeclared, IsTypedInit, attributes_in_scope}
@@ -52,6 +51,7 @@ use Rattle.cool_simulation.proofs.calls.AttributesAtHome.{place_is}
 use Rattle.cool_simulation.proofs.calls.FeaturesHere.{integers_here, strings_here, within_here, bounded_here}
 use Rattle.cool_simulation.proofs.calls.BodyScenes.{body_begins}
 use Rattle.cool_simulation.proofs.calls.InsideFrames.{Inside, Passed, within_store}
+use Rattle.lists.specs.Different.{AreDifferent}
 
 module _ (l : Loading) (loaded : IsLoaded l) (calls : Calls) (b : ℕ) (later : CallsLater calls) (sound : AllCallsSound l.table calls b) (IsGood : Tree → Type 0) (forms : (t : Tree) → IsGood t → Correct l calls b t)
     (c k : ClassId) (self : Value) (within : c.0 < length l.table) (below : Below l.table k c) (k_within : k.0 < length l.table) (plain : MayInherit k) (is : class_of self ≡ Some k) where

@@ -2,6 +2,7 @@
 use Rattle.std.proofs.Common.{◌≡◌, ◌⊎◌, inl, inr, ℕ, zero, suc, ◌+◌, ◌-◌, ◌*◌, ◌<◌, ◌≤◌, List, [], ◌∷◌, ◌++◌, flat_map, length, Option, Some, None, Bool as Truth, true, false, ap, sym, ◌∙◌, refl, subst, arith, append_assoc, append-nil}
 use Rattle.std.specs.Prelude.{pos, drop, slice_get, nat_lt, if◌then◌else◌}
 use Rattle.std.proofs.lemmas.List.{get_or-drop}
+use Rattle.std.proofs.lemmas.Bool.{le-ltb}
 use Rattle.mips_isa.specs.Bytes.{Bytes}
 use Rattle.mips_isa.specs.Calls.{State as Machine}
 use Rattle.mips_isa.specs.Lines.{Line}
@@ -57,9 +58,6 @@ use Rattle.cool_simulation.proofs.calls.BasicAttributes.{no_attributes}
 
 low_number : (x : ℕ) → x < 5 → nat_lt x 5 ≡ true
 low_number x h = grind arith
-
-high_number : (x : ℕ) → 5 ≤ x → nat_lt x 5 ≡ false
-high_number x h = grind arith
 
 -- locations behind those of other attributes
 made_drop : (p : List Class) (w : fitting.World) (k : ClassId) (xs ys : List AttributeRef) (ls : List ℕ) → AreMade w ls (attribute_classes p k (xs ++ ys)) → AreMade w (drop (length xs) ls) (attribute_classes p k ys)
@@ -124,7 +122,7 @@ module _ (l : Loading) (loaded : IsLoaded l) (calls : Calls) (b : ℕ) (later : 
     lines =
         subst (λ (o : Option ClassId). HasLines l.world q.pc (high_lines c (parent_code l.table o))) above
         (has_at l.world (high_lines c (parent_code l.table (parent_of l.table c))) _ q.pc (sym begins)
-        (subst (λ (t : Truth). HasLines l.world (l.world.place (initializer l.table c)) (if t then return_basic_lines (initializer l.table c) else high_lines c (parent_code l.table (parent_of l.table c)))) (high_number c.0 high)
+        (subst (λ (t : Truth). HasLines l.world (l.world.place (initializer l.table c)) (if t then return_basic_lines (initializer l.table c) else high_lines c (parent_code l.table (parent_of l.table c)))) (le-ltb c.0 5 high)
         (loaded.initializers c within)))
 
     behind_label : HasLines l.world q.pc (enter_lines ++ (call_init_lines (initializer l.table parent) ++ (own_lines c ++ end_lines)))

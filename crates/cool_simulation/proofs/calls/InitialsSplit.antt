@@ -19,7 +19,7 @@ use Rattle.cool_simulation.proofs.ground.PartsOfRuns.{Rest, run_behind, unless_s
 
 -- Computations one after another
 
-same_metered : {A : Type 0} (m : Metered A) (o : Outcome A) (a b c : ℕ) → m.outcome ≡ o → m.work ≡ a → m.words ≡ b → m.peak ≡ c → m ≡ record { outcome = o; work = a; words = b; peak = c }
+pub same_metered : {A : Type 0} (m : Metered A) (o : Outcome A) (a b c : ℕ) → m.outcome ≡ o → m.work ≡ a → m.words ≡ b → m.peak ≡ c → m ≡ record { outcome = o; work = a; words = b; peak = c }
 same_metered m o a b c eo ea eb ec = λ i. record { outcome = eo i; work = ea i; words = eb i; peak = ec i }
 
 none_joined : {A : Type 0} (m : Metered A) → join 0 0 0 m ≡ m

@@ -14,8 +14,8 @@ use Rattle.cool_classes.specs.declared.class_id.ClassId.{ClassId}
 use Rattle.cool_classes.specs.declared.method.MethodRef.TheVariants.{User}
 use Rattle.cool_classes.specs.Chains.{Below, features_of}
 use Rattle.cool_classes.specs.Features.{HasMethod, formals_of, formals_in}
-use Rattle.cool_rules.specs.Typing.{FitsDeclared, formals_in_scope, attributes_in_scope}
 use Rattle.cool_classes.specs.Features.{attributes_of}
+use Rattle.cool_rules.specs.Typing.{FitsDeclared, formals_in_scope, attributes_in_scope}
 use Rattle.cool_runtime.specs.Reaches.{Reaches, stands, OnTheWay}
 use Rattle.cool_runtime.specs.Standing.{HasLines, sizes}
 use Rattle.cool_runtime.specs.Machines.{At, Pointers, Console}
@@ -34,7 +34,7 @@ use Rattle.cool_meaning.specs.Lookups.{method_in, located, formal_names, environ
 use Rattle.cool_meaning.specs.Evaluation.{Calls, Body, eval, run_method, run_call}
 use Rattle.cool_meaning.proofs.FittingValues.{AllFit, Fits, AreMade, meant, still_fits, fit_length}
 use Rattle.cool_meaning.proofs.FittingValues as fitting
-use Rattle.cool_meaning.proofs.MethodsOfTables.{all_get, defined}
+use Rattle.cool_meaning.proofs.MethodsOfTables.{defined}
 use Rattle.cool_meaning.proofs.SoundComputations.{NotStuck, IsFine, locate_all_sound}
 use Rattle.cool_meaning.proofs.Later.{After, after_on, later_same}
 use Rattle.cool_simulation.specs.Loadings.{Loading, IsLoaded, constants, context}
@@ -47,10 +47,8 @@ use Rattle.cool_simulation.proofs.forms.NewMeaning.{located_all}
 use Rattle.cool_simulation.proofs.calls.FeaturesHere.{high_class, integers_here, strings_here, within_here, bounded_here}
 use Rattle.cool_simulation.proofs.calls.BodyScenes.{body_begins}
 use Rattle.cool_simulation.proofs.calls.Entries.{entry_of, located_in, entry_map, entered_pictures, entered_self, entered_argument, entered_frame, frame_unmarked, frame_stays, returned}
-
-each_long : {X Y : Type 0} (f : X → Y) (xs : List X) → length (each f xs) ≡ length xs
-each_long f [] = refl
-each_long f (x ∷ xs) = ap suc (each_long f xs)
+use Rattle.lists.proofs.AllItems.{all_get}
+use Rattle.cool_simulation.proofs.forms.Invoking.{each_length}
 
 module _ (l : Loading) (loaded : IsLoaded l) (calls : Calls) (b : ℕ) (later : CallsLater calls) (IsGood : Tree → Type 0) (forms : (t : Tree) → IsGood t → Correct l calls b t) where
   limits : Limits l.world
@@ -66,7 +64,7 @@ module _ (l : Loading) (loaded : IsLoaded l) (calls : Calls) (b : ℕ) (later : 
     comes = eval l.table calls self (located (formal_names def.formals) (numbers (length st.store) (length vs)) ++ environment_of l.table self) def.body (located_in st vs) n
 
     as_many : length def.formals ≡ length vs
-    as_many = sym (fit_length l.table made vs _ args ∙ (each_long (meant l.table k) _ ∙ each_long (λ (f : Formal). f.declared.name) def.formals))
+    as_many = sym (fit_length l.table made vs _ args ∙ (each_length (meant l.table k) _ ∙ each_length (λ (f : Formal). f.declared.name) def.formals))
 
     bounded : length def.formals + tree_size def.body + branches_in def.body ≤ 8000
     bounded = bounded_here l.table l.files loaded.buildable owner i (Method def) within there

@@ -31,9 +31,10 @@ use Rattle.cool_simulation.proofs.ground.OperatorWalks.{Both, values}
 use Rattle.cool_simulation.proofs.ground.PartsOfRuns.{run_after, numbers_runs}
 use Rattle.cool_simulation.proofs.ground.EvaluationLater.{CallsLater, bind_later, number_later, arithmetic_later}
 use Rattle.cool_simulation.proofs.ground.PicturesStay.{pictures_higher}
-use Rattle.cool_simulation.proofs.ground.CodeOfParts.{Asks, asks_of, asks_front, asks_back, asks_part, in_back, part_at}
+use Rattle.cool_simulation.proofs.ground.CodeOfParts.{Asks, asks_of, asks_front, asks_back, asks_part, part_at}
 use Rattle.cool_simulation.proofs.ground.Operands.{TwoDone, operands_run}
 use Rattle.cool_simulation.proofs.forms.Operators.{operation_runs}
+use Rattle.std.proofs.lemmas.List.Elements.{Contains-append_right}
 
 -- an operation names its file
 file_there : (files : List (List ℕ)) (op : ArithOp) (at : Place) → Contains (files_of files op at) (get_or files at.file [])
@@ -79,7 +80,7 @@ module _ (l : Loading) (loaded : IsLoaded l) (calls : Calls) (b : ℕ) (sound : 
         let asks : Asks l (ia ++ ib) (xa ++ (xb ++ xo)) = asks_of l c f vs d first q.pc (trees.Arith at op ta tb) code_at in
         let asks_a : Asks l ia xa = asks_front l ia ib xa (xb ++ xo) asks in
         let asks_b : Asks l ib xb = asks_part l ib xb xo (asks_back l ia ib xa (xb ++ xo) asks) in
-        let named : Contains (constants l).strings (get_or l.files at.file []) = asks.strings_there _ (in_back xa (xb ++ xo) _ (in_back xb xo _ (file_there l.files op at))) in
+        let named : Contains (constants l).strings (get_or l.files at.file []) = asks.strings_there _ (Contains-append_right xa (xb ++ xo) _ (Contains-append_right xb xo _ (file_there l.files op at))) in
         let G = λ (v u : Value). as_number v >>= λ x. as_number u >>= λ y. arithmetic op at x y in
         let whole = (eval l.table calls self env (trees.Arith at op ta tb) st n).words in
         let L = Done l (record q { pc = final }) m map st whole in

@@ -25,10 +25,7 @@ use Rattle.cool_simulation.proofs.forms.NewMeaning.{located_all}
 use Rattle.cool_simulation.proofs.ground.LargerMaps.{numbers, with_values}
 use Rattle.cool_simulation.proofs.forms.Received.{Received, BasicCorrect}
 use Rattle.cool_simulation.proofs.forms.RoutinesDone.{RoutineRuns}
-
--- an outcome with equal meters
-same_metered : {A : Type 0} (m : Metered A) (o : Outcome A) (a b c : ℕ) → m.outcome ≡ o → m.work ≡ a → m.words ≡ b → m.peak ≡ c → m ≡ record { outcome = o; work = a; words = b; peak = c }
-same_metered m o a b c eo ea eb ec = λ i. record { outcome = eo i; work = ea i; words = eb i; peak = ec i }
+use Rattle.cool_simulation.proofs.calls.InitialsSplit.{same_metered}
 
 module _ (l : Loading) (loaded : IsLoaded l) where
   -- the copy of an object with these values at its locations

@@ -26,8 +26,10 @@ use Rattle.cool_simulation.proofs.ground.DataHere.{fields_count}
 use Rattle.cool_simulation.proofs.ground.LargerMaps.{numbers, with_object, with_values}
 use Rattle.cool_simulation.proofs.ground.MadeObjects.{made_pictures, made_kept, made_grown, made_value}
 use Rattle.cool_simulation.proofs.ground.PartsBehind.{pic_fits}
-use Rattle.cool_simulation.proofs.forms.Received.{Received, get_less}
+use Rattle.cool_simulation.proofs.forms.Received.{Received}
 use Rattle.cool_simulation.proofs.forms.RoutinesDone.{RoutineRuns, reaches_as}
+use Rattle.std.proofs.lemmas.Option.{slice_get_within}
+use Rattle.lists.proofs.ItemsAt.{there_is}
 
 -- so many words from an address on
 words_from : Bytes → ℕ → ℕ → List ℕ
@@ -45,11 +47,6 @@ word_there m a zero j less = absurd (omega arith)
 word_there m a (suc k) zero less = let e : a ≡ a + 4 * 0 = omega arith in ap (word m) e
 word_there m a (suc k) (suc j) less = let e : a + 4 + 4 * j ≡ a + 4 * suc j = omega arith in word_there m (a + 4) k j (omega arith) ∙ ap (word m) e
 
-value_there : (xs : List Value) (j : ℕ) → j < length xs → (v : Value) × (slice_get xs j ≡ Some v)
-value_there [] j less = absurd (omega arith)
-value_there (x ∷ xs) zero less = (x, refl)
-value_there (x ∷ xs) (suc j) less = value_there xs j (omega arith)
-
 module _ (l : Loading) (loaded : IsLoaded l) (j : ClassId) (self : Value) (vs : List Value) (made : fitting.World) (q : Pointers) (m : Bytes) (map : Map) (console : Console) (st : State) (s : Machine) (n : ℕ)
     (h : Received l j self vs made q m map console st s) (none : length vs ≡ 0) (begins : q.pc ≡ l.world.place (codes "Object.copy")) (way : OnTheWay l.world st.output st.input) where
   module _ (i : ℕ) (drawn : i < st.drawn) (values : List Value) (long : length values ≡ length (map.locations i))
@@ -60,7 +57,7 @@ module _ (l : Loading) (loaded : IsLoaded l) (j : ClassId) (self : Value) (vs : 
     -- an attribute's word pictures its value
     attribute : (k : ℕ) (v : Value) → slice_get values k ≡ Some v → Pic l.world m map st.drawn q.gp v (word m (map.address i + 12 + 4 * k))
     attribute k v there =
-        let less = get_less values k v there in
+        let less = slice_get_within values k v there in
         let from = stands.from in
         let home_is = stands.homes k (omega arith) in
         let home = h.pictures.homes (get_or (map.locations i) k 0) (omega arith) in
@@ -91,7 +88,7 @@ module _ (l : Loading) (loaded : IsLoaded l) (j : ClassId) (self : Value) (vs : 
           attributes = λ k less. let count = words_long m (map.address i + 12) (length values) in sym (word_there m (map.address i + 12) (length values) k (omega arith));
           words_fit = λ k less.
               let count = words_long m (map.address i + 12) (length values) in
-              let (v, there) = value_there values k (omega arith) in
+              let (v, there) = there_is values k (omega arith) in
               subst (λ (x : ℕ). x < 4294967296) (sym (word_there m (map.address i + 12) (length values) k (omega arith))) (pic_fits l.world l.table l.memory m map st q.gp q.sp v _ (let laid = l.world.laid in let numbers = h.at.numbers in omega arith) h.pictures (attribute k v there));
         }
 
@@ -148,7 +145,7 @@ module _ (l : Loading) (loaded : IsLoaded l) (j : ClassId) (self : Value) (vs : 
             → ObjectAt l.world m q.gp q.acc (tag l.table (map.class i)) (3 + length values) (l.world.place (dispatch_table l.table (map.class i))) words
             → word (with_copy m q.gp q.acc (3 + length values)) (q.gp + 16 + 4 * d) ≡ word m (map.address i + 12 + 4 * d)
         attribute_word d v is made' there =
-            let less = get_less values d v is in
+            let less = slice_get_within values d v is in
             let count = there.long in
             let to_copy : q.gp + 16 + 4 * d ≡ q.gp + 4 + 12 + 4 * d = omega arith in
             let from_object : q.acc + 12 + 4 * d ≡ map.address i + 12 + 4 * d = ap (λ (a : ℕ). a + 12 + 4 * d) acc_is in

@@ -7,7 +7,7 @@ use Rattle.mips_isa.specs.Calls as machine
 use Rattle.mips_isa.specs.Calls.{State as Machine, Taken}
 use Rattle.cool_classes.specs.declared.class_id.ClassId.{ClassId}
 use Rattle.cool_runtime.specs.Reaches.{OnTheWay}
-use Rattle.cool_runtime.specs.Contents.{IsText, AreBytes}
+use Rattle.cool_runtime.specs.Contents.{IsText}
 use Rattle.cool_runtime.specs.Labels.{in_string, in_int, int_table, int_prototype}
 use Rattle.cool_runtime.specs.Machines.{At, Pointers, Console, got, line_asked, with_int, with_string_head, with_text}
 use Rattle.cool_runtime.specs.Machines as lines
@@ -27,6 +27,7 @@ use Rattle.cool_simulation.proofs.ground.MadePictures.{number_made, text_read}
 use Rattle.cool_simulation.proofs.forms.Received.{Received}
 use Rattle.cool_simulation.proofs.forms.RoutinesDone.{RoutineRuns, routine_done, reaches_as}
 use Rattle.cool_simulation.proofs.ground.WordsOfNumbers.{number_word, number_line_word, number_fits}
+use Rattle.lists.specs.Bytes.{AreBytes}
 
 -- a line of the machine is a line of the source
 pub record SameLine (t : Taken) (x : Line) : Type 0 where

@@ -28,6 +28,7 @@ use Rattle.cool_simulation.proofs.ground.DataHere.{int_prototype_here, string_pr
 use Rattle.cool_simulation.proofs.ground.MadePictures.{text_joined, text_cut}
 use Rattle.cool_simulation.proofs.forms.Received.{Received}
 use Rattle.cool_simulation.proofs.forms.RoutinesDone.{RoutineRuns, joined, routine_done, reaches_as}
+use Rattle.std.proofs.lemmas.Bool.{leb-true, leb-false}
 
 module _ (l : Loading) (loaded : IsLoaded l) (j : ClassId) (self : Value) (vs : List Value) (made : fitting.World) (q : Pointers) (m : Bytes) (map : Map) (console : Console) (st : State) (s : Machine) (n : ℕ)
     (h : Received l j self vs made q m map console st s) where
@@ -88,12 +89,6 @@ module _ (l : Loading) (loaded : IsLoaded l) (j : ClassId) (self : Value) (vs : 
       (subst (λ (a : ℕ). StringAt l.world m q.gp a (get_or l.files at.file [])) (sym there.1) string) (there.2 ∙ line_is) (omega arith)
       (text_here l loaded m map st q.gp q.sp from h.pictures _ _ loaded.colon_text) (text_here l loaded m map st q.gp q.sp from h.pictures _ _ loaded.substring_text)))
 
-is_within : (a b : ℕ) → nat_le a b ≡ true → a ≤ b
-is_within a b e = grind arith
-
-is_beyond : (a b : ℕ) → nat_le a b ≡ false → b < a
-is_beyond a b e = grind arith
-
 negative : (k : ℕ) → fits (negsuc k) ≡ true → k < 2147483648
 negative k e = grind arith
 
@@ -138,8 +133,8 @@ module _ (l : Loading) (loaded : IsLoaded l) (j : ClassId) (made : fitting.World
       where
         by : (x : Truth) → nat_le (i + k) (length xs) ≡ x → q.gp + 4 * (substring at (if x then Some (take k (drop i xs)) else None) st n).words ≤ l.world.top
             → Way l (substring at (if x then Some (take k (drop i xs)) else None) st n).outcome → RoutineRuns l vs q m map st s n (substring at (if x then Some (take k (drop i xs)) else None) st n)
-        by true e heap way = cuts_string l loaded j self vs made q m map console st s n h xs i k whole first.0 second.0 (is_within (i + k) (length xs) e) two begins heap way
-        by false e heap way = refuses l loaded j self vs made q m map console st s n h at xs i k whole first.0 second.0 (is_beyond (i + k) (length xs) e) two begins string line_is small
+        by true e heap way = cuts_string l loaded j self vs made q m map console st s n h xs i k whole first.0 second.0 (leb-true (i + k) (length xs) e) two begins heap way
+        by false e heap way = refuses l loaded j self vs made q m map console st s n h at xs i k whole first.0 second.0 (leb-false (i + k) (length xs) e) two begins string line_is small
     part_of xs self vs (pos i) (negsuc k) two h whole first second heap way =
         let fit : k < 2147483648 = negative k second.1 in
         let to = whole.0.lies.to in

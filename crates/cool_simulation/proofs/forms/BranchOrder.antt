@@ -16,12 +16,12 @@ use Rattle.cool_classes.proofs.ChainsOfTables.{chain_is}
 use Rattle.cool_rules.specs.Rules.{type_meant}
 use Rattle.cool_rules.specs.Scopes.{Binding}
 use Rattle.cool_rules.specs.Typing.{HaveBranches}
-use Rattle.cool_rules.proofs.NamesOfTables.{bytes_differ, bytes_same}
 use Rattle.cool_rules.proofs.RulesOfTables.{meant_is}
 use Rattle.cool_codegen.specs.Types.{class_meant}
 use Rattle.cool_meaning.specs.Values.{Value, Environment}
 use Rattle.cool_meaning.specs.Meters.{◌>>=◌, locate}
 use Rattle.cool_meaning.specs.Evaluation.{Calls, Branch, or_else, nearest, eval, branch_of}
+use Rattle.lists.proofs.EqualBytes.{bytes_differ, bytes_same}
 
 -- a branch: its class, its variable and the type of that, its body, and the number of nodes before that
 pub record Entry : Type 0 where

@@ -38,7 +38,7 @@ use Rattle.cool_simulation.specs.Pictures.{Map, Pic}
 use Rattle.cool_simulation.specs.Simulation.{Begins, Done, Correct, Runs}
 use Rattle.cool_simulation.proofs.ground.EvaluationLater.{ComesLater, CallsLater, bind_later}
 use Rattle.cool_simulation.proofs.ground.PartsOfRuns.{run_wider, Rest}
-use Rattle.cool_simulation.proofs.ground.CodeOfParts.{Asks, asks_of, asks_front, asks_back, in_front, in_back, part_at}
+use Rattle.cool_simulation.proofs.ground.CodeOfParts.{Asks, asks_of, asks_front, asks_back, part_at}
 use Rattle.cool_simulation.proofs.ground.FirstParts.{rule_runs}
 use Rattle.cool_simulation.proofs.forms.BranchOrder.{Entry, branch, entries, with_entries, first_among, nearest_is}
 use Rattle.cool_simulation.proofs.forms.TagTests.{chain_all}
@@ -48,6 +48,8 @@ use Rattle.cool_simulation.proofs.forms.CaseEnds.{void_stops}
 use Rattle.cool_simulation.proofs.forms.CaseParts.{BodiesCorrect, Good, all_good}
 use Rattle.cool_simulation.proofs.forms.CaseBranches.{take_later, nearest_later}
 use Rattle.cool_simulation.proofs.forms.CaseTaken.{taken_runs}
+use Rattle.std.proofs.lemmas.List.Elements.{Contains-append_left, Contains-append_right}
+use Rattle.lists.proofs.Numbers.{le_on}
 
 -- a value is void, or has a class
 
@@ -82,9 +84,6 @@ class_or_later e (Obj c i ls) = record { later = λ s n. after_of (give_alike c)
 chain_some : (p : List Class) (c : ClassId) → 1 ≤ length (chain p c)
 unfolding chain
 chain_some p c = omega arith
-
-le_on : (a b c : ℕ) → a ≤ b → b ≤ c → a ≤ c
-le_on a b c h g = omega arith
 
 times_more : (a n : ℕ) → 1 ≤ n → a ≤ a * n
 times_more a n some = grind arith
@@ -199,8 +198,8 @@ module _ (l : Loading) (loaded : IsLoaded l) (calls : Calls) (b : ℕ) (sound : 
         let xf = file_of l.files at in
         let xc = strings_in_cases l.files cs in
         let asks1 : Asks l ic (xf ++ xc) = asks_back l it ic xt (xf ++ xc) asks in
-        let asks2 : Asks l ic xc = record { integers_there = asks1.integers_there; strings_there = λ bytes there. asks1.strings_there bytes (in_back xf xc bytes there) } in
-        let named : Contains (constants l).strings (get_or l.files at.file []) = asks1.strings_there (get_or l.files at.file []) (in_front xf xc (get_or l.files at.file []) (0, omega arith, refl)) in
+        let asks2 : Asks l ic xc = record { integers_there = asks1.integers_there; strings_there = λ bytes there. asks1.strings_there bytes (Contains-append_right xf xc bytes there) } in
+        let named : Contains (constants l).strings (get_or l.files at.file []) = asks1.strings_there (get_or l.files at.file []) (Contains-append_left xf xc (get_or l.files at.file []) (0, omega arith, refl)) in
         let placed = code_at.within.0.1 in
         let line_small : at.line < 2147483648 = omega arith in
         let good : AllByRecursion (Good l loaded calls b c scope d) es =

@@ -36,35 +36,24 @@ use Rattle.cool_simulation.proofs.ground.DataHere.{truth_pic}
 use Rattle.cool_simulation.proofs.ground.CodeOfParts.{Asks, asks_of, asks_front, asks_back, part_at}
 use Rattle.cool_simulation.proofs.ground.Operands.{operands_run}
 use Rattle.cool_simulation.proofs.forms.Arithmetic.{popped}
+use Rattle.std.proofs.lemmas.Bool.{ltb-true, ltb-false, lt-ltb, le-ltb}
 
 -- Orders of words
-
-lt_of : (a b : ℕ) → nat_lt a b ≡ true → a < b
-lt_of a b e = grind arith
-
-ge_of : (a b : ℕ) → nat_lt a b ≡ false → b ≤ a
-ge_of a b e = grind arith
-
-is_less : (a b : ℕ) → a < b → nat_lt a b ≡ true
-is_less a b h = grind arith
-
-is_not_less : (a b : ℕ) → b ≤ a → nat_lt a b ≡ false
-is_not_less a b h = grind arith
 
 -- the order of lifted words is that of the numbers
 pub less_is : (x y : ℤ) → fits x ≡ true → fits y ≡ true → nat_lt (lifted (word_of x)) (lifted (word_of y)) ≡ int_lt x y
 less_is (pos a) (pos b) h k = by (nat_lt a b) refl
   where
     by : (t : Truth) → nat_lt a b ≡ t → nat_lt (lifted a) (lifted b) ≡ nat_lt a b
-    by true e = let m = raised_fits (pos a) h in let n = raised_fits (pos b) k in let o = lt_of a b e in is_less (lifted a) (lifted b) (omega arith) ∙ sym e
-    by false e = let m = raised_fits (pos a) h in let n = raised_fits (pos b) k in let o = ge_of a b e in is_not_less (lifted a) (lifted b) (omega arith) ∙ sym e
-less_is (pos a) (negsuc b) h k = let m = raised_fits (pos a) h in let n = raised_fits (negsuc b) k in is_not_less (lifted a) (lifted (4294967295 - b)) (omega arith)
-less_is (negsuc a) (pos b) h k = let m = raised_fits (negsuc a) h in let n = raised_fits (pos b) k in is_less (lifted (4294967295 - a)) (lifted b) (omega arith)
+    by true e = let m = raised_fits (pos a) h in let n = raised_fits (pos b) k in let o = ltb-true a b e in lt-ltb (lifted a) (lifted b) (omega arith) ∙ sym e
+    by false e = let m = raised_fits (pos a) h in let n = raised_fits (pos b) k in let o = ltb-false a b e in le-ltb (lifted a) (lifted b) (omega arith) ∙ sym e
+less_is (pos a) (negsuc b) h k = let m = raised_fits (pos a) h in let n = raised_fits (negsuc b) k in le-ltb (lifted a) (lifted (4294967295 - b)) (omega arith)
+less_is (negsuc a) (pos b) h k = let m = raised_fits (negsuc a) h in let n = raised_fits (pos b) k in lt-ltb (lifted (4294967295 - a)) (lifted b) (omega arith)
 less_is (negsuc a) (negsuc b) h k = by (nat_lt b a) refl
   where
     by : (t : Truth) → nat_lt b a ≡ t → nat_lt (lifted (4294967295 - a)) (lifted (4294967295 - b)) ≡ nat_lt b a
-    by true e = let m = raised_fits (negsuc a) h in let n = raised_fits (negsuc b) k in let o = lt_of b a e in is_less (lifted (4294967295 - a)) (lifted (4294967295 - b)) (omega arith) ∙ sym e
-    by false e = let m = raised_fits (negsuc a) h in let n = raised_fits (negsuc b) k in let o = ge_of b a e in is_not_less (lifted (4294967295 - a)) (lifted (4294967295 - b)) (omega arith) ∙ sym e
+    by true e = let m = raised_fits (negsuc a) h in let n = raised_fits (negsuc b) k in let o = ltb-true b a e in lt-ltb (lifted (4294967295 - a)) (lifted (4294967295 - b)) (omega arith) ∙ sym e
+    by false e = let m = raised_fits (negsuc a) h in let n = raised_fits (negsuc b) k in let o = ltb-false b a e in le-ltb (lifted (4294967295 - a)) (lifted (4294967295 - b)) (omega arith) ∙ sym e
 
 -- at most is not more
 not_more : (x y : ℤ) → not (int_lt y x) ≡ int_le x y

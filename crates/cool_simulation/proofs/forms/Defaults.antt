@@ -28,9 +28,7 @@ use Rattle.cool_simulation.proofs.ground.Walks.{takes_void}
 use Rattle.cool_simulation.proofs.forms.Constants.{takes_value}
 use Rattle.cool_simulation.proofs.ground.PartsBehind.{done_here}
 use Rattle.cool_simulation.proofs.ground.DataHere.{truth_pic, default_int_pic, default_string_pic}
-
-is_number : (n m : ℕ) → nat_eq n m ≡ true → n ≡ m
-is_number n m e = grind arith
+use Rattle.std.proofs.lemmas.Bool.{eqb-true}
 
 is_other : (n m : ℕ) → nat_eq n m ≡ false → n ≢ m
 is_other n m e = grind arith
@@ -43,7 +41,7 @@ plain_default name a b c = rw (a, b, c) refl
 module _ (p : List Class) (typed : IsTypedTable p) (d : ClassId) (within : d.0 < length p) (name : List ℕ) (is : name_of p d ≡ name) where
   -- the class at a number has its name
   named : (n : ℕ) (x : List ℕ) → n < 5 → name_of p (class_number n) ≡ x → nat_eq d.0 n ≡ true → name ≡ x
-  named n x less e same = sym is ∙ ap (name_of p) (by_number d n (is_number d.0 n same)) ∙ e
+  named n x less e same = sym is ∙ ap (name_of p) (by_number d n (eqb-true d.0 n same)) ∙ e
 
   not_named : (n : ℕ) (x : List ℕ) → n < 5 → name_of p (class_number n) ≡ x → nat_eq d.0 n ≡ false → bytes_eq name x ≡ false
   not_named n x less e other = by (bytes_eq name x) refl

@@ -57,10 +57,7 @@ use Rattle.cool_simulation.proofs.ground.ScenesLater.{types_in_scope, tree_some}
 use Rattle.cool_simulation.proofs.forms.Received.{BasicCorrect}
 use Rattle.cool_simulation.proofs.forms.Invoking.{dispatched}
 use Rattle.cool_simulation.proofs.forms.CallForms.{file_of, CallRuns, form_runs}
-
-pub count_within : (ts : Trees) → trees_count ts ≤ trees_size ts
-count_within Last = omega arith
-count_within (More t ts) = let rest = count_within ts in let some = tree_some t in omega arith
+use Rattle.cool_emit.proofs.TextOfCode.{count_low}
 
 module _ (l : Loading) (loaded : IsLoaded l) (basics : BasicCorrect l) (calls : Calls) (b : ℕ) (later : CallsLater calls) (sound : AllCallsSound l.table calls b) (correct : AllCallsCorrect l calls b) where
   -- the class in which a receiver's method is looked for
@@ -145,7 +142,7 @@ module _ (l : Loading) (loaded : IsLoaded l) (basics : BasicCorrect l) (calls : 
     strings = λ bytes there. code_at.strings bytes
         (Contains-append_right (strings_in_all l.files ts) (strings_in l.files t ++ asked.file_of l.files at) bytes (Contains-append_left (strings_in l.files t) (asked.file_of l.files at) bytes there));
     within = code_at.within.1;
-    small = (let z = code_at.small in let few = count_within ts in omega arith);
+    small = (let z = code_at.small in let few = count_low ts in omega arith);
   }
 
   file_among : (at : Place) (c : ClassId) (f : ℕ) (vs : List Named) (d first pc : ℕ) (name : List ℕ) (t : Tree) (ts : Trees) → CodeAt l c f vs d first pc (trees.Dispatch at t name ts)

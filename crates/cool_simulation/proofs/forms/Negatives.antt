@@ -27,9 +27,10 @@ use Rattle.cool_simulation.proofs.ground.OperatorWalks.{Result, negates}
 use Rattle.cool_simulation.proofs.ground.PartsOfRuns.{run_after, number_runs}
 use Rattle.cool_simulation.proofs.ground.EvaluationLater.{CallsLater, bind_later, number_later, exact_later}
 use Rattle.cool_simulation.proofs.ground.PartsBehind.{gone_of}
-use Rattle.cool_simulation.proofs.ground.CodeOfParts.{Asks, asks_of, asks_part, in_back, part_at}
+use Rattle.cool_simulation.proofs.ground.CodeOfParts.{Asks, asks_of, asks_part, part_at}
 use Rattle.cool_simulation.proofs.ground.FirstParts.{rule_runs}
 use Rattle.cool_simulation.proofs.forms.ExactResults.{exact_runs}
+use Rattle.std.proofs.lemmas.List.Elements.{Contains-append_right}
 
 negative_word : (y : ℤ) → fits y ≡ true → fits (neg_ℤ y) ≡ true → wrap (0 + 4294967296 - word_of y) ≡ word_of (neg_ℤ y)
 negative_word y k e = let b = raised_fits y k in let c = raised_fits (neg_ℤ y) e in let s = raised_negated y k in omega arith
@@ -59,7 +60,7 @@ module _ (l : Loading) (loaded : IsLoaded l) (calls : Calls) (b : ℕ) (sound : 
         let h2 : HasLines w (pc1 + 20) ints = has_back w negate_lines ints pc1 (pc1 + 20) refl h1 in
         let xs = strings_in l.files t in
         let asks : Asks l (integers_in t) (xs ++ file_of l.files at) = asks_of l c f vs d first q.pc (trees.Neg at t) code_at in
-        let named : Contains (constants l).strings (get_or l.files at.file []) = asks.strings_there _ (in_back xs (file_of l.files at) _ (0, omega arith, refl)) in
+        let named : Contains (constants l).strings (get_or l.files at.file []) = asks.strings_there _ (Contains-append_right xs (file_of l.files at) _ (0, omega arith, refl)) in
         let whole = (eval l.table calls self env (trees.Neg at t) st n).words in
         let L = Done l (record q { pc = final }) m map st whole in
         let numbers = begins.at.numbers in

@@ -20,7 +20,7 @@ use Rattle.cool_meaning.specs.Values.{Value, Void, Int, Bool, Str, Obj, State, c
 use Rattle.cool_meaning.specs.BasicMethods.{new_number, new_truth, new_string}
 use Rattle.cool_meaning.specs.Evaluation.{Calls, make}
 use Rattle.cool_meaning.proofs.BasicClasses.{by_number, basic_within, basic_name}
-use Rattle.cool_meaning.proofs.SoundParts.{is_number, is_other}
+use Rattle.cool_meaning.proofs.SoundParts.{is_other}
 use Rattle.cool_meaning.proofs.FittingValues as fitting
 use Rattle.cool_simulation.specs.Loadings.{Loading, IsLoaded}
 use Rattle.cool_simulation.specs.Pictures.{Map, Pic}
@@ -33,6 +33,7 @@ use Rattle.cool_simulation.proofs.forms.NewLines.{creates, creates_own, RowAt}
 use Rattle.cool_simulation.proofs.forms.NewRuns.{Making, size_of, entry, copy_of, limits_of}
 use Rattle.cool_simulation.proofs.forms.News.{makes}
 use Rattle.cool_simulation.proofs.forms.BasicNews.{value_runs}
+use Rattle.std.proofs.lemmas.Bool.{eqb-true}
 
 -- code stands low
 create_low : (w : World) (pc : ℕ) (proto init : Name) → HasLines w pc (create_lines proto init) → pc + 4 < 268435456
@@ -112,9 +113,9 @@ module _ (l : Loading) (is : IsLoaded l) where
         to k e h = subst (λ (x : ClassId). Comes x (q.pc + 16) n) (sym (by_number c k e)) (h (subst (λ (x : ClassId). HasLines l.world q.pc (create_lines (prototype l.table x) (initializer l.table x))) (by_number c k e) has))
 
         by : (x y z : Truth) → (c.0 == 2) ≡ x → (c.0 == 3) ≡ y → (c.0 == 4) ≡ z → Comes c (q.pc + 16) n
-        by true y z ex ey ez = to 2 (is_number c.0 2 ex) (int_comes n)
-        by false true z ex ey ez = to 3 (is_number c.0 3 ey) (bool_comes n)
-        by false false true ex ey ez = to 4 (is_number c.0 4 ez) (string_comes n)
+        by true y z ex ey ez = to 2 (eqb-true c.0 2 ex) (int_comes n)
+        by false true z ex ey ez = to 3 (eqb-true c.0 3 ey) (bool_comes n)
+        by false false true ex ey ez = to 4 (eqb-true c.0 4 ez) (string_comes n)
         by false false false ex ey ez = plain_comes c within (record { no_int = is_other c.0 2 ex; no_bool = is_other c.0 3 ey; no_string = is_other c.0 4 ez }) n le has
 
     -- the class of self

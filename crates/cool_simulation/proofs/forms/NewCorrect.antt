@@ -13,7 +13,7 @@ use Rattle.cool_classes.specs.Features.{Denotes}
 use Rattle.cool_classes.specs.Names.{self_type}
 use Rattle.cool_rules.specs.Rules.{type_meant, class_named}
 use Rattle.cool_rules.specs.Scopes.{Binding}
-use Rattle.cool_rules.proofs.NamesOfTables.{bytes_differ, bytes_same, class_by_name}
+use Rattle.cool_rules.proofs.NamesOfTables.{class_by_name}
 use Rattle.cool_rules.proofs.RulesOfTables.{meant_is}
 use Rattle.cool_runtime.specs.Standing.{HasLines, sizes}
 use Rattle.cool_runtime.specs.Machines.{Pointers, Console}
@@ -32,6 +32,7 @@ use Rattle.cool_simulation.proofs.ground.EvaluationLater.{CallsLater}
 use Rattle.cool_simulation.proofs.ground.PartsBehind.{pic_fits}
 use Rattle.cool_simulation.proofs.forms.NewRuns.{Making}
 use Rattle.cool_simulation.proofs.forms.NewCodes.{class_comes, own_comes}
+use Rattle.lists.proofs.EqualBytes.{bytes_differ, bytes_same}
 
 pub sizes_create : (proto init : List ℕ) → sizes (create_lines proto init) ≡ 16
 unfolding create_lines

@@ -26,10 +26,11 @@ use Rattle.cool_meaning.specs.BasicMethods.{locate_all, draw, new_number, new_tr
 use Rattle.cool_meaning.specs.Evaluation.{Calls, Initials, new_object, make}
 use Rattle.cool_meaning.proofs.FittingValues.{AllFit, Fits, AreMade, attribute_classes, still_all_made, IsObject}
 use Rattle.cool_meaning.proofs.FittingValues as fitting
-use Rattle.cool_meaning.proofs.MethodsOfTables.{all_get, defined_attribute}
+use Rattle.cool_meaning.proofs.MethodsOfTables.{defined_attribute}
 use Rattle.cool_meaning.proofs.SoundComputations.{NotStuck, locate_all_sound}
 use Rattle.cool_meaning.proofs.SoundParts.{default_fits}
 use Rattle.cool_simulation.proofs.ground.LargerMaps.{numbers, with_values}
+use Rattle.lists.proofs.AllItems.{all_get}
 
 -- values at new locations
 pub located_all : (vs : List Value) (st : State) (n : ℕ) → locate_all vs st n ≡ free (Val (numbers (length st.store) (length vs)) (record st { store = st.store ++ vs }) n)

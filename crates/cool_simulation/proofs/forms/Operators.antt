@@ -69,7 +69,7 @@ none_word (ℤ.negsuc n) none = absurd cc
 one_flag : (n : ℕ) → n ≡ 0 → 0 < flag (nat_lt n 1)
 one_flag n e = subst (λ x. 0 < flag (nat_lt x 1)) (sym e) (omega arith)
 
-no_flag : (n : ℕ) → 0 < n → flag (nat_lt n 1) ≡ 0
+pub no_flag : (n : ℕ) → 0 < n → flag (nat_lt n 1) ≡ 0
 no_flag n h = ap flag (by n h)
   where
     by : (n : ℕ) → 0 < n → nat_lt n 1 ≡ false

@@ -22,6 +22,7 @@ use Rattle.cool_simulation.specs.Loadings.{Loading}
 use Rattle.cool_simulation.specs.Pictures.{Map, Pic, Pictures, Kept, Grown, Shows}
 use Rattle.cool_simulation.specs.Simulation.{Done, AllDone, Called, Runs, Room}
 use Rattle.cool_simulation.proofs.ground.PicturesStay.{pic_stays, staying_of, kept_then, grown_then}
+use Rattle.std.proofs.lemmas.Option.{slice_get_within}
 
 -- the receiver, an object of class j, is in $a0, and the arguments are on the stack, the last one lowest
 pub record Received (l : Loading) (j : ClassId) (self : Value) (vs : List Value) (made : fitting.World) (q : Pointers) (m : Bytes) (map : Map) (console : Console) (st : State) (s : Machine) : Type 0 where
@@ -46,11 +47,6 @@ BasicCorrect l = (x : BasicMethod) (at : Place) (self : Value) (j : ClassId) (vs
     → Room l q 0 (basic l.table x at self vs st n)
     → Runs l s n (64 * (length vs + (basic l.table x at self vs st n).work) + 51)
     (Done l (record q { pc = q.ra; sp = q.sp + 4 * length vs }) m map st (basic l.table x at self vs st n).words) (basic l.table x at self vs st n).outcome
-
-pub get_less : {A : Type 0} (xs : List A) (i : ℕ) (x : A) → slice_get xs i ≡ Some x → i < length xs
-get_less [] i x e = absurd (cc)
-get_less (y ∷ xs) zero x e = omega arith
-get_less (y ∷ xs) (suc i) x e = let h = get_less xs i x e in omega arith
 
 module _ (l : Loading) where
   -- at the entry of a method of the program
@@ -110,7 +106,7 @@ module _ (l : Loading) where
         room = omega arith;
         frame = frame;
         values = λ i v there.
-            let less = get_less vs i v there in
+            let less = slice_get_within vs i v there in
             let a = q.sp - 4 * (i + 1) in
             let here : sp1 + 4 * (length vs - (i + 1)) ≡ a = omega arith in
             let stays : word d2.memory a ≡ word d1.memory a = word_equal d1.memory d2.memory a (λ b low high. d2.kept.over b (omega arith) (d1.unmarked (b / 4) (omega arith) (omega arith))) in

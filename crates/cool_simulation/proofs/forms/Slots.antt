@@ -9,10 +9,7 @@ use Rattle.cool_classes.specs.Tables.{IsWholeTable}
 use Rattle.cool_layout.specs.Roots.{IsRooted}
 use Rattle.cool_layout.specs.Members.{slots, slot, method}
 use Rattle.cool_layout.proofs.SlotNames.{position_is, slots_any, same_slot}
-
-there_by : {A : Type 0} (o : Option A) → is_some o ≡ true → (k : A) × (o ≡ Some k)
-there_by None h = absurd (cc)
-there_by (Some k) h = (k, refl)
+use Rattle.lists.proofs.Options.{some_value}
 
 module _ (p : List Class) (whole : IsWholeTable p) where
   rooted : IsRooted p
@@ -24,7 +21,7 @@ module _ (p : List Class) (whole : IsWholeTable p) where
 
   -- a class that has a method of a name has a place for it
   pub slot_there : (c : ClassId) (f : List ℕ) (n : MethodRef) → implementation p (chain p c) f ≡ Some n → (k : ℕ) × (slot p c f ≡ Some k)
-  slot_there c f n is = there_by (slot p c f) (position_is f (slots p c) ∙ slots_any p (chain p c) f ∙ ap (λ (o : Option MethodRef). is_some o) is)
+  slot_there c f n is = some_value (slot p c f) (position_is f (slots p c) ∙ slots_any p (chain p c) f ∙ ap (λ (o : Option MethodRef). is_some o) is)
 
   -- which is the place in the classes below
   pub slot_kept : (d c : ClassId) → d.0 < length p → Below p d c → (f : List ℕ) (k : ℕ) → slot p c f ≡ Some k → slot p d f ≡ Some k

@@ -52,13 +52,13 @@ use Rattle.cool_rules.proofs.StaticTypesAreGiven.{method_found, class_is, method
 use Rattle.cool_simulation.proofs.forms.CallLines.{AtPlace, goes_static}
 use Rattle.cool_simulation.proofs.forms.ReceiverHeads.{has_head}
 use Rattle.cool_simulation.proofs.ground.DataHere.{string_pic}
-use Rattle.cool_simulation.proofs.ground.EvaluationLater.{CallsLater, bind_later}
-use Rattle.cool_simulation.proofs.ground.CallsLater.{given_later, dispatch_later}
+use Rattle.cool_simulation.proofs.ground.EvaluationLater.{CallsLater, bind_later, given_later}
+use Rattle.cool_simulation.proofs.ground.CallsLater.{dispatch_later}
 use Rattle.cool_simulation.proofs.forms.Received.{BasicCorrect}
 use Rattle.cool_simulation.proofs.ground.PartsOfRuns.{run_wider}
 use Rattle.cool_simulation.proofs.forms.Invoking.{dispatched}
 use Rattle.cool_simulation.proofs.forms.CallForms.{file_of, CallRuns, form_runs}
-use Rattle.cool_simulation.proofs.forms.Dispatches.{count_within}
+use Rattle.cool_emit.proofs.TextOfCode.{count_low}
 
 module _ (l : Loading) (loaded : IsLoaded l) (basics : BasicCorrect l) (calls : Calls) (b : ℕ) (later : CallsLater calls) (sound : AllCallsSound l.table calls b) (correct : AllCallsCorrect l calls b) where
   -- there is no other method than the one that typing found
@@ -133,7 +133,7 @@ module _ (l : Loading) (loaded : IsLoaded l) (basics : BasicCorrect l) (calls : 
     strings = λ bytes there. code_at.strings bytes
         (Contains-append_right (strings_in_all l.files ts) (strings_in l.files t ++ asked.file_of l.files at) bytes (Contains-append_left (strings_in l.files t) (asked.file_of l.files at) bytes there));
     within = code_at.within.1;
-    small = (let z = code_at.small in let few = count_within ts in omega arith);
+    small = (let z = code_at.small in let few = count_low ts in omega arith);
   }
 
   file_among : (at : Place) (c : ClassId) (f : ℕ) (vs : List Named) (d first pc : ℕ) (name : List ℕ) (class : TypeRef) (t : Tree) (ts : Trees) → CodeAt l c f vs d first pc (trees.StaticDispatch at t class name ts)

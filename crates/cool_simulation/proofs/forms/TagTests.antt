@@ -9,20 +9,18 @@ use Rattle.cool_classes.specs.ClimbedChains.{chain}
 use Rattle.cool_classes.specs.Tables.{IsWholeTable}
 use Rattle.cool_classes.proofs.ChainsOfTables.{chain_is}
 use Rattle.cool_classes.proofs.Climbs.{chain_unique}
-use Rattle.cool_rules.proofs.ChainsOfTables.{contains_later}
 use Rattle.cool_layout.specs.Preorder.{tag, last_tag, family, preorder}
 use Rattle.cool_layout.specs.Roots.{IsRooted}
 use Rattle.cool_layout.specs.Tags.{AreTags}
 use Rattle.cool_layout.proofs.ShortChains.{chain_in}
 use Rattle.cool_layout.proofs.TagRanges.{are_tags, tag_cut, preorder_long, head_first}
 use Rattle.cool_simulation.proofs.forms.BranchOrder.{among}
-
-pub rooted : (p : List Class) → IsWholeTable p → IsRooted p
-rooted p whole = record { table = whole.table; above = λ c q within e. (whole.grounded.above c q within e).0; top = λ c within e. (whole.grounded.top c within e).0 }
+use Rattle.std.proofs.lemmas.List.Elements.{Contains-append_right}
+use Rattle.cool_emit.proofs.RootedTables.{rooted}
 
 pub among_there : (ds : List ClassId) (c : ClassId) → among ds c ≡ true → Contains ds c
 among_there [] c e = absurd (cc)
-among_there (d ∷ ds) c e = by (nat_eq c.0 d.0) refl e (λ f. contains_later (d ∷ []) ds c (among_there ds c f))
+among_there (d ∷ ds) c e = by (nat_eq c.0 d.0) refl e (λ f. Contains-append_right (d ∷ []) ds c (among_there ds c f))
   where
     by : (b : Bool) → nat_eq c.0 d.0 ≡ b → (if b then true else among ds c) ≡ true → (among ds c ≡ true → Contains (d ∷ ds) c) → Contains (d ∷ ds) c
     by true t e more = let n : c.0 ≡ d.0 = eqb-true c.0 d.0 t in (0, omega arith, ap (λ (k : ℕ). record { 0 = k }) (sym n))

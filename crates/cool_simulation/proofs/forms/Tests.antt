@@ -33,25 +33,20 @@ use Rattle.cool_simulation.proofs.ground.PartsBehind.{done_on}
 use Rattle.cool_simulation.proofs.ground.CodeOfParts.{asks_of, part_at}
 use Rattle.cool_simulation.proofs.ground.FirstParts.{rule_runs}
 use Rattle.cool_simulation.proofs.ground.DataHere.{truth_pic}
+use Rattle.cool_simulation.proofs.forms.Operators.{no_flag}
 
 not_flag : (x : Truth) → flag (nat_lt (bit x) 1) ≡ flag (not x)
 not_flag true = refl
 not_flag false = refl
 
-some_flag : (a : ℕ) → 0 < a → flag (nat_lt a 1) ≡ 0
-some_flag a h = ap flag (by a h)
-  where
-    by : (a : ℕ) → 0 < a → nat_lt a 1 ≡ false
-    by a h = grind arith
-
 module _ (p : List Class) (w : World) (loaded m : Bytes) (map : Map) (st : State) (gp sp : ℕ) (pictures : Pictures p w loaded m map st gp sp) where
   -- void alone is the address 0
   void_flag : (v : Value) (a : ℕ) → Pic w m map st.drawn gp v a → flag (nat_lt a 1) ≡ flag (is_void v)
   void_flag Void a pic = ap (λ x. flag (nat_lt x 1)) pic
-  void_flag (Int n) a pic = let from = pic.0.lies.from in some_flag a (omega arith)
-  void_flag (Bool b) a pic = let from = pic.0.lies.from in some_flag a (omega arith)
-  void_flag (Str bytes) a pic = let from = pic.0.lies.from in some_flag a (omega arith)
-  void_flag (Obj c i ls) a pic = let from = (pictures.objects i pic.1).from in let is = pic.0 in some_flag a (omega arith)
+  void_flag (Int n) a pic = let from = pic.0.lies.from in no_flag a (omega arith)
+  void_flag (Bool b) a pic = let from = pic.0.lies.from in no_flag a (omega arith)
+  void_flag (Str bytes) a pic = let from = pic.0.lies.from in no_flag a (omega arith)
+  void_flag (Obj c i ls) a pic = let from = (pictures.objects i pic.1).from in let is = pic.0 in no_flag a (omega arith)
 
 module _ (l : Loading) (loaded : IsLoaded l) where
   -- the Bool of a flag is the value

@@ -13,35 +13,23 @@ use Rattle.cool_meaning.specs.Evaluation.{same, same_number}
 use Rattle.cool_simulation.specs.Loadings.{Loading, IsLoaded}
 use Rattle.cool_simulation.specs.Pictures.{Map, Pic, Pictures, bit, word_of}
 use Rattle.cool_simulation.proofs.ground.KindsOfValues.{kind, tag_of, number_of, first_bytes, second_bytes, other_kinds, int_kind, bool_kind, string_kind, tagged, value_at, some_address}
+use Rattle.std.proofs.lemmas.Bool.{eq-eqb, ne_eqb}
+use Rattle.cool_simulation.proofs.ground.Sums.{small_of}
+use Rattle.std.proofs.lemmas.Grind.{same_number_lists}
 
 -- Numbers by their words
-
-eq_true : (a b : ℕ) → a ≡ b → (a == b) ≡ true
-eq_true a b e = grind arith
-
-eq_false : (a b : ℕ) → a ≢ b → (a == b) ≡ false
-eq_false a b h = grind arith
-
-nat_eq_false : (a b : ℕ) → a ≢ b → nat_eq a b ≡ false
-nat_eq_false a b h = grind arith
-
-nat_eq_true : (a b : ℕ) → a ≡ b → nat_eq a b ≡ true
-nat_eq_true a b e = grind arith
 
 turned : (a b : ℕ) → a < 2147483648 → b < 2147483648 → nat_eq a b ≡ ((4294967295 - a) == (4294967295 - b))
 turned a b h k = by (nat_eq a b) refl
   where
     by : (t : Truth) → nat_eq a b ≡ t → nat_eq a b ≡ ((4294967295 - a) == (4294967295 - b))
-    by true e = let is : a ≡ b = grind arith in e ∙ sym (eq_true (4294967295 - a) (4294967295 - b) (omega arith))
-    by false e = let is : a ≢ b = grind arith in e ∙ sym (eq_false (4294967295 - a) (4294967295 - b) (λ f. is (omega arith)))
-
-small_of : (n : ℕ) → nat_lt n 2147483648 ≡ true → n < 2147483648
-small_of n h = grind arith
+    by true e = let is : a ≡ b = grind arith in e ∙ sym (eq-eqb (4294967295 - a) (4294967295 - b) (omega arith))
+    by false e = let is : a ≢ b = grind arith in e ∙ sym (ne_eqb (4294967295 - a) (4294967295 - b) (λ f. is (omega arith)))
 
 number_same : (x y : ℤ) → fits x ≡ true → fits y ≡ true → same_number x y ≡ (word_of x == word_of y)
 number_same (pos a) (pos b) h k = refl
-number_same (pos a) (negsuc b) h k = let x = small_of a h in let y = small_of b k in sym (eq_false a (4294967295 - b) (λ e. omega arith))
-number_same (negsuc a) (pos b) h k = let x = small_of a h in let y = small_of b k in sym (eq_false (4294967295 - a) b (λ e. omega arith))
+number_same (pos a) (negsuc b) h k = let x = small_of a h in let y = small_of b k in sym (ne_eqb a (4294967295 - b) (λ e. omega arith))
+number_same (negsuc a) (pos b) h k = let x = small_of a h in let y = small_of b k in sym (ne_eqb (4294967295 - a) b (λ e. omega arith))
 number_same (negsuc a) (negsuc b) h k = turned a b (small_of a h) (small_of b k)
 
 truth_same : (a b : Truth) → (if a then b else not b) ≡ (bit a == bit b)
@@ -52,17 +40,11 @@ truth_same false false = refl
 
 -- Texts that stand at one address are equal
 
-texts_equal : (xs ys : List ℕ) → length xs ≡ length ys → ((i : ℕ) → i < length xs → get_or xs i 0 ≡ get_or ys i 0) → xs ≡ ys
-texts_equal [] [] e h = refl
-texts_equal [] (y ∷ ys) e h = absurd (omega arith)
-texts_equal (x ∷ xs) [] e h = absurd (omega arith)
-texts_equal (x ∷ xs) (y ∷ ys) e h = let head : x ≡ y = h 0 (omega arith) in let tail : xs ≡ ys = texts_equal xs ys (omega arith) (λ i less. h (suc i) (omega arith)) in cc
-
 module _ (w : World) (m : Bytes) (gp : ℕ) where
   string_one : (a b : ℕ) (xs ys : List ℕ) → a ≡ b → StringAt w m gp a xs → StringAt w m gp b ys → xs ≡ ys
   string_one a b xs ys e s t =
       let long : length xs ≡ length ys = sym s.length_is.value ∙ (ap (λ x. word m (word m (x + 12) + 12)) e ∙ t.length_is.value) in
-      texts_equal xs ys long (λ i less. sym (s.holds i (omega arith)) ∙ (ap (λ x. m (x + 16 + i)) e ∙ t.holds i (omega arith)))
+      same_number_lists xs ys long (λ i less. sym (s.holds i (omega arith)) ∙ (ap (λ x. m (x + 16 + i)) e ∙ t.holds i (omega arith)))
 
 module _ (l : Loading) (loaded : IsLoaded l) (m : Bytes) (map : Map) (st : State) (gp sp : ℕ) (from : HEAP_START ≤ gp) (pictures : Pictures l.table l.world l.memory m map st gp sp) where
   -- tags of equal addresses are equal
@@ -133,7 +115,7 @@ module _ (l : Loading) (loaded : IsLoaded l) (m : Bytes) (map : Map) (st : State
   number_verdict : (v u : Value) (a b n n' : ℕ) (xs ys : List ℕ) (t : Truth) → Pic l.world m map st.drawn gp v a → tag_of l.world l.table v ≡ tag_of l.world l.table u → a ≢ 0 → b ≢ 0
       → (tag_of l.world l.table v ≡ l.world.tags.int) ⊎ (tag_of l.world l.table v ≡ l.world.tags.bool) → ValueAt l.world m gp a n → ValueAt l.world m gp b n'
       → Verdict l.world a b (tag_of l.world l.table v) (tag_of l.world l.table u) n n' xs ys t → t ≡ (n == n')
-  number_verdict v u a b n n' xs ys t pv one some some' which x y (Identical e is) = is ∙ sym (eq_true n n' (sym x.value ∙ (ap (λ z. word m (z + 12)) e ∙ y.value)))
+  number_verdict v u a b n n' xs ys t pv one some some' which x y (Identical e is) = is ∙ sym (eq-eqb n n' (sym x.value ∙ (ap (λ z. word m (z + 12)) e ∙ y.value)))
   number_verdict v u a b n n' xs ys t pv one some some' which x y (WithVoid ne (inl z) is) = absurd (some z)
   number_verdict v u a b n n' xs ys t pv one some some' which x y (WithVoid ne (inr z) is) = absurd (some' z)
   number_verdict v u a b n n' xs ys t pv one some some' which x y (OtherTags ne tags is) = absurd (tags one)
@@ -161,10 +143,10 @@ module _ (l : Loading) (loaded : IsLoaded l) (m : Bytes) (map : Map) (st : State
   object_verdict c d i j ls ks a b n n' xs ys t pv pu verdict = by verdict
     where
       apart : (a ≡ b → ⊥) → nat_eq i j ≡ false
-      apart ne = nat_eq_false i j (λ e. ne (pv.0 ∙ (ap map.address e ∙ sym pu.0)))
+      apart ne = ne_eqb i j (λ e. ne (pv.0 ∙ (ap map.address e ∙ sym pu.0)))
 
       by : Verdict l.world a b (tag_of l.world l.table (Obj c i ls)) (tag_of l.world l.table (Obj d j ks)) n n' xs ys t → t ≡ nat_eq i j
-      by (Identical e is) = is ∙ sym (nat_eq_true i j (pictures.injective i j pv.1 pu.1 (sym pv.0 ∙ (e ∙ pu.0))))
+      by (Identical e is) = is ∙ sym (eq-eqb i j (pictures.injective i j pv.1 pu.1 (sym pv.0 ∙ (e ∙ pu.0))))
       by (WithVoid ne z is) = is ∙ sym (apart ne)
       by (OtherTags ne tags is) = is ∙ sym (apart ne)
       by (ByValue tags (inl int) is) = let k = int_kind l loaded m map st gp sp from pictures (Obj c i ls) a pv int in absurd (omega arith)

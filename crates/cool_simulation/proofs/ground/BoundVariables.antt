@@ -24,12 +24,13 @@ use Rattle.cool_simulation.specs.Loadings.{Loading}
 use Rattle.cool_simulation.specs.Pictures.{Map, Pic, Pictures, Kept, Grown}
 use Rattle.cool_simulation.specs.Simulation.{Begins, Done, Variables, IsVariableAt}
 use Rattle.cool_simulation.proofs.ground.PicturesStay.{Staying, pic_stays, staying_same, kept_same, kept_then, not_grown, grown_then, pictures_same, pictures_lower, pictures_higher}
-use Rattle.cool_simulation.proofs.ground.ObjectsStay.{if_same, if_other, long_both, set_long}
+use Rattle.cool_simulation.proofs.ground.ObjectsStay.{if_same, if_other, set_long}
 use Rattle.cool_simulation.proofs.ground.Homes.{homed, dropped, homed_grown, dropped_grown, dropped_word, store_kept, store_pictures, homed_pictures, homed_pic, dropped_pictures, dropped_pic}
 use Rattle.cool_simulation.proofs.ground.PartsBehind.{push_same, done_of}
+use Rattle.std.proofs.lemmas.List.{length-append}
 
 -- a location with a home is one of the store
-within_store : (home : ℕ → ℕ) (located l : ℕ) → ((l : ℕ) → located ≤ l → home l ≡ 0) → 0 < home l → l < located
+pub within_store : (home : ℕ → ℕ) (located l : ℕ) → ((l : ℕ) → located ≤ l → home l ≡ 0) → 0 < home l → l < located
 within_store home located l fresh some = by order
   where
     order : (l < located) ⊎ (located ≤ l)
@@ -126,7 +127,7 @@ module _ (l : Loading) where
       let a = q.sp - 4 in
       let m1 = set_word m a q.acc in
       let map1 = homed map (length st.store) a in
-      let long : length (st.store ++ v ∷ []) ≡ length st.store + 1 = long_both st.store (v ∷ []) in
+      let long : length (st.store ++ v ∷ []) ≡ length st.store + 1 = length-append st.store (v ∷ []) in
       let home1 : map1.home (length st.store) ≡ a = if_same (length st.store) (length st.store) a (map.home (length st.store)) refl in
       let home : done.map'.home (length st.store) ≡ a = done.grown.home (length st.store) (omega arith) ∙ home1 in
       let same : Same m m1 q.gp q.sp = push_same l.world m q.gp q.sp q.acc (omega arith) in

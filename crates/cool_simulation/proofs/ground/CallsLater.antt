@@ -18,10 +18,6 @@ use Rattle.cool_simulation.proofs.ground.EvaluationLater.{ComesLater, CallsLater
 pub held_later : {A : Type 0} (k : ℕ) {d : Computation A} → ComesLater d → ComesLater (holding k d)
 held_later k h = record { later = h.later }
 
-pub given_later : {A : Type 0} (o : Option A) → ComesLater (given o)
-given_later None = record { later = λ s n. tt }
-given_later (Some v) = give_later v
-
 module _ (p : List Class) (calls : Calls) (later : CallsLater calls) where
   pub all_later : (self : Value) (env : Environment) (ts : Trees) → ComesLater (eval_all p calls self env ts)
   all_later self env Last = give_later []

@@ -12,26 +12,20 @@ use Rattle.cool_codegen.specs.Asked.{integers_in, strings_in}
 use Rattle.cool_simulation.specs.Loadings.{Loading, constants, context}
 use Rattle.cool_simulation.specs.Simulation.{CodeAt}
 
-pub in_front : {A : Type 0} (xs ys : List A) (x : A) → Contains xs x → Contains (xs ++ ys) x
-in_front xs ys x h = Contains-append_left xs ys x h
-
-pub in_back : {A : Type 0} (xs ys : List A) (x : A) → Contains ys x → Contains (xs ++ ys) x
-in_back xs ys x h = Contains-append_right xs ys x h
-
 -- what a piece of code asks for is among the constants
 pub record Asks (l : Loading) (integers : List ℕ) (strings : List (List ℕ)) : Type 0 where
   pub integers_there : (n : ℕ) → Contains integers n → Contains (constants l).integers n
   pub strings_there : (bytes : List ℕ) → Contains strings bytes → Contains (constants l).strings bytes
 
 pub asks_front : (l : Loading) (is js : List ℕ) (xs ys : List (List ℕ)) → Asks l (is ++ js) (xs ++ ys) → Asks l is xs
-asks_front l is js xs ys h = record { integers_there = λ n there. h.integers_there n (in_front is js n there); strings_there = λ bytes there. h.strings_there bytes (in_front xs ys bytes there) }
+asks_front l is js xs ys h = record { integers_there = λ n there. h.integers_there n (Contains-append_left is js n there); strings_there = λ bytes there. h.strings_there bytes (Contains-append_left xs ys bytes there) }
 
 pub asks_back : (l : Loading) (is js : List ℕ) (xs ys : List (List ℕ)) → Asks l (is ++ js) (xs ++ ys) → Asks l js ys
-asks_back l is js xs ys h = record { integers_there = λ n there. h.integers_there n (in_back is js n there); strings_there = λ bytes there. h.strings_there bytes (in_back xs ys bytes there) }
+asks_back l is js xs ys h = record { integers_there = λ n there. h.integers_there n (Contains-append_right is js n there); strings_there = λ bytes there. h.strings_there bytes (Contains-append_right xs ys bytes there) }
 
 -- strings that follow, where no integers do
 pub asks_part : (l : Loading) (is : List ℕ) (xs ys : List (List ℕ)) → Asks l is (xs ++ ys) → Asks l is xs
-asks_part l is xs ys h = record { integers_there = h.integers_there; strings_there = λ bytes there. h.strings_there bytes (in_front xs ys bytes there) }
+asks_part l is xs ys h = record { integers_there = h.integers_there; strings_there = λ bytes there. h.strings_there bytes (Contains-append_left xs ys bytes there) }
 
 pub asks_of : (l : Loading) (c : ClassId) (f : ℕ) (vs : List Named) (d first pc : ℕ) (t : Tree) → CodeAt l c f vs d first pc t → Asks l (integers_in t) (strings_in l.files t)
 asks_of l c f vs d first pc t at = record { integers_there = at.integers; strings_there = at.strings }

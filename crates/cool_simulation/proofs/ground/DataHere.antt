@@ -29,9 +29,7 @@ use Rattle.cool_simulation.specs.Loadings.{Loading, IsLoaded, constants, item_wo
 use Rattle.cool_simulation.specs.Pictures.{Map, Pic, Pictures, bit, word_of, Unmarked}
 use Rattle.cool_simulation.proofs.ground.WordsOfNumbers.{signed_word}
 use Rattle.cool_simulation.proofs.ground.MovedContents.{lies_less, data_word, int_moved, bool_moved, string_moved, object_moved, zero_byte}
-
-are_other : (a b : ℕ) → a ≢ b → nat_eq a b ≡ false
-are_other a b other = grind arith
+use Rattle.std.proofs.lemmas.Bool.{ne_eqb}
 
 module _ (l : Loading) (is : IsLoaded l) (m : Bytes) (map : Map) (st : State) (gp sp : ℕ) (from : HEAP_START ≤ gp) (at : Pictures l.table l.world l.memory m map st gp sp) where
   -- no word of the data is marked
@@ -85,9 +83,9 @@ module _ (l : Loading) (is : IsLoaded l) (m : Bytes) (map : Map) (st : State) (g
 
   plain_fields : (c : ClassId) → c.0 ≢ 2 → c.0 ≢ 3 → c.0 ≢ 4 → new_fields l.table c ≡ each (λ a. default_value (attribute_type l.table a)) (attributes l.table c)
   plain_fields c a b d =
-      let first : nat_eq c.0 2 ≡ false = are_other c.0 2 a in
-      let second : nat_eq c.0 3 ≡ false = are_other c.0 3 b in
-      let third : nat_eq c.0 4 ≡ false = are_other c.0 4 d in
+      let first : nat_eq c.0 2 ≡ false = ne_eqb c.0 2 a in
+      let second : nat_eq c.0 3 ≡ false = ne_eqb c.0 3 b in
+      let third : nat_eq c.0 4 ≡ false = ne_eqb c.0 4 d in
       rw (first, second, third) refl
 
   fields_by : (rs : List AttributeRef) (j : ℕ) (v : Value) → slice_get (default_values l.table rs) j ≡ Some v

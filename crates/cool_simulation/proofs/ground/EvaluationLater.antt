@@ -108,7 +108,7 @@ compare_later Less v w = bind_later (number_later v) (λ m. bind_later (number_l
 compare_later LessEqual v w = bind_later (number_later v) (λ m. bind_later (number_later w) (λ n. give_later (Bool (int_le m n))))
 compare_later Equal v w = record { later = (give_later (Bool (same v w))).later }
 
-given_later : {A : Type 0} (o : Option A) → ComesLater (given o)
+pub given_later : {A : Type 0} (o : Option A) → ComesLater (given o)
 given_later None = alike_later no_rule_alike
 given_later (Some v) = give_later v
 

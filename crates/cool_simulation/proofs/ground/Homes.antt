@@ -9,7 +9,11 @@ use Rattle.cool_runtime.proofs.Words.{byte_other, word_same, word_other}
 use Rattle.cool_meaning.specs.Values.{Value, State}
 use Rattle.cool_simulation.specs.Pictures.{Map, Pic, HomeStands, Pictures, Kept, Grown}
 use Rattle.cool_simulation.proofs.ground.PicturesStay.{Staying, pic_stays, staying_of, not_grown}
-use Rattle.cool_simulation.proofs.ground.ObjectsStay.{same_or_not, if_same, if_other, if_either, set_there, set_other, set_long, got_last, got_front, long_both, is_within, object_stays, home_stays}
+use Rattle.cool_simulation.proofs.ground.ObjectsStay.{if_same, if_other, if_either, set_there, set_other, set_long, got_last, object_stays, home_stays}
+use Rattle.std.proofs.lemmas.Bool.{cases_eq}
+use Rattle.lists.proofs.ItemsAt.{front_get}
+use Rattle.std.proofs.lemmas.List.{length-append}
+use Rattle.std.proofs.lemmas.Option.{slice_get_within}
 
 -- the map with a home of a location at an address
 abbrev pub homed : Map → ℕ → ℕ → Map
@@ -89,7 +93,7 @@ module _ (w : World) where
       record {
         objects = λ i less. object_stays w p m m' map map st.drawn gp gp i (omega arith) less stay (λ j few. refl) (at.objects i less);
         injective = at.injective;
-        homes = λ k there. by stay k there (same_or_not k l);
+        homes = λ k there. by stay k there (cases_eq k l);
         apart = at.apart;
         fresh = λ k h. at.fresh k (omega arith);
         as_loaded = λ q h. byte_other m (map.home l) a q (inl (omega arith)) ∙ at.as_loaded q h;
@@ -138,7 +142,7 @@ module _ (w : World) where
       → map.marked (a / 4) ≡ false → Pic w m map st.drawn gp v (word m a) → Pictures p w loaded m (homed map (length st.store) a) (record st { store = st.store ++ v ∷ [] }) gp sp
   homed_pictures p loaded m map st gp sp a v start room at even from to free pic =
       let stay = homed_stays m map st.drawn gp (length st.store) a (omega arith) even in
-      let long : length (st.store ++ v ∷ []) ≡ length st.store + 1 = long_both st.store (v ∷ []) in
+      let long : length (st.store ++ v ∷ []) ≡ length st.store + 1 = length-append st.store (v ∷ []) in
       record {
         objects = λ i less.
             let object = at.objects i less in
@@ -146,8 +150,8 @@ module _ (w : World) where
             object_stays w p m m map map' st.drawn gp gp i (omega arith) less stay
             (λ j few. let is = object.homes j few in let none = at.fresh (get_or (map.locations i) j 0) in if_other _ (length st.store) a _ (λ e. let zero_is = none (omega arith) in omega arith)) object;
         injective = at.injective;
-        homes = λ k there. by stay k there (same_or_not k (length st.store));
-        apart = λ l k there e. apart_at l k there e (same_or_not l (length st.store)) (same_or_not k (length st.store));
+        homes = λ k there. by stay k there (cases_eq k (length st.store));
+        apart = λ l k there e. apart_at l k there e (cases_eq l (length st.store)) (cases_eq k (length st.store));
         fresh = λ k h. if_other k (length st.store) a (map.home k) (λ e. omega arith) ∙ at.fresh k (omega arith);
         as_loaded = at.as_loaded;
         unmarked_data = λ k h. if_other k (a / 4) true (map.marked k) (λ e. omega arith) ∙ at.unmarked_data k h;
@@ -181,7 +185,7 @@ module _ (w : World) where
           let e = as_before k other in
           let home = at.homes k (omega arith) in
           home_stays w m m map map' st s' gp gp sp sp k (omega arith) (omega arith) (omega arith) stay e (if_either (nat_eq (map.home k / 4) (a / 4)) true (map.marked (map.home k / 4)) home.marked)
-          (got_front st.store (v ∷ []) k (is_within st.store k home.value home.stored)) refl home
+          (front_get st.store (v ∷ []) k (slice_get_within st.store k home.value home.stored)) refl home
 
       -- no other location is at home there
       no_other : (k : ℕ) → 0 < map.home k → map.home k ≡ a → ⊥
@@ -220,8 +224,8 @@ module _ (w : World) where
             object_stays w p m m map map' st.drawn gp gp i (omega arith) less stay
             (λ j few. let is = object.homes j few in if_other _ l 0 _ (λ e. let same = ap map.home e in omega arith)) object;
         injective = at.injective;
-        homes = λ k there. by stay k there (same_or_not k l);
-        apart = λ i k there e. apart_at i k there e (same_or_not i l) (same_or_not k l);
+        homes = λ k there. by stay k there (cases_eq k l);
+        apart = λ i k there e. apart_at i k there e (cases_eq i l) (cases_eq k l);
         fresh = λ k h. if_either (nat_eq k l) 0 (map.home k) (at.fresh k h);
         as_loaded = at.as_loaded;
         unmarked_data = λ k h. if_either (nat_eq k (map.home l / 4)) false (map.marked k) (at.unmarked_data k h);

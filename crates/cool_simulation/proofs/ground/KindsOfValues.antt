@@ -17,6 +17,7 @@ use Rattle.cool_simulation.specs.Loadings.{Loading, IsLoaded}
 use Rattle.cool_simulation.specs.Pictures.{Map, Pic, Pictures, ObjectStands, bit, word_of}
 use Rattle.cool_emit.proofs.RootedTables.{rooted}
 use Rattle.cool_simulation.proofs.ground.DataHere.{prototypes_here}
+use Rattle.cool_simulation.proofs.ground.MovedContents.{lies_less}
 
 abbrev pub kind : Value → ℕ
 kind Void = 0
@@ -76,15 +77,6 @@ other_kinds (Obj c i ls) (Int n) h = refl
 other_kinds (Obj c i ls) (Bool b) h = refl
 other_kinds (Obj c i ls) (Str bytes) h = refl
 other_kinds (Obj c i ls) (Obj d j ks) h = absurd (h refl)
-
-lies_less : (w : World) (gp a size less : ℕ) → less ≤ size → Lies w gp a size → Lies w gp a less
-lies_less w gp a size less le lies = record {
-  even = lies.even;
-  from = lies.from;
-  to = let to = lies.to in omega arith;
-  in_data = λ h. let to = lies.in_data h in omega arith;
-  in_heap = lies.in_heap;
-}
 
 module _ (l : Loading) (loaded : IsLoaded l) (m : Bytes) (map : Map) (st : State) (gp sp : ℕ) (from : HEAP_START ≤ gp) (pictures : Pictures l.table l.world l.memory m map st gp sp) where
   protos : Prototypes l.world m gp

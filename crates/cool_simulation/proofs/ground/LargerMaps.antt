@@ -74,22 +74,11 @@ marked_below a b f k less = ap (λ (x : Truth). if x then true else f k) (below_
 pub marked_behind : (a b : ℕ) (f : ℕ → Truth) (k : ℕ) → b ≤ 4 * k → marks_from a b f k ≡ f k
 marked_behind a b f k past = ap (λ (x : Truth). if x then true else f k) (behind_it a b (4 * k) past)
 
--- values that were stored stay, and new ones follow
-pub stored_old : (xs ys : List Value) (l : ℕ) (v : Value) → slice_get xs l ≡ Some v → slice_get (xs ++ ys) l ≡ Some v
-stored_old [] ys l v e = absurd (cc)
-stored_old (x ∷ xs) ys zero v e = e
-stored_old (x ∷ xs) ys (suc l) v e = stored_old xs ys l v e
-
+-- new values follow those that were stored
 pub stored_new : (xs ys : List Value) (l : ℕ) → length xs ≤ l → slice_get (xs ++ ys) l ≡ slice_get ys (l - length xs)
 stored_new [] ys l le = let e : l - 0 ≡ l = omega arith in ap (slice_get ys) (sym e)
 stored_new (x ∷ xs) ys zero le = absurd (omega arith)
 stored_new (x ∷ xs) ys (suc l) le = let e : suc l - suc (length xs) ≡ l - length xs = omega arith in stored_new xs ys l (omega arith) ∙ ap (slice_get ys) (sym e)
-
--- there is a value at each position of a list
-pub there_is : (vs : List Value) (j : ℕ) → j < length vs → (v : Value) × (slice_get vs j ≡ Some v)
-there_is [] j less = absurd (omega arith)
-there_is (v ∷ vs) zero less = (v, refl)
-there_is (v ∷ vs) (suc j) less = there_is vs j (omega arith)
 
 -- the head of an object, with its numbers written otherwise
 pub head_as : (m : Bytes) (a a' t t' n n' d d' : ℕ) → a' ≡ a → t' ≡ t → n' ≡ n → d' ≡ d → HeadAt m a t n d → HeadAt m a' t' n' d'

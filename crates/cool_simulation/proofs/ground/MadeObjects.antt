@@ -16,8 +16,9 @@ use Rattle.cool_layout.specs.Labels.{dispatch_table}
 use Rattle.cool_meaning.specs.Values.{Value, Obj, State}
 use Rattle.cool_meaning.specs.Lookups.{attributes}
 use Rattle.cool_simulation.specs.Pictures.{Map, Pic, ObjectStands, HomeStands, Pictures, Kept, Grown}
-use Rattle.cool_simulation.proofs.ground.LargerMaps.{numbers, numbers_long, number_at, instead_there, instead_other, with_object, with_values, home_new, home_old, home_past, marked_new, marked_below, marked_behind, stored_old, stored_new, there_is, head_as}
+use Rattle.cool_simulation.proofs.ground.LargerMaps.{numbers, numbers_long, number_at, instead_there, instead_other, with_object, with_values, home_new, home_old, home_past, marked_new, marked_below, marked_behind, stored_new, head_as}
 use Rattle.cool_simulation.proofs.ground.PicturesStay.{Staying, pic_stays, kept_same}
+use Rattle.lists.proofs.ItemsAt.{after_get, there_is}
 
 module _ (p : List Class) (w : World) (loaded m m' : Bytes) (map : Map) (st : State) (c : ClassId) (vs : List Value) (gp gp' sp : ℕ)
     (from : HEAP_START ≤ gp) (even : gp % 4 ≡ 0) (ends : gp' ≡ gp + 16 + 4 * length vs) (under : gp' ≤ sp)
@@ -127,7 +128,7 @@ module _ (p : List Class) (w : World) (loaded m m' : Bytes) (map : Map) (st : St
           marked = ap (λ x. map'.marked (x / 4)) (sym e) ∙ (stays (map.home l) h.even h.room ∙ h.marked);
           room = subst (λ x. ((HEAP_START ≤ x) × (x + 4 ≤ gp')) ⊎ ((sp ≤ x) × (x + 4 ≤ STACK_END))) e (room (map.home l) h.room);
           value = h.value;
-          stored = stored_old st.store vs l h.value h.stored;
+          stored = after_get st.store vs l h.value h.stored;
           picture = subst (λ x. Pic w m' map' (st.drawn + 1) gp' h.value (word m' x)) e
               (subst (λ x. Pic w m' map' (st.drawn + 1) gp' h.value x) (sym (same_there (map.home l) h.room))
               (pic_stays w m m' map map' st.drawn (st.drawn + 1) gp gp' h.value (word m (map.home l)) (omega arith) (omega arith) object_staying h.picture));

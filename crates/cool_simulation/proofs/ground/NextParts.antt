@@ -23,17 +23,7 @@ use Rattle.cool_simulation.specs.Pictures.{Map, Grown}
 use Rattle.cool_simulation.specs.Simulation.{Begins, Done, Variables, IsVariableAt}
 use Rattle.cool_simulation.proofs.ground.PicturesStay.{pic_stays, staying_same, pictures_same, pictures_lower}
 use Rattle.cool_simulation.proofs.ground.PartsBehind.{gone_of, pic_gone, push_same}
-
--- a location with a home is one of the store
-home_within : (home : ℕ → ℕ) (located l : ℕ) → ((l : ℕ) → located ≤ l → home l ≡ 0) → 0 < home l → l < located
-home_within home located l fresh some = by order
-  where
-    order : (l < located) ⊎ (located ≤ l)
-    order = grind arith
-
-    by : (l < located) ⊎ (located ≤ l) → l < located
-    by (inl less) = less
-    by (inr le) = let none = fresh l le in absurd (omega arith)
+use Rattle.cool_simulation.proofs.ground.BoundVariables.{within_store}
 
 -- variables stay at home where the map grew
 pub variables_gone : (map map' : Map) (drawn located gp sp : ℕ) (q q' : Pointers) (scope : List Binding) (vs : List Named) (env : Environment) → ((l : ℕ) → located ≤ l → map.home l ≡ 0) → Grown map map' drawn located gp sp
@@ -42,7 +32,7 @@ variables_gone map map' drawn located gp sp q q' scope vs env fresh grown same_f
   typed = h.typed;
   homes = λ name v found.
       let (l, there, some, at) = h.homes name v found in
-      let same : map'.home l ≡ map.home l = grown.home l (home_within map.home located l fresh some) in (
+      let same : map'.home l ≡ map.home l = grown.home l (within_store map.home located l fresh some) in (
         l,
         there,
         omega arith,

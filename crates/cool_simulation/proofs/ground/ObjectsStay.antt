@@ -18,13 +18,6 @@ use Rattle.cool_simulation.proofs.ground.PicturesStay.{Staying, pic_stays, unmar
 
 -- Numbers that differ
 
-pub same_or_not : (a b : ℕ) → (a ≡ b) ⊎ (a ≢ b)
-same_or_not a b = by (nat_eq a b) refl
-  where
-    by : (t : Truth) → nat_eq a b ≡ t → (a ≡ b) ⊎ (a ≢ b)
-    by true e = inl (grind arith)
-    by false e = inr (λ same. grind arith)
-
 pub if_same : {A : Type 0} (a b : ℕ) (x y : A) → a ≡ b → (if nat_eq a b then x else y) ≡ x
 if_same a b x y e = let same : nat_eq a b ≡ true = grind arith in ap (λ t. if t then x else y) same
 
@@ -57,20 +50,6 @@ set_long (z ∷ xs) (suc i) x = ap suc (set_long xs i x)
 pub got_last : {X : Type 0} (xs : List X) (x : X) → slice_get (xs ++ x ∷ []) (length xs) ≡ Some x
 got_last [] x = refl
 got_last (z ∷ xs) x = got_last xs x
-
-pub got_front : {X : Type 0} (xs ys : List X) (i : ℕ) → i < length xs → slice_get (xs ++ ys) i ≡ slice_get xs i
-got_front [] ys i less = absurd (omega arith)
-got_front (z ∷ xs) ys zero less = refl
-got_front (z ∷ xs) ys (suc i) less = got_front xs ys i (omega arith)
-
-pub long_both : {X : Type 0} (xs ys : List X) → length (xs ++ ys) ≡ length xs + length ys
-long_both [] ys = omega arith
-long_both (z ∷ xs) ys = let h = long_both xs ys in omega arith
-
-pub is_within : {X : Type 0} (xs : List X) (i : ℕ) (x : X) → slice_get xs i ≡ Some x → i < length xs
-is_within [] i x e = absurd cc
-is_within (z ∷ xs) zero x e = omega arith
-is_within (z ∷ xs) (suc i) x e = let h = is_within xs i x e in omega arith
 
 module _ (w : World) where
   -- an object, where its locations keep their homes

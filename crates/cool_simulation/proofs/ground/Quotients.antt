@@ -5,8 +5,8 @@ use Rattle.std.proofs.Math.Nat.{div-le_self}
 use Rattle.mips_isa.specs.Machine.{wrap, flag, is_negative, magnitude, with_sign, signed_quotient}
 use Rattle.cool_meaning.specs.Numbers.{fits, is_zero}
 use Rattle.cool_simulation.specs.Pictures.{word_of}
-use Rattle.cool_simulation.proofs.ground.Sums.{flag_cases}
-use Rattle.cool_simulation.proofs.ground.Products.{small_of, big_of, low_sign, high_sign}
+use Rattle.cool_simulation.proofs.ground.Sums.{flag_cases, small_of}
+use Rattle.cool_simulation.proofs.ground.Products.{big_of, low_sign, high_sign}
 
 -- the sign and the magnitude of a number
 abbrev below : ℤ → Bool

@@ -26,7 +26,7 @@ pub raised_over : (z : ℤ) → fits z ≡ false → (raised z < 2147483648) ⊎
 raised_over (pos n) h = let big : 2147483648 ≤ n = grind arith in inr (omega arith)
 raised_over (negsuc n) h = let big : 2147483648 ≤ n = grind arith in inl (omega arith)
 
-small_of : (n : ℕ) → nat_lt n 2147483648 ≡ true → n < 2147483648
+pub small_of : (n : ℕ) → nat_lt n 2147483648 ≡ true → n < 2147483648
 small_of n h = grind arith
 
 -- the raised sum

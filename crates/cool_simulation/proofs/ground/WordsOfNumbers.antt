@@ -6,6 +6,7 @@ use Rattle.std.proofs.lemmas.Nat.{mul-mod_second}
 use Rattle.mips_isa.specs.Calls as machine
 use Rattle.cool_meaning.specs.Numbers.{fits, signed, digits_from, is_digit, is_blank, skip_blanks, negated, number_after_blanks, number_of}
 use Rattle.cool_simulation.specs.Pictures.{word_of}
+use Rattle.lists.proofs.Numbers.{digit_same}
 
 -- a number of 32 bits is below 2 ^ 32 as a word, and the machine reads it back
 
@@ -24,12 +25,6 @@ pub signed_word : (n : ℕ) → (word_of (signed n) ≡ n % 4294967296) × (fits
 signed_word n = signed_by (nat_lt (n % 4294967296) 2147483648) (n % 4294967296) (omega arith) refl
 
 -- digits with the low 32 bits alone
-
-digit_same : (n m d : ℕ) → n % 4294967296 ≡ m % 4294967296 → (10 * n + d) % 4294967296 ≡ (10 * m + d) % 4294967296
-digit_same n m d same =
-    sym (mod-add-mod (10 * n) 4294967296 d)
-    ∙ ap (λ k. (k + d) % 4294967296) (sym (mul-mod_second 10 n 4294967296) ∙ ap (λ k. 10 * k % 4294967296) same ∙ mul-mod_second 10 m 4294967296)
-    ∙ mod-add-mod (10 * m) 4294967296 d
 
 digits_same : (bytes : List ℕ) (n m : ℕ) → m < 4294967296 → n % 4294967296 ≡ m → digits_from n bytes % 4294967296 ≡ machine.digits_from m bytes
 digits_same [] n m small same = same

@@ -4,11 +4,11 @@ use Rattle.std.specs.Prelude.{nat_eq, nat_lt, bytes_eq, ◌&&◌}
 use Rattle.mips_isa.specs.Lines.{Line}
 use Rattle.cool_runtime.specs.Contents.{IsText}
 use Rattle.cool_runtime.specs.LinesOfData.{int_lines, string_lines}
-use Rattle.cool_layout.proofs.SlotNames.{same_bytes, equal_self}
 use Rattle.cool_consts.specs.Constants.{integer_number, string_number}
 use Rattle.cool_consts.specs.Labels.{int_constant, string_constant, string_length}
 use Rattle.cool_consts.specs.LinesOfConstants.{integers_lines, strings_lines}
 use Rattle.cool_simulation.proofs.loading.PartsOfLines.{Among, among_left, among_right}
+use Rattle.lists.proofs.EqualBytes.{bytes_equal, bytes_eq-same}
 
 -- Bytes without a zero
 
@@ -68,7 +68,7 @@ among_string all of_int of_string j (x ∷ bs) bytes there h = by (bytes_eq byte
     rest = among_right all (string_lines (string_constant j) (string_length j) of_int of_string x) (strings_lines of_int of_string (j + 1) bs) h
 
     later : bytes_eq bytes x ≡ false → Contains (x ∷ bs) bytes → Contains bs bytes
-    later d (zero, l, e) = let t : bytes_eq bytes x ≡ true = ap (bytes_eq bytes) e ∙ equal_self bytes in absurd (cc)
+    later d (zero, l, e) = let t : bytes_eq bytes x ≡ true = ap (bytes_eq bytes) e ∙ bytes_eq-same bytes in absurd (cc)
     later d (suc k, l, e) = (k, omega arith, e)
 
     by : (b : Bool) → bytes_eq bytes x ≡ b
@@ -76,7 +76,7 @@ among_string all of_int of_string j (x ∷ bs) bytes there h = by (bytes_eq byte
         → Among all (string_lines (string_constant (j + cond (not b) (1 + string_number bs bytes) 0)) (string_length (j + cond (not b) (1 + string_number bs bytes) 0)) of_int of_string bytes)
     by true same more =
         let e : j ≡ j + 0 = omega arith in
-        let x_is : x ≡ bytes = sym (same_bytes bytes x same) in
+        let x_is : x ≡ bytes = sym (bytes_equal bytes x same) in
         subst (λ i. Among all (string_lines (string_constant i) (string_length i) of_int of_string bytes)) e
         (subst (λ v. Among all (string_lines (string_constant j) (string_length j) of_int of_string v)) x_is first)
     by false other more =

@@ -6,7 +6,6 @@ use Rattle.mips_isa.specs.declared.address_map.TheConstants.{HEAP_START}
 use Rattle.mips_isa.specs.Bytes.{Bytes, word}
 use Rattle.mips_isa.specs.Lines.{Name, Line}
 use Rattle.cool_classes.specs.Chains.{Class, class_number}
-use Rattle.cool_classes.proofs.AllOfLists.{all_at}
 use Rattle.cool_runtime.specs.Reaches.{World, Tags}
 use Rattle.cool_runtime.specs.Contents.{HeadAt, HeadFits, IntAt, BoolAt, StringAt, TextAt, IsText}
 use Rattle.cool_runtime.specs.Labels.{true_constant, false_constant, string_table, end_text, abort_text, newline_text, colon_text, no_branch_text, stop_text}
@@ -26,6 +25,7 @@ use Rattle.cool_simulation.proofs.loading.LoadedImages.{HasImage}
 use Rattle.cool_simulation.proofs.loading.LoadedItems.{memory, HasObject, object_there}
 use Rattle.cool_simulation.proofs.loading.LoadedStrings.{text_there, int_at, bool_at, string_at, lies_there, head_there, head_fits, fields_there}
 use Rattle.cool_simulation.proofs.loading.ConstantsAmong.{is_text, are_text, among_integer, among_string}
+use Rattle.lists.proofs.AllItems.{all_at}
 
 module _ (p : List Class) (files : List (List ℕ)) (w : World) (g : HasImage (program_text p files) (program_data p files) w)
     (tags : w.tags ≡ record { int = tag p (class_number 2); bool = tag p (class_number 3); string = tag p (class_number 4) }) where

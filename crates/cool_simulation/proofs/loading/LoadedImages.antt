@@ -11,14 +11,18 @@ use Rattle.mips_isa.specs.Lines.{Name, Line, ToData}
 use Rattle.mips_isa.specs.Assembly.{Need, Nothing, Words, Item, Switch, Padding, need, Position, start_position, padded, padding, padding_to, after_need, after_line, place_of, address_or_zero, in_text, start_name, main_name, directive_line, added_lines, completed, fault_of_all, instructions, text_from, bytes_from, item_bytes, image_of, image_of_all}
 use Rattle.mips_asm.proofs.Assembled.{length_of_instructions, length_of_item, bytes_needed, HasUnit, unit_of, up_from}
 use Rattle.cool_runtime.specs.Reaches.{World, AreLaid}
-use Rattle.cool_runtime.specs.Standing.{words_of_need}
-use Rattle.cool_runtime.specs.Images.{IsImageOf, after_lines}
+use Rattle.cool_runtime.specs.Images.{IsImageOf}
 use Rattle.cool_runtime.specs.Instructions.{label, la}
-use Rattle.cool_runtime.proofs.PlacesOfLabels.{words_after, after_append}
 use Rattle.cool_emit.specs.SoundLines.{AreText, AreData, labels_of, text_room, data_room, joined_lines, AreSound}
 use Rattle.cool_emit.proofs.RoomOfLines.{HasRoom, needs_text, needs_data, after_text, after_data, in_data}
-use Rattle.cool_emit.proofs.SoundLinesAssemble.{no_fault, in_range}
+use Rattle.cool_emit.proofs.SoundLinesAssemble.{no_fault, in_range, start_found, complete}
 use Rattle.cool_simulation.specs.Accord.{Limits, AreLimits}
+use Rattle.mips_asm.specs.TextWords.{words_needed}
+use Rattle.mips_asm.specs.Passes.{after_lines}
+use Rattle.mips_asm.proofs.FirstPasses.{after_both}
+use Rattle.cool_runtime.proofs.LinesOfImages.{text_length}
+use Rattle.cool_runtime.proofs.DataOfImages.{bytes_length}
+use Rattle.mips_asm.proofs.WordsOfText.{words_after}
 
 -- where text and data end
 
@@ -37,54 +41,11 @@ data_over known p (line ∷ front) back words all room =
 
 -- the lengths of text and data
 
-text_length : (address : Name → ℕ) (p : Position) (lines : List Line) → p.words + length (text_from address p lines) ≡ (after_lines p lines).words
-text_length address p [] = omega arith
-text_length address p (line ∷ rest) =
-    let list = instructions address (TEXT_START + 4 * p.words) line.statement in
-    let a : length (text_from address p (line ∷ rest)) ≡ length (map word_of list) + length (text_from address (after_line line p) rest) = length-append (map word_of list) _ in
-    let b : length (map word_of list) ≡ words_of_need (need line.statement) = length-map list word_of ∙ length_of_instructions address (TEXT_START + 4 * p.words) line.statement in
-    let c : (after_line line p).words ≡ p.words + words_of_need (need line.statement) = words_after (need line.statement) p in
-    let d : (after_line line p).words + length (text_from address (after_line line p) rest) ≡ (after_lines p (line ∷ rest)).words = text_length address (after_line line p) rest in
-    omega arith
-
-bytes_after : (n : Need) (p : Position) → HasUnit n → p.bytes + (padding n p + bytes_needed n) ≡ (after_need n p).bytes
-bytes_after Nothing p unit = omega arith
-bytes_after (Words n) p unit = omega arith
-bytes_after (Item unit size) p some = let h = up_from unit p.bytes some in omega arith
-bytes_after (Switch segment) p unit = omega arith
-bytes_after (Padding unit) p some = by p.segment
-  where
-    by : (g : Segment) → p.bytes + (padding_to g unit p.bytes + 0) ≡ (padded g unit p).bytes
-    by Text = omega arith
-    by Data = let h = up_from unit p.bytes some in omega arith
-
-pub bytes_length : (address : Name → ℕ) (p : Position) (lines : List Line) → p.bytes + length (bytes_from address p lines) ≡ (after_lines p lines).bytes
-bytes_length address p [] = omega arith
-bytes_length address p (line ∷ rest) =
-    let n = need line.statement in
-    let zeros : List ℕ = replicate (padding n p) 0 in
-    let item : List ℕ = item_bytes address line.statement in
-    let more : List ℕ = bytes_from address (after_line line p) rest in
-    let a : length (bytes_from address p (line ∷ rest)) ≡ length zeros + length (item ++ more) = length-append zeros (item ++ more) in
-    let b : length zeros ≡ padding n p = length-replicate (padding n p) 0 in
-    let c : length (item ++ more) ≡ length item + length more = length-append item more in
-    let d : length item ≡ bytes_needed n = length_of_item address line.statement in
-    let e : p.bytes + (padding n p + bytes_needed n) ≡ (after_line line p).bytes = bytes_after n p (unit_of line.statement) in
-    let f : (after_line line p).bytes + length more ≡ (after_lines p (line ∷ rest)).bytes = bytes_length address (after_line line p) rest in
-    omega arith
-
 -- data only grow
 pub bytes_grow : (p : Position) (lines : List Line) → p.bytes ≤ (after_lines p lines).bytes
 bytes_grow p lines = let h = bytes_length (λ name. 0) p lines in omega arith
 
 -- the lines with which a run starts are complete
-
-start_found : (text items : List Line) (main : Name) (behind : List Line) → text ≡ label start_name ∷ la 4 main ∷ behind
-    → place_of (joined_lines text items) start_name ≡ Some (record { segment = Text; address = TEXT_START })
-start_found text items main behind e = ap (λ (lines : List Line). place_of (joined_lines lines items) start_name) e
-
-complete : (lines : List Line) → is_some (place_of lines start_name) ≡ true → completed lines ≡ lines
-complete lines h = ap (λ (b : Bool). if not b && in_text (place_of lines main_name) then lines ++ added_lines else lines) h
 
 module _ (text items : List Line) (sound : AreSound text items) where
   abbrev pub all_lines : List Line
@@ -109,7 +70,7 @@ module _ (text items : List Line) (sound : AreSound text items) where
 
   pub data_begin : HasRoom data_position Data 0 (data_room items)
   data_begin =
-      subst (λ (q : Position). HasRoom q Data 0 (data_room items)) (sym (after_append start_position text (directive_line ToData ∷ [])))
+      subst (λ (q : Position). HasRoom q Data 0 (data_room items)) (sym (after_both start_position text (directive_line ToData ∷ [])))
       (in_data (after_lines start_position text) 0 (data_room items) text_end)
 
   pub all_split : joined_lines text items ≡ (text ++ directive_line ToData ∷ []) ++ items
@@ -120,7 +81,7 @@ module _ (text items : List Line) (sound : AreSound text items) where
       by (x ∷ xs) = ap (λ (l : List Line). x ∷ l) (by xs)
 
   pub end_is : after_lines start_position (joined_lines text items) ≡ after_lines data_position items
-  end_is = ap (after_lines start_position) all_split ∙ after_append start_position (text ++ directive_line ToData ∷ []) items
+  end_is = ap (after_lines start_position) all_split ∙ after_both start_position (text ++ directive_line ToData ∷ []) items
 
   all_nil : (xs : List Line) → xs ++ [] ≡ xs
   all_nil [] = refl

@@ -11,10 +11,10 @@ use Rattle.mips_isa.specs.Lines.{Name, Line, WordItem, Number, Address, ToData}
 use Rattle.mips_isa.specs.Assembly.{Item, need, Position, start_position, up, after_line, place_in, place_from, place_of, next_item, item_or, address_or_zero, directive_line, item_bytes, item_value, first_pass, second_pass, image_of_all}
 use Rattle.mips_asm.proofs.Assembled.{length_of_item}
 use Rattle.cool_runtime.specs.Reaches.{World}
-use Rattle.cool_runtime.specs.Images.{IsImageOf, after_lines}
+use Rattle.cool_runtime.specs.Images.{IsImageOf}
 use Rattle.cool_runtime.specs.Instructions.{label}
 use Rattle.cool_runtime.specs.LinesOfData.{words, object_words, object_lines}
-use Rattle.cool_runtime.proofs.PlacesOfLabels.{after_append, placed_there, address_fits}
+use Rattle.cool_runtime.proofs.PlacesOfLabels.{placed_there, address_fits}
 use Rattle.cool_runtime.proofs.LinesOfImages.{first_none}
 use Rattle.cool_runtime.proofs.DataOfImages.{data_byte, has_item, WordsAt, ValuesFit, words_hold}
 use Rattle.cool_emit.specs.SoundLines.{IsData, IsDataWord, AreData, labels_of, data_room, joined_lines}
@@ -22,6 +22,8 @@ use Rattle.cool_emit.proofs.RoomOfLines.{HasRoom}
 use Rattle.cool_simulation.specs.Loadings.{item_word}
 use Rattle.cool_simulation.proofs.loading.PartsOfLines.{Among, among_right, among_later}
 use Rattle.cool_simulation.proofs.loading.LoadedImages.{data_over, bytes_grow, data_position, data_begin, all_split, data_bytes, few_bytes, faultless, is_image, HasImage}
+use Rattle.mips_asm.specs.Passes.{after_lines}
+use Rattle.mips_asm.proofs.FirstPasses.{after_both}
 
 -- what holds of all lines holds of those of a part
 pub all_part : {X : Type 0} (P : X → Type 0) (front part back : List X) → AllByRecursion P (front ++ (part ++ back)) → AllByRecursion P part
@@ -71,10 +73,10 @@ module _ (text items : List Line) (w : World) (g : HasImage text items w) where
       all_split text items g.sound ∙ (ap (λ (l : List Line). (text ++ directive_line ToData ∷ []) ++ l) h.split ∙ sym (append_assoc (text ++ directive_line ToData ∷ []) h.front (part ++ h.back)))
 
   at_front : (part : List Line) (h : Among items part) → at_part part h ≡ after_lines (data_position text items g.sound) h.front
-  at_front part h = after_append start_position (text ++ directive_line ToData ∷ []) h.front
+  at_front part h = after_both start_position (text ++ directive_line ToData ∷ []) h.front
 
   pub at_right : (xs ys : List Line) (h : Among items (xs ++ ys)) → at_part ys (among_right items xs ys h) ≡ after_lines (at_part (xs ++ ys) h) xs
-  at_right xs ys h = ap (after_lines start_position) (sym (append_assoc (text ++ directive_line ToData ∷ []) h.front xs)) ∙ after_append start_position (before (xs ++ ys) h) xs
+  at_right xs ys h = ap (after_lines start_position) (sym (append_assoc (text ++ directive_line ToData ∷ []) h.front xs)) ∙ after_both start_position (before (xs ++ ys) h) xs
 
   data_of : (part : List Line) (h : Among items part) → AreData Known part
   data_of part h = all_part (λ (line : Line). IsData Known line.statement) h.front part h.back (subst (AreData Known) h.split g.sound.data_lines)
@@ -92,7 +94,7 @@ module _ (text items : List Line) (w : World) (g : HasImage text items w) where
   pub ends_within : (part : List Line) (h : Among items part) → (after_lines (at_part part h) part).bytes ≤ length (image_of_all (joined_lines text items)).bytes
   ends_within part h =
       let e : after_lines start_position (joined_lines text items) ≡ after_lines (after_lines (at_part part h) part) h.back =
-      ap (after_lines start_position) (split_at part h) ∙ (after_append start_position (before part h) (part ++ h.back) ∙ after_append (at_part part h) part h.back) in
+      ap (after_lines start_position) (split_at part h) ∙ (after_both start_position (before part h) (part ++ h.back) ∙ after_both (at_part part h) part h.back) in
       let all : length (image_of_all (joined_lines text items)).bytes ≡ (after_lines start_position (joined_lines text items)).bytes = data_bytes text items g.sound in
       let same : (after_lines start_position (joined_lines text items)).bytes ≡ (after_lines (after_lines (at_part part h) part) h.back).bytes = ap (λ (q : Position). q.bytes) e in
       let grow = bytes_grow (after_lines (at_part part h) part) h.back in

@@ -10,27 +10,17 @@ use Rattle.mips_isa.specs.Bytes.{Bytes, word}
 use Rattle.mips_isa.specs.Lines.{Name, Line, WordItem, Number, Address, Asciiz, Align}
 use Rattle.mips_isa.specs.Assembly.{need, Position, start_position, up, padded, padding, padding_to, after_line, data_line, directive_line, item_bytes, bytes_from, image_of_all}
 use Rattle.cool_runtime.specs.Reaches.{World}
-use Rattle.cool_runtime.specs.Images.{after_lines}
 use Rattle.cool_runtime.specs.Instructions.{label}
 use Rattle.cool_runtime.specs.Labels.{int_table, bool_table, string_table}
 use Rattle.cool_runtime.specs.LinesOfData.{words, object_words, object_lines, int_lines, bool_lines, string_head_lines, string_lines}
 use Rattle.cool_runtime.specs.Contents.{Lies, HeadAt, HeadFits, IntAt, BoolAt, StringAt, ObjectAt, TextAt, IsText, words_of_bytes}
-use Rattle.cool_runtime.proofs.DataOfImages.{data_byte, WordsAt, ValuesFit}
+use Rattle.cool_runtime.proofs.DataOfImages.{data_byte, WordsAt, ValuesFit, bytes_length, bytes_split}
 use Rattle.cool_emit.specs.SoundLines.{joined_lines}
 use Rattle.cool_simulation.specs.Loadings.{item_word}
 use Rattle.cool_simulation.proofs.loading.PartsOfLines.{Among, among_left, among_right}
-use Rattle.cool_simulation.proofs.loading.LoadedImages.{HasImage, bytes_length, bytes_grow, few_bytes}
+use Rattle.cool_simulation.proofs.loading.LoadedImages.{HasImage, bytes_grow, few_bytes}
 use Rattle.cool_simulation.proofs.loading.LoadedItems.{nth_word, memory, before, at_part, at_right, split_at, value_word, segment_at, ends_within, label_there, place_fits, item_there, HasObject, object_there}
-
--- the bytes of lines, in parts
-bytes_split : (address : Name → ℕ) (p : Position) (front back : List Line) → bytes_from address p (front ++ back) ≡ bytes_from address p front ++ bytes_from address (after_lines p front) back
-bytes_split address p [] back = refl
-bytes_split address p (line ∷ front) back =
-    let zeros : List ℕ = replicate (padding (need line.statement) p) 0 in
-    let item : List ℕ = item_bytes address line.statement in
-    ap (λ l. zeros ++ (item ++ l)) (bytes_split address (after_line line p) front back)
-    ∙ ap (λ l. zeros ++ l) (sym (append_assoc item (bytes_from address (after_line line p) front) _))
-    ∙ sym (append_assoc zeros (item ++ bytes_from address (after_line line p) front) _)
+use Rattle.mips_asm.specs.Passes.{after_lines}
 
 -- bytes and zeros after them
 

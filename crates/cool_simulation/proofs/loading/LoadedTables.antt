@@ -12,7 +12,6 @@ use Rattle.cool_syntax.specs.Lexemes.{is_in_word}
 use Rattle.cool_classes.specs.declared.class_id.ClassId.{ClassId}
 use Rattle.cool_classes.specs.Chains.{Class, class_number, name_of}
 use Rattle.cool_runtime.specs.Reaches.{World}
-use Rattle.cool_runtime.specs.Images.{after_lines}
 use Rattle.cool_runtime.specs.Contents.{ObjectAt, StringAt, NameAt, IsText}
 use Rattle.cool_runtime.specs.Instructions.{label}
 use Rattle.cool_runtime.specs.Labels.{name_table}
@@ -22,7 +21,6 @@ use Rattle.cool_layout.specs.Preorder.{preorder, tag}
 use Rattle.cool_layout.specs.Members.{slots, slot, method, methods}
 use Rattle.cool_layout.specs.Labels.{prototype, initializer, dispatch_table, method_label, class_name, class_name_length}
 use Rattle.cool_layout.specs.LinesOfLayout.{int_tag, string_tag, class_names_lines, class_objects_lines, dispatch_table_lines, new_fields, prototype_lines, name_lines, texts_lines}
-use Rattle.cool_layout.proofs.SlotNames.{same_bytes}
 use Rattle.cool_layout.proofs.TagRanges.{at_tag, preorder_long}
 use Rattle.cool_emit.specs.Programs.{program_text, program_data, IsBuildable}
 use Rattle.cool_emit.proofs.RootedTables.{rooted}
@@ -35,6 +33,8 @@ use Rattle.cool_simulation.proofs.loading.LoadedImages.{HasImage}
 use Rattle.cool_simulation.proofs.loading.LoadedItems.{memory, nth_word, at_part, at_right, label_there, place_fits, HasWords, words_there, labelled_words}
 use Rattle.cool_simulation.proofs.loading.LoadedStrings.{object_at, string_at}
 use Rattle.cool_simulation.proofs.loading.LoadedConstants.{int_tag_is, string_tag_is, among_layout, among_objects, among_tables, among_prototypes, among_names}
+use Rattle.mips_asm.specs.Passes.{after_lines}
+use Rattle.lists.proofs.EqualBytes.{bytes_equal}
 
 -- Names are texts
 
@@ -108,7 +108,7 @@ module _ (p : List Class) (files : List (List ℕ)) (b : IsBuildable p files) (w
       let many = many_methods c in
       let less : k < length (slots p c) = found.0 in
       let list : List WordItem = map (λ m. Address (method_label p m)) (methods p c) in
-      let same : get_or (slots p c) k [] ≡ name = sym (same_bytes name (get_or (slots p c) k []) found.1) in
+      let same : get_or (slots p c) k [] ≡ name = sym (bytes_equal name (get_or (slots p c) k []) found.1) in
       let long : length (methods p c) ≡ length (slots p c) = length-map (slots p c) (method p c) in
       nth_word w stored (w.place (dispatch_table p c)) k list (omega arith) own.at
       ∙ get_or-map (item_word w) list k (Address []) 0 (omega arith)

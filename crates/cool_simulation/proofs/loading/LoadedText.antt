@@ -27,10 +27,11 @@ use Rattle.cool_codegen.specs.Features.{method_code}
 use Rattle.cool_emit.specs.SoundLines.{AreText, labels_of, joined_lines}
 use Rattle.cool_emit.specs.Programs.{Placed, methods_from, methods_in, placed_code, initializer_code, class_code, classes_code, program_constants, program_text, program_data}
 use Rattle.cool_emit.proofs.RoomOfLines.{needs_text}
-use Rattle.cool_emit.proofs.LabelsOfParts.{number_there, later_there}
+use Rattle.cool_emit.proofs.LabelsOfParts.{number_there}
 use Rattle.cool_simulation.specs.Loadings.{routine_label}
 use Rattle.cool_simulation.proofs.loading.PartsOfLines.{Among, among_whole, among_left, among_right, among_flat, among_within}
 use Rattle.cool_simulation.proofs.loading.LoadedImages.{HasImage, is_image}
+use Rattle.lists.proofs.Membership.{later_there}
 
 -- lines of text take words, or nothing
 takes_text : (target known : Name → Type 0) (lines : List Line) → AreText target known lines → images.AreText lines

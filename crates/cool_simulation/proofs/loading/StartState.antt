@@ -4,13 +4,13 @@ use Rattle.mips_isa.specs.declared.address_map.TheConstants.{HEAP_START, STACK_E
 use Rattle.mips_isa.specs.Run as machine
 use Rattle.mips_isa.specs.Assembly.{start_name}
 use Rattle.cool_classes.specs.Chains.{Class, class_number}
-use Rattle.cool_runtime.specs.Contents.{AreBytes}
 use Rattle.cool_runtime.specs.Machines.{Pointers, Console}
 use Rattle.cool_emit.specs.Programs.{IsBuildable}
 use Rattle.cool_simulation.specs.Pictures.{Map}
 use Rattle.cool_simulation.specs.MainRun.{Starts}
 use Rattle.cool_simulation.specs.Accord.{Limits, AreLimits}
 use Rattle.cool_simulation.proofs.loading.Loaded.{image, place, segments, laid, loading}
+use Rattle.lists.specs.Bytes.{AreBytes}
 
 -- no object, and no home
 abbrev pub no_homes : Map

@@ -6,10 +6,11 @@ use Rattle.cool_classes.specs.Chains.{Class}
 use Rattle.cool_classes.specs.Definitions.{definitions}
 use Rattle.cool_faults.specs.Verdicts.{AreTrees, IsAccepted}
 use Rattle.cool_faults.proofs.AcceptedFiles.{accepted_meant}
-use Rattle.cool_runtime.specs.Contents.{AreBytes, IsText}
+use Rattle.cool_runtime.specs.Contents.{IsText}
 use Rattle.cool_emit.specs.Programs.{program_constants, IsBuildable}
 use Rattle.cool_simulation.specs.ByteStrings.{ClassesHaveBytes}
 use Rattle.cool_simulation.proofs.theorem.BytesOfPrograms.{classes_bytes, definitions_bytes, texts_meant}
+use Rattle.lists.specs.Bytes.{AreBytes}
 
 -- the trees of files of bytes have bytes
 pub trees_bytes : (file : ℕ) (files : List (List ℕ)) (trees : List FileTree) → AllByRecursion AreBytes files → AreTrees file files trees → AllByRecursion (λ (t : FileTree). ClassesHaveBytes t.classes) trees

@@ -15,14 +15,14 @@ use Rattle.cool_classes.specs.ClassFaults.{class_meant, classes_meant}
 use Rattle.cool_classes.specs.Definitions.{definitions}
 use Rattle.cool_classes.specs.Settled.{names_with_basic}
 use Rattle.cool_classes.specs.Tables.{basic_classes}
-use Rattle.cool_classes.proofs.AllOfLists.{all_append}
-use Rattle.cool_runtime.specs.Contents.{AreBytes, IsText}
-use Rattle.cool_meaning.proofs.MethodsOfTables.{all_get}
+use Rattle.cool_runtime.specs.Contents.{IsText}
 use Rattle.cool_emit.specs.Programs.{program_constants, IsBuildable}
 use Rattle.cool_simulation.specs.ByteStrings.{FeatureHasBytes, ClassesHaveBytes}
 use Rattle.cool_simulation.proofs.theorem.BytesOfTokens.{lexed_bytes}
 use Rattle.cool_simulation.proofs.theorem.BytesOfReadings.{parsed_bytes}
 use Rattle.cool_simulation.proofs.theorem.TextsOfTrees.{program_texts}
+use Rattle.lists.proofs.AllItems.{all_append, all_get}
+use Rattle.lists.specs.Bytes.{AreBytes}
 
 abbrev AreTableBytes : List chains.Class → Type 0
 AreTableBytes = AllByRecursion (λ (c : chains.Class). AllByRecursion FeatureHasBytes c.features)

@@ -12,9 +12,9 @@ use Rattle.cool_syntax.specs.ConcreteTrees.{Operator, Arith, Compare, Unary, Not
 use Rattle.cool_syntax.specs.Readings.{symbol, word, object, type, operator_sign, constant_token, variable_reading, reading, callee_reading, args_reading, parts_reading, branches_reading, branch_reading, prefix_reading, bindings_reading, binding_reading, signature_reading, feature_reading, features_reading, heading_reading, file_reading}
 use Rattle.cool_syntax.specs.PlainTrees.{operation, marked, constant, plain, plain_call, plain_args, plain_parts, plain_branches, plain_branch, plain_prefix, plain_bindings, plain_binding, plain_feature, plain_features, plain_class, plain_file}
 use Rattle.cool_syntax.specs.Grammar.{Parses}
-use Rattle.cool_classes.proofs.AllOfLists.{all_append}
 use Rattle.cool_simulation.specs.ByteStrings.{HasBytes, HaveBytes, CasesHaveBytes, FeatureHasBytes, ClassesHaveBytes}
 use Rattle.cool_simulation.proofs.theorem.BytesOfTokens.{AreByteTokens}
+use Rattle.lists.proofs.AllItems.{all_append}
 
 -- the first tokens of some, and those after them
 

@@ -11,8 +11,9 @@ use Rattle.cool_syntax.specs.declared.place.Place.{Place}
 use Rattle.cool_syntax.specs.Lexemes.{Form, Lexeme, Space, Comment, Piece, Ends, Newline, Null, Backslash, Means, piece, escape, is_backslash, denoted, constant, form, form_of, class_of, string_of, lexeme_if, comment_if, word, named, dash, open_sign, angle, equals, alone, is_truth, is_capital, is_in_word, is_digit, value, keywords, key_among, lower, is_whole, comment_size}
 use Rattle.cool_syntax.specs.Lexemes as classes
 use Rattle.cool_syntax.specs.LexicalStructure.{Item, Leads, tokens_of, token_of, place_at, Lexes}
-use Rattle.cool_classes.proofs.AllOfLists.{all_append}
-use Rattle.cool_runtime.specs.Contents.{AreBytes}
+use Rattle.lists.proofs.AllItems.{all_append}
+use Rattle.lists.specs.Bytes.{AreBytes}
+use Rattle.lists.proofs.ByteLists.{bytes_left}
 
 -- a token whose string constant is bytes
 abbrev pub IsByteKind : TokenKind → Type 0
@@ -151,11 +152,6 @@ taken_bytes zero bytes h = tt
 taken_bytes (suc n) [] h = tt
 taken_bytes (suc n) (b ∷ bytes) h = (h.0, taken_bytes n bytes h.1)
 
-dropped_bytes : (n : ℕ) (bytes : List ℕ) → AreBytes bytes → AreBytes (drop n bytes)
-dropped_bytes zero bytes h = h
-dropped_bytes (suc n) [] h = tt
-dropped_bytes (suc n) (b ∷ bytes) h = dropped_bytes n bytes h.1
-
 token_small : (f : Form) (at : Place) → IsByteForm (Some f) → AreByteTokens (token_of f at)
 token_small (Lexeme k) at h = (h, tt)
 token_small Space at h = tt
@@ -166,7 +162,7 @@ tokens_small file bytes at rest [] to left h leads = tt
 tokens_small file bytes at rest (i ∷ is) to left h leads =
     all_append (λ (t : Token). IsByteKind t.kind) (token_of i.form (place_at file bytes i.offset)) (tokens_of file bytes is)
     (token_small i.form (place_at file bytes i.offset) (subst IsByteForm leads.1.is_form (form_small (take i.size rest) (taken_bytes i.size rest h))))
-    (tokens_small file bytes (at + i.size) (drop i.size rest) is to left (dropped_bytes i.size rest h) leads.2)
+    (tokens_small file bytes (at + i.size) (drop i.size rest) is to left (bytes_left i.size rest h) leads.2)
 
 -- what bytes are lexed to has bytes as its strings
 pub lexed_bytes : (file : ℕ) (bytes : List ℕ) (tokens : List Token) → AreBytes bytes → Lexes file bytes tokens → AreByteTokens tokens

@@ -6,12 +6,12 @@ use Rattle.mips_isa.specs.Run as machine
 use Rattle.mips_isa.specs.Run.{and_then}
 use Rattle.mips_isa.proofs.RunsInParts.{run_sum}
 use Rattle.mips_isa.proofs.OutputGrows.{output_of, run_grew}
-use Rattle.cool_runtime.specs.Reaches.{IsPrefix, IsSuffix}
 use Rattle.cool_meaning.specs.SourceRun.{Done, Run}
 use Rattle.cool_meaning.specs.Laws.{IsOver}
 use Rattle.cool_simulation.specs.MainRun.{Leaves}
 use Rattle.cool_simulation.specs.Accord.{Limits, IsFailed}
 use Rattle.cool_simulation.proofs.theorem.InputShrinks.{input_of, run_shrank}
+use Rattle.lists.specs.Prefixes.{IsPrefix, IsSuffix}
 
 -- Prefixes and suffixes
 

@@ -9,7 +9,6 @@ use Rattle.cool_classes.specs.declared.method.MethodRef.{MethodRef}
 use Rattle.cool_classes.specs.Chains.{Class, class_number, parent_of, IsChain}
 use Rattle.cool_classes.specs.ClimbedChains.{chain}
 use Rattle.cool_classes.specs.Features.{own_method, first_of, implementation}
-use Rattle.cool_classes.proofs.AllOfLists.{all_append}
 use Rattle.cool_runtime.specs.Labels.{false_constant, true_constant}
 use Rattle.cool_runtime.specs.LinesOfData.{words, bool_lines}
 use Rattle.cool_layout.specs.Labels.{prototype, initializer, class_name, method_label}
@@ -26,6 +25,7 @@ use Rattle.cool_emit.proofs.ConstantsInRange.{all_flat}
 use Rattle.cool_emit.proofs.FixedNamesThere.{basic_within}
 use Rattle.cool_emit.proofs.LabelsThere.{from_defaults, from_prototypes, from_tables, from_objects, lines_of_constants, in_preorder}
 use Rattle.cool_emit.proofs.RootedTables.{rooted}
+use Rattle.lists.proofs.AllItems.{all_append}
 
 -- a `.word` has an operand, as an item and as a statement
 abbrev pub IsFilledItem : DataItem → Type 0

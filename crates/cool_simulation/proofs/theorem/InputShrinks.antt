@@ -5,7 +5,7 @@ use Rattle.mips_isa.specs.Bytes.{Segments}
 use Rattle.mips_isa.specs.Machine.{Next, On, Call, Stop, step, is_negative}
 use Rattle.mips_isa.specs.Calls.{State, Outcome, Running, Exited, Trapped, Taken, call, print_string, string_at, read_string, sbrk, asked, taken, bad_address, v0, a0, a1, all_writable}
 use Rattle.mips_isa.specs.Run.{after, cycle, and_then, run}
-use Rattle.cool_runtime.specs.Reaches.{IsSuffix}
+use Rattle.lists.specs.Prefixes.{IsSuffix}
 
 -- the input when a run stood so, or ended so
 abbrev pub input_of : Outcome → List ℕ

@@ -16,35 +16,13 @@ use Rattle.cool_classes.proofs.Methods.{found_has}
 use Rattle.cool_rules.specs.TypedTables.{IsTypedTable}
 use Rattle.cool_rules.proofs.ChainsOfTables.{below_itself}
 use Rattle.cool_rules.proofs.NamesOfTables.{class_by_name}
-use Rattle.cool_layout.proofs.SlotNames.{same_bytes}
 use Rattle.cool_layout.specs.Labels.{prototype, initializer, method_label}
 use Rattle.cool_runtime.specs.Labels.{main_prototype, main_init, main_main}
 use Rattle.cool_meaning.specs.Values.{Void}
 use Rattle.cool_meaning.specs.Lookups.{class_made}
 use Rattle.cool_meaning.proofs.BasicClasses.{high_inherits}
-
--- the first method of a name has that name
-abbrev Named : ℕ → List Feature → List ℕ → ℕ → Type 0
-Named j fs f k = (i : ℕ) × (k ≡ j + i) × (name_in (slice_get fs i) ≡ f)
-
-first_is_named : (j : ℕ) (fs : List Feature) (f : List ℕ) (k : ℕ) → first_method j fs f ≡ Some k → Named j fs f k
-first_is_named j [] f k h = absurd (cc)
-first_is_named j (Method m ∷ fs) f k h = by (bytes_eq m.name f) refl h (λ g. first_is_named (j + 1) fs f k g)
-  where
-    by : (t : Bool) → bytes_eq m.name f ≡ t → cond t (Some j) (first_method (j + 1) fs f) ≡ Some k
-        → (first_method (j + 1) fs f ≡ Some k → Named (j + 1) fs f k) → Named j (Method m ∷ fs) f k
-    by true e g more = (0, (let s : j ≡ k = cc in omega arith), same_bytes m.name f e)
-    by false e g more = let rest = more g in (suc rest.0, (let s = rest.1 in omega arith), rest.2)
-first_is_named j (Attribute a ∷ fs) f k h =
-    let rest = first_is_named (j + 1) fs f k h in (suc rest.0, (let s = rest.1 in omega arith), rest.2)
-
-no_basic_main : (n : ℕ) → method_among (basic_methods n) (codes "main") ≡ None
-no_basic_main zero = refl
-no_basic_main (suc zero) = refl
-no_basic_main (suc (suc zero)) = refl
-no_basic_main (suc (suc (suc zero))) = refl
-no_basic_main (suc (suc (suc (suc zero)))) = refl
-no_basic_main (suc (suc (suc (suc (suc n))))) = refl
+use Rattle.lists.proofs.EqualBytes.{bytes_equal}
+use Rattle.cool_emit.proofs.FixedNamesThere.{first_is_named, no_basic_main}
 
 -- a method main of a class's own is one of the program's, under the label of that name
 pub record IsMain (p : List Class) (c : ClassId) (m : MethodRef) : Type 0 where

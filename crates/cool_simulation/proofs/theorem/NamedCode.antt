@@ -15,7 +15,6 @@ use Rattle.cool_classes.specs.declared.class_id.ClassId.{ClassId}
 use Rattle.cool_classes.specs.declared.method.MethodRef.TheVariants.{User}
 use Rattle.cool_classes.specs.Chains.{Class, name_of, features_of, parent_of}
 use Rattle.cool_classes.specs.Features.{name_in}
-use Rattle.cool_classes.proofs.AllOfLists.{all_append}
 use Rattle.cool_runtime.specs.CodeOfCalls.{enter_lines}
 use Rattle.cool_runtime.specs.Labels.{heap_limit, stack_limit, out_string, out_int, in_int, string_length, copy, copy_words, copy_end, string_concat, concat_first, concat_second, concat_third, concat_end, in_string, in_string_bytes, in_string_end, string_substr, substr_bytes, substr_end, substr_abort, equality, equal_values, equal_strings, equal_bytes, equal_true, equal_false, type_name, abort, case_abort, dispatch_abort, div_abort}
 use Rattle.cool_runtime.specs.RoutineLabels.{case_void, overflow_abort}
@@ -33,10 +32,13 @@ use Rattle.cool_codegen.specs.Pieces.{begin_init_lines, call_init_lines, leave_l
 use Rattle.cool_codegen.specs.Variables.{Named}
 use Rattle.cool_emit.specs.Programs.{Placed, attributes_in, methods_in, placed_code, parent_code, initializer_code, class_code, classes_code, program_constants, program_text, IsBuildable}
 use Rattle.cool_emit.specs.SoundLines.{labels_of}
-use Rattle.cool_emit.proofs.CountedNames.{times, same, is_same}
+use Rattle.cool_emit.proofs.CountedNames.{times}
 use Rattle.cool_emit.proofs.LabelsOfCode.{marks, kind_hit, node_hits, hits, code_marks}
-use Rattle.cool_simulation.proofs.theorem.NamesOfLabels.{AreInName, each_true, in_name-append, name-append, type_is_name, inner_is_name}
+use Rattle.cool_simulation.proofs.theorem.NamesOfLabels.{AreInName, in_name-append, name-append, type_is_name, inner_is_name}
 use Rattle.cool_simulation.proofs.theorem.NamesOfFeatures.{object_in_name}
+use Rattle.lists.proofs.AllItems.{all_append}
+use Rattle.lists.proofs.EqualBytes.{bytes_eq-same, bytes_equal}
+use Rattle.std.proofs.lemmas.Bool.{and_parts}
 
 -- all labels of lines are names
 abbrev pub AreNamed : List Line → Type 0
@@ -54,7 +56,7 @@ named_each P f (x ∷ xs) each all = named-append (f x) (flat_map f xs) (each x 
 -- texts that pass the test are names
 pub listed_named : (names : List Name) → list_all is_name names ≡ true → AllByRecursion IsName names
 listed_named [] h = tt
-listed_named (name ∷ names) h = let each = each_true (is_name name) (list_all is_name names) h in (each.0, listed_named names each.1)
+listed_named (name ∷ names) h = let each = and_parts (is_name name) (list_all is_name names) h in (each.0, listed_named names each.1)
 
 -- the labels of the routines
 routines_named : list_all is_name (labels_of all_routine_lines) ≡ true
@@ -69,7 +71,7 @@ module _ (x : Name) (none : is_name x ≡ false) where
   no_hit y is = by (bytes_eq x y) refl
     where
       by : (t : Bool) → bytes_eq x y ≡ t → one t ≡ 0
-      by true e = absurd (true≢false (sym is ∙ ap is_name (sym (is_same x y e)) ∙ none))
+      by true e = absurd (true≢false (sym is ∙ ap is_name (sym (bytes_equal x y e)) ∙ none))
       by false e = refl
 
   no_kind : (c f n : ℕ) (kind : List ℕ) → IsName kind → kind_hit x c f n kind ≡ 0
@@ -104,7 +106,7 @@ all_named (y ∷ ys) h = (by (is_name y) refl, all_named ys (λ x e. let all : o
     by true e = e
     by false e =
         let all : one (bytes_eq y y) + times y ys ≤ 0 = h y e in
-        let first : one (bytes_eq y y) ≡ 1 = ap one (same y) in
+        let first : one (bytes_eq y y) ≡ 1 = ap one (bytes_eq-same y) in
         absurd (omega arith)
 
 -- so the labels of the code of an expression are names

@@ -10,7 +10,8 @@ use Rattle.cool_syntax.specs.declared.token.TokenKind.TheVariants as kind
 use Rattle.cool_syntax.specs.Lexemes.{Form, Lexeme, Space, Comment, constant, form_of, class_of, string_of, lexeme_if, comment_if, word, named, dash, open_sign, angle, equals, alone, is_truth, is_capital, is_small, is_in_word, is_digit, is_white, value, keywords, key_among, lower, is_whole, comment_size}
 use Rattle.cool_syntax.specs.Lexemes as classes
 use Rattle.cool_syntax.specs.TreesWithinLimits.{IsObjectName}
-use Rattle.cool_simulation.proofs.theorem.NamesOfLabels.{AreInName, both_true, in_word_in_name, word_in_name}
+use Rattle.cool_simulation.proofs.theorem.NamesOfLabels.{AreInName, in_word_in_name, word_in_name}
+use Rattle.std.proofs.lemmas.Bool.{and_from}
 
 -- a lexeme that, if it is the name of a feature or a variable, holds bytes of names alone; and a form that is such a lexeme, if it is one
 
@@ -79,7 +80,7 @@ good_word : (b : ℕ) (bs : List ℕ) → name_rest b ≡ true → IsGood (lexem
 good_word b bs h = by (list_all is_in_word bs) refl
   where
     by : (t : Bool) → list_all is_in_word bs ≡ t → IsGood (lexeme_if t (word b bs))
-    by true e = good_named (is_capital b) (b ∷ bs) (key_among keywords (map lower (b ∷ bs))) (both_true (name_rest b) (list_all name_rest bs) h (word_in_name bs e))
+    by true e = good_named (is_capital b) (b ∷ bs) (key_among keywords (map lower (b ∷ bs))) (and_from (name_rest b) (list_all name_rest bs) h (word_in_name bs e))
     by false e = tt
 
 -- Classes of first bytes

@@ -11,30 +11,24 @@ use Rattle.cool_syntax.specs.Lexemes.{is_capital, is_small, is_digit, is_in_word
 use Rattle.cool_syntax.specs.TreesWithinLimits.{IsTypeName}
 use Rattle.cool_codegen.specs.Labels.{inner}
 use Rattle.cool_emit.proofs.NamesOfClasses.{is_word}
+use Rattle.std.proofs.lemmas.Bool.{and_from, and_parts}
+use Rattle.lists.proofs.TruthValues.{or_true}
+use Rattle.lists.proofs.Numbers.{digit_byte}
 
 -- bytes that may stand in a name after its first
 abbrev pub AreInName : List ℕ → Type 0
 AreInName bytes = list_all name_rest bytes ≡ true
 
--- two tests hold together where each holds
-pub both_true : (s t : Bool) → s ≡ true → t ≡ true → (s && t) ≡ true
-both_true s t h k = rw h k
-
--- and each holds where both do
-pub each_true : (s t : Bool) → (s && t) ≡ true → (s ≡ true) × (t ≡ true)
-each_true true t h = (refl, h)
-each_true false t h = absurd (true≢false (sym h))
-
 -- two texts of such bytes, one after the other, are of such bytes
 pub in_name-append : (xs ys : List ℕ) → AreInName xs → AreInName ys → AreInName (xs ++ ys)
-in_name-append xs ys h k = list_all-append name_rest xs ys ∙ both_true (list_all name_rest xs) (list_all name_rest ys) h k
+in_name-append xs ys h k = list_all-append name_rest xs ys ∙ and_from (list_all name_rest xs) (list_all name_rest ys) h k
 
 -- a name with such bytes after it is a name
 pub name-append : (xs ys : List ℕ) → IsName xs → AreInName ys → IsName (xs ++ ys)
 name-append [] ys h k = absurd (true≢false (sym h))
 name-append (x ∷ xs) ys h k =
-    let each = each_true (name_start x) (list_all name_rest xs) h in
-    both_true (name_start x) (list_all name_rest (xs ++ ys)) each.0 (in_name-append xs ys each.1 k)
+    let each = and_parts (name_start x) (list_all name_rest xs) h in
+    and_from (name_start x) (list_all name_rest (xs ++ ys)) each.0 (in_name-append xs ys each.1 k)
 
 -- Words
 
@@ -59,38 +53,31 @@ in_word_in_name b h = by (is_capital b) (is_small b) (is_digit b) (b == 95) (b =
 pub word_in_name : (bs : List ℕ) → list_all is_in_word bs ≡ true → AreInName bs
 word_in_name [] h = refl
 word_in_name (b ∷ bs) h =
-    let each = each_true (is_in_word b) (list_all is_in_word bs) h in
-    both_true (name_rest b) (list_all name_rest bs) (in_word_in_name b each.0) (word_in_name bs each.1)
+    let each = and_parts (is_in_word b) (list_all is_in_word bs) h in
+    and_from (name_rest b) (list_all name_rest bs) (in_word_in_name b each.0) (word_in_name bs each.1)
 
 -- the name of a type is a name
 pub type_is_name : (name : List ℕ) → IsTypeName name → IsName name
 type_is_name name h =
     let w = is_word name h in
-    subst IsName (sym w.is) (both_true (name_start w.first) (list_all name_rest w.rest) (capital_begins w.first w.capital) (word_in_name w.rest w.word))
+    subst IsName (sym w.is) (and_from (name_start w.first) (list_all name_rest w.rest) (capital_begins w.first w.capital) (word_in_name w.rest w.word))
 
 -- Numbers
-
-or_true : (b : Bool) → (b || true) ≡ true
-or_true true = refl
-or_true false = refl
 
 -- a digit may stand in a name
 digit_in_name : (b : ℕ) → is_ascii_digit b ≡ true → name_rest b ≡ true
 digit_in_name b h = ap (λ (t : Bool). name_start b || t) h ∙ or_true (name_start b)
 
-digit_is : (d : ℕ) → d < 10 → is_ascii_digit (48 + d) ≡ true
-digit_is d low = grind arith
-
 glyph_in_name : (d : ℕ) → d < 10 → name_rest (digit_glyph false d) ≡ true
 glyph_in_name d low =
     let less : nat_lt d 10 ≡ true = grind arith in
-    ap (λ (t : Bool). name_rest (if t then 48 + d else 87 + d)) less ∙ digit_in_name (48 + d) (digit_is d low)
+    ap (λ (t : Bool). name_rest (if t then 48 + d else 87 + d)) less ∙ digit_in_name (48 + d) (digit_byte d low)
 
 digits_in_name : (k n : ℕ) (after : List ℕ) → AreInName after → AreInName (digits_onto k 10 false n after)
 digits_in_name zero n after h = h
 digits_in_name (suc k) n after h =
     let digit : name_rest (digit_glyph false (n % 10)) ≡ true = glyph_in_name (n % 10) (omega arith) in
-    let more : AreInName (digit_glyph false (n % 10) ∷ after) = both_true (name_rest (digit_glyph false (n % 10))) (list_all name_rest after) digit h in
+    let more : AreInName (digit_glyph false (n % 10) ∷ after) = and_from (name_rest (digit_glyph false (n % 10))) (list_all name_rest after) digit h in
     by (n / 10 == 0) (digit_glyph false (n % 10) ∷ after) more (digits_in_name k (n / 10) (digit_glyph false (n % 10) ∷ after) more)
   where
     by : (t : Bool) (bs : List ℕ) → AreInName bs → AreInName (digits_onto k 10 false (n / 10) bs) → AreInName (if t then bs else digits_onto k 10 false (n / 10) bs)

@@ -9,17 +9,16 @@ use Rattle.mips_text.specs.Printing.{printed}
 use Rattle.mips_text.specs.Reading.{Reads}
 use Rattle.mips_text.proofs.PrintedLines.{printed_is_read}
 use Rattle.cool_classes.specs.Chains.{Class}
-use Rattle.cool_classes.proofs.AllOfLists.{all_append}
 use Rattle.cool_faults.specs.Verdicts.{IsAccepted}
 use Rattle.cool_rules.specs.Fits.{Fits}
 use Rattle.cool_emit.specs.Programs.{program_text, program_data, program_lines, IsBuildable}
 use Rattle.cool_emit.specs.SoundLines.{IsText, IsTextInstruction, IsData, IsDataItem, IsDataWord, IsDataDirective, AreText, AreData, labels_of}
 use Rattle.cool_emit.proofs.ProgramsAreSound.{programs_sound}
-use Rattle.cool_emit.proofs.TextOfPieces.{all_left, all_right}
 use Rattle.cool_simulation.specs.Theorem.{AreFileNames}
 use Rattle.cool_simulation.proofs.theorem.FilledWords.{IsFilled, IsFilledItem, AreFilled, data_filled}
 use Rattle.cool_simulation.proofs.theorem.NamedCode.{AreNamed, text_named}
 use Rattle.cool_simulation.proofs.theorem.NamedData.{data_named, program_named}
+use Rattle.lists.proofs.AllItems.{all_append, all_left, all_right}
 
 -- what holds of all names holds of one that stands among them
 all_there : (P : Name → Type 0) (names : List Name) (name : Name) → AllByRecursion P names → Contains names name → P name

@@ -12,23 +12,17 @@ use Rattle.cool_syntax.specs.Tree as trees
 use Rattle.cool_syntax.specs.TreesWithinLimits.{IsTreeWithin, AreTreesWithin, IsMaybeWithin, AreCasesWithin, IsFeatureWithin}
 use Rattle.cool_classes.specs.declared.class_id.ClassId.{ClassId}
 use Rattle.cool_classes.specs.Chains.{Class, features_of}
-use Rattle.cool_classes.proofs.AllOfLists.{all_append, all_with}
+use Rattle.cool_classes.proofs.AllOfLists.{all_with}
 use Rattle.cool_layout.specs.Preorder.{numbers_from}
 use Rattle.cool_consts.specs.Constants.{with_string}
 use Rattle.cool_codegen.specs.Asked.{with_strings, file_of, files_of, strings_in, strings_in_all, strings_in_maybe, strings_in_cases}
 use Rattle.cool_codegen.specs.Features.{feature_strings, initial_strings}
 use Rattle.cool_emit.specs.Programs.{Placed, attributes_from, methods_from, class_features, all_features, program_constants, IsBuildable}
-use Rattle.cool_emit.proofs.ConstantsInRange.{all_flat}
-use Rattle.cool_runtime.specs.Contents.{IsText, AreBytes}
+use Rattle.cool_emit.proofs.ConstantsInRange.{all_flat, all_with_strings, numbers_low}
+use Rattle.cool_runtime.specs.Contents.{IsText}
 use Rattle.cool_simulation.specs.ByteStrings.{HasBytes, HaveBytes, MaybeHasBytes, CasesHaveBytes, FeatureHasBytes}
-
-all_with_strings : (P : List ℕ → Type 0) (xs ys : List (List ℕ)) → AllByRecursion P xs → AllByRecursion P ys → AllByRecursion P (with_strings xs ys)
-all_with_strings P xs [] all more = all
-all_with_strings P xs (y ∷ ys) all more = all_with_strings P (with_string xs y) ys (by (list_any (bytes_eq y) xs)) more.1
-  where
-    by : (t : Bool) → AllByRecursion P (if t then xs else xs ++ y ∷ [])
-    by true = all
-    by false = all_with P xs y all more.0
+use Rattle.lists.proofs.AllItems.{all_append}
+use Rattle.lists.specs.Bytes.{AreBytes}
 
 -- bytes of which none is 0
 text_of : (bytes : List ℕ) → AllByRecursion (λ b. 1 ≤ b) bytes → AreBytes bytes → IsText bytes
@@ -114,10 +108,6 @@ methods_all : (P : Feature → Type 0) (j : ℕ) (fs : List Feature) → AllByRe
 methods_all P j [] all = tt
 methods_all P j (Method m ∷ fs) all = (all.0, methods_all P (j + 1) fs all.1)
 methods_all P j (Attribute a ∷ fs) all = methods_all P (j + 1) fs all.1
-
-numbers_low : (k n m : ℕ) → k + n ≤ m → AllByRecursion (λ (c : ClassId). c.0 < m) (numbers_from k n)
-numbers_low k zero m l = tt
-numbers_low k (suc n) m l = (omega arith, numbers_low (k + 1) n m (omega arith))
 
 all_two : {X : Type 0} (P Q : X → Type 0) (xs : List X) → AllByRecursion P xs → ((k : ℕ) (x : X) → slice_get xs k ≡ Some x → Q x) → AllByRecursion (λ x. P x × Q x) xs
 all_two P Q [] h k = tt

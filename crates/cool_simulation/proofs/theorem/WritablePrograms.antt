@@ -14,16 +14,12 @@ use Rattle.cool_classes.specs.ClassFaults.{class_meant, classes_meant}
 use Rattle.cool_classes.specs.Definitions.{definitions}
 use Rattle.cool_classes.specs.Settled.{names_with_basic}
 use Rattle.cool_classes.specs.Tables.{basic_classes}
-use Rattle.cool_meaning.proofs.MethodsOfTables.{all_get}
-
-all_both : {A : Type 0} (P : A → Type 0) (xs ys : List A) → AllByRecursion P xs → AllByRecursion P ys → AllByRecursion P (xs ++ ys)
-all_both P [] ys h k = k
-all_both P (x ∷ xs) ys h k = (h.0, all_both P xs ys h.1 k)
+use Rattle.lists.proofs.AllItems.{all_get, all_append}
 
 -- the definitions of files
 pub definitions_writable : (files : List FileTree) → AllByRecursion (λ file. AreClassesWritable file.classes) files → AreClassesWritable (definitions files)
 definitions_writable [] h = tt
-definitions_writable (file ∷ files) h = all_both _ file.classes (definitions files) h.0 (definitions_writable files h.1)
+definitions_writable (file ∷ files) h = all_append _ file.classes (definitions files) h.0 (definitions_writable files h.1)
 
 -- Tables
 
@@ -41,5 +37,5 @@ pub table_writable : (ds : List ClassDef) (p : List chains.Class) → p ≡ clas
 table_writable ds p is h c k f there =
     all_get IsFeatureWritable (features_of p c) k f
     (subst (λ (t : List chains.Class). AllByRecursion IsFeatureWritable (features_of t c)) (sym is)
-    (class_writable (classes_meant ds) c.0 (all_both (λ (x : chains.Class). AllByRecursion IsFeatureWritable x.features) basic_classes (map (class_meant (names_with_basic ds)) ds) (tt, (tt, (tt, (tt, (tt, tt)))))
+    (class_writable (classes_meant ds) c.0 (all_append (λ (x : chains.Class). AllByRecursion IsFeatureWritable x.features) basic_classes (map (class_meant (names_with_basic ds)) ds) (tt, (tt, (tt, (tt, (tt, tt)))))
     (meant_writable (names_with_basic ds) ds h)))) there

@@ -4,10 +4,10 @@ use Rattle.cool_syntax.specs.TreesWithinLimits.{IsClassWithin, AreClassesWithin}
 use Rattle.cool_classes.specs.declared.fault.ClassFault.{ClassFault}
 use Rattle.cool_classes.specs.declared.fault.ClassKind.TheVariants.{C5}
 use Rattle.cool_classes.specs.Settled.{AddsFaults}
-use Rattle.cool_classes.proofs.AllOfLists.{all_at}
 use Rattle.cool_classes.proofs.FaultsLeft.{cycles_next}
 use Rattle.cool_classes.proofs.FaultsAdded.{adds_both, adds_one, some_fault}
 use Rattle.cool_classes.proofs.class_phase.add_cyclic.Goals as goal
+use Rattle.lists.proofs.AllItems.{all_at}
 
 pub loop-class-preserved : goal.loop-class-preserved
 loop-class-preserved c =

@@ -9,10 +9,7 @@ use Rattle.cool_classes.specs.declared.fault.ClassFault.{ClassFault}
 use Rattle.cool_classes.specs.FaultLists.{IsOfClasses, IsOfFeatures, IsFaultList, standing_of}
 use Rattle.cool_classes.proofs.AllOfLists.{all_permuted}
 use Rattle.cool_classes.proofs.fault_list.refuse_faults.Goals as goal
-
-nil_from_length : (xs : List ClassFault) → length xs ≡ 0 → xs ≡ []
-nil_from_length [] e = refl
-nil_from_length (x ∷ xs) e = absurd (omega arith)
+use Rattle.std.proofs.lemmas.List.{nil_from_length}
 
 pub returns-clause-refusal : goal.returns-clause-refusal
 returns-clause-refusal c =

@@ -4,8 +4,9 @@ use Rattle.std.specs.Prelude.{bytes_eq}
 use Rattle.std.specs.Map.{lookup}
 use Rattle.std.specs.Global.{Vec}
 use Rattle.cool_classes.specs.FirstNames.{shown_names, FindsFirst}
-use Rattle.cool_classes.proofs.NameIndexes.{shown_lookup, shown_after, finds_new, finds_old, copied_some, nothing_there}
+use Rattle.cool_classes.proofs.NameIndexes.{shown_lookup, shown_after, finds_new, finds_old}
 use Rattle.cool_classes.proofs.first_names.add_name.Goals as goal
+use Rattle.lists.proofs.Options.{copied_some, none_is}
 
 pub returns-then-is_some : goal.returns-then-is_some
 returns-then-is_some c row number finds =
@@ -21,7 +22,7 @@ returns c row number finds =
     let name = c.args.name.now in
     let absent : is_some (lookup (λ key. bytes_eq name key.items) es) ≡ false =
     ap is_some (sym c.get.ensures.value) ∙ copied_some c.get.result ∙ sym c.is_some.ensures ∙ c.if-is_some.false in
-    let none = nothing_there (lookup (λ key. bytes_eq name key.items) es) absent in
+    let none = none_is (lookup (λ key. bytes_eq name key.items) es) absent in
     let key = c.in_ok-from_slice.field-0 in
     let copy : key.items ≡ name = c.in_ok-from_slice.ensures.items in
     let new = ap (λ (n : List ℕ). lookup (λ (k : Vec ℕ). bytes_eq n k.items) es) copy ∙ none in

@@ -8,8 +8,8 @@ use Rattle.cool_consts.specs.Labels.{int_constant}
 use Rattle.cool_codegen.specs.Asked.{Extends}
 use Rattle.cool_codegen.proofs.ConstantsKept.{kept_integer, kept_same}
 use Rattle.cool_codegen.proofs.NumbersStay.{stays}
-use Rattle.cool_codegen.proofs.NatsAreEqual.{nat_eq-same}
 use Rattle.cool_codegen.proofs.constant_labels.int_label.Goals as goal
+use Rattle.lists.proofs.Numbers.{nat_eq-same}
 
 pub returns-clause-label : goal.returns-clause-label
 returns-clause-label c =

@@ -8,8 +8,8 @@ use Rattle.cool_consts.specs.Labels.{string_constant}
 use Rattle.cool_codegen.specs.Asked.{Extends}
 use Rattle.cool_codegen.proofs.ConstantsKept.{kept_string, kept_same}
 use Rattle.cool_codegen.proofs.NumbersStay.{stays}
-use Rattle.cool_codegen.proofs.NatsAreEqual.{bytes_eq-same}
 use Rattle.cool_codegen.proofs.constant_labels.string_label.Goals as goal
+use Rattle.lists.proofs.EqualBytes.{bytes_eq-same}
 
 pub returns-clause-label : goal.returns-clause-label
 returns-clause-label c =

@@ -6,8 +6,9 @@ use Rattle.cool_syntax.specs.declared.token.Token.{Token}
 use Rattle.cool_syntax.specs.Grammar.{Parses}
 use Rattle.cool_lexer.specs.declared.lexer.Lexed.{Lexed}
 use Rattle.cool_classes.specs.Definitions.{definitions}
-use Rattle.cool_editor.proofs.TreesOfTokens.{drop_one, one_more}
+use Rattle.cool_editor.proofs.TreesOfTokens.{one_more}
 use Rattle.cool_editor.proofs.files.definitions_of.Goals as goal
+use Rattle.lists.proofs.ItemsLeft.{drop_one}
 
 pub loop-file-preserved : goal.loop-file-preserved
 loop-file-preserved c =

@@ -1,8 +1,9 @@
 -- One more file was read, or one was refused.
 use Rattle.std.proofs.Common.{◌∙◌, ap, inr, length, refl, arith}
 use Rattle.std.specs.Prelude.{Err}
-use Rattle.cool_editor.proofs.FilesRead.{cause_of, held_turn, length_more, stop_at, total_turn}
+use Rattle.cool_editor.proofs.FilesRead.{cause_of, held_turn, stop_at, total_turn}
 use Rattle.cool_editor.proofs.reading.read_files.Goals as goal
+use Rattle.std.proofs.lemmas.List.{length_push}
 
 -- a file was refused
 pub returns-in_default : goal.returns-in_default
@@ -34,7 +35,7 @@ loop-index-preserved g c =
       held = held_turn _ _ c.args.names.now c.loop-index.index c.index-names-index.result c.as_str.result.now c.loop-index.contents.items c.push.new.self.items c.in-Ok.bytes so_far.kept c.loop-index-test.true c.index-names-index.is c.as_str.ensures.value
           so_far.held read.read pushed;
       rest = omega (arith, total_turn c.loop-index.contents.items c.push.new.self.items c.in-Ok.bytes pushed, so_far.rest, read.within, c.len.ensures);
-      each = ap length pushed ∙ length_more c.loop-index.contents.items c.in-Ok.bytes ∙ omega (arith, so_far.each);
+      each = ap length pushed ∙ length_push c.loop-index.contents.items c.in-Ok.bytes ∙ omega (arith, so_far.each);
       calm = read.no_fault ∙ so_far.calm;
       kept = c.read.ensures.kept ∙ so_far.kept;
     }

@@ -9,8 +9,8 @@ use Rattle.cool_layout.specs.LinesOfLayout.{layout_lines}
 use Rattle.cool_layout.specs.Preorder.{tag}
 use Rattle.cool_layout.proofs.BasicNames.{five}
 use Rattle.cool_emit.specs.Programs.{heap_lines}
-use Rattle.cool_emit.proofs.ResultsOfCalls.{then}
 use Rattle.cool_emit.proofs.program.add_data.Goals as goal
+use Rattle.std.proofs.lemmas.Result.{on_ok_weaker}
 
 -- four lists of lines, each after those before it
 in_turn : (l0 l1 l2 l3 l4 a b c d : List Line) → l1 ≡ l0 ++ a → l2 ≡ l1 ++ b → l3 ≡ l2 ++ c → l4 ≡ l3 ++ d
@@ -43,7 +43,7 @@ returns c =
     ∙ (ap (λ (n : ℕ). l2 ++ constants_lines n c.tag-2.result c.tag-3.result c.args.consts.now) int
     ∙ (ap (λ (n : ℕ). l2 ++ constants_lines (tag p (class_number 2)) n c.tag-3.result c.args.consts.now) bool
     ∙ ap (λ (n : ℕ). l2 ++ constants_lines (tag p (class_number 2)) (tag p (class_number 3)) n c.args.consts.now) string))) in
-    then c.add_heap.result
+    on_ok_weaker c.add_heap.result
     (λ h. in_turn (lines_of c.args.lines.now.items) l1 l2 (lines_of c.add_lines-2.new.lines.items)
     (lines_of c.add_heap.new.lines.items) (directive_line ToData ∷ []) (layout_lines p) constant_lines heap_lines
     directive layout constants h)

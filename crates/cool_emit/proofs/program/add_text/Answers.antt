@@ -2,7 +2,6 @@
 use Rattle.std.proofs.Common.{◌≡◌, ◌∙◌, ◌+◌, ◌<◌, ◌++◌, ◌∷◌, List, [], length, flat_map, take, get_or, ap, sym, subst, arith, append-nil}
 use Rattle.std.proofs.lemmas.Grind.{flat_map-append}
 use Rattle.mips_isa.specs.Lines.{lines_of}
-use Rattle.mips_asm.proofs.LoopRests.{get_or_same}
 use Rattle.cool_emit.specs.Additions.{files_of}
 use Rattle.cool_emit.specs.declared.section.Section.{Section}
 use Rattle.cool_emit.specs.declared.section.Section.TheVariants.{Routines}
@@ -10,13 +9,14 @@ use Rattle.cool_emit.specs.Sections.{features_in, section_code, sections_in}
 use Rattle.cool_emit.proofs.AddingParts.{adds_both, adds_same, take_more, whole_front}
 use Rattle.cool_emit.proofs.SectionsInTurn.{features_of_sections, code_of_sections, few_integers_before, few_strings_before, within_here, constants_of}
 use Rattle.cool_emit.proofs.program.add_text.Goals as goal
+use Rattle.std.proofs.lemmas.List.{get_or_default}
 
 pub add_section-requires-clause-there : goal.add_section-requires-clause-there
 add_section-requires-clause-there c =
     let e = c.args.emission.now in
     let p = e.program.now in
     let less = subst (λ (xs : List Section). c.loop-section.section-index < length xs) c.requires.sections c.loop-section-test.true in
-    let is = subst (λ (xs : List Section). (get_or c.args.sections.now c.loop-section.section-index Routines) ≡ get_or xs c.loop-section.section-index (get_or c.args.sections.now c.loop-section.section-index Routines)) c.requires.sections (get_or_same c.args.sections.now c.loop-section.section-index Routines (get_or c.args.sections.now c.loop-section.section-index Routines) c.loop-section-test.true) in
+    let is = subst (λ (xs : List Section). (get_or c.args.sections.now c.loop-section.section-index Routines) ≡ get_or xs c.loop-section.section-index (get_or c.args.sections.now c.loop-section.section-index Routines)) c.requires.sections (get_or_default c.args.sections.now c.loop-section.section-index Routines (get_or c.args.sections.now c.loop-section.section-index Routines) c.loop-section-test.true) in
     within_here p (files_of e) c.requires.sound.buildable c.loop-section.section-index (get_or c.args.sections.now c.loop-section.section-index Routines) less is
 
 pub add_section-requires-clause-few_integers : goal.add_section-requires-clause-few_integers
@@ -43,7 +43,7 @@ loop-section-preserved c =
     let i = c.loop-section.section-index in
     let xs = take i c.args.sections.now in
     let s = (get_or c.args.sections.now c.loop-section.section-index Routines) in
-    let next : take (i + 1) c.args.sections.now ≡ xs ++ s ∷ [] = take_more c.args.sections.now i s c.loop-section-test.true (get_or_same c.args.sections.now c.loop-section.section-index Routines (get_or c.args.sections.now c.loop-section.section-index Routines) c.loop-section-test.true) in
+    let next : take (i + 1) c.args.sections.now ≡ xs ++ s ∷ [] = take_more c.args.sections.now i s c.loop-section-test.true (get_or_default c.args.sections.now c.loop-section.section-index Routines (get_or c.args.sections.now c.loop-section.section-index Routines) c.loop-section-test.true) in
     let both = adds_both files (flat_map (features_in p) xs) (features_in p s) (λ g. flat_map (section_code p files g) xs) (λ g. section_code p files g s)
     c.args.consts.now c.loop-section.consts c.add_section.new.consts (lines_of c.args.lines.now.items) (lines_of c.loop-section.lines.items) (lines_of c.add_section.new.lines.items)
     c.loop-section.invariant c.in_ok-add_section.ensures in

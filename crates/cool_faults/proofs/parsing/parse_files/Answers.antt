@@ -2,14 +2,15 @@
 use Rattle.std.proofs.Common.{◌+◌, drop}
 use Rattle.std.proofs.lemmas.List.{drop_all}
 use Rattle.cool_faults.specs.Phases.{IsParsed, IsSyntactic}
-use Rattle.cool_faults.proofs.FindingsInARow.{item_here, found_more, found_end, outcome_found}
+use Rattle.cool_faults.proofs.FindingsInARow.{found_more, found_end, outcome_found}
 use Rattle.cool_faults.proofs.parsing.parse_files.Goals as goal
+use Rattle.lists.proofs.ItemsLeft.{drop_one}
 
 pub loop-index-preserved : goal.loop-index-preserved
 loop-index-preserved c =
     let files = c.args.files.now in
     let i = c.loop-index.index in
-    let here = item_here files i c.index-files-index.result c.loop-index-test.true c.index-files-index.is in
+    let here = drop_one files i c.index-files-index.result c.loop-index-test.true c.index-files-index.is in
     found_more IsParsed IsSyntactic files i (drop i files) (drop (i + 1) files) c.index-files-index.result c.loop-index.found c.parse_file.new.found here c.loop-index.invariant c.in_ok-parse_file.ensures
 
 pub returns : goal.returns

@@ -5,16 +5,18 @@ use Rattle.std.specs.Map.{lookup}
 use Rattle.std.specs.Global.{Vec}
 use Rattle.std.proofs.lemmas.List.{length_push}
 use Rattle.cool_layout.specs.SlotTables.{OwnMethod, slots_shown}
-use Rattle.cool_layout.proofs.TablesGrow.{same_key, shown_lookup, shown_after, copied_some, nothing_there, something_there, again, overridden, added}
+use Rattle.cool_layout.proofs.TablesGrow.{shown_lookup, shown_after, again, overridden, added}
 use Rattle.cool_layout.proofs.slots.add_own.Goals as goal
 use Rattle.cool_layout.proofs.slots.add_own.Goals.{in-Some, in-None+in_ok-push-in-None}
+use Rattle.lists.proofs.EqualBytes.{same_key}
+use Rattle.lists.proofs.Options.{some_value, copied_some, none_is}
 
 pub returns-then-is_some-clause-table : goal.returns-then-is_some-clause-table
 returns-then-is_some-clause-table c above methods own at is =
     let entries = c.args.table.now.own.entries in
     let name : List ℕ = c.args.name.now in
     let there : is_some (lookup (bytes_eq name) (slots_shown entries)) ≡ true = ap is_some (sym (c.get.ensures.value ∙ shown_lookup name entries)) ∙ copied_some c.get.result ∙ sym c.is_some.ensures ∙ c.if-is_some.true in
-    let found = something_there (lookup (bytes_eq name) (slots_shown entries)) there in
+    let found = some_value (lookup (bytes_eq name) (slots_shown entries)) there in
     again above methods own (record { name = name; method = c.args.method }) c.args.table.now is found.0 found.1
 
 pub returns-clause-table : goal.returns-clause-table
@@ -23,7 +25,7 @@ returns-clause-table c above methods own at is =
     let name : List ℕ = c.args.name.now in
     let m : OwnMethod = record { name = name; method = c.args.method } in
     let absent : is_some (lookup (λ key. bytes_eq name key.items) entries) ≡ false = ap is_some (sym c.get.ensures.value) ∙ copied_some c.get.result ∙ sym c.is_some.ensures ∙ c.if-is_some.false in
-    let none = nothing_there (lookup (λ key. bytes_eq name key.items) entries) absent in
+    let none = none_is (lookup (λ key. bytes_eq name key.items) entries) absent in
     let none_shown : lookup (bytes_eq name) (slots_shown entries) ≡ None = sym (shown_lookup name entries) ∙ none in
     let key : Vec ℕ = c.in_ok-from_slice.field-0 in
     let copy : key.items ≡ name = c.in_ok-from_slice.ensures.items in

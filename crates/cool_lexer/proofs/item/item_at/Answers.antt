@@ -1,6 +1,7 @@
 use Rattle.std.proofs.lemmas.Result.{IfOk-weaker}
-use Rattle.cool_lexer.proofs.Items.{first_and_tail, begins_code}
+use Rattle.cool_lexer.proofs.Items.{begins_code}
 use Rattle.cool_lexer.proofs.item.item_at.Goals as goal
+use Rattle.lists.proofs.ItemsLeft.{first_and_tail}
 
 pub item_after-requires : goal.item_after-requires
 item_after-requires c = record { whole = first_and_tail c.args.text.now c.requires }

@@ -13,14 +13,15 @@ use Rattle.cool_session.specs.Held.{held_by}
 use Rattle.cool_session.specs.NewFeatures.{base_seen}
 use Rattle.cool_session.specs.Obeying.{PutLines}
 use Rattle.cool_session.specs.Replies.{reply_lines}
-use Rattle.cool_session.proofs.CommandsDone.{nothing_to_check, checked, check_cut, line_cut, no_items, some_items, none_of, held_is}
+use Rattle.cool_session.proofs.CommandsDone.{nothing_to_check, checked, check_cut, line_cut, no_items, some_items, held_is}
 use Rattle.cool_session.proofs.conversation.check.Goals as goal
+use Rattle.std.proofs.lemmas.List.{nil_from_length}
 
 pub returns-then-is_empty-clause-obeyed : goal.returns-then-is_empty-clause-obeyed
 returns-then-is_empty-clause-obeyed g c =
     let session = c.args.session.now in
     let names : session.names.items ≡ [] = sym c.names.ensures ∙ no_items c.names.result.now c.if-is_empty.ensures in
-    let files : session.files.items ≡ [] = none_of session.files.items (sym session.paired ∙ ap length names) in
+    let files : session.files.items ≡ [] = nil_from_length session.files.items (sym session.paired ∙ ap length names) in
     λ input left ask. nothing_to_check c.args.number (held_by session) input left ask (held_by session) (seen (g.K.Sink.held c.args.sink.now) (g.K.Sink.puts c.args.sink.now))
     (ap bytes_of files)
 

@@ -5,8 +5,9 @@ use Rattle.cool_ports.proofs.InputsInParts.{leaves_same}
 use Rattle.cool_session.specs.Files.{files_set, names_of}
 use Rattle.cool_session.specs.Held.{held_by}
 use Rattle.cool_session.specs.NewFeatures.{base_seen}
-use Rattle.cool_session.proofs.CommandsDone.{no_room, some_room, file_too_large, file_cut, file_unended, file_set, file_unset, held_is, on_ok}
+use Rattle.cool_session.proofs.CommandsDone.{no_room, some_room, file_too_large, file_cut, file_unended, file_set, file_unset, held_is}
 use Rattle.cool_session.proofs.conversation.set_file.Goals as goal
+use Rattle.lists.proofs.Results.{on_ok}
 
 pub returns-then-is_err-clause-obeyed : goal.returns-then-is_err-clause-obeyed
 returns-then-is_err-clause-obeyed g c = λ input rest left held ask leaves.

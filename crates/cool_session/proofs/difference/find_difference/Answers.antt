@@ -1,11 +1,11 @@
 -- The run around what differs in the one file that differs stands in it, and ends as far from the end of the file as before.
 use Rattle.std.proofs.Common.{◌≡◌, ◌<◌, ◌+◌, ◌^◌, List, length, sym, ◌∙◌, subst, arith}
 use Rattle.cool_syntax.specs.declared.token.Token.{Token}
-use Rattle.cool_faults.proofs.AllItems.{all_at}
 use Rattle.cool_session.specs.Differing.{AreSameFrom, IsFirstOther}
 use Rattle.cool_session.specs.KeptChecks.{HasFewTokens}
 use Rattle.cool_session.proofs.FilesDiffer.{file_at, same_files, where_none, number_within, ends_within, apart, differ_in_feature}
 use Rattle.cool_session.proofs.difference.find_difference.Goals as goal
+use Rattle.cool_classes.proofs.FeaturesChecked.{all_at}
 
 pub returns-in_default : goal.returns-in_default
 returns-in_default c = same_files c.args.before.now c.args.now.now c.if-before-now.false c.in_default.ensures

@@ -16,14 +16,11 @@ use Rattle.cool_session.proofs.SwappedFeatures.{swapped_back, feature_now, as_ma
 use Rattle.cool_session.proofs.TyperAsked.{on_error}
 use Rattle.cool_session.proofs.edited.retype.Goals.{then-is_err, else-is_err}
 use Rattle.cool_session.proofs.edited.retype.Goals as goal
+use Rattle.lists.proofs.Results.{for_ok}
 
 no_error : {A E : Type 0} (P : Type 0) (r : Result A E) → is_err r ≡ false → OnErr r P
 no_error P (Ok x) is = tt
 no_error P (Err e) is = absurd (true≢false is)
-
-if_ok : {A E : Type 0} (P Q : A → Type 0) (r : Result A E) → ((x : A) → P x → Q x) → IfOk r P → IfOk r Q
-if_ok P Q (Ok x) f h = f x h
-if_ok P Q (Err e) f h = h
 
 pub type_feature-retyped-requires-clause-class : goal.type_feature-retyped-requires-clause-class
 type_feature-retyped-requires-clause-class g c =
@@ -104,7 +101,7 @@ returns-clause-kept g c =
     let there =
     subst (λ (q : List Class). slice_get (features_of q id.class) id.index ≡ Some x) (sym swap.ensures.now)
     (feature_now c.args.classes.now id.class id.index x swap.result swap.ensures.gave) in
-    if_ok _ _ c.type_feature-retyped.result
+    for_ok _ _ c.type_feature-retyped.result
     (λ retyped h.
     subst
     (λ (q : List Class). (found : Option KeptFault) × IsKeptOf tokens (feature_checked q id.class x) found

@@ -6,14 +6,14 @@ use Rattle.cool_session.specs.declared.base.KeptFault.{KeptFault}
 use Rattle.cool_session.specs.KeptChecks.{AreKeptAmong}
 use Rattle.cool_session.specs.Runs.{run_tokens}
 use Rattle.cool_session.proofs.EditedBases.{kept_merely}
-use Rattle.cool_session.proofs.SwappedFeatures.{feature_there}
 use Rattle.cool_session.proofs.edited.type_feature.Goals as goal
+use Rattle.lists.proofs.ItemsAt.{there_is}
 
 pub fault_list-requires-clause-kept : goal.fault_list-requires-clause-kept
 fault_list-requires-clause-kept g c =
     let id = c.args.edit.id in
     let found = c.in_ok-found.found in
-    let (x, there) = feature_there (features_of c.args.classes.now id.class) id.index c.requires.index in
+    let (x, there) = there_is (features_of c.args.classes.now id.class) id.index c.requires.index in
     let run = run_tokens c.args.lexed.now c.args.edit.run in
     let is =
     kept_merely c.tokens_in.result.now run (feature_checked c.args.classes.now id.class x) x found c.tokens_in.ensures

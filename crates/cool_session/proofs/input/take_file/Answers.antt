@@ -2,8 +2,9 @@ use Rattle.std.proofs.Common.{◌≡◌, ◌+◌, ◌<◌, ◌≤◌, ◌++◌, 
 use Rattle.std.specs.Prelude.{Err}
 use Rattle.cool_ports.proofs.InputsInParts.{took_nothing, took_byte, leaves_byte, leaves_end, leaves_same}
 use Rattle.cool_session.specs.declared.ending.Interruption.TheVariants.{Memory}
-use Rattle.cool_session.proofs.TakingInput.{part_and_byte, short_input, end_length}
+use Rattle.cool_session.proofs.TakingInput.{part_and_byte, short_input}
 use Rattle.cool_session.proofs.input.take_file.Goals as goal
+use Rattle.std.proofs.lemmas.List.{length_push}
 
 pub loop-source-init : goal.loop-source-init
 loop-source-init g c =
@@ -32,7 +33,7 @@ loop-source-preserved g c =
     let taken = rw c.in-Ok-Some.field-0-is at c.in-Ok-Some.ensures.taken in
     let room = rw c.in-Ok-Some.field-0-is at c.in-Ok-Some.ensures.room in
     let longer : length c.push.new.self.items ≡ length c.loop-source.bytes.items + 1 =
-    ap length c.in_ok-push-in-Ok-Some.ensures.items ∙ end_length c.loop-source.bytes.items c.in-Ok-Some.byte in
+    ap length c.in_ok-push-in-Ok-Some.ensures.items ∙ length_push c.loop-source.bytes.items c.in-Ok-Some.byte in
     record {
       took = took_byte _ _ _ _ _ _ _ i.took answered taken;
       file = λ input left leaves. rw c.in_ok-push-in-Ok-Some.ensures.items
@@ -56,7 +57,7 @@ returns-in_err-push-in-Ok-Some-clause-file g c =
     let bytes = c.loop-source.bytes.items in
     let byte = c.in-Ok-Some.byte in
     let answered = rw c.in-Ok-Some.field-0-is at c.in-Ok-Some.ensures.answered in
-    let most : length (bytes ++ byte ∷ []) ≤ c.args.size = omega (arith, end_length bytes byte, c.loop-source-test.true, c.len.ensures) in
+    let most : length (bytes ++ byte ∷ []) ≤ c.args.size = omega (arith, length_push bytes byte, c.loop-source-test.true, c.len.ensures) in
     let same : c.from_residual.result ≡ Err Memory = search rules in
     λ input left leaves.
     let is = i.file input (byte ∷ left) (leaves_byte _ _ _ _ _ _ input left i.took answered leaves) in

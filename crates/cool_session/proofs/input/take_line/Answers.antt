@@ -2,9 +2,10 @@ use Rattle.std.proofs.Common.{◌≡◌, ◌+◌, ◌<◌, ◌++◌, ◌∷◌, 
 use Rattle.std.specs.Prelude.{◌==◌, Err}
 use Rattle.cool_session.specs.declared.ending.Interruption.TheVariants.{Memory}
 use Rattle.cool_ports.proofs.InputsInParts.{took_nothing, took_byte, leaves_byte, leaves_end, leaves_same}
-use Rattle.cool_session.proofs.TakingInput.{part_and_byte, still_no_newline, line_taken, long_taken, unended_taken, longer_part, end_length, bound_first, is_empty_part, is_some_part}
+use Rattle.cool_session.proofs.TakingInput.{part_and_byte, still_no_newline, line_taken, long_taken, unended_taken, longer_part, bound_first, is_empty_part, is_some_part}
 use Rattle.cool_session.proofs.input.take_line.Goals.{then-is_empty, else-is_empty}
 use Rattle.cool_session.proofs.input.take_line.Goals as goal
+use Rattle.std.proofs.lemmas.List.{length_push}
 
 pub loop-line-init : goal.loop-line-init
 loop-line-init g c =
@@ -79,7 +80,7 @@ loop-line-preserved g c =
     let room = rw c.in-Ok-Some.field-0-is at c.in-Ok-Some.ensures.room in
     let other : (c.in-Ok-Some.byte == 10) ≡ false = grind (arith, c.if-byte-eq10.false) in
     let longer : length c.push.new.self.items ≡ length c.loop-line.line.items + 1 =
-    ap length c.in_ok-push-in-Ok-Some.ensures.items ∙ end_length c.loop-line.line.items c.in-Ok-Some.byte in
+    ap length c.in_ok-push-in-Ok-Some.ensures.items ∙ length_push c.loop-line.line.items c.in-Ok-Some.byte in
     record {
       took = took_byte _ _ _ _ _ _ _ i.took answered taken;
       line = λ input left leaves. rw c.in_ok-push-in-Ok-Some.ensures.items

@@ -3,8 +3,8 @@ use Rattle.std.proofs.Common.{◌≡◌, [], ◌∷◌, take}
 use Rattle.cool_syntax.specs.declared.token.Key.TheVariants as key
 use Rattle.cool_syntax.specs.declared.token.Sign.TheVariants as sign
 use Rattle.cool_syntax.specs.Readings.{symbol, type, word}
-use Rattle.cool_session.specs.OneFeature.{nowhere}
 use Rattle.cool_session.proofs.one_feature.class_tokens.Given as goal
+use Rattle.cool_syntax.specs.Bare.{nowhere}
 
 abbrev pub invariant-loop-i : goal.invariant-loop-i
 invariant-loop-i l = record {

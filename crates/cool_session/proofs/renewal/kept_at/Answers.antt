@@ -7,8 +7,9 @@ use Rattle.cool_session.specs.Bases.{tokens_of}
 use Rattle.cool_session.specs.FeatureTokens.{kinds, runs_of}
 use Rattle.cool_session.specs.NewFeatures.{IsKeptAt, IsNewAt}
 use Rattle.cool_session.specs.Runs.{bounds_of}
-use Rattle.cool_session.proofs.FeaturesKept.{run_within, run_seen, many_bounds, base_many, default_same, of_some}
+use Rattle.cool_session.proofs.FeaturesKept.{run_within, run_seen, many_bounds, base_many, of_some}
 use Rattle.cool_session.proofs.renewal.kept_at.Goals as goal
+use Rattle.std.proofs.lemmas.List.{get_or_default}
 
 pub tokens_in-requires : goal.tokens_in-requires
 tokens_in-requires c =
@@ -41,7 +42,7 @@ returns-then-same_tokens-clause-kept c =
     let seen = ap (λ (ls : List Lexed). get_or (runs_of (tokens_of ls)) c.args.i []) c.as_slice.ensures.value in
     subst (λ (o : Option (Bor Base)). IsKeptAt o c.args.i c.args.tokens.now c.index.result.now) (sym c.in_ok-base.was) (
       c.if-same_tokens.ensures.same.0 refl ∙ ap kinds (c.tokens_in.ensures ∙ (there ∙ seen)),
-      c.index.ensures ∙ default_same b.now.faults.items c.args.i c.index.result.now None few,
+      c.index.ensures ∙ get_or_default b.now.faults.items c.args.i c.index.result.now None few,
     )
 
 pub returns-else-same_tokens-clause-new : goal.returns-else-same_tokens-clause-new

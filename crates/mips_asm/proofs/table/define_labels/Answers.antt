@@ -5,9 +5,10 @@ use Rattle.mips_isa.specs.Lines.{Name}
 use Rattle.mips_isa.specs.Assembly.{has}
 use Rattle.mips_asm.specs.declared.mark.Mark.{Mark}
 use Rattle.mips_asm.specs.Passes.{shown, names_of}
-use Rattle.mips_asm.proofs.LoopRests.{rest_here, none_there}
 use Rattle.mips_asm.proofs.LabelTables.{Defining, defining_start, defining_step, defining_twice, defining_end, found_as_has, shown_after}
 use Rattle.mips_asm.proofs.table.define_labels.Goals as goal
+use Rattle.lists.proofs.ItemsLeft.{drop_one}
+use Rattle.lists.proofs.Options.{none_is}
 
 pub loop-label-init : goal.loop-label-init
 loop-label-init c = defining_start _ _ _
@@ -18,7 +19,7 @@ returns-then-is_some c =
     let labels = c.args.labels.now in
     let name = c.in_ok-name.name.items in
     let left : drop c.loop-label.label-index labels ≡ name ∷ drop (c.loop-label.label-index + 1) labels =
-    rest_here labels c.loop-label.label-index c.label-item.result c.loop-label-test.true c.label-item.is
+    drop_one labels c.loop-label.label-index c.label-item.result c.loop-label-test.true c.label-item.is
     ∙ ap (λ (n : Name). n ∷ drop (c.loop-label.label-index + 1) labels) (sym (c.in_ok-name.ensures.items ∙ c.as_slice.ensures)) in
     let there : has (names_of (shown es)) name ≡ true = sym (found_as_has name es) ∙ ap is_some (sym c.in_ok-before.ensures.old) ∙ sym c.is_some.ensures ∙ c.if-is_some.true in
     (defining_twice _ _ _ name _ _ (subst (λ (rest : List Name). Defining (shown c.args.table.now.entries) (shown es) labels rest c.args.mark) left c.loop-label.invariant) there, refl)
@@ -29,9 +30,9 @@ loop-label-preserved c =
     let labels = c.args.labels.now in
     let name = c.in_ok-name.name.items in
     let left : drop c.loop-label.label-index labels ≡ name ∷ drop (c.loop-label.label-index + 1) labels =
-    rest_here labels c.loop-label.label-index c.label-item.result c.loop-label-test.true c.label-item.is
+    drop_one labels c.loop-label.label-index c.label-item.result c.loop-label-test.true c.label-item.is
     ∙ ap (λ (n : Name). n ∷ drop (c.loop-label.label-index + 1) labels) (sym (c.in_ok-name.ensures.items ∙ c.as_slice.ensures)) in
-    let none : c.in_ok-before.before ≡ None = none_there c.in_ok-before.before (sym c.is_some.ensures ∙ c.if-is_some.false) in
+    let none : c.in_ok-before.before ≡ None = none_is c.in_ok-before.before (sym c.is_some.ensures ∙ c.if-is_some.false) in
     let new : has (names_of (shown es)) name ≡ false = sym (found_as_has name es) ∙ ap is_some (sym c.in_ok-before.ensures.old) ∙ ap is_some none in
     let after : shown c.insert.new.self.entries ≡ shown es ++ (name, c.args.mark) ∷ [] =
     ap shown c.in_ok-before.ensures.entries ∙ shown_after c.loop-label.table c.in_ok-name.name c.args.mark (sym c.in_ok-before.ensures.old ∙ none) in

@@ -12,14 +12,9 @@ use Rattle.cool_emit.specs.declared.section.Section.{Section}
 use Rattle.cool_emit.specs.declared.section.Section.TheVariants.{Method}
 use Rattle.cool_emit.specs.Sections.{features_in, placed_at, section_code, IsSection}
 use Rattle.cool_emit.proofs.AddingParts.{adds_same}
-use Rattle.cool_emit.proofs.ResultsOfCalls.{then}
 use Rattle.cool_emit.proofs.emission.Emission.add_section.Goals as goal
-
--- what stands at an index of a list
-there : {X : Type 0} (xs : List X) (i : ℕ) → i < length xs → (x : X) × (slice_get xs i ≡ Some x)
-there [] i less = absurd (omega arith)
-there (x ∷ xs) zero less = (x, refl)
-there (x ∷ xs) (suc i) less = there xs i (omega arith)
+use Rattle.std.proofs.lemmas.Result.{on_ok_weaker}
+use Rattle.lists.proofs.ItemsAt.{there_is}
 
 -- what a feature adds, its section adds
 method_added : {A E : Type 0} (p : List Class) (files : List (List ℕ)) (c : ClassId) (place : ℕ) (section : Section) (old new : Constants) (before after : List Line) (r : Result A E)
@@ -28,10 +23,10 @@ method_added : {A E : Type 0} (p : List Class) (files : List (List ℕ)) (c : Cl
     → OnOk r (Adds files (record { place = place; feature = x } ∷ []) (λ g. placed_code p files g c (record { place = place; feature = x })) old new before after))
     → OnOk r (Adds files (features_in p section) (λ g. section_code p files g section) old new before after)
 method_added p files c place section old new before after r is within h =
-    let x = there (features_of p c) place (subst (IsSection p) is within).1 in
+    let x = there_is (features_of p c) place (subst (IsSection p) is within).1 in
     let one : Placed = record { place = place; feature = x.0 } in
     let same : features_in p section ≡ one ∷ [] = ap (features_in p) is ∙ ap (placed_at place) x.1 in
-    then r
+    on_ok_weaker r
     (λ k. adds_same files (one ∷ []) (features_in p section) (λ g. placed_code p files g c one) (λ g. section_code p files g section) old new before after (sym same)
     (λ g. sym (append-nil (placed_code p files g c one)) ∙ ap (λ o. flat_map (placed_code p files g c) (placed_at place o)) (sym x.1) ∙ ap (section_code p files g) (sym is)) k)
     (h x.0 x.1)

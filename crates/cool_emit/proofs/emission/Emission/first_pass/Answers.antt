@@ -3,7 +3,6 @@ use Rattle.std.proofs.Common.{◌≡◌, ◌∙◌, ◌<◌, ◌++◌, ◌∷◌
 use Rattle.mips_isa.specs.Assembly.{directive_line}
 use Rattle.mips_isa.specs.Lines.{Line, ToData, lines_of, AreInRange}
 use Rattle.mips_asm.specs.FirstPasses.{HasTaken}
-use Rattle.mips_asm.proofs.LoopRests.{get_or_same}
 use Rattle.cool_consts.specs.Constants.{Constants}
 use Rattle.cool_emit.specs.Additions.{files_of}
 use Rattle.cool_emit.specs.Programs.{data_lines, program_constants, program_data}
@@ -13,6 +12,7 @@ use Rattle.cool_emit.specs.Sections.{section_code, sections_in}
 use Rattle.cool_emit.proofs.AddingParts.{whole_front}
 use Rattle.cool_emit.proofs.SectionsInTurn.{asked_by, all_asked, few_integers_before, few_strings_before, within_here, constants_here, ranges_here, so_far, lines_in_parts, data_in_range}
 use Rattle.cool_emit.proofs.emission.Emission.first_pass.Goals as goal
+use Rattle.std.proofs.lemmas.List.{get_or_default}
 
 pub loop-section-init : goal.loop-section-init
 loop-section-init c = record {
@@ -24,7 +24,7 @@ pub section_lines-requires-clause-there : goal.section_lines-requires-clause-the
 section_lines-requires-clause-there c =
     let e = c.args.self.now in
     let less = subst (λ (xs : List Section). c.loop-section.section-index < length xs) c.requires.sections c.loop-section-test.true in
-    let is = subst (λ (xs : List Section). (get_or c.args.sections.now c.loop-section.section-index Routines) ≡ get_or xs c.loop-section.section-index (get_or c.args.sections.now c.loop-section.section-index Routines)) c.requires.sections (get_or_same c.args.sections.now c.loop-section.section-index Routines (get_or c.args.sections.now c.loop-section.section-index Routines) c.loop-section-test.true) in
+    let is = subst (λ (xs : List Section). (get_or c.args.sections.now c.loop-section.section-index Routines) ≡ get_or xs c.loop-section.section-index (get_or c.args.sections.now c.loop-section.section-index Routines)) c.requires.sections (get_or_default c.args.sections.now c.loop-section.section-index Routines (get_or c.args.sections.now c.loop-section.section-index Routines) c.loop-section-test.true) in
     within_here e.program.now (files_of e) c.requires.sound.buildable c.loop-section.section-index (get_or c.args.sections.now c.loop-section.section-index Routines) less is
 
 pub section_lines-requires-clause-few_integers : goal.section_lines-requires-clause-few_integers
@@ -46,7 +46,7 @@ pub take-requires-clause-ranges : goal.take-requires-clause-ranges
 take-requires-clause-ranges c =
     let e = c.args.self.now in
     let less = subst (λ (xs : List Section). c.loop-section.section-index < length xs) c.requires.sections c.loop-section-test.true in
-    let is = subst (λ (xs : List Section). (get_or c.args.sections.now c.loop-section.section-index Routines) ≡ get_or xs c.loop-section.section-index (get_or c.args.sections.now c.loop-section.section-index Routines)) c.requires.sections (get_or_same c.args.sections.now c.loop-section.section-index Routines (get_or c.args.sections.now c.loop-section.section-index Routines) c.loop-section-test.true) in
+    let is = subst (λ (xs : List Section). (get_or c.args.sections.now c.loop-section.section-index Routines) ≡ get_or xs c.loop-section.section-index (get_or c.args.sections.now c.loop-section.section-index Routines)) c.requires.sections (get_or_default c.args.sections.now c.loop-section.section-index Routines (get_or c.args.sections.now c.loop-section.section-index Routines) c.loop-section-test.true) in
     subst AreInRange (sym (ap lines_of c.deref.ensures.value))
     (ranges_here e.program.now (files_of e) c.requires.sound.buildable c.loop-section.section-index (get_or c.args.sections.now c.loop-section.section-index Routines) less is
     c.loop-section.consts c.section_lines.new.consts (lines_of c.in_ok-lines.lines.items) c.loop-section.invariant.constants c.in_ok-lines.ensures)
@@ -59,7 +59,7 @@ loop-section-preserved c =
     let i = c.loop-section.section-index in
     let s = (get_or c.args.sections.now c.loop-section.section-index Routines) in
     let less = subst (λ (xs : List Section). i < length xs) c.requires.sections c.loop-section-test.true in
-    let is = subst (λ (xs : List Section). s ≡ get_or xs i s) c.requires.sections (get_or_same c.args.sections.now c.loop-section.section-index Routines (get_or c.args.sections.now c.loop-section.section-index Routines) c.loop-section-test.true) in
+    let is = subst (λ (xs : List Section). s ≡ get_or xs i s) c.requires.sections (get_or_default c.args.sections.now c.loop-section.section-index Routines (get_or c.args.sections.now c.loop-section.section-index Routines) c.loop-section-test.true) in
     let made = lines_of c.in_ok-lines.lines.items in
     let front = flat_map (section_code p files (program_constants p files)) (take i (sections_in p)) in
     record {

@@ -1,13 +1,12 @@
 -- Each section is assembled after those before it, and the data after all of them.
 use Rattle.std.proofs.Common.{◌≡◌, ◌∙◌, ℕ, ◌+◌, ◌<◌, ◌≤◌, ◌++◌, ◌∷◌, List, [], length, flat_map, drop, get_or, ap, sym, subst, arith, append_assoc, append-nil, Err}
-use Rattle.std.proofs.lemmas.List.{drop_all}
+use Rattle.std.proofs.lemmas.List.{drop_all, get_or_default}
 use Rattle.std.proofs.lemmas.Result.{err_from_is_err_and}
 use Rattle.mips_isa.specs.Assembly.{directive_line}
 use Rattle.mips_isa.specs.Lines.{Line, ToData, lines_of, AreInRange}
 use Rattle.mips_asm.specs.declared.second_pass.SecondPass.{SecondPass}
 use Rattle.mips_asm.specs.SecondPasses.{HasLeft}
 use Rattle.cool_classes.specs.Chains.{Class}
-use Rattle.mips_asm.proofs.LoopRests.{get_or_same}
 use Rattle.cool_consts.specs.Constants.{Constants}
 use Rattle.cool_emit.specs.Additions.{files_of}
 use Rattle.cool_emit.specs.Programs.{data_lines, program_constants, program_data, program_lines}
@@ -31,7 +30,7 @@ pub section_lines-requires-clause-there : goal.section_lines-requires-clause-the
 section_lines-requires-clause-there c =
     let e = c.args.self.now in
     let less = subst (λ (xs : List Section). c.loop-section.section-index < length xs) c.requires.sections c.loop-section-test.true in
-    let is = subst (λ (xs : List Section). (get_or c.args.sections.now c.loop-section.section-index Routines) ≡ get_or xs c.loop-section.section-index (get_or c.args.sections.now c.loop-section.section-index Routines)) c.requires.sections (get_or_same c.args.sections.now c.loop-section.section-index Routines (get_or c.args.sections.now c.loop-section.section-index Routines) c.loop-section-test.true) in
+    let is = subst (λ (xs : List Section). (get_or c.args.sections.now c.loop-section.section-index Routines) ≡ get_or xs c.loop-section.section-index (get_or c.args.sections.now c.loop-section.section-index Routines)) c.requires.sections (get_or_default c.args.sections.now c.loop-section.section-index Routines (get_or c.args.sections.now c.loop-section.section-index Routines) c.loop-section-test.true) in
     within_here e.program.now (files_of e) c.requires.sound.buildable c.loop-section.section-index (get_or c.args.sections.now c.loop-section.section-index Routines) less is
 
 pub section_lines-requires-clause-few_integers : goal.section_lines-requires-clause-few_integers
@@ -54,7 +53,7 @@ take-requires-clause-due c =
     let i = c.loop-section.section-index in
     let s = (get_or c.args.sections.now c.loop-section.section-index Routines) in
     let less = subst (λ (xs : List Section). i < length xs) c.requires.sections c.loop-section-test.true in
-    let is = subst (λ (xs : List Section). s ≡ get_or xs i s) c.requires.sections (get_or_same c.args.sections.now c.loop-section.section-index Routines (get_or c.args.sections.now c.loop-section.section-index Routines) c.loop-section-test.true) in
+    let is = subst (λ (xs : List Section). s ≡ get_or xs i s) c.requires.sections (get_or_default c.args.sections.now c.loop-section.section-index Routines (get_or c.args.sections.now c.loop-section.section-index Routines) c.loop-section-test.true) in
     let made = lines_of c.in_ok-lines.lines.items in
     let items : List Line = directive_line ToData ∷ program_data p files in
     let behind = flat_map (section_code p files (program_constants p files)) (drop (i + 1) (sections_in p)) in (
@@ -72,7 +71,7 @@ pub take-requires-clause-ranges : goal.take-requires-clause-ranges
 take-requires-clause-ranges c =
     let e = c.args.self.now in
     let less = subst (λ (xs : List Section). c.loop-section.section-index < length xs) c.requires.sections c.loop-section-test.true in
-    let is = subst (λ (xs : List Section). (get_or c.args.sections.now c.loop-section.section-index Routines) ≡ get_or xs c.loop-section.section-index (get_or c.args.sections.now c.loop-section.section-index Routines)) c.requires.sections (get_or_same c.args.sections.now c.loop-section.section-index Routines (get_or c.args.sections.now c.loop-section.section-index Routines) c.loop-section-test.true) in
+    let is = subst (λ (xs : List Section). (get_or c.args.sections.now c.loop-section.section-index Routines) ≡ get_or xs c.loop-section.section-index (get_or c.args.sections.now c.loop-section.section-index Routines)) c.requires.sections (get_or_default c.args.sections.now c.loop-section.section-index Routines (get_or c.args.sections.now c.loop-section.section-index Routines) c.loop-section-test.true) in
     subst AreInRange (sym (ap lines_of c.deref.ensures.value))
     (ranges_here e.program.now (files_of e) c.requires.sound.buildable c.loop-section.section-index (get_or c.args.sections.now c.loop-section.section-index Routines) less is
     c.loop-section.consts c.section_lines.new.consts (lines_of c.in_ok-lines.lines.items) c.loop-section.invariant.constants c.in_ok-lines.ensures)
@@ -85,7 +84,7 @@ loop-section-preserved c =
     let i = c.loop-section.section-index in
     let s = (get_or c.args.sections.now c.loop-section.section-index Routines) in
     let less = subst (λ (xs : List Section). i < length xs) c.requires.sections c.loop-section-test.true in
-    let is = subst (λ (xs : List Section). s ≡ get_or xs i s) c.requires.sections (get_or_same c.args.sections.now c.loop-section.section-index Routines (get_or c.args.sections.now c.loop-section.section-index Routines) c.loop-section-test.true) in
+    let is = subst (λ (xs : List Section). s ≡ get_or xs i s) c.requires.sections (get_or_default c.args.sections.now c.loop-section.section-index Routines (get_or c.args.sections.now c.loop-section.section-index Routines) c.loop-section-test.true) in
     let made = lines_of c.in_ok-lines.lines.items in
     let items : List Line = directive_line ToData ∷ program_data p files in
     let behind = flat_map (section_code p files (program_constants p files)) (drop (i + 1) (sections_in p)) in

@@ -8,11 +8,7 @@ use Rattle.cool_rules.specs.Conformance.{IsType, class_of}
 use Rattle.cool_rules.specs.Rules.{method_of}
 use Rattle.cool_rules.proofs.RulesOfTables.{method_of_is}
 use Rattle.cool_names.proofs.setting.Setting.method.Goals as goal
-
--- the class that a type stands for is one of the table
-class_within : (p : List Class) (c : ClassId) (a : Ty) → c.0 < length p → IsType p a → (class_of c a).0 < length p
-class_within p c (IsClass a) within is = is
-class_within p c SelfType within is = within
+use Rattle.cool_names.proofs.SeenTypes.{class_within}
 
 pub returns-clause-method : goal.returns-clause-method
 returns-clause-method c =

@@ -4,8 +4,9 @@ use Rattle.std.specs.Prelude.{remove}
 use Rattle.std.proofs.lemmas.Grind.{merely}
 use Rattle.cool_faults.specs.Files.{bytes_of}
 use Rattle.cool_session.specs.Files.{position}
-use Rattle.cool_session.proofs.FilesSet.{removed_length, removed_less, removed_map}
+use Rattle.cool_session.proofs.FilesSet.{removed_less, removed_map}
 use Rattle.cool_session.proofs.session.Session.drop_file.Goals as goal
+use Rattle.std.proofs.lemmas.List.Edits.{length-remove}
 
 pub invariant_of-self : goal.invariant_of-self
 invariant_of-self c =
@@ -19,8 +20,8 @@ invariant_of-self c =
     let names_left = ap length c.remove.ensures.items in
     let files_left = ap length c.remove-in-Some.ensures.items in
     record {
-      paired = omega (arith, names_left, files_left, removed_length names k named, removed_length files k filed, c.args.self.now.paired);
-      few = omega (arith, files_left, removed_length files k filed, c.args.self.now.few);
+      paired = omega (arith, names_left, files_left, length-remove names k named, length-remove files k filed, c.args.self.now.paired);
+      few = omega (arith, files_left, length-remove files k filed, c.args.self.now.few);
       small = rw bytes (omega (arith, removed_less (bytes_of files) k, c.args.self.now.small));
       current = merely tt;
     }

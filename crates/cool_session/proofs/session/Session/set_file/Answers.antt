@@ -1,11 +1,11 @@
 -- The file stands in place of that of its name, or last, and there was room for it.
 use Rattle.std.proofs.Common.{rules, ◌≡◌, ◌+◌, ◌++◌, [], ◌∷◌, map, length, string_bytes, Some, None, ap, sym, ◌∙◌, arith}
 use Rattle.std.specs.Prelude.{slice_set}
-use Rattle.std.proofs.lemmas.List.{length-map, length-set, map-append, map-set}
+use Rattle.std.proofs.lemmas.List.{length-map, length-set, map-append, map-set, length_push}
 use Rattle.std.proofs.lemmas.Grind.{merely}
 use Rattle.cool_faults.specs.Files.{bytes_of}
 use Rattle.cool_session.specs.Files.{position}
-use Rattle.cool_session.proofs.FilesSet.{end_length, fits, held}
+use Rattle.cool_session.proofs.FilesSet.{fits, held}
 use Rattle.cool_session.proofs.session.Session.set_file.Goals as goal
 
 pub invariant_of-self-in-Some : goal.invariant_of-self-in-Some
@@ -40,11 +40,11 @@ invariant_of-self-in-None c =
     let bytes : bytes_of c.push-in-None.new.self.items ≡ bytes_of files ++ c.args.bytes.now ∷ [] =
     ap bytes_of filed ∙ map-append (λ file. file.items) files (c.in_ok-file.file ∷ [])
     ∙ ap (λ b. bytes_of files ++ b ∷ []) c.in_ok-file.ensures.items in
-    let names_long : length c.push.new.self.items ≡ length names + 1 = ap length named ∙ end_length names c.in_ok-name-in-None.name in
-    let files_long : length c.push-in-None.new.self.items ≡ length files + 1 = ap length filed ∙ end_length files c.in_ok-file.file in
+    let names_long : length c.push.new.self.items ≡ length names + 1 = ap length named ∙ length_push names c.in_ok-name-in-None.name in
+    let files_long : length c.push-in-None.new.self.items ≡ length files + 1 = ap length filed ∙ length_push files c.in_ok-file.file in
     record {
       paired = omega (arith, names_long, files_long, c.args.self.now.paired);
-      few = omega (arith, files_long, end_length (map string_bytes names) c.args.name.now, length-map names string_bytes, c.args.self.now.paired, room.0);
+      few = omega (arith, files_long, length_push (map string_bytes names) c.args.name.now, length-map names string_bytes, c.args.self.now.paired, room.0);
       small = rw bytes room.1;
       current = merely tt;
     }

@@ -3,9 +3,10 @@ use Rattle.std.proofs.Common.{◌≡◌, ◌+◌, ◌∷◌, [], drop, List, sub
 use Rattle.std.proofs.lemmas.List.{drop_all}
 use Rattle.mips_isa.specs.declared.line.Line as declared_line
 use Rattle.mips_isa.specs.Lines.{line_of, lines_of}
-use Rattle.mips_asm.proofs.LoopRests.{rest_here, line_in_range}
+use Rattle.mips_asm.proofs.LoopRests.{line_in_range}
 use Rattle.mips_asm.proofs.FirstPasses.{Taking, taking_start, taking_more, taking_end}
 use Rattle.mips_asm.proofs.first_pass.FirstPass.take.Goals as goal
+use Rattle.lists.proofs.ItemsLeft.{drop_one}
 
 pub loop-line-init : goal.loop-line-init
 loop-line-init c = λ taken h. taking_start c.args.self.now taken (lines_of c.args.lines.now) h
@@ -16,12 +17,12 @@ take_line-requires-clause-some c = let t = c.loop-line.invariant c.requires.some
 pub take_line-requires-clause-range : goal.take_line-requires-clause-range
 take_line-requires-clause-range c =
     line_in_range c.args.lines.now c.loop-line.line-index c.line-item.result (drop (c.loop-line.line-index + 1) c.args.lines.now)
-    (rest_here c.args.lines.now c.loop-line.line-index c.line-item.result c.loop-line-test.true c.line-item.is) c.requires.ranges
+    (drop_one c.args.lines.now c.loop-line.line-index c.line-item.result c.loop-line-test.true c.line-item.is) c.requires.ranges
 
 pub loop-line-preserved : goal.loop-line-preserved
 loop-line-preserved c = λ taken h.
     let lines = c.args.lines.now in
-    let here = rest_here lines c.loop-line.line-index c.line-item.result c.loop-line-test.true c.line-item.is in
+    let here = drop_one lines c.loop-line.line-index c.line-item.result c.loop-line-test.true c.line-item.is in
     taking_more c.loop-line.self c.take_line.new.self taken (lines_of lines) (lines_of (drop (c.loop-line.line-index + 1) lines)) (line_of c.line-item.result)
     (subst (λ (rest : List declared_line.Line). Taking c.loop-line.self taken (lines_of lines) (lines_of rest)) here (c.loop-line.invariant taken h)) c.in_ok-take_line.ensures
 

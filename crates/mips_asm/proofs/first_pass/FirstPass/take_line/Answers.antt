@@ -5,20 +5,21 @@ use Rattle.mips_isa.specs.Lines.{line_of}
 use Rattle.mips_isa.specs.Assembly.{Need}
 use Rattle.mips_asm.specs.declared.mark.Mark.{Mark}
 use Rattle.mips_asm.specs.Passes.{shown, item_in, mark_in, marked, Steps}
-use Rattle.mips_asm.proofs.FirstPasses.{none_at, taken_fits, taken_at_fault, taken_more, passed, passed_fault}
+use Rattle.mips_asm.proofs.FirstPasses.{taken_fits, taken_at_fault, taken_more, passed, passed_fault}
 use Rattle.mips_asm.proofs.first_pass.FirstPass.take_line.Goals as goal
+use Rattle.lists.proofs.Options.{none_is}
 
 pub returns-then-is_some : goal.returns-then-is_some
 returns-then-is_some c = λ taken h. taken_at_fault c.args.self.now taken (line_of c.args.line.now) (sym c.is_some.ensures ∙ c.if-is_some.true) h
 
 pub mark_at-mark-requires : goal.mark_at-mark-requires
 mark_at-mark-requires c =
-    let none : c.args.self.now.fault ≡ None = none_at c.args.self.now.fault (sym c.is_some.ensures ∙ c.if-is_some.false) in
+    let none : c.args.self.now.fault ≡ None = none_is c.args.self.now.fault (sym c.is_some.ensures ∙ c.if-is_some.false) in
     record { words = (taken_fits c.args.self.now c.requires.some.0 none c.requires.some.1).words_fit }
 
 pub step-requires-clause-fits : goal.step-requires-clause-fits
 step-requires-clause-fits c =
-    let none : c.args.self.now.fault ≡ None = none_at c.args.self.now.fault (sym c.is_some.ensures ∙ c.if-is_some.false) in
+    let none : c.args.self.now.fault ≡ None = none_is c.args.self.now.fault (sym c.is_some.ensures ∙ c.if-is_some.false) in
     taken_fits c.args.self.now c.requires.some.0 none c.requires.some.1
 
 pub returns-in_ok-add_item-in-Ok : goal.returns-in_ok-add_item-in-Ok
@@ -46,4 +47,4 @@ returns-in-Err-Fault c = λ taken h.
     let pass = c.args.self.now in
     let next : c.in-Some.number ≡ pass.lines + 1 = search rules in
     let told = subst (λ (e : AsmError). Steps (shown pass.table.entries) pass.position (line_of c.args.line.now) c.mark_at-mark.result c.in-Some.number (Err e) (shown c.step.new.table.entries)) c.in-Err-Fault.field-0-is c.in-Err-Fault.ensures in
-    passed_fault pass taken (line_of c.args.line.now) c.in-Err-Fault.fault (passed pass taken (none_at pass.fault (sym c.is_some.ensures ∙ c.if-is_some.false)) h) told.0 (told.1 ∙ next)
+    passed_fault pass taken (line_of c.args.line.now) c.in-Err-Fault.fault (passed pass taken (none_is pass.fault (sym c.is_some.ensures ∙ c.if-is_some.false)) h) told.0 (told.1 ∙ next)

@@ -1,0 +1,13 @@
+pub mod AllItems
+pub mod ByteLists
+pub mod EqualBytes
+pub mod Fronts
+pub mod ItemsAt
+pub mod ItemsLeft
+pub mod JoinedLists
+pub mod Membership
+pub mod Numbers
+pub mod Options
+pub mod Prefixes
+pub mod Results
+pub mod TruthValues

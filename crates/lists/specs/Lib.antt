@@ -1,0 +1,4 @@
+pub mod Bytes
+pub mod Different
+pub mod Prefixes
+pub mod Words
