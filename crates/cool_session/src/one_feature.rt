@@ -97,16 +97,15 @@ fn only_feature(classes: Vec<ClassDef>) -> Option<Feature>
     ensures found { IfSome result (HaveOnly classes.items) }
     ensures only { (d : syntax_class.ClassDef) (x : syntax.Feature) → classes.items ≡ d ∷ [] → d.features ≡ x ∷ [] → result ≡ Some x }
 {
-    let mut classes = classes;
-    let class = classes.pop()?;
-    if !classes.is_empty() {
-        return None;
-    }
-    let mut features = class.features.into_vec();
-    let feature = features.pop()?;
-    if features.is_empty() {
-        Some(feature)
-    } else {
-        None
-    }
+    let class = only(classes)?;
+    only(class.features.into_vec())
+}
+
+/// The item of a list that has just one.
+fn only<T: Drop>(mut items: Vec<T>) -> Option<T>
+    ensures found { IfSome result (λ item. items.items ≡ item ∷ []) }
+    ensures only { (item : T) → items.items ≡ item ∷ [] → result ≡ Some item }
+{
+    let item = items.pop()?;
+    if items.is_empty() { Some(item) } else { None }
 }
