@@ -5,7 +5,9 @@ ghost use Rattle.cool_classes.specs.declared.class_id.ClassId as number;
 ghost use Rattle.cool_classes.specs.Tables.{IsTable};
 ghost use Rattle.cool_rules.specs.Conformance.{IsType};
 ghost use Rattle.cool_rules.specs.Rules.{type_of_name};
-ghost use Rattle.cool_names.specs.Marks.{declared_marks, type_mark};
+ghost use Rattle.cool_names.specs.declared.mark.Role.TheVariants as role;
+ghost use Rattle.cool_names.specs.declared.mark.Target.TheVariants.{At};
+ghost use Rattle.cool_names.specs.Marks.{declared_marks, mark, type_mark};
 ghost use Rattle.cool_names.specs.Meanings.{class_target, type_meaning};
 ghost use Rattle.cool_names.specs.Programs.{class_marks, parent_marks, program_marks};
 ghost use Rattle.cool_names.specs.Settings.{AreClasses};
@@ -67,7 +69,18 @@ impl<'a> Program<'a> {
         requires class { class.0 < length self.now.table.now }
         ensures { OnOk result (marks.new.items ≡ marks.old.items ++ class_marks self.now.table.now self.now.definitions.now class.0 definition.now) }
     {
-        marks.push(Mark {
+        marks.push(self.class_mark(definition)?)?;
+        if let Some(parent) = &definition.parent {
+            marks.push(self.type_mark(parent)?)?;
+        }
+        add_features(self, marks, class, definition.features.as_slice())
+    }
+
+    /// The mark of the name of a class where it is defined. `Err` comes only for want of memory.
+    fn class_mark(&self, definition: &ClassDef) -> Result<Mark, AllocError>
+        ensures { IfOk result (λ m. m ≡ mark definition.now.at role.Class definition.now.name (record { declared = definition.now.name; target = At definition.now.at })) }
+    {
+        Ok(Mark {
             at: definition.at,
             role: Role::Class,
             name: definition.name.copy(self.alloc)?,
@@ -76,11 +89,7 @@ impl<'a> Program<'a> {
                 definition.name.as_slice(),
                 Target::At(definition.at),
             )?,
-        })?;
-        if let Some(parent) = &definition.parent {
-            marks.push(self.type_mark(parent)?)?;
-        }
-        add_features(self, marks, class, definition.features.as_slice())
+        })
     }
 
     /// The type of a name: a class, or `SELF_TYPE`. None where it is neither.
