@@ -13,3 +13,4 @@ mod ScriptCommands
 mod ReadScripts
 mod LabelsOfText
 mod CommandsForText
+pub mod RunsLeft
