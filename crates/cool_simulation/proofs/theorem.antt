@@ -7,8 +7,9 @@ pub mod BytesOfReadings
 pub mod BytesOfTokens
 pub mod EndsAccord
 pub mod FilledWords
+pub mod FoldedImages
+pub mod FoldedTrees
 pub mod Headline
-pub mod InputShrinks
 pub mod MainCall
 pub mod MainLines
 pub mod MainNames

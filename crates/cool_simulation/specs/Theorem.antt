@@ -10,6 +10,8 @@ use Rattle.cool_classes.specs.Chains.{Class}
 use Rattle.cool_faults.specs.Verdicts.{IsAccepted}
 use Rattle.cool_meaning.specs.Evaluation.{calls_within}
 use Rattle.cool_meaning.specs.SourceRun.{GoesOn, Run, run}
+use Rattle.cool_opt.specs.Folding.{fold_table}
+use Rattle.cool_rules.specs.Fits.{Fits}
 use Rattle.cool_runtime.specs.Contents.{IsText}
 use Rattle.cool_emit.specs.FileNames.{AreShortNames}
 use Rattle.cool_emit.specs.Programs.{IsBuildable, program_constants, program_lines}
@@ -29,6 +31,12 @@ abbrev pub ImagesMean : Type 0
 ImagesMean =
     (files names : List (List ℕ)) (p : List Class) → AllByRecursion AreBytes files → AreFileNames names → length names ≡ length files → IsAccepted files p
     → Means (image_of (program_lines p names)) p names
+
+-- The image of their folded program, where it keeps the limits, means that, and means their program itself.
+abbrev pub FoldedImagesMean : Type 0
+FoldedImagesMean =
+    (files names : List (List ℕ)) (p : List Class) → AllByRecursion AreBytes files → AreFileNames names → IsAccepted files p → Fits (fold_table p) (length names)
+    → Means (image_of (program_lines (fold_table p) names)) (fold_table p) names × Means (image_of (program_lines (fold_table p) names)) p names
 
 -- A program that can be compiled under these names of files: it is typed and within the limits, has no empty block and no empty case, and its
 -- strings are texts.

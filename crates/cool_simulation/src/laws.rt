@@ -1,11 +1,17 @@
 //! The laws of compiled programs.
 
-ghost use Rattle.cool_simulation.specs.Theorem.{AcceptedCompile, CallsMean, ImagesMean, ProgramsRun, RunsAreMet, TypedImagesMean};
+ghost use Rattle.cool_simulation.specs.Theorem.{AcceptedCompile, CallsMean, FoldedImagesMean, ImagesMean, ProgramsRun, RunsAreMet, TypedImagesMean};
 
 /// The image of the program that files of bytes are, under names that are texts of at most 4,096 bytes, means the program: whatever the
 /// input and the limits of heap, stack and instructions, what its run wrote and left accords with the runs of the source.
 pub fn law_means()
     ensures { ImagesMean }
+{}
+
+/// The image of the folded program of such files, where it is within the limits, means it, and means their program itself, of which no run
+/// has a smaller meter.
+pub fn law_folded_means()
+    ensures { FoldedImagesMean }
 {}
 
 /// The same of each program that is typed and within the limits, that has no empty block and no empty case, and whose strings are texts:

@@ -10,7 +10,7 @@ use Rattle.cool_meaning.specs.SourceRun.{Done, Run}
 use Rattle.cool_meaning.specs.Laws.{IsOver}
 use Rattle.cool_simulation.specs.MainRun.{Leaves}
 use Rattle.cool_simulation.specs.Accord.{Limits, IsFailed}
-use Rattle.cool_simulation.proofs.theorem.InputShrinks.{input_of, run_shrank}
+use Rattle.mips_isa.proofs.InputShrinks.{input_of, run_shrank}
 use Rattle.lists.specs.Prefixes.{IsPrefix, IsSuffix}
 
 -- Prefixes and suffixes

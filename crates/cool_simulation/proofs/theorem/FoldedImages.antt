@@ -13,11 +13,11 @@ use Rattle.cool_opt.specs.Folding.{fold_table}
 use Rattle.cool_opt.specs.Laws.{NoMoreRun}
 use Rattle.cool_opt.proofs.FoldedPrograms.{folded_run}
 use Rattle.cool_opt.proofs.FoldedTableIsTyped.{folded_typed}
-use Rattle.cool_runtime.specs.Contents.{AreBytes}
-use Rattle.cool_runtime.specs.Reaches.{IsPrefix, IsSuffix}
+use Rattle.lists.specs.Bytes.{AreBytes}
+use Rattle.lists.specs.Prefixes.{IsPrefix, IsSuffix}
 use Rattle.cool_emit.specs.Programs.{IsBuildable, program_lines}
 use Rattle.cool_simulation.specs.Accord.{Limits, Inside, IsFailed, Accord, Accords, Means}
-use Rattle.cool_simulation.specs.Theorem.{AreFileNames}
+use Rattle.cool_simulation.specs.Theorem.{AreFileNames, FoldedImagesMean}
 use Rattle.cool_simulation.proofs.theorem.AcceptedTexts.{trees_bytes}
 use Rattle.cool_simulation.proofs.theorem.AcceptedWritable.{accepted_writable}
 use Rattle.cool_simulation.proofs.theorem.BytesOfPrograms.{definitions_bytes, table_bytes}
@@ -27,12 +27,12 @@ use Rattle.mips_isa.specs.Assembly.{image_of}
 use Rattle.mips_isa.specs.ImageBounds.{ImageParts}
 use Rattle.mips_isa.specs.Calls.{Outcome, Running, Exited, Trapped}
 use Rattle.mips_isa.specs.Run.{run_image}
-use Rattle.cool_driver.proofs.FoldedTrees.{each_writable, each_has_bytes}
+use Rattle.cool_simulation.proofs.theorem.FoldedTrees.{each_writable, each_has_bytes}
 
 -- The folded program of accepted files
 
 -- its image means it, where it fits
-pub folded_means : (files names : List (List ℕ)) (p : List Class) → AllByRecursion AreBytes files → AreFileNames names → IsAccepted files p
+folded_means : (files names : List (List ℕ)) (p : List Class) → AllByRecursion AreBytes files → AreFileNames names → IsAccepted files p
     → Fits (fold_table p) (length names) → Means (image_of (program_lines (fold_table p) names)) (fold_table p) names
 folded_means files names p bytes named is fits =
     let b : IsBuildable (fold_table p) names = record { fits = fits; typed = folded_typed p is.typed; names = named.1 } in
@@ -76,8 +76,14 @@ module _ (runs less : ℕ → Run) (no_more : (n : ℕ) → NoMoreRun (runs n) (
   accords_of_more (Trapped trap s) h = absurd h
 
 -- an image that means the folded program means the program
-pub means_source : (image : ImageParts) (p : List Class) (names : List (List ℕ)) → IsTypedTable p → Means image (fold_table p) names
+means_source : (image : ImageParts) (p : List Class) (names : List (List ℕ)) → IsTypedTable p → Means image (fold_table p) names
     → Means image p names
 means_source image p names typed means input limits bytes are =
     accords_of_more (run p names input) (run (fold_table p) names input) (folded_run p typed names input) limits
     (run_image image limits.heap limits.stack input limits.budget) (means input limits bytes are)
+
+-- so the image of the folded program of accepted files means both
+pub folded_images_mean : FoldedImagesMean
+folded_images_mean files names p bytes named is fits =
+    let means = folded_means files names p bytes named is fits in
+    (means, means_source (image_of (program_lines (fold_table p) names)) p names is.typed means)
