@@ -7,15 +7,10 @@ use Rattle.std.specs.Str.{all_scalars}
 use Rattle.std.specs.Global.{Global}
 use Rattle.std.proofs.lemmas.Bool.{and_parts, leb-true, ltb-true}
 use Rattle.std.proofs.lemmas.Str.{IsUtf8-string_bytes}
+use Rattle.lists.specs.Bytes.{AreBytes}
+use Rattle.lists.proofs.AllItems.{all_append}
 use Rattle.cool_words.specs.declared.names.TheConstants.{MOST_NAME_BYTES}
 use Rattle.cool_words.specs.Plans.{is_file_name, words_of}
-
-abbrev AreBytes : List ℕ → Type 0
-AreBytes = AllByRecursion (λ b. b < 256)
-
-both_bytes : (xs ys : List ℕ) → AreBytes xs → AreBytes ys → AreBytes (xs ++ ys)
-both_bytes [] ys h k = k
-both_bytes (x ∷ xs) ys h k = (h.0, both_bytes xs ys h.1 k)
 
 cond_bytes : (x : Bool) (a b : List ℕ) → (x ≡ true → AreBytes a) → (x ≡ false → AreBytes b) → AreBytes (cond x a b)
 cond_bytes true a b h k = h refl
@@ -35,7 +30,7 @@ encoded_all : (cs : List ℕ) → all_scalars cs ≡ true → AreBytes (encode_u
 encoded_all [] e = tt
 encoded_all (c ∷ cs) e =
     let parts = and_parts _ (all_scalars cs) e in
-    both_bytes (encode_utf8 c) (encode_utf8_all cs) (encoded c parts.0) (encoded_all cs parts.1)
+    all_append (λ b. b < 256) (encode_utf8 c) (encode_utf8_all cs) (encoded c parts.0) (encoded_all cs parts.1)
 
 text_bytes : (s : String Global) → AreBytes (string_bytes s)
 text_bytes s =
