@@ -3,26 +3,8 @@
 #![tactic(auto)]
 
 #[cfg(test)]
-mod calls;
-#[cfg(test)]
-mod constants;
-#[cfg(test)]
-mod debugged_runs;
-#[cfg(test)]
 mod devices;
 #[cfg(test)]
-mod folded_programs;
-#[cfg(test)]
-mod images;
-#[cfg(test)]
-mod layouts;
+mod library;
 #[cfg(test)]
 mod printed_texts;
-#[cfg(test)]
-mod routines;
-#[cfg(test)]
-mod runs;
-#[cfg(test)]
-mod sessions;
-#[cfg(test)]
-mod trees;

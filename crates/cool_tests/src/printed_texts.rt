@@ -1,8 +1,7 @@
-//! Lines as they are printed, after a text was read or a word was disassembled. What a text is, and the faults of one, is shown by the
-//! cases of `conformance/`.
+//! Lines as they are printed, after a text was read: no command writes the lines of a text. What a text is, and the faults of one, is
+//! shown by the cases of `conformance/`.
 
-use mips_text::{print_asm, print_statement, read_asm};
-use spim_debug::disassemble;
+use mips_text::{print_asm, read_asm};
 use std::test::Fail;
 
 /// Texts, and how they are printed.
@@ -78,28 +77,6 @@ fn printed_texts(rt: HostRuntime) -> Result<(), Fail> {
         let lines = read_asm(rt.alloc(), bytes)?;
         let again = print_asm(rt.alloc(), &lines)?;
         assert_eq!(rt; again.as_slice(), printed.as_bytes(), "{text}");
-    }
-    Ok(())
-}
-
-/// Words of the R2000, and what each is.
-const WORDS: [(u32, &str); 4] = [
-    (0x2008_ffff, "addi $t0, $zero, -1"),
-    (0x0008_4080, "sll $t0, $t0, 2"),
-    (0x8fc4_fffc, "lw $a0, -4($fp)"),
-    (0x0501_0003, "bgez $t0, 3"),
-];
-
-#[test]
-fn words_are_disassembled(rt: HostRuntime) -> Result<(), Fail> {
-    for (word, said) in WORDS {
-        let line = disassemble(word).ok_or("an instruction")?;
-        let text = print_statement(rt.alloc(), &line.statement)?;
-        assert_eq!(rt; text.as_slice(), said.as_bytes(), "{word}");
-    }
-    // addu with a shift, and no opcode
-    for word in [0x0000_0061, 0xffff_ffff] {
-        assert!(rt; disassemble(word).is_none(), "{word}");
     }
     Ok(())
 }
