@@ -1,5 +1,5 @@
 -- What methods of the basic classes do to a source and a sink, from what they do to one of them or to none.
-use Rattle.std.proofs.Common.{◌≡◌, ℕ, ◌<◌, Bool, List, [], ◌++◌, inl, inr, refl, sym, ap, ◌∙◌, subst, arith}
+use Rattle.std.proofs.Common.{◌≡◌, ℕ, ℤ, ◌<◌, Bool, List, [], ◌++◌, inl, inr, refl, sym, ap, ◌∙◌, subst, arith}
 use Rattle.std.specs.Prelude.{Option, Result, Ok, Err, IfErr, IfOk}
 use Rattle.cool_ports.specs.Answers.{Past}
 use Rattle.cool_ports.specs.Counts.{Rose}
@@ -7,6 +7,7 @@ use Rattle.cool_ports.specs.SinkBytes.{appended, GotPrefix}
 use Rattle.cool_ports.proofs.GettingBytes.{appended-appended}
 use Rattle.cool_ports.proofs.InputsInParts.{leaves_same}
 use Rattle.cool_meaning.specs.Values as values
+use Rattle.cool_meaning.specs.Numbers.{number_of}
 use Rattle.cool_meaning.specs.BasicMethods.{Line, line_of}
 use Rattle.cool_meaning.specs.Meters.{Computation, Outcome, Val}
 use Rattle.cool_eval.specs.declared.value.Value.{Value}
@@ -133,6 +134,17 @@ acts_unmade line rest input output w store first held n o before took is =
     (before, inr (record { value = w; state = state_at store (line_of input).rest output; is = is; there = ([], sym (ap (λ (l : Line). l.rest) took)) }))
 
 -- a line was taken, and its string made where there was memory
+pub acts_number : (v : Value) (number : ℤ) (line rest input output : List ℕ) (store : Store) (first held : Option (List ℕ)) (n : ℕ) (o : Outcome values.Value) → value_of v ≡ values.Int number
+    → number ≡ number_of line → held ≡ appended first output → line_of input ≡ record { bytes = line; rest = rest } → o ≡ Val (values.Int (number_of (line_of input).bytes)) (state_at store (line_of input).rest output) n
+    → Acts (Ok v) store first output input rest held n o
+acts_number v number line rest input output store first held n o made counted before took is = (
+  output,
+  before,
+  is
+      ∙ (ap (λ (l : Line). Val (values.Int (number_of l.bytes)) (state_at store l.rest output) n) took
+      ∙ ap (λ (w : values.Value). Val w (state_at store rest output) n) (sym (made ∙ ap values.Int counted))),
+)
+
 pub acts_string : (r : Result Value Ending) (line rest input output : List ℕ) (store : Store) (first held : Option (List ℕ))
     (n : ℕ) (o : Outcome values.Value) → IfOk r (λ v. value_of v ≡ values.Str line) → IfErr r (λ e. e ≡ ending.Memory)
     → held ≡ appended first output → line_of input ≡ record { bytes = line; rest = rest } → o ≡ Val (values.Str (line_of input).bytes) (state_at store (line_of input).rest output) n → Acts r store first output input rest held n o
