@@ -130,6 +130,19 @@ fn call(alloc: Global, line: &[&str], devices: &mut Devices) -> Result<u8, Fail>
     ))
 }
 
+/// The status of a call over this input of which some calls fail, and what it wrote.
+fn outcome(
+    alloc: Global,
+    line: &[&str],
+    input: &[u8],
+    failing: Failing,
+) -> Result<(u8, Devices), Fail> {
+    let mut devices = with_files(alloc, input)?;
+    fail(&mut devices, failing)?;
+    let status = call(alloc, line, &mut devices)?;
+    Ok((status, devices))
+}
+
 static ROWS: [Row; 35] = [
     // Each call of the program puts its own piece, and there is no eighth.
     (
@@ -363,12 +376,9 @@ static ROWS: [Row; 35] = [
 fn failing_devices(rt: HostRuntime) -> Result<(), Fail> {
     for row in &ROWS {
         let (line, input, failing, status, out, notes) = *row;
-        let mut devices = with_files(rt.alloc(), input)?;
-        fail(&mut devices, failing)?;
-        let came = call(rt.alloc(), line, &mut devices)?;
-        assert_eq!(rt; came, status, "{line:?} {failing:?}");
-        assert_eq!(rt; devices.out.held(), out, "{line:?} {failing:?}");
-        assert_eq!(rt; devices.notes.held(), notes, "{line:?} {failing:?}");
+        let (came, devices) = outcome(rt.alloc(), line, input, failing)?;
+        let written = (came, devices.out.held(), devices.notes.held());
+        assert_eq!(rt; written, (status, out, notes), "{line:?} {failing:?}");
     }
     Ok(())
 }
@@ -384,9 +394,8 @@ const PIECES: [(u64, u8, usize, usize); 3] = [
 #[test]
 fn pieces_of_an_image(rt: HostRuntime) -> Result<(), Fail> {
     for (put, status, least, most) in PIECES {
-        let mut devices = with_files(rt.alloc(), b"")?;
-        fail(&mut devices, (0, put, 0, 0))?;
-        let came = call(rt.alloc(), &["build", "twelve.cl"], &mut devices)?;
+        let build = ["build", "twelve.cl"];
+        let (came, devices) = outcome(rt.alloc(), &build, b"", (0, put, 0, 0))?;
         let length = devices.out.held().len();
         assert!(rt;
             came == status && least <= length && length <= most,

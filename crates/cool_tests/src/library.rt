@@ -7,7 +7,8 @@ use cool_lexer::lex;
 use cool_parser::parse;
 use cool_pool::{Column, Pool};
 use cool_runtime::{Routine, routine};
-use cool_syntax::{Node, NodeId, Place, copy_expr, same_expr, tokens_of};
+use cool_syntax::{Expr, Node, NodeId, Place, copy_expr, same_expr, tokens_of};
+use std::alloc::{AllocError, Global};
 use std::test::Fail;
 
 /// The place of all nodes.
@@ -27,14 +28,23 @@ fn place_one(pool: &mut Pool) -> Result<NodeId, Fail>
     }
 }
 
+/// Whether the copy of a tree is the same tree.
+fn is_copied(alloc: Global, tree: &Expr) -> Result<bool, AllocError> {
+    match copy_expr(alloc, tree) {
+        Ok(copy) => Ok(same_expr(&copy, tree)),
+        Err(AllocError) => Err(AllocError),
+    }
+}
+
 #[test]
 fn a_pool_gives_the_tree_at_a_number(rt: HostRuntime) -> Result<(), Fail> {
     let mut pool = Pool::new(rt.alloc());
     let one = place_one(&mut pool)?;
     assert!(rt; one.0 < pool.len());
-    let tree = pool.tree(rt.alloc(), one)?;
-    let copy = copy_expr(rt.alloc(), &tree)?;
-    assert!(rt; same_expr(&copy, &tree));
+    match pool.tree(rt.alloc(), one) {
+        Ok(tree) => assert!(rt; is_copied(rt.alloc(), &tree)?),
+        Err(AllocError) => return Err(Fail::from("no memory")),
+    }
     Ok(())
 }
 
