@@ -1,7 +1,7 @@
 //! Calls that no command makes, once each: trees that are taken out of a pool, copied, compared and written as tokens; values for the
 //! nodes of trees; and the lines of one routine.
 
-ghost use Rattle.std.specs.Prelude.{◌≡◌, []};
+ghost use Rattle.std.specs.Prelude.{◌≡◌, ◌<◌, [], length};
 
 use cool_lexer::lex;
 use cool_parser::parse;
@@ -36,15 +36,22 @@ fn is_copied(alloc: Global, tree: &Expr) -> Result<bool, AllocError> {
     }
 }
 
+/// Whether the copy of the tree at a number is the same tree.
+fn is_copied_at(alloc: Global, pool: &Pool, id: NodeId) -> Result<bool, AllocError>
+    requires { id.0 < length pool.now.nodes }
+{
+    match pool.tree(alloc, id) {
+        Ok(tree) => is_copied(alloc, &tree),
+        Err(AllocError) => Err(AllocError),
+    }
+}
+
 #[test]
 fn a_pool_gives_the_tree_at_a_number(rt: HostRuntime) -> Result<(), Fail> {
     let mut pool = Pool::new(rt.alloc());
     let one = place_one(&mut pool)?;
     assert!(rt; one.0 < pool.len());
-    match pool.tree(rt.alloc(), one) {
-        Ok(tree) => assert!(rt; is_copied(rt.alloc(), &tree)?),
-        Err(AllocError) => return Err(Fail::from("no memory")),
-    }
+    assert!(rt; is_copied_at(rt.alloc(), &pool, one)?);
     Ok(())
 }
 
