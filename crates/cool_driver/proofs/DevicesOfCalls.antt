@@ -1,116 +1,89 @@
--- What holds of the devices of a call: where what is due was written, where a write failed, and where memory ran out.
-use Rattle.std.proofs.Common.{◌≡◌, ◌≢◌, ℕ, ◌<◌, ◌≤◌, ◌⊎◌, Bool, true, false, inl, inr, List, [], refl, sym, arith}
-use Rattle.std.specs.Prelude.{Option, Some, ◌==◌}
+-- How calls go: what holds of their devices, what their command promises, and that their words were not at fault.
+use Rattle.std.proofs.Common.{List, Option, Some, [], arith, inl, inr, refl, sym, ℕ, ◌++◌, ◌<◌, ◌≡◌, ◌≢◌, ◌≤◌, ◌⊎◌}
+use Rattle.cool_ports.proofs.GettingBytes.{appended-nil}
 use Rattle.cool_ports.specs.Counts.{Rose}
 use Rattle.cool_ports.specs.SinkBytes.{appended}
-use Rattle.cool_ports.proofs.GettingBytes.{appended-nil}
-use Rattle.cool_driver.specs.Calls.{Request, Call, Got, NoLess}
-use Rattle.cool_driver.specs.Comes.{Dues, Pieces, Comes}
-use Rattle.cool_driver.specs.Comes.Comes.{written, unwritten, unnoted, short}
-use Rattle.cool_driver.specs.Devices.{Devices}
-
--- where the input failed, the status is 7: the two cases of the test
-seven_or_calm : (status before after : ℕ) → (status ≢ 7 → after ≡ before) → before < after → (b : Bool) → (status == 7) ≡ b → status ≡ 7
-seven_or_calm status before after calm more true e = grind (arith, e)
-seven_or_calm status before after calm more false e =
-    let other : status ≢ 7 = λ q. grind (arith, e, q) in
-    absurd (omega (arith, calm other, more))
-
--- where the input failed, the status is 7
-pub only_seven : (status before after : ℕ) → (status ≢ 7 → after ≡ before) → before < after → status ≡ 7
-only_seven status before after calm more = seven_or_calm status before after calm more (status == 7) refl
-
--- the count of faults of an input, by the two cases of the test
-no_less_at : (status before after : ℕ) → (status ≢ 7 → after ≡ before) → (status ≡ 7 → Rose before after) → (b : Bool) → (status == 7) ≡ b → before ≤ after
-no_less_at status before after calm rose true e =
-    let seven : status ≡ 7 = grind (arith, e) in
-    (rose seven).no_less
-no_less_at status before after calm rose false e =
-    let other : status ≢ 7 = λ q. grind (arith, e, q) in
-    omega (arith, calm other)
-
--- it does not fall
-pub input_no_less : (status before after : ℕ) → (status ≢ 7 → after ≡ before) → (status ≡ 7 → Rose before after) → before ≤ after
-input_no_less status before after calm rose = no_less_at status before after calm rose (status == 7) refl
+use Rattle.spim_machine.specs.declared.halt.Halt.{Halt}
+use Rattle.cool_driver.specs.Calls.{Call, Got, GotPart, Request}
+use Rattle.cool_driver.specs.Comes.{Comes, Dues, Pieces}
+use Rattle.cool_driver.specs.Ends.{Goes}
+use Rattle.cool_driver.specs.Execution.{note_of_halt, status_of_halt}
+use Rattle.cool_driver.specs.Statuses.{code_of}
+use Rattle.cool_driver.specs.Telling.{HaltNoted, Noted}
+use Rattle.cool_driver.specs.declared.status.Status.{Status}
 
 -- A status that is due: it is one of those that may be, and what it says of the shelf.
 pub record IsStatus (r : Request) (status : ℕ) : Type 0 where
-  pub below : status ≤ 12
-  pub not_cut : status ≢ 8
-  pub not_short : status ≢ 9
-  pub shelf_fault : r.faults_before < r.faults_after → status ≡ 10
+  pub known : (status < 8) ⊎ (9 < status) × (status ≤ 12)
+  pub shelf : (status ≡ 10) ⊎ (r.faults_after ≡ r.faults_before)
 
--- what is due was written
-pub devices_written : (c : Call) (status : ℕ) → IsStatus c.request status → c.request.faults_before ≤ c.request.faults_after
-    → c.out.faults_after ≡ c.out.faults_before → c.notes.faults_after ≡ c.notes.faults_before
-    → (status ≢ 7 → c.input_after ≡ c.input_before) → (status ≡ 7 → Rose c.input_before c.input_after) → Devices c status
-devices_written c status is shelf out notes calm rose = record {
-  statuses = is.below;
-  read_fault = rose;
-  write_fault = λ e. absurd (is.not_cut e);
-  no_less = record {
-    files = shelf;
-    input = input_no_less status c.input_before c.input_after calm rose;
-    out = omega (arith, out);
-    notes = omega (arith, notes);
-  };
-  out_fault = λ more. absurd (omega (arith, out, more));
-  notes_fault = λ more. absurd (omega (arith, notes, more));
-  input_fault = λ more. inl (only_seven status c.input_before c.input_after calm more);
-  shelf_fault = λ more. inr (inr (is.shelf_fault more));
+-- what was due came, unless a write failed or memory ran out
+pub came : {due : Dues} {pieces : Pieces} {c : Call} {status : ℕ} → Comes due pieces c status → status ≢ 8 → status ≢ 9
+    → (output : List ℕ) × (note : List ℕ) × due status output note c.left × Got c.out output × Got c.notes note
+came (Comes.written status output note is out notes) eight nine = (output, note, is, out, notes)
+came _ eight nine = absurd (omega arith)
+
+-- The output of a call came and some notes, and a status and one more note are due: what is promised where that comes, and where its write fails.
+pub record IsFinished (Promise : Call → ℕ → Type 0) (c : Call) (status : ℕ) (notes note : List ℕ) : Type 0 where
+  pub shelf : c.request.faults_before ≤ c.request.faults_after
+  pub known : IsStatus c.request status × (status ≢ 2)
+  pub out : c.out.faults_after ≡ c.out.faults_before
+  pub input : (status ≢ 7) × (c.input_after ≡ c.input_before) ⊎ (status ≡ 7) × Rose c.input_before c.input_after
+  pub whole : Got c.notes (notes ++ note) → Promise c status
+  pub cut : GotPart c.notes notes note → Promise c 8
+
+-- It came, or its write failed.
+pub data IsNoted (c : Call) (status : ℕ) (notes note : List ℕ) : ℕ → Type 0 where
+  noted : Got c.notes (notes ++ note) → IsNoted c status notes note status
+  failed : GotPart c.notes notes note → IsNoted c status notes note 8
+
+pub finished_goes : {Promise : Call → ℕ → Type 0} {c : Call} {status answered : ℕ} {notes note : List ℕ} → IsFinished Promise c status notes note
+    → IsNoted c status notes note answered → Goes Promise c answered
+finished_goes f (IsNoted.noted got) = let ends = f.whole got in grind arith
+finished_goes f (IsNoted.failed part) = let ends = f.cut part in grind arith
+
+pub is_noted : {c : Call} {status answered : Status} {note : List ℕ} → Noted c.notes note status answered
+    → IsNoted c (code_of status) [] note (code_of answered)
+is_noted (inl (is, got)) = rw is (IsNoted.noted got)
+is_noted (inr (is, part)) = rw is (IsNoted.failed part)
+
+pub halt_noted : {c : Call} (halt : Halt) {answered : Status} → HaltNoted c.notes halt answered
+    → IsNoted c (status_of_halt halt) [] (note_of_halt halt) (code_of answered)
+halt_noted halt (inl (is, got)) = rw is (IsNoted.noted got)
+halt_noted halt (inr (is, some, part)) = rw is (IsNoted.failed part)
+
+-- by what is due to it and comes
+pub due_finished : {due : Dues} {pieces : Pieces} {Promise : Call → ℕ → Type 0} {c : Call} {status : ℕ} {output note : List ℕ}
+    → ((status : ℕ) → Comes due pieces c status → Promise c status) → c.request.faults_before ≤ c.request.faults_after
+    → IsStatus c.request status × (status ≢ 2) → due status output note c.left → Got c.out output
+    → (status ≢ 7) × (c.input_after ≡ c.input_before) ⊎ (status ≡ 7) × Rose c.input_before c.input_after → IsFinished Promise c status [] note
+due_finished promise shelf known is out input = record {
+  shelf = shelf;
+  known = known;
+  out = out.1;
+  input = input;
+  whole = λ got. promise _ (Comes.written _ _ _ is out got);
+  cut = λ part. promise _ (Comes.unnoted _ _ _ is out part);
 }
 
--- a write failed
-pub devices_cut : (c : Call) → NoLess c → Rose c.out.faults_before c.out.faults_after ⊎ Rose c.notes.faults_before c.notes.faults_after → Devices c 8
-devices_cut c no_less rose = record {
-  statuses = omega arith;
-  read_fault = λ e. absurd (omega (arith, e));
-  write_fault = λ _. rose;
-  no_less = no_less;
-  out_fault = λ _. refl;
-  notes_fault = λ _. refl;
-  input_fault = λ _. inr refl;
-  shelf_fault = λ _. inl refl;
-}
+-- nothing was done, with status 0
+pub done_goes : {Promise : Call → ℕ → Type 0} {c : Call} → c.request.faults_after ≡ c.request.faults_before → c.input_after ≡ c.input_before
+    → Got c.out [] → Got c.notes [] → Promise c 0 → Goes Promise c 0
+done_goes shelf input out notes ends = grind arith
 
--- memory ran out, and no device failed
-pub devices_short : (c : Call) → c.request.faults_before ≤ c.request.faults_after → c.out.faults_after ≡ c.out.faults_before
-    → c.notes.faults_after ≡ c.notes.faults_before → c.input_after ≡ c.input_before → Devices c 9
-devices_short c shelf out notes calm = record {
-  statuses = omega arith;
-  read_fault = λ e. absurd (omega (arith, e));
-  write_fault = λ e. absurd (omega (arith, e));
-  no_less = record { files = shelf; input = omega (arith, calm); out = omega (arith, out); notes = omega (arith, notes) };
-  out_fault = λ more. absurd (omega (arith, out, more));
-  notes_fault = λ more. absurd (omega (arith, notes, more));
-  input_fault = λ more. absurd (omega (arith, calm, more));
-  shelf_fault = λ _. inr (inl refl);
-}
+-- the write of the output failed, or memory ran out
+pub cut_goes : {Promise : Call → ℕ → Type 0} {c : Call} → c.request.faults_before ≤ c.request.faults_after
+    → (c.input_after ≡ c.input_before) × Rose c.out.faults_before c.out.faults_after → c.notes.faults_after ≡ c.notes.faults_before → Promise c 8
+    → Goes Promise c 8
+cut_goes shelf counted notes ends = grind arith
 
--- of a call that does not use its input
-pub devices_untaking : (due : Dues) (pieces : Pieces) (c : Call) (status : ℕ)
-    → ((status : ℕ) (output note left : List ℕ) → due status output note left → IsStatus c.request status × (status ≢ 7))
-    → c.request.faults_before ≤ c.request.faults_after → c.input_after ≡ c.input_before → Comes due pieces c status → Devices c status
-devices_untaking due pieces c _ rows shelf input (written status output note is out notes) =
-    let row = rows status output note c.left is in
-    devices_written c status row.0 shelf out.1 notes.1 (λ _. input) (λ e. absurd (row.1 e))
-devices_untaking due pieces c _ rows shelf input (unwritten before piece is part notes) =
-    devices_cut c (record { files = shelf; input = omega (arith, input); out = part.1.no_less; notes = omega (arith, notes.1) }) (inl part.1)
-devices_untaking due pieces c _ rows shelf input (unnoted status output note is out part) =
-    devices_cut c (record { files = shelf; input = omega (arith, input); out = omega (arith, out.1); notes = part.1.no_less }) (inr part.1)
-devices_untaking due pieces c _ rows shelf input (short nothing) = devices_short c shelf nothing.0.1 nothing.1.1 nothing.3
-
--- where no row has this status, it does not come
-pub no_status : (n : ℕ) (due : Dues) (pieces : Pieces) (c : Call) (status : ℕ) → n ≢ 8 → n ≢ 9
-    → ((status : ℕ) (output note left : List ℕ) → due status output note left → status ≢ n) → Comes due pieces c status → status ≢ n
-no_status n due pieces c _ cut less rows (written status output note is out notes) = rows status output note c.left is
-no_status n due pieces c _ cut less rows (unwritten before piece is part notes) = λ e. cut (sym e)
-no_status n due pieces c _ cut less rows (unnoted status output note is out part) = λ e. cut (sym e)
-no_status n due pieces c _ cut less rows (short nothing) = λ e. less (sym e)
+pub short_goes : {Promise : Call → ℕ → Type 0} {c : Call} → c.request.faults_before ≤ c.request.faults_after
+    → (c.input_after ≡ c.input_before) × (c.out.faults_after ≡ c.out.faults_before) → c.notes.faults_after ≡ c.notes.faults_before → Promise c 9
+    → Goes Promise c 9
+short_goes shelf counted notes ends = grind arith
 
 -- what is neither used nor written got nothing
-pub got_nothing : (held : Option (List ℕ)) (faults : ℕ)
-    → Got (record { held_before = held; held_after = held; faults_before = faults; faults_after = faults }) []
+pub got_nothing : (held : Option (List ℕ)) (faults : ℕ) → (held ≡ appended held []) × (faults ≡ faults)
 got_nothing held faults = (sym (appended-nil held), refl)
 
 -- a sink that held nothing holds just what it got

@@ -1,247 +1,180 @@
--- How a call ends that ran an image which means a program, as the headline says: by how the run comes out, or by the call that fails to write.
-use Rattle.std.proofs.Common.{arith, ◌≡◌, ◌≢◌, ℕ, ◌+◌, ◌⊎◌, inl, inr, List, [], ◌∷◌, ◌++◌, Some, refl, sym, ◌∙◌, ap, subst, append_assoc}
+-- A call that ran an image which means a program, within the limits of a plan, ends as the headline says.
+use Rattle.std.proofs.Common.{arith, ◌≡◌, ℕ, ◌+◌, ◌<◌, ◌⊎◌, inl, inr, List, [], ◌++◌, Some, refl, sym, ◌∙◌, ap, subst, append_assoc, append-nil}
 use Rattle.cool_classes.specs.Chains.{Class}
 use Rattle.cool_eval.specs.Ends.{IsPartOf}
 use Rattle.cool_meaning.specs.SourceRun as source
 use Rattle.cool_ports.specs.SinkBytes.{appended}
 use Rattle.cool_ports.proofs.GettingBytes.{appended-appended}
-use Rattle.cool_runtime.specs.Contents.{AreBytes}
-use Rattle.cool_runtime.specs.Reaches.{IsPrefix, IsSuffix}
-use Rattle.cool_simulation.specs.Accord.{Accord, Means}
-use Rattle.cool_simulation.proofs.theorem.InputShrinks.{input_of}
+use Rattle.cool_simulation.specs.Accord.{Limits, Accord, Accords, AreLimits, Means}
 use Rattle.cool_words.specs.declared.plan.RunLimits.{RunLimits}
 use Rattle.cool_words.specs.Plans.{IsBounded}
 use Rattle.mips_isa.specs.ImageBounds.{ImageParts}
-use Rattle.mips_isa.specs.Calls.{State, Outcome, Running, Exited, Trapped, call, print}
-use Rattle.mips_isa.specs.Run.{start}
+use Rattle.mips_isa.specs.Calls.{Outcome, Running, Exited, Trapped}
+use Rattle.mips_isa.proofs.InputShrinks.{input_of}
 use Rattle.mips_isa.proofs.OutputGrows.{output_of}
-use Rattle.spim_machine.specs.Ends.{FailsReading, call_with}
-use Rattle.cool_driver.specs.Execution.{segments_within, run_of, ComesTo, left_by, status_of}
+use Rattle.spim_machine.proofs.StoppedRuns.{written_before, left_before, left_by_reading, written_by_printing}
+use Rattle.cool_driver.specs.Execution.{run_of, status_of, exit_status}
 use Rattle.cool_driver.specs.Calls.{Got, GotPart, Call}
-use Rattle.cool_driver.specs.Headline.{limits_of, EndsAsImage, StopsReading, AccordsWith, Headline}
-use Rattle.cool_driver.proofs.Accords.{image_accords}
-use Rattle.cool_driver.proofs.RunsWithinLimits.{run_of-is}
-use Rattle.cool_driver.proofs.StoppedRuns.{written_before, left_before, left_by_reading, written_by_printing}
+use Rattle.cool_driver.specs.Headline.{limits_of, EndsAsImage, StopsReading, StopsWriting, AccordsWith, IsPartOfSource, Headline}
+use Rattle.cool_driver.specs.Runs.{DueToRun, PiecesOfRun}
+use Rattle.cool_driver.specs.Runs.DueToRun.{ended, unread}
+use Rattle.cool_driver.specs.Runs.PiecesOfRun.{of_call}
+use Rattle.cool_driver.proofs.ComesOfRuns.{fails_alone}
+use Rattle.lists.specs.Bytes.{AreBytes}
+use Rattle.lists.specs.Prefixes.{IsPrefix, IsSuffix}
+use Rattle.spim_debug.specs.Notes.{state_in}
 
--- How the run of an image comes out within limits, over an input: at its end, or at a call whose read fails.
-pub data ComesOut (limits : RunLimits) (image : ImageParts) (input : List ℕ) : ℕ → List ℕ → List ℕ → Type 0 where
-  at_end : ComesOut limits image input (status_of (run_of limits image input)) (left_by (run_of limits image input)).output (left_by (run_of limits image input)).input
-  at_read : (at : State) (output left : List ℕ) → ComesTo limits image input at
-      → FailsReading (call_with (segments_within limits image) at) at (Some []) (Some left) (Some output)
-      → ComesOut limits image input 7 output left
+-- The run of an image that means a program
 
--- The run of an image that means the program comes out so.
-pub record MeantRun (limits : RunLimits) (names : List (List ℕ)) (p : List Class) (input : List ℕ) (status : ℕ) (output left : List ℕ) : Type 0 where
-  pub image : ImageParts
-  pub means : Means image p names
-  pub bounded : IsBounded limits
-  pub comes : ComesOut limits image input status output left
+-- the code of an exit that accords is its status
+code_is_status : (code : ℕ) → code < 6 → (code ≡ 0) ⊎ ((code ≡ 3) ⊎ ((code ≡ 4) ⊎ ((code ≡ 5) ⊎ (code ≡ 6)))) → exit_status code ≡ code
+code_is_status code small (inl e) = subst (λ (c : ℕ). exit_status c ≡ c) (sym e) refl
+code_is_status code small (inr (inl e)) = subst (λ (c : ℕ). exit_status c ≡ c) (sym e) refl
+code_is_status code small (inr (inr (inl e))) = subst (λ (c : ℕ). exit_status c ≡ c) (sym e) refl
+code_is_status code small (inr (inr (inr (inl e)))) = subst (λ (c : ℕ). exit_status c ≡ c) (sym e) refl
+code_is_status code small (inr (inr (inr (inr e)))) = absurd (omega arith)
+
+-- so a run that accords does so with its status
+accord_of : (runs : ℕ → source.Run) (limits : Limits) (o : Outcome) → Accords runs limits o → Accord runs limits (status_of o) (state_in o).output (state_in o).input
+accord_of runs limits (Running s) h = h
+accord_of runs limits (Exited code s) h = subst (λ (c : ℕ). Accord runs limits c s.output s.input) (sym (code_is_status code h.0 h.1.known)) h.1
+accord_of runs limits (Trapped trap s) h = absurd h
+
+-- limits in their bounds are limits of the machine
+are_limits : (limits : RunLimits) → IsBounded limits → AreLimits (limits_of limits)
+are_limits limits bounded = omega (arith, bounded.heap, bounded.stack)
+
+pub image_accords : (limits : RunLimits) (image : ImageParts) (p : List Class) (names : List (List ℕ)) (input : List ℕ) → Means image p names → AreBytes input → IsBounded limits
+    → Accord (source.run p names input) (limits_of limits) (status_of (run_of limits image input)) (state_in (run_of limits image input)).output (state_in (run_of limits image input)).input
+unfolding run_of
+image_accords limits image p names input means bytes bounded = accord_of _ _ _ (means input (limits_of limits) bytes (are_limits limits bounded))
 
 -- Parts of runs
 
--- an output and an input left as two files tell them
-written_is : (o : Outcome) → output_of o ≡ (left_by o).output
+written_is : (o : Outcome) → output_of o ≡ (state_in o).output
 written_is (Running s) = refl
 written_is (Exited code s) = refl
 written_is (Trapped trap s) = refl
 
-left_is : (o : Outcome) → input_of o ≡ (left_by o).input
+left_is : (o : Outcome) → input_of o ≡ (state_in o).input
 left_is (Running s) = refl
 left_is (Exited code s) = refl
 left_is (Trapped trap s) = refl
 
--- a part of an output and of what is taken, within the run of the source
-part_of : (run : source.Run) (whole output kept left : List ℕ) → IsPrefix whole run.output → IsSuffix run.left kept → IsPrefix output whole
-    → IsSuffix kept left → IsPartOf run output left
-part_of run whole output kept left h k f g = record {
+-- a part of what a run writes and takes, which is within the run of the source
+part_of : (run : source.Run) (o : Outcome) (output left : List ℕ) → IsPrefix (state_in o).output run.output → IsSuffix run.left (state_in o).input
+    → IsPrefix output (output_of o) → IsSuffix (input_of o) left → IsPartOf run output left
+part_of run o output left h k f g = record {
   more = f.0 ++ h.0;
-  output_is = h.1 ∙ (ap (λ (xs : List ℕ). xs ++ h.0) f.1 ∙ append_assoc output f.0 h.0);
+  output_is = h.1 ∙ (ap (λ (xs : List ℕ). xs ++ h.0) (sym (written_is o) ∙ f.1) ∙ append_assoc output f.0 h.0);
   kept = g.0 ++ k.0;
-  left_is = g.1 ∙ (ap (λ (xs : List ℕ). g.0 ++ xs) k.1 ∙ sym (append_assoc g.0 k.0 run.left));
+  left_is = g.1 ∙ (ap (λ (xs : List ℕ). g.0 ++ xs) (left_is o ∙ k.1) ∙ sym (append_assoc g.0 k.0 run.left));
 }
 
--- The facts on how a run comes out
+-- what begins with bytes behind others begins with a front of them there
+front_behind : (xs ys front rest more whole : List ℕ) → ys ≡ front ++ rest → whole ≡ (xs ++ ys) ++ more → whole ≡ (xs ++ front) ++ (rest ++ more)
+front_behind xs ys front rest more whole cut e = e ∙ rw cut (simp append_assoc)
 
-module _ (limits : RunLimits) (image : ImageParts) (names : List (List ℕ)) (p : List Class) (input : List ℕ) (means : Means image p names) (bounded : IsBounded limits) (are : AreBytes input) where
-  abbrev Promised : ℕ → List ℕ → List ℕ → Type 0
-  Promised status output left = Accord (source.run p names input) (limits_of limits) status output left
-
-  promised : Promised (status_of (run_of limits image input)) (left_by (run_of limits image input)).output (left_by (run_of limits image input)).input
-  promised = image_accords limits image p names input means are bounded
-
-  -- what is a part of what the run writes and takes is a part of what the run of the source does
-  pub part_at : (output left : List ℕ) → IsPrefix output (output_of (run_of limits image input))
-      → IsSuffix (input_of (run_of limits image input)) left
-      → IsPartOf (source.run p names input (limits.steps + 1)) output left
-  part_at output left front rest =
-      let a = promised in
-      part_of (source.run p names input (limits.steps + 1)) (output_of (run_of limits image input)) output (input_of (run_of limits image input)) left
-      (subst (λ (xs : List ℕ). IsPrefix xs (source.run p names input (limits.steps + 1)).output) (sym (written_is (run_of limits image input))) a.written)
-      (subst (λ (xs : List ℕ). IsSuffix (source.run p names input (limits.steps + 1)).left xs) (sym (left_is (run_of limits image input))) a.taken)
-      front rest
-
-  -- at an end
-  record End (status : ℕ) (output left : List ℕ) : Type 0 where
-    status_is : status ≡ status_of (run_of limits image input)
-    output_is : output ≡ (left_by (run_of limits image input)).output
-    left_is_so : left ≡ (left_by (run_of limits image input)).input
-    accord : Promised status output left
-
-  -- at a call that reads
-  record Read (status : ℕ) (output left : List ℕ) : Type 0 where
-    seven : status ≡ 7
-    at : State
-    comes : ComesTo limits image input at
-    fails : FailsReading (call_with (segments_within limits image) at) at (Some []) (Some left) (Some at.output)
-    output_is : output ≡ at.output
-
-  known_status : (status : ℕ) (output left : List ℕ) → Promised status output left → (status ≢ 7) × (status ≢ 8)
-  known_status status output left a = by a.known
-    where
-      by : (status ≡ 0) ⊎ ((status ≡ 3) ⊎ ((status ≡ 4) ⊎ ((status ≡ 5) ⊎ (status ≡ 6)))) → (status ≢ 7) × (status ≢ 8)
-      by (inl e) = (λ q. omega (arith, e, q), λ q. omega (arith, e, q))
-      by (inr (inl e)) = (λ q. omega (arith, e, q), λ q. omega (arith, e, q))
-      by (inr (inr (inl e))) = (λ q. omega (arith, e, q), λ q. omega (arith, e, q))
-      by (inr (inr (inr (inl e)))) = (λ q. omega (arith, e, q), λ q. omega (arith, e, q))
-      by (inr (inr (inr (inr e)))) = (λ q. omega (arith, e, q), λ q. omega (arith, e, q))
-
-  -- a sink that held nothing holds just what it got
-  held_alone : (held bytes : List ℕ) → Some held ≡ appended (Some []) bytes → held ≡ bytes
-  unfolding appended
-  held_alone held bytes e = cc
-
-  facts : (status : ℕ) (output left : List ℕ) → ComesOut limits image input status output left
-      → (End status output left ⊎ Read status output left) × IsPartOf (source.run p names input (limits.steps + 1)) output left
-  facts _ _ _ at_end =
-      let a = promised in (
-        inl (record { status_is = refl; output_is = refl; left_is_so = refl; accord = a }),
-        part_of (source.run p names input (limits.steps + 1)) _ _ _ _ a.written a.taken ([], sym (append_nothing _)) ([], refl),
-      )
-    where
-      append_nothing : (xs : List ℕ) → xs ++ [] ≡ xs
-      append_nothing [] = refl
-      append_nothing (x ∷ xs) = ap (λ (ys : List ℕ). x ∷ ys) (append_nothing xs)
-  facts _ _ _ (at_read at output left comes fails) =
-      let is : output ≡ at.output = held_alone output at.output fails.held_is in
-      let b = segments_within limits image in (
-        inr (record { seven = refl; at = at; comes = comes; fails = subst (λ (xs : List ℕ). FailsReading (call_with b at) at (Some []) (Some left) (Some xs)) is fails; output_is = is }),
-        subst (λ (xs : List ℕ). IsPartOf (source.run p names input (limits.steps + 1)) xs left) (sym is)
-            (part_at at.output left
-            (subst (λ (o : Outcome). IsPrefix at.output (output_of o)) (sym (run_of-is limits image input)) (written_before image.text b limits.steps (start image b input) at comes))
-            (subst (λ (o : Outcome). IsSuffix (input_of o) left) (sym (run_of-is limits image input)) (left_by_reading image.text b limits.steps (start image b input) at _ _ left comes fails))),
-      )
+-- a sink that held nothing holds just what it got
+held_alone : (held bytes : List ℕ) → Some held ≡ appended (Some []) bytes → held ≡ bytes
+unfolding appended
+held_alone held bytes e = cc
 
 -- Calls
 
-ends_as : (c : Call) (status : ℕ) (output : List ℕ) (limits : RunLimits) (names : List (List ℕ)) (p : List Class) (m : MeantRun limits names p c.request.input status output c.left) (are : AreBytes c.request.input)
-    → Got c.out output → End limits m.image names p c.request.input m.means m.bounded are status output c.left
-    → EndsAsImage c status limits m.image × AccordsWith (source.run p names c.request.input) c status limits
-ends_as c status output limits names p m are got e = (
-  record { status_is = e.status_is; wrote = subst (Got c.out) e.output_is got; leaves = e.left_is_so },
-  (output, got, e.accord),
-)
+module _ (limits : RunLimits) (image : ImageParts) (names : List (List ℕ)) (p : List Class) (c : Call) (means : Means image p names) (bounded : IsBounded limits)
+    (are : AreBytes c.request.input) where
+  abbrev whole : Outcome
+  whole = run_of limits image c.request.input
 
-stops_reading : (c : Call) (status : ℕ) (output : List ℕ) (limits : RunLimits) (names : List (List ℕ)) (p : List Class) (m : MeantRun limits names p c.request.input status output c.left) (are : AreBytes c.request.input)
-    → Got c.out output → Read limits m.image names p c.request.input m.means m.bounded are status output c.left → StopsReading c limits m.image
-stops_reading c status output limits names p m are got f =
-    record { at = f.at; comes = f.comes; fails = f.fails; wrote = subst (Got c.out) f.output_is got }
+  -- what came and was taken is a part of what the run writes and takes, and so of what the run of the source does
+  pub part_of_source : (output : List ℕ) → c.out.held_after ≡ appended c.out.held_before output → IsPrefix output (output_of whole) → IsSuffix (input_of whole) c.left
+      → IsPartOfSource c limits names p
+  part_of_source output came front rest =
+      let a = image_accords limits image p names c.request.input means are bounded in
+      (output, came, part_of (source.run p names c.request.input (limits.steps + 1)) whole output c.left a.written a.taken front rest)
 
--- what comes out was written
-pub headline_came : (c : Call) (status : ℕ) (output : List ℕ) (limits : RunLimits) (names : List (List ℕ)) (p : List Class)
-    → MeantRun limits names p c.request.input status output c.left
-    → Got c.out output → AreBytes c.request.input → Headline c status limits names p
-headline_came c status output limits names p m got are =
-    let both = facts limits m.image names p c.request.input m.means m.bounded are status output c.left m.comes in
-    by m both.0 both.1
-  where
-    by : (m : MeantRun limits names p c.request.input status output c.left)
-        → End limits m.image names p c.request.input m.means m.bounded are status output c.left ⊎ Read limits m.image names p c.request.input m.means m.bounded are status output c.left
-        → IsPartOf (source.run p names c.request.input (limits.steps + 1)) output c.left → Headline c status limits names p
-    by m (inl e) part =
-        let known = known_status limits m.image names p c.request.input m.means m.bounded are status output c.left e.accord in
-        let ends = ends_as c status output limits names p m are got e in
-        record {
-          image = m.image;
-          means = m.means;
-          ended = λ _ _. ends.0;
-          accords = λ _ _. ends.1;
-          unread = λ seven. absurd (known.0 seven);
-          unwritten = λ eight. absurd (known.1 eight);
-          part = (output, got.0, part);
-        }
-    by m (inr f) part = record {
-      image = m.image;
-      means = m.means;
-      ended = λ other _. absurd (other f.seven);
-      accords = λ other _. absurd (other f.seven);
-      unread = λ _. stops_reading c status output limits names p m are got f;
-      unwritten = λ eight. absurd (let seven = f.seven in omega (arith, seven, eight));
-      part = (output, got.0, part);
-    }
+  -- the call ended as the run
+  ended_so : (status : ℕ) → EndsAsImage c status limits image → AccordsWith (source.run p names c.request.input) c status limits × IsPartOfSource c limits names p
+  ended_so status e = (
+    ((state_in whole).output, e.wrote, rw (e.status_is, e.leaves) (image_accords limits image p names c.request.input means are bounded)),
+    part_of_source (state_in whole).output e.wrote.0 ([], written_is whole ∙ sym (append-nil _)) ([], e.leaves ∙ sym (left_is whole)),
+  )
 
--- the write of the note failed
-pub headline_noteless : (c : Call) (due : ℕ) (output : List ℕ) (limits : RunLimits) (names : List (List ℕ)) (p : List Class)
-    → MeantRun limits names p c.request.input due output c.left
-    → Got c.out output → AreBytes c.request.input → Headline c 8 limits names p
-headline_noteless c due output limits names p m got are =
-    let both = facts limits m.image names p c.request.input m.means m.bounded are due output c.left m.comes in
-    record {
-      image = m.image;
-      means = m.means;
-      ended = λ _ other. absurd (other refl);
-      accords = λ _ other. absurd (other refl);
-      unread = λ seven. absurd (omega (arith, seven));
-      unwritten = λ _. inr (by m both.0);
-      part = (output, got.0, both.1);
-    }
-  where
-    by : (m : MeantRun limits names p c.request.input due output c.left)
-        → End limits m.image names p c.request.input m.means m.bounded are due output c.left ⊎ Read limits m.image names p c.request.input m.means m.bounded are due output c.left
-        → StopsReading c limits m.image ⊎ ((status : ℕ) × EndsAsImage c status limits m.image × AccordsWith (source.run p names c.request.input) c status limits)
-    by m (inl e) = let ends = ends_as c due output limits names p m are got e in inr (due, ends.0, ends.1)
-    by m (inr f) = inl (stops_reading c due output limits names p m are got f)
+  -- it stopped at a call whose read or write failed
+  part_read : StopsReading c limits image → IsPartOfSource c limits names p
+  unfolding run_of
+  part_read h = part_of_source h.at.output h.wrote.0 (written_before _ _ _ _ h.at h.comes) (left_by_reading _ _ _ _ h.at _ _ c.left h.comes h.fails)
 
--- A call that writes for accepted files is one of the run of an image that means the program.
-pub record MeantWrite (limits : RunLimits) (names : List (List ℕ)) (p : List Class) (input bytes more left : List ℕ) : Type 0 where
-  pub image : ImageParts
-  pub means : Means image p names
-  pub bounded : IsBounded limits
-  pub at : State
-  pub comes : ComesTo limits image input at
-  pub prints : call (segments_within limits image) at ≡ print at more
-  pub before : bytes ≡ at.output
-  pub leaves : left ≡ at.input
+  part_written : StopsWriting c limits image → IsPartOfSource c limits names p
+  unfolding run_of
+  part_written h =
+      let piece = h.wrote.0.1 in
+      let printed = written_by_printing _ _ _ _ h.at h.bytes h.comes h.prints in
+      part_of_source (h.at.output ++ piece.front) (piece.got ∙ appended-appended c.out.held_before h.at.output piece.front)
+      (h.wrote.0.0 ++ printed.0, front_behind h.at.output h.bytes piece.front h.wrote.0.0 printed.0 (output_of whole) piece.cut printed.1) (rw h.leaves (left_before _ _ _ _ h.at h.comes))
 
--- a prefix of a part behind another
-longer_prefix : (xs ys front rest whole : List ℕ) → ys ≡ front ++ rest → IsPrefix (xs ++ ys) whole → IsPrefix (xs ++ front) whole
-longer_prefix xs ys front rest whole cut h = (
-  rest ++ h.0,
-  h.1 ∙ (ap (λ (l : List ℕ). (xs ++ l) ++ h.0) cut ∙ (ap (λ (l : List ℕ). l ++ h.0) (sym (append_assoc xs front rest)) ∙ append_assoc (xs ++ front) rest h.0)),
-)
+  pub headline_ended : (status : ℕ) → EndsAsImage c status limits image → Headline c status limits names p
+  headline_ended status e =
+      let so = ended_so status e in
+      let known = so.0.2.known in
+      record {
+        image = image;
+        means = means;
+        ended = λ _ _. e;
+        accords = λ _ _. so.0;
+        unread = λ seven. absurd (omega (arith, known, seven));
+        unwritten = λ eight. absurd (omega (arith, known, eight));
+        part = so.1;
+      }
 
--- the write of the output failed
-pub headline_stopped : (c : Call) (bytes more : List ℕ) (limits : RunLimits) (names : List (List ℕ)) (p : List Class)
-    → MeantWrite limits names p c.request.input bytes more c.left
-    → GotPart c.out bytes more → AreBytes c.request.input → Headline c 8 limits names p
-headline_stopped c bytes more limits names p m got are =
-    let piece = got.0.1 in
-    let b = segments_within limits m.image in
-    let input = c.request.input in
-    let o = run_of limits m.image input in
-    record {
-      image = m.image;
-      means = m.means;
-      ended = λ _ other. absurd (other refl);
-      accords = λ _ other. absurd (other refl);
-      unread = λ seven. absurd (omega (arith, seven));
-      unwritten = λ _. inl (record { at = m.at; bytes = more; comes = m.comes; prints = m.prints; wrote = subst (λ (xs : List ℕ). GotPart c.out xs more) m.before got; leaves = m.leaves });
-      part = (
-        m.at.output ++ piece.front,
-        piece.got ∙ (appended-appended c.out.held_before bytes piece.front ∙ ap (λ (xs : List ℕ). appended c.out.held_before (xs ++ piece.front)) m.before),
-        part_at limits m.image names p input m.means m.bounded are (m.at.output ++ piece.front) c.left
-            (longer_prefix m.at.output more piece.front got.0.0 (output_of o) piece.cut
-            (subst (λ (x : Outcome). IsPrefix (m.at.output ++ more) (output_of x)) (sym (run_of-is limits m.image input)) (written_by_printing m.image.text b limits.steps (start m.image b input) m.at more m.comes m.prints)))
-            (subst (λ (xs : List ℕ). IsSuffix (input_of o) xs) (sym m.leaves)
-            (subst (λ (x : Outcome). IsSuffix (input_of x) m.at.input) (sym (run_of-is limits m.image input)) (left_before m.image.text b limits.steps (start m.image b input) m.at m.comes))),
-      );
-    }
+  pub headline_unread : StopsReading c limits image → Headline c 7 limits names p
+  headline_unread h = record {
+    image = image;
+    means = means;
+    ended = λ other _. absurd (other refl);
+    accords = λ other _. absurd (other refl);
+    unread = λ _. h;
+    unwritten = λ eight. absurd (omega (arith, eight));
+    part = part_read h;
+  }
+
+  -- a write failed, perhaps that of the note
+  write_failed : StopsWriting c limits image ⊎ (StopsReading c limits image
+      ⊎ ((due : ℕ) × EndsAsImage c due limits image × AccordsWith (source.run p names c.request.input) c due limits))
+      → IsPartOfSource c limits names p → Headline c 8 limits names p
+  write_failed why part = record {
+    image = image;
+    means = means;
+    ended = λ _ other. absurd (other refl);
+    accords = λ _ other. absurd (other refl);
+    unread = λ seven. absurd (omega (arith, seven));
+    unwritten = λ _. why;
+    part = part;
+  }
+
+  pub headline_unwritten : StopsWriting c limits image → Headline c 8 limits names p
+  headline_unwritten h = write_failed (inl h) (part_written h)
+
+  pub noteless_unread : StopsReading c limits image → Headline c 8 limits names p
+  noteless_unread h = write_failed (inr (inl h)) (part_read h)
+
+  pub noteless_ended : (due : ℕ) → EndsAsImage c due limits image → Headline c 8 limits names p
+  noteless_ended due e = let so = ended_so due e in write_failed (inr (inr (due, e, so.0))) so.1
+
+  -- what is due to the run was written, or all of it but the note
+  pub headline_due : (status : ℕ) (output note left : List ℕ) → DueToRun limits image c.request.input status output note left → c.left ≡ left → Got c.out output
+      → Headline c status limits names p × Headline c 8 limits names p
+  headline_due _ _ _ _ ended leaves got =
+      let e : EndsAsImage c (status_of whole) limits image = record { status_is = refl; wrote = got; leaves = leaves } in
+      (headline_ended _ e, noteless_ended _ e)
+  headline_due _ _ _ _ (unread at output left comes fails) leaves got =
+      let h : StopsReading c limits image =
+      record { at = at; comes = comes; fails = rw leaves (fails_alone fails); wrote = subst (Got c.out) (held_alone output at.output fails.held_is) got } in
+      (headline_unread h, noteless_unread h)
+
+  -- the write of a piece of it failed
+  pub headline_cut : (before piece left : List ℕ) → PiecesOfRun limits image c.request.input before piece left → c.left ≡ left → GotPart c.out before piece
+      → Headline c 8 limits names p
+  headline_cut _ _ _ (of_call at printed comes prints) leaves part =
+      headline_unwritten (record { at = at; bytes = printed; comes = comes; prints = prints; wrote = part; leaves = leaves })

@@ -1,7 +1,7 @@
-mod AssembledTexts
 mod RunnableFiles
 mod HeldFiles
 mod LinesOfNotes
+mod LinesOfDebuggers
 mod Results
 mod RefusalsTold
 mod SourcesOfCalls
@@ -11,15 +11,8 @@ mod StatusesOfRuns
 mod ComesOfRuns
 mod rooms
 mod ReadingNames
-mod Plans
 mod EndsByCommand
 mod RunsWithinLimits
 mod BigRuns
-mod LoadingImages
-mod Accords
-mod NamesAreTexts
-mod FoldedTrees
-mod FoldedImages
 mod ProgramsMeant
-mod StoppedRuns
 mod HeadlineOfRuns

@@ -1,39 +1,90 @@
--- The lines of notes: none is empty.
-use Rattle.std.proofs.Common.{◌≡◌, ℕ, ◌+◌, ◌<◌, List, [], ◌∷◌, ◌++◌, length, get_or, drop, map, sym, ◌∙◌, ap, append-nil, arith}
+-- The lines of notes: each ends in a line feed.
+use Rattle.std.proofs.Common.{◌≡◌, ◌≢◌, ℕ, zero, suc, ◌+◌, ◌<◌, true, List, [], ◌∷◌, ◌++◌, length, get_or, drop, map, refl, sym, ◌∙◌, ap, subst, append_assoc, append-nil, arith}
 use Rattle.std.specs.Prelude.{codes, decimal}
 use Rattle.std.specs.Global.{Vec}
 use Rattle.std.specs.List.{concat, AllByRecursion}
-use Rattle.std.proofs.Math.ListN.{length-append}
 use Rattle.std.proofs.lemmas.List.{at_drop_more}
 use Rattle.cool_faults.specs.declared.fault.Fault.{Fault}
 use Rattle.cool_faults.specs.Texts.{fault_words, fault_line}
 use Rattle.cool_faults.specs.Verdicts.{place_of, IsRefused}
+use Rattle.cool_ports.specs.SinkPuts.{PutFront}
 use Rattle.cool_syntax.specs.TokenFacts.{IsPlaced}
 use Rattle.mips_image.specs.declared.image_error.ImageError.{ImageError}
-use Rattle.mips_isa.specs.declared.asm_fault.AsmFault.{AsmFault}
+use Rattle.mips_image.specs.declared.image_error.ImageError.TheVariants.{Memory, I1, I2, I3, I4, I5}
+use Rattle.mips_isa.specs.declared.trap.Trap.{Trap}
+use Rattle.spim_debug.specs.Notes.{digits}
 use Rattle.cool_driver.specs.Contents.{texts}
-use Rattle.spim_debug.specs.declared.script.ScriptFault.{ScriptFault}
-use Rattle.cool_driver.specs.Notes.{image_fault, image_note, asm_words, asm_note, script_words, script_note}
-use Rattle.cool_driver.specs.Telling.{AreLines, note_of}
+use Rattle.cool_driver.specs.Notes.{command_note, image_note, trap_note, trap_words}
+use Rattle.cool_driver.specs.Telling.{AreLines, PutsLines, ends_line, note_of}
+use Rattle.lists.proofs.AllItems.{all_append, all_left}
 
--- the line of a fault is not empty
-some_line : (names : List (List ℕ)) (fault : Fault) → 0 < length (fault_line names fault)
-some_line names fault =
-    omega (arith, length-append (get_or names (place_of fault).file []) (codes ":" ++ (decimal (place_of fault).line ++ (codes ": " ++ (fault_words fault ++ codes "\n")))))
+-- a text that ends in a line feed is not empty
+pub some_line : (text : List ℕ) → ends_line text ≡ true → 0 < length text
+unfolding ends_line
+some_line [] h = absurd cc
+some_line (byte ∷ text) h = omega arith
 
--- so none of the lines of faults is
-pub some_lines : (names : List (List ℕ)) (faults : List Fault) → AllByRecursion (λ line. 0 < length line) (map (fault_line names) faults)
-some_lines names [] = tt
-some_lines names (fault ∷ faults) = (some_line names fault, some_lines names faults)
+-- behind another text, it still ends so
+ends_more : (byte : ℕ) (text : List ℕ) → ends_line text ≡ true → ends_line (byte ∷ text) ≡ true
+unfolding ends_line
+ends_more byte [] h = absurd cc
+ends_more byte (next ∷ text) h = h
 
--- lines that are these texts, none of which is empty
-pub are_lines : (lines : List (Vec ℕ)) (all : List (List ℕ)) → texts lines ≡ all → AllByRecursion (λ line. 0 < length line) all → AreLines lines
-are_lines [] all e h = tt
-are_lines (v ∷ lines) [] e h = absurd cc
-are_lines (v ∷ lines) (x ∷ all) e h =
-    let same : v.items ≡ x = cc in
-    let rest : texts lines ≡ all = cc in
-    (omega (arith, ap length same, h.0), are_lines lines all rest h.1)
+pub ends_after : (front text : List ℕ) → ends_line text ≡ true → ends_line (front ++ text) ≡ true
+ends_after [] text h = h
+ends_after (byte ∷ front) text h = ends_more byte (front ++ text) (ends_after front text h)
+
+pub feed : ends_line (codes "\n") ≡ true
+unfolding ends_line
+feed = refl
+
+-- the lines of notes do
+pub placed_line : (name line words : List ℕ) → ends_line (name ++ (codes ":" ++ (line ++ (codes ": " ++ (words ++ codes "\n"))))) ≡ true
+placed_line name line words =
+    ends_after name _ (ends_after (codes ":") _ (ends_after line _ (ends_after (codes ": ") _ (ends_after words (codes "\n") feed))))
+
+pub file_line : (name words : List ℕ) → ends_line (codes "cool: " ++ (name ++ (words ++ codes "\n"))) ≡ true
+file_line name words = ends_after (codes "cool: ") _ (ends_after name _ (ends_after words (codes "\n") feed))
+
+pub command_line : (number : ℕ) (words : List ℕ) → ends_line (command_note number words) ≡ true
+command_line number words =
+    ends_after (codes "session:") _ (ends_after (decimal number) _ (ends_after (codes ": ") _ (ends_after words (codes "\n") feed)))
+
+pub trap_line : (trap : Trap) → ends_line (trap_note trap) ≡ true
+trap_line trap =
+    ends_after (codes "trap: ") _ (ends_after (trap_words trap.kind) _ (ends_after (codes " at 0x") _ (ends_after (digits trap.address) _
+    (ends_after (codes ", pc 0x") _ (ends_after (digits trap.pc) (codes "\n") feed)))))
+
+pub image_line : (name : List ℕ) (fault : ImageError) → fault ≢ Memory → ends_line (image_note name fault) ≡ true
+image_line name I1 other = ends_after name _ (ends_after (codes ": I1: wrong magic") (codes "\n") feed)
+image_line name I2 other = ends_after name _ (ends_after (codes ": I2: unknown version") (codes "\n") feed)
+image_line name I3 other = ends_after name _ (ends_after (codes ": I3: too short") (codes "\n") feed)
+image_line name I4 other = ends_after name _ (ends_after (codes ": I4: sizes out of range") (codes "\n") feed)
+image_line name I5 other = ends_after name _ (ends_after (codes ": I5: bytes after the end") (codes "\n") feed)
+image_line name Memory other = absurd (other refl)
+
+-- those of faults do
+pub fault_lines : (names : List (List ℕ)) (faults : List Fault) → AreLines (map (fault_line names) faults)
+fault_lines names [] = tt
+fault_lines names (fault ∷ faults) = (placed_line (get_or names (place_of fault).file []) (decimal (place_of fault).line) (fault_words fault), fault_lines names faults)
+
+-- What a sink was given to put
+
+-- nothing
+pub no_lines : (puts : List (List ℕ)) → PutsLines puts puts
+no_lines puts = ([], sym (append-nil puts), tt)
+
+-- a front of lines
+pub front_lines : (before lines after : List (List ℕ)) → AreLines lines → PutFront before lines after → PutsLines before after
+front_lines before lines after are (rest, h) = (h.front, h.put, all_left _ h.front rest (subst AreLines h.cut are))
+
+-- lines and then more of them
+pub more_lines : (before middle after : List (List ℕ)) → PutsLines before middle → PutsLines middle after → PutsLines before after
+more_lines before middle after (lines, put, are) (more, then, also) = (
+  lines ++ more,
+  then ∙ ap (λ (puts : List (List ℕ)). puts ++ more) put ∙ append_assoc before lines more,
+  all_append _ lines more are also,
+)
 
 -- a note of one line is that line
 pub one_line : (lines : List (Vec ℕ)) (line : List ℕ) → texts lines ≡ line ∷ [] → note_of lines ≡ line
@@ -48,19 +99,12 @@ all_below files names (fault ∷ faults) same h = (omega (arith, h.0.0, same), a
 pub have_names : (names : ℕ) (contents : List (List ℕ)) (faults : List Fault) → IsRefused contents faults → 0 < names → length contents ≡ names → AllByRecursion (λ f. (place_of f).file < names) faults
 have_names names contents faults is some same = all_below (length contents) names faults same (is.places (omega arith))
 
--- the note of a file that is no image is not empty
-pub some_unfit : (name : List ℕ) (fault : ImageError) → 0 < length (image_note name fault)
-some_unfit name fault = omega (arith, length-append name (codes ": " ++ image_fault fault))
-
--- nor is that of a text with a fault
-pub some_misread : (name : List ℕ) (fault : AsmFault) → 0 < length (asm_note name fault)
-some_misread name fault = omega (arith, length-append name (codes ":" ++ (decimal fault.line ++ (codes ": " ++ (asm_words fault.kind ++ codes "\n")))))
-
--- nor that of a script with one
-pub some_misscripted : (name : List ℕ) (fault : ScriptFault) → 0 < length (script_note name fault)
-some_misscripted name fault =
-    omega (arith, length-append name (codes ":" ++ (decimal fault.line ++ (codes ": " ++ (script_words fault.kind ++ codes "\n")))))
-
 -- the line at a number, in front of those after it
-pub note_at : (lines : List (Vec ℕ)) (i : ℕ) (line : Vec ℕ) → i < length lines → line ≡ get_or lines i line → line.items ++ note_of (drop (i + 1) lines) ≡ note_of (drop i lines)
-note_at lines i line h is = sym (at_drop_more note_of lines i line h ∙ ap (λ (v : Vec ℕ). v.items ++ note_of (drop (i + 1) lines)) (sym is))
+pub lines_at : (lines : List (Vec ℕ)) (i : ℕ) (line : Vec ℕ) → i < length lines → line ≡ get_or lines i line → texts (drop i lines) ≡ line.items ∷ texts (drop (i + 1) lines)
+lines_at lines i line h is = at_drop_more texts lines i line h ∙ ap (λ (v : Vec ℕ). v.items ∷ texts (drop (i + 1) lines)) (sym is)
+
+-- it ends in a line feed, where all do
+pub line_at : (lines : List (Vec ℕ)) (i : ℕ) (line : Vec ℕ) → AreLines (texts lines) → i < length lines → line ≡ get_or lines i line → ends_line line.items ≡ true
+line_at [] i line are h is = absurd (omega arith)
+line_at (v ∷ lines) zero line are h is = subst (λ (x : Vec ℕ). ends_line x.items ≡ true) (sym is) are.0
+line_at (v ∷ lines) (suc i) line are h is = line_at lines i line are.1 (omega arith) is

@@ -5,50 +5,54 @@ use Rattle.cool_ports.specs.ShelfFiles.{FileMap, MayHold}
 use Rattle.cool_ports.specs.SinkBytes.{appended, GotPrefix}
 use Rattle.cool_driver.specs.Statuses.{WRITE_FAULT, OUT_OF_MEMORY}
 
--- What a call was asked: its words, the files that the shelf tells, the shelf's count of faults before and after, and an input
--- that the source may have had left at first.
+-- What a call was asked: its words, the files that the shelf tells, the shelf's count of faults before and after, the names that it was asked for
+-- up to the end, and an input that the source may have had left at first.
 pub record Request : Type 0 where
   pub words : List (List ℕ)
   pub files : Option FileMap
   pub faults_before : ℕ
   pub faults_after : ℕ
+  pub asked_after : List (List ℕ)
   pub input : List ℕ
 
--- What a shelf tells, and its count of faults, before a call and after it.
+-- What a shelf tells, its count of faults before a call and after it, and the names that it was asked for up to its end.
 pub record ShelfUse : Type 0 where
   pub files : Option FileMap
   pub faults_before : ℕ
   pub faults_after : ℕ
+  pub asked_after : List (List ℕ)
 
--- how a shelf fared from one state to another, by what it tells and its count of faults
-abbrev pub shelf_use : {S : Type 0} → (S → Option FileMap) → (S → ℕ) → S → S → ShelfUse
-shelf_use files faults before after = record { files = files before; faults_before = faults before; faults_after = faults after }
+-- how a shelf fared from one state to another, by what it tells, its count of faults and what it was asked for
+abbrev pub shelf_use : {S : Type 0} → (S → Option FileMap) → (S → ℕ) → (S → List (List ℕ)) → S → S → ShelfUse
+shelf_use files faults asked before after = record {
+  files = files before;
+  faults_before = faults before;
+  faults_after = faults after;
+  asked_after = asked after;
+}
 
 -- how the shelf of a request fared
 abbrev pub shelf_of : Request → ShelfUse
-shelf_of r = record { files = r.files; faults_before = r.faults_before; faults_after = r.faults_after }
+shelf_of r = record { files = r.files; faults_before = r.faults_before; faults_after = r.faults_after; asked_after = r.asked_after }
 
--- the files of these names have these bytes, as far as the shelf tells
-abbrev pub AreHeld : Option FileMap → List (List ℕ) → List (List ℕ) → Type 0
-AreHeld files [] [] = Unit {0}
-AreHeld files [] (bytes ∷ contents) = ⊥
-AreHeld files (name ∷ names) [] = ⊥
-AreHeld files (name ∷ names) (bytes ∷ contents) = MayHold files name bytes × AreHeld files names contents
-
--- What a sink held, and its count of faults, before a call and after it.
+-- What a sink held, its count of faults, and what it was given to put, a list for each put, before a call and after it.
 pub record SinkUse : Type 0 where
   pub held_before : Option (List ℕ)
   pub held_after : Option (List ℕ)
   pub faults_before : ℕ
   pub faults_after : ℕ
+  pub puts_before : List (List ℕ)
+  pub puts_after : List (List ℕ)
 
--- how a sink fared from one state to another, by what it holds and its count of faults
-abbrev pub sink_use : {S : Type 0} → (S → Option (List ℕ)) → (S → ℕ) → S → S → SinkUse
-sink_use held faults before after = record {
+-- how a sink fared from one state to another, by what it holds, its count of faults and its puts
+abbrev pub sink_use : {S : Type 0} → (S → Option (List ℕ)) → (S → ℕ) → (S → List (List ℕ)) → S → S → SinkUse
+sink_use held faults puts before after = record {
   held_before = held before;
   held_after = held after;
   faults_before = faults before;
   faults_after = faults after;
+  puts_before = puts before;
+  puts_after = puts after;
 }
 
 -- these bytes and no others came, without a fault
@@ -87,6 +91,7 @@ request_of words shelf input = record {
   files = shelf.files;
   faults_before = shelf.faults_before;
   faults_after = shelf.faults_after;
+  asked_after = shelf.asked_after;
   input = input;
 }
 

@@ -23,6 +23,19 @@ names_asked (Some (debug script names limits)) = script ∷ names
 names_asked (Some (big n)) = []
 names_asked (Some session) = []
 
+-- what holds of the names of the source files, where the words ask for a command that reads some
+abbrev pub IfSources : Option Asked → (List (List ℕ) → Type 0) → Type 0
+IfSources None P = Unit {0}
+IfSources (Some (check names)) P = P names
+IfSources (Some (asm names)) P = P names
+IfSources (Some (build names)) P = P names
+IfSources (Some (run names limits fold)) P = P names
+IfSources (Some (eval names steps)) P = P names
+IfSources (Some (exec name limits)) P = Unit {0}
+IfSources (Some (debug script names limits)) P = P names
+IfSources (Some (big n)) P = Unit {0}
+IfSources (Some session) P = Unit {0}
+
 -- the words do not ask to take of the input
 abbrev pub TakesNoInput : List (List ℕ) → Type 0
 TakesNoInput given =

@@ -65,12 +65,6 @@ abbrev pub ComesTo : RunLimits → ImageParts → List ℕ → State → Type 0
 ComesTo limits image input at =
     ComesToCall image.text (segments_within limits image) limits.steps (start image (segments_within limits image) input) at
 
--- the state that a run left
-abbrev pub left_by : Outcome → State
-left_by (Running s) = s
-left_by (Exited code s) = s
-left_by (Trapped trap s) = s
-
 -- 0, 4 and 5 are exit codes of their own, and every other one is a failure
 abbrev pub exit_status : ℕ → ℕ
 exit_status code = if code == 0 then DONE else (if code == 4 then HEAP_LIMIT else (if code == 5 then STACK_LIMIT else FAILED))

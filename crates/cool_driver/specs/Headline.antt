@@ -11,7 +11,8 @@ use Rattle.mips_isa.specs.Calls.{State, call, print}
 use Rattle.spim_machine.specs.Ends.{FailsReading, call_with}
 use Rattle.cool_driver.specs.Calls.{Call, Got, GotPart}
 use Rattle.cool_driver.specs.Statuses.{READ_FAULT, WRITE_FAULT}
-use Rattle.cool_driver.specs.Execution.{heap_of, stack_of, segments_within, run_of, ComesTo, left_by, status_of}
+use Rattle.cool_driver.specs.Execution.{heap_of, stack_of, segments_within, run_of, ComesTo, status_of}
+use Rattle.spim_debug.specs.Notes.{state_in}
 
 -- the limits of a run, in bytes and instructions
 abbrev pub limits_of : RunLimits → Limits
@@ -20,8 +21,8 @@ limits_of limits = record { heap = heap_of limits; stack = stack_of limits; budg
 -- The call ended as the run of an image within the limits: with its status, its output and what it left of the input.
 pub record EndsAsImage (c : Call) (status : ℕ) (limits : RunLimits) (image : ImageParts) : Type 0 where
   pub status_is : status ≡ status_of (run_of limits image c.request.input)
-  pub wrote : Got c.out (left_by (run_of limits image c.request.input)).output
-  pub leaves : c.left ≡ (left_by (run_of limits image c.request.input)).input
+  pub wrote : Got c.out (state_in (run_of limits image c.request.input)).output
+  pub leaves : c.left ≡ (state_in (run_of limits image c.request.input)).input
 
 -- The run comes to a system call that reads, and the read failed: the output up to there came, and the call took a part of what it takes.
 pub record StopsReading (c : Call) (limits : RunLimits) (image : ImageParts) : Type 0 where

@@ -1,11 +1,13 @@
 -- Why a command goes no further: the lines that are told of it, and the status.
-use Rattle.std.specs.Prelude.{◌≡◌, ℕ, List, [], ◌∷◌, map}
+use Rattle.std.specs.Prelude.{◌≡◌, ℕ, List, [], ◌∷◌, ◌++◌, map}
 use Rattle.cool_faults.specs.declared.fault.Fault.{Fault}
 use Rattle.cool_faults.specs.Texts.{fault_line}
 use Rattle.cool_faults.specs.Verdicts.{IsRefused}
-use Rattle.cool_driver.specs.Calls.{SinkUse, Got}
+use Rattle.cool_syntax.specs.declared.TheConstants.{MOST_SOURCE_BYTES}
+use Rattle.cool_driver.specs.Calls.{ShelfUse, SinkUse, Got}
 use Rattle.cool_driver.specs.Contents.{texts}
 use Rattle.cool_driver.specs.Notes.{refused_note}
+use Rattle.cool_driver.specs.Sources.{AreRead}
 use Rattle.cool_driver.specs.Statuses.{REFUSED, code_of}
 use Rattle.cool_driver.specs.Telling.{AreLines, note_of, Noted}
 use Rattle.cool_driver.specs.declared.refusal.Refusal.{Refusal}
@@ -15,7 +17,7 @@ use Rattle.cool_driver.specs.declared.status.Status.TheVariants as statuses
 
 -- it is such a status and such a note, if memory did not run out for it
 abbrev pub IsTold : (ℕ → List ℕ → Type 0) → Refusal → Type 0
-IsTold Due (Told status lines) = AreLines lines.items × Due (code_of status) (note_of lines.items)
+IsTold Due (Told status lines) = AreLines (texts lines.items) × Due (code_of status) (note_of lines.items)
 IsTold Due Memory = Unit {0}
 
 -- it is this one line
@@ -33,9 +35,20 @@ abbrev pub IsDueToFaults : List (List ℕ) → List (List ℕ) → ℕ → List 
 IsDueToFaults names contents status note =
     (faults : List Fault) × IsRefused contents faults × (status ≡ REFUSED) × (note ≡ refused_note names faults)
 
--- the lines of a refusal are no empty ones
+-- the files of these names were read and have faults, and a sink was given to put a line for each fault, one after another
+abbrev pub PutsFaults : List (List ℕ) → ShelfUse → List (List ℕ) → List (List ℕ) → Type 0
+PutsFaults names shelf before after =
+    (contents : List (List ℕ)) × (faults : List Fault) × AreRead shelf MOST_SOURCE_BYTES names contents × IsRefused contents faults
+    × (after ≡ before ++ map (fault_line names) faults)
+
+-- where its status is 1, its lines are those of the faults
+abbrev pub AreFaultLines : List (List ℕ) → ShelfUse → Refusal → Type 0
+AreFaultLines names shelf (Told status lines) = code_of status ≡ REFUSED → PutsFaults names shelf [] (texts lines.items)
+AreFaultLines names shelf Memory = Unit {0}
+
+-- the lines of a refusal end in line feeds
 abbrev pub HasLines : Refusal → Type 0
-HasLines (Told status lines) = AreLines lines.items
+HasLines (Told status lines) = AreLines (texts lines.items)
 HasLines Memory = Unit {0}
 
 -- It was told, and its status answered, or a write failed.

@@ -8,17 +8,17 @@ use Rattle.cool_faults.specs.declared.fault.Fault.{Fault}
 use Rattle.cool_faults.specs.Files.{total}
 use Rattle.cool_faults.specs.Verdicts.{IsAccepted, IsFaultList, IsRefused}
 use Rattle.cool_ports.specs.Counts.{Rose}
-use Rattle.cool_ports.specs.ShelfFiles.{FileMap, IsMissing, IsLonger}
+use Rattle.cool_ports.specs.ShelfFiles.{FileMap, IsMissing, IsLonger, AreHeld}
 use Rattle.cool_ports.specs.declared.shelf.ShelfFault.{ShelfFault}
 use Rattle.cool_ports.specs.declared.shelf.ShelfFault.TheVariants as shelf_faults
-use Rattle.cool_runtime.specs.Contents.{AreBytes}
 use Rattle.cool_words.specs.Plans.{is_file_name, words_of}
 use Rattle.cool_driver.specs.Contents.{texts}
-use Rattle.cool_driver.specs.Calls.{AreHeld, Call, Got, ShelfUse, shelf_of, HasTold, UnlessCutShort}
+use Rattle.cool_driver.specs.Calls.{Call, Got, ShelfUse, shelf_of, HasTold, UnlessCutShort}
 use Rattle.cool_driver.specs.Notes.{refused_note, missing_note, unread_note, too_many_note, too_large_note}
 use Rattle.cool_driver.specs.Statuses.{REFUSED, FILE_FAULT}
 use Rattle.cool_driver.specs.declared.reading.ReadError.{ReadError}
 use Rattle.cool_driver.specs.declared.reading.ReadError.TheVariants.{Memory, Refused}
+use Rattle.lists.specs.Bytes.{AreBytes}
 
 -- The sources of a program: a file's name and bytes for each, one file at least, and neither too many nor too large.
 pub record AreSources (names : List (String Global)) (contents : List (Vec ℕ)) : Type 0 where
@@ -29,8 +29,6 @@ pub record AreSources (names : List (String Global)) (contents : List (Vec ℕ))
   pub few : length contents ≤ MOST_FILES
   pub small : total (texts contents) ≤ MOST_SOURCE_BYTES
 
--- Where the reading of files stops: at one that the shelf refuses, when those before it were read.
-
 -- why the shelf refuses a file of this name that may have so many bytes
 abbrev pub IsCause : Option FileMap → ℕ → ℕ → List ℕ → ℕ → ShelfFault → Type 0
 IsCause files before after name most shelf_faults.Missing = IsMissing files name before after
@@ -38,38 +36,12 @@ IsCause files before after name most shelf_faults.Failed = Rose before after
 IsCause files before after name most shelf_faults.TooLarge = IsLonger files name most before after
 IsCause files before after name most shelf_faults.Memory = ⊥
 
--- the files in front of one were read, and the shelf refuses that one
-pub record IsStopAt (files : Option FileMap) (before after : ℕ) (names : List (List ℕ)) (most : ℕ) (name : List ℕ) (fault : ShelfFault) : Type 0 where
-  pub front : List (List ℕ)
-  pub rest : List (List ℕ)
-  pub contents : List (List ℕ)
-  pub stands : names ≡ front ++ name ∷ rest
-  pub held : AreHeld files front contents
-  pub within : total contents ≤ most
-  pub cause : IsCause files before after name (most - total contents) fault
-
-abbrev pub IsStop : Option FileMap → ℕ → ℕ → List (List ℕ) → ℕ → ReadError → Type 0
-IsStop files before after names most Memory = Unit {0}
-IsStop files before after names most (Refused name fault) = IsStopAt files before after names most name.now fault
-
--- Where a shelf had been asked for `before`, it was then asked for the names in front of one and for that one, each once, in order.
-pub record AskedUpTo (names : List (List ℕ)) (name : List ℕ) (before after : List (List ℕ)) : Type 0 where
-  pub front : List (List ℕ)
-  pub rest : List (List ℕ)
-  pub stands : names ≡ front ++ name ∷ rest
-  pub asked : after ≡ before ++ (front ++ name ∷ [])
-
--- The same of some of the names, from the first on.
+-- Where a shelf had been asked for `before`, it was then asked for some of the names, from the first on, each once, in order.
 pub record AskedFront (names before after : List (List ℕ)) : Type 0 where
   pub front : List (List ℕ)
   pub rest : List (List ℕ)
   pub stands : names ≡ front ++ rest
   pub asked : after ≡ before ++ front
-
--- What it was asked for where not all files were read: it refuses the last of these names, or memory ran out.
-abbrev pub AskedFor : List (List ℕ) → ReadError → List (List ℕ) → List (List ℕ) → Type 0
-AskedFor names Memory before after = AskedFront names before after
-AskedFor names (Refused name fault) before after = AskedUpTo names name.now before after
 
 -- The files of these names have these bytes, as far as the shelf tells, and are not too many, and have not more bytes than this; and no fault of
 -- the shelf came.
@@ -79,7 +51,12 @@ pub record AreRead (shelf : ShelfUse) (most : ℕ) (names contents : List (List 
   pub within : total contents ≤ most
   pub calm : shelf.faults_after ≡ shelf.faults_before
 
--- The files before the one of this name have these bytes, as far as the shelf tells, and not more than this.
+-- what these texts end with
+abbrev pub EndsWith : List (List ℕ) → List (List ℕ) → Type 0
+EndsWith last all = (before : List (List ℕ)) × (all ≡ before ++ last)
+
+-- The files before the one of this name have these bytes, as far as the shelf tells, and not more than this; the shelf was last asked for them and
+-- for that one, each once, in order.
 pub record AreReadUpTo (shelf : ShelfUse) (most : ℕ) (names : List (List ℕ)) (name : List ℕ) (contents : List (List ℕ)) : Type 0 where
   pub front : List (List ℕ)
   pub rest : List (List ℕ)
@@ -87,6 +64,17 @@ pub record AreReadUpTo (shelf : ShelfUse) (most : ℕ) (names : List (List ℕ))
   pub few : length names ≤ MOST_FILES
   pub held : AreHeld shelf.files front contents
   pub within : total contents ≤ most
+  pub asked : EndsWith (front ++ name ∷ []) shelf.asked_after
+
+-- where the reading of files stops: at one that the shelf refuses, when those before it were read
+abbrev pub IsStopAt : ShelfUse → List (List ℕ) → ℕ → List ℕ → ShelfFault → Type 0
+IsStopAt shelf names most name fault =
+    (contents : List (List ℕ)) × AreReadUpTo shelf most names name contents
+    × IsCause shelf.files shelf.faults_before shelf.faults_after name (most - total contents) fault
+
+abbrev pub IsStop : ShelfUse → List (List ℕ) → ℕ → ReadError → Type 0
+IsStop shelf names most Memory = Unit {0}
+IsStop shelf names most (Refused name fault) = IsStopAt shelf names most name.now fault
 
 -- Why the files of these names, which may have so many bytes, were not read, and the note of it.
 pub data AreUnread (shelf : ShelfUse) (most : ℕ) (names : List (List ℕ)) : List ℕ → Type 0 where

@@ -1,5 +1,5 @@
 -- How notes are told: the lines of a note, the note of a file that was not read, that bytes were written, and how a machine halted.
-use Rattle.std.specs.Prelude.{◌≡◌, ◌≢◌, ℕ, ◌<◌, ◌⊎◌, List, [], Option, Some, None, length}
+use Rattle.std.specs.Prelude.{◌≡◌, ◌≢◌, ℕ, ◌==◌, ◌⊎◌, Bool, true, false, List, [], ◌∷◌, ◌++◌, Option, Some, None}
 use Rattle.std.specs.List.{concat, AllByRecursion}
 use Rattle.std.specs.Global.{Vec}
 use Rattle.cool_ports.specs.declared.shelf.ShelfFault.{ShelfFault}
@@ -13,10 +13,21 @@ use Rattle.cool_driver.specs.Statuses.{code_of}
 use Rattle.cool_driver.specs.declared.status.Status.{Status}
 use Rattle.cool_driver.specs.declared.status.Status.TheVariants as statuses
 
--- lines of a note, none of them empty, and the note that they are
-abbrev pub AreLines : List (Vec ℕ) → Type 0
-AreLines lines = AllByRecursion (λ line. 0 < length line.items) lines
+-- the text ends in a line feed
+unfoldable pub ends_line : List ℕ → Bool
+ends_line [] = false
+ends_line (byte ∷ []) = byte == 10
+ends_line (byte ∷ next ∷ rest) = ends_line (next ∷ rest)
 
+-- each of the texts does
+abbrev pub AreLines : List (List ℕ) → Type 0
+AreLines = AllByRecursion (λ text. ends_line text ≡ true)
+
+-- a sink that was given `before` was then given such texts, a put for each, and so was given `after`
+abbrev pub PutsLines : List (List ℕ) → List (List ℕ) → Type 0
+PutsLines before after = (lines : List (List ℕ)) × (after ≡ before ++ lines) × AreLines lines
+
+-- the note that lines are
 abbrev pub note_of : List (Vec ℕ) → List ℕ
 note_of lines = concat (texts lines)
 

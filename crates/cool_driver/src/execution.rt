@@ -1,6 +1,6 @@
 //! Runs of images within limits.
 
-ghost use Rattle.std.specs.Prelude.{◌≡◌, List, ℕ, Bool, false};
+ghost use Rattle.std.specs.Prelude.{◌≡◌, ◌≢◌, List, ℕ, Bool, false};
 ghost use Rattle.cool_ports.specs.Answers.{Leaves};
 ghost use Rattle.cool_ports.specs.Taking.{Took};
 ghost use Rattle.cool_driver.specs.Calls.{Request, sink_use};
@@ -10,8 +10,8 @@ ghost use Rattle.cool_driver.specs.Execution.{heap_of, stack_of};
 ghost use Rattle.cool_words.specs.Plans.{IsBounded};
 ghost use Rattle.spim_memory.specs.Memory.{IsLimits};
 ghost use Rattle.cool_driver.specs.Runs.{DueToRun, PiecesOfRun};
-ghost use Rattle.cool_driver.specs.Statuses.{code_of};
-ghost use Rattle.cool_driver.specs.Telling.{HaltNoted};
+ghost use Rattle.cool_driver.specs.Statuses.{REFUSED, code_of};
+ghost use Rattle.cool_driver.specs.Telling.{HaltNoted, PutsLines};
 
 use crate::notes::{HEAP_LIMIT, READ_FAULT, STACK_LIMIT, STEP_LIMIT, tell, trap_note};
 use crate::status::Status;
@@ -45,12 +45,14 @@ pub fn execute<I: Source, O: Sink, E: Sink>(
     notes: &mut E,
 ) -> Status
     requires { IsBounded limits }
+    ensures lines { PutsLines (E.puts notes.old) (E.puts notes.new) }
+    ensures other { code_of result ≢ REFUSED }
     ensures taken { (ended : Bool) × Took false ended (I.past input.old) (I.past input.new) (I.left input.old) (I.left input.new) }
     ensures ends { (r : Request) (rest : List ℕ) → r.faults_after ≡ r.faults_before → Leaves (I.past input.old) (I.past input.new) r.input rest
         → Goes (Comes (DueToRun limits image.now r.input) (PiecesOfRun limits image.now r.input)) (record {
           request = r;
-          out = sink_use O.held O.faults out.old out.new;
-          notes = sink_use E.held E.faults notes.old notes.new;
+          out = sink_use O.held O.faults O.puts out.old out.new;
+          notes = sink_use E.held E.faults E.puts notes.old notes.new;
           left = rest;
           input_before = I.faults input.old;
           input_after = I.faults input.new;
@@ -64,8 +66,11 @@ pub fn execute<I: Source, O: Sink, E: Sink>(
 }
 
 /// Writes how a machine halted, and answers its status, or that the write failed.
+#[tactic(auto, using(crate::proofs::LinesOfNotes::no_lines), unfolding(crate::specs::Telling::ends_line))]
 pub fn tell_halt<E: Sink>(notes: &mut E, halt: Halt) -> Status
-    ensures { HaltNoted (sink_use E.held E.faults notes.old notes.new) halt result }
+    ensures noted { HaltNoted (sink_use E.held E.faults E.puts notes.old notes.new) halt result }
+    ensures lines { PutsLines (E.puts notes.old) (E.puts notes.new) }
+    ensures other { code_of result ≢ REFUSED }
 {
     match halt {
         Halt::Exit(0) => Status::Done,

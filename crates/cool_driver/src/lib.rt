@@ -8,13 +8,15 @@ ghost use Rattle.cool_ports.specs.Answers.{Leaves};
 ghost use Rattle.cool_ports.specs.Counts.{Rose};
 ghost use Rattle.cool_ports.specs.SinkBytes.{appended, GotPrefix};
 ghost use Rattle.cool_ports.specs.Taking.{Took};
-ghost use Rattle.cool_driver.specs.Calls.{sink_use};
-ghost use Rattle.cool_driver.specs.CommandLine.{words_of, asked_for, names_asked, TakesNoInput};
+ghost use Rattle.cool_driver.specs.Calls.{shelf_use, sink_use};
+ghost use Rattle.cool_driver.specs.CommandLine.{words_of, asked_for, names_asked, IfSources, TakesNoInput};
 ghost use Rattle.cool_driver.specs.Notes.{usage_note};
 ghost use Rattle.cool_driver.specs.Ends.{Ends};
 ghost use Rattle.cool_driver.specs.Limits.{AreLimits};
+ghost use Rattle.cool_driver.specs.Refusals.{PutsFaults};
 ghost use Rattle.cool_driver.specs.Sources.{AskedFront};
-ghost use Rattle.cool_driver.specs.Statuses.{READ_FAULT};
+ghost use Rattle.cool_driver.specs.Statuses.{READ_FAULT, REFUSED};
+ghost use Rattle.cool_driver.specs.Telling.{PutsLines};
 ghost use Rattle.cool_words.specs.Plans.Asked.{session};
 
 mod commands;
@@ -48,6 +50,7 @@ pub const MOST_IMAGE_BYTES: u64 = 532_676_628;
 pub const MOST_BIG_OUTPUT: u64 = 65_536;
 
 /// Does what the words ask, and answers the exit status. The words are those after the program's own name.
+#[tactic(auto, unfolding(crate::specs::Telling::ends_line))]
 pub fn cool<F: Shelf, I: Source, O: Sink, E: Sink>(
     alloc: Global,
     words: &[String],
@@ -64,6 +67,13 @@ pub fn cool<F: Shelf, I: Source, O: Sink, E: Sink>(
 
     // It is asked for the files of the command line, in order, each once, up to one that it refuses.
     ensures asked { AskedFront (names_asked (asked_for (words_of words.now))) (F.asked files.old) (F.asked files.new) }
+
+    // Each text that it puts to the notes ends in a line feed.
+    ensures lines { PutsLines (E.puts notes.old) (E.puts notes.new) }
+
+    // Where source files are refused for their faults, it puts a line for each fault.
+    ensures refused { result ≡ REFUSED → IfSources (asked_for (words_of words.now))
+        (λ names. PutsFaults names (shelf_use F.files F.faults F.asked files.old files.new) (E.puts notes.old) (E.puts notes.new)) }
 
     // Only `run`, `exec`, `debug`, `eval` and `session` take of the input.
     ensures input { TakesNoInput (words_of words.now) → input.new ≡ input.old }
@@ -82,10 +92,11 @@ pub fn cool<F: Shelf, I: Source, O: Sink, E: Sink>(
         files = F.files files.old;
         faults_before = F.faults files.old;
         faults_after = F.faults files.new;
+        asked_after = F.asked files.new;
         input = given;
       };
-      out = sink_use O.held O.faults out.old out.new;
-      notes = sink_use E.held E.faults notes.old notes.new;
+      out = sink_use O.held O.faults O.puts out.old out.new;
+      notes = sink_use E.held E.faults E.puts notes.old notes.new;
       left = rest;
       input_before = I.faults input.old;
       input_after = I.faults input.new;

@@ -1,9 +1,11 @@
 //! The notes: what they say, and how they are written.
 
-ghost use Rattle.std.specs.Prelude.{◌≡◌, ◌≢◌, ◌+◌, ◌<◌, ◌≤◌, ◌++◌, length, IfOk, Some, string_bytes};
+ghost use Rattle.std.specs.Prelude.{◌≡◌, ◌≢◌, ◌+◌, ◌≤◌, [], ◌∷◌, ◌++◌, length, true, IfOk, Some, string_bytes};
 ghost use Rattle.cool_driver.specs.Calls.{sink_use};
+ghost use Rattle.cool_driver.specs.Contents.{texts};
 ghost use Rattle.cool_driver.specs.Notes.{asm_note, asm_words, image_note, script_note, script_words, command_note, trap_words, trap_note};
-ghost use Rattle.cool_driver.specs.Telling.{AreLines, Noted, fault_note, note_of};
+ghost use Rattle.cool_driver.specs.Statuses.{REFUSED, code_of};
+ghost use Rattle.cool_driver.specs.Telling.{AreLines, Noted, PutsLines, ends_line, fault_note, note_of};
 
 use crate::status::Status;
 use arrayvec::ArrayString;
@@ -33,8 +35,11 @@ pub const READ_FAULT: &[u8] = b"cool: read fault\n";
 
 /// Writes a note at once and answers this status, or that the write failed.
 pub fn tell<E: Sink>(notes: &mut E, status: Status, note: &[u8]) -> Status
-    requires { 0 < length note.now }
-    ensures { Noted (sink_use E.held E.faults notes.old notes.new) note.now status result }
+    requires { ends_line note.now ≡ true }
+    ensures noted { Noted (sink_use E.held E.faults E.puts notes.old notes.new) note.now status result }
+    ensures put { E.puts notes.new ≡ E.puts notes.old ++ note.now ∷ [] }
+    ensures lines { PutsLines (E.puts notes.old) (E.puts notes.new) }
+    ensures other { code_of status ≢ REFUSED → code_of result ≢ REFUSED }
 {
     match notes.put(note) {
         Ok(()) => status,
@@ -44,8 +49,10 @@ pub fn tell<E: Sink>(notes: &mut E, status: Status, note: &[u8]) -> Status
 
 /// Writes lines one by one and answers this status, or that a write failed.
 pub fn tell_lines<E: Sink>(notes: &mut E, status: Status, lines: &[Vec<u8>]) -> Status
-    requires { AreLines lines.now }
-    ensures { Noted (sink_use E.held E.faults notes.old notes.new) (note_of lines.now) status result }
+    requires { AreLines (texts lines.now) }
+    ensures noted { Noted (sink_use E.held E.faults E.puts notes.old notes.new) (note_of lines.now) status result }
+    ensures put { result ≢ Status.WriteFault → E.puts notes.new ≡ E.puts notes.old ++ texts lines.now }
+    ensures lines { PutsLines (E.puts notes.old) (E.puts notes.new) }
 {
     for line in lines {
         if notes.put(line).is_err() {

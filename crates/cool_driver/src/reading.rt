@@ -1,12 +1,14 @@
 //! Reading the files of a command.
 
-ghost use Rattle.std.specs.Prelude.{◌≡◌, ◌<◌, ◌≤◌, ◌^◌, ◌++◌, length, IfOk, IfErr, OnOk};
+ghost use Rattle.std.specs.Prelude.{◌≡◌, ◌<◌, ◌≤◌, ◌^◌, ◌++◌, length, IfOk, IfErr, OnOk, OnErr};
 ghost use Rattle.std.specs.List.{AllByRecursion};
 ghost use Rattle.cool_faults.specs.Files.{total};
-ghost use Rattle.cool_runtime.specs.Contents.{AreBytes};
+ghost use Rattle.lists.specs.Bytes.{AreBytes};
+ghost use Rattle.cool_ports.specs.ShelfFiles.{AreHeld};
 ghost use Rattle.cool_words.specs.Plans.{words_of};
-ghost use Rattle.cool_driver.specs.Calls.{AreHeld};
-ghost use Rattle.cool_driver.specs.Sources.{AskedFor, IsStop};
+ghost use Rattle.cool_syntax.specs.declared.TheConstants.{MOST_FILES};
+ghost use Rattle.cool_driver.specs.Calls.{shelf_use};
+ghost use Rattle.cool_driver.specs.Sources.{AskedFront, IsStop};
 ghost use Rattle.cool_driver.specs.Contents.{texts};
 
 use cool_ports::{Shelf, ShelfFault};
@@ -50,7 +52,8 @@ pub fn read_files<'a, F: Shelf>(
     most: u64,
     files: &mut F,
 ) -> Result<Vec<Vec<u8>>, ReadError<'a>>
-    requires { most < 2 ^ 40 }
+    requires most { most < 2 ^ 40 }
+    requires few { length names.now ≤ MOST_FILES }
     ensures held { IfOk result (λ contents. AreHeld (F.files files.old) (words_of names.now) (texts contents.items)) }
     ensures bytes { IfOk result (λ contents. AllByRecursion AreBytes (texts contents.items)) }
     ensures within { IfOk result (λ contents. total (texts contents.items) ≤ most) }
@@ -58,8 +61,8 @@ pub fn read_files<'a, F: Shelf>(
     ensures kept { F.files files.new ≡ F.files files.old }
     ensures count { F.faults files.old ≤ F.faults files.new }
     ensures asked { OnOk result (F.asked files.new ≡ F.asked files.old ++ words_of names.now) }
-    ensures asked_for { IfErr result (λ error. AskedFor (words_of names.now) error (F.asked files.old) (F.asked files.new)) }
-    ensures stop { IfErr result (IsStop (F.files files.old) (F.faults files.old) (F.faults files.new) (words_of names.now) most) }
+    ensures asked_for { OnErr result (AskedFront (words_of names.now) (F.asked files.old) (F.asked files.new)) }
+    ensures stop { IfErr result (IsStop (shelf_use F.files F.faults F.asked files.old files.new) (words_of names.now) most) }
 {
     let mut contents = Vec::new(alloc);
     let mut left = most;

@@ -5,10 +5,11 @@ ghost use Rattle.std.specs.List.{AllByRecursion};
 ghost use Rattle.cool_faults.specs.Texts.{fault_line};
 ghost use Rattle.cool_faults.specs.Verdicts.{place_of};
 ghost use Rattle.cool_words.specs.Plans.{words_of};
-ghost use Rattle.cool_driver.specs.Calls.{sink_use};
+ghost use Rattle.cool_driver.specs.Calls.{ShelfUse, sink_use};
 ghost use Rattle.cool_driver.specs.Contents.{texts};
-ghost use Rattle.cool_driver.specs.Refusals.{AreLinesOf, HasLines, IsLine, RefusalNoted};
-ghost use Rattle.cool_driver.specs.Telling.{fault_note};
+ghost use Rattle.cool_driver.specs.Refusals.{AreFaultLines, AreLinesOf, HasLines, IsLine, PutsFaults, RefusalNoted};
+ghost use Rattle.cool_driver.specs.Statuses.{REFUSED, code_of};
+ghost use Rattle.cool_driver.specs.Telling.{PutsLines, fault_note};
 
 use crate::notes::{file_note, tell_lines};
 use crate::status::Status;
@@ -106,7 +107,10 @@ fn lines_of_faults(
 /// Writes why the command goes no further, and answers the status of that, or that a write failed.
 pub fn tell_refusal<E: Sink>(notes: &mut E, refusal: &Refusal) -> Status
     requires { HasLines refusal.now }
-    ensures { RefusalNoted (sink_use E.held E.faults notes.old notes.new) refusal.now result }
+    ensures noted { RefusalNoted (sink_use E.held E.faults E.puts notes.old notes.new) refusal.now result }
+    ensures lines { PutsLines (E.puts notes.old) (E.puts notes.new) }
+    ensures put { (names : List (List ℕ)) (shelf : ShelfUse) → AreFaultLines names shelf refusal.now → code_of result ≡ REFUSED
+        → PutsFaults names shelf (E.puts notes.old) (E.puts notes.new) }
 {
     match refusal {
         Refusal::Told(status, lines) => tell_lines(notes, *status, lines),

@@ -3,11 +3,12 @@
 ghost use Rattle.std.specs.Prelude.{◌≡◌, ◌<◌, ◌≤◌, ◌^◌, length, IfErr, IfOk, true};
 ghost use Rattle.std.specs.List.{list_all, AllByRecursion};
 ghost use Rattle.cool_faults.specs.Verdicts.{IsAccepted};
-ghost use Rattle.cool_runtime.specs.Contents.{AreBytes};
+ghost use Rattle.lists.specs.Bytes.{AreBytes};
+ghost use Rattle.cool_syntax.specs.declared.TheConstants.{MOST_SOURCE_BYTES};
 ghost use Rattle.cool_words.specs.Plans.{is_file_name, words_of};
-ghost use Rattle.cool_driver.specs.Calls.{shelf_use};
+ghost use Rattle.cool_driver.specs.Calls.{ShelfUse, shelf_use};
 ghost use Rattle.cool_driver.specs.Contents.{texts};
-ghost use Rattle.cool_driver.specs.Refusals.{IsDueToFaults, IsTold};
+ghost use Rattle.cool_driver.specs.Refusals.{AreFaultLines, IsDueToFaults, IsTold};
 ghost use Rattle.cool_driver.specs.Sources.{AskedFront, AreRead, IsDueUnread, IsNoProgram, IsProgram, AreSources};
 
 use crate::notes::TOO_MANY_FILES;
@@ -31,8 +32,9 @@ pub fn read_program<F: Shelf>(
     ensures kept { F.files files.new ≡ F.files files.old }
     ensures asked { AskedFront (words_of names.now) (F.asked files.old) (F.asked files.new) }
     ensures count { F.faults files.old ≤ F.faults files.new }
-    ensures program { IfOk result (IsProgram (shelf_use F.files F.faults files.old files.new) (words_of names.now)) }
-    ensures refused { IfErr result (IsTold (IsNoProgram (shelf_use F.files F.faults files.old files.new) (words_of names.now))) }
+    ensures program { IfOk result (IsProgram (shelf_use F.files F.faults F.asked files.old files.new) (words_of names.now)) }
+    ensures refused { IfErr result (IsTold (IsNoProgram (shelf_use F.files F.faults F.asked files.old files.new) (words_of names.now))) }
+    ensures lined { IfErr result (AreFaultLines (words_of names.now) (shelf_use F.files F.faults F.asked files.old files.new)) }
 {
     match read_sources(alloc, names, MOST_SOURCE_BYTES, files) {
         Ok(contents) => accept_sources(alloc, names, &contents),
@@ -51,9 +53,9 @@ pub fn read_sources<F: Shelf>(
     ensures kept { F.files files.new ≡ F.files files.old }
     ensures asked { AskedFront (words_of names.now) (F.asked files.old) (F.asked files.new) }
     ensures count { F.faults files.old ≤ F.faults files.new }
-    ensures read { IfOk result (λ contents. AreRead (shelf_use F.files F.faults files.old files.new) most (words_of names.now) (texts contents.items)) }
+    ensures read { IfOk result (λ contents. AreRead (shelf_use F.files F.faults F.asked files.old files.new) most (words_of names.now) (texts contents.items)) }
     ensures bytes { IfOk result (λ contents. AllByRecursion AreBytes (texts contents.items)) }
-    ensures refused { IfErr result (IsTold (IsDueUnread (shelf_use F.files F.faults files.old files.new) most (words_of names.now))) }
+    ensures refused { IfErr result (IsTold (IsDueUnread (shelf_use F.files F.faults F.asked files.old files.new) most (words_of names.now))) }
 {
     if names.len() > MOST_FILES {
         return Err(refuse_by_line(alloc, Status::FileFault, TOO_MANY_FILES));
@@ -74,6 +76,8 @@ fn accept_sources(
     requires sources { AreSources names.now contents.now }
     ensures program { IfOk result (IsAccepted (texts contents.now)) }
     ensures refused { IfErr result (IsTold (IsDueToFaults (words_of names.now) (texts contents.now))) }
+    ensures lined { (shelf : ShelfUse) → AreRead shelf MOST_SOURCE_BYTES (words_of names.now) (texts contents.now)
+        → IfErr result (AreFaultLines (words_of names.now) shelf) }
 {
     match accept(alloc, contents)? {
         Verdict::Accepted(program) => Ok(program),

@@ -1,17 +1,21 @@
-use Rattle.std.proofs.Common.{List, ℕ, Some, [], refl, sym, ap, ◌∙◌, false}
-use Rattle.std.specs.Prelude.{Err, String, string_bytes}
-use Rattle.std.specs.Global.{Global}
+use Rattle.std.proofs.Common.{◌≡◌, List, ℕ, [], refl, sym, ap, ◌∙◌, false, arith}
+use Rattle.std.specs.Prelude.{Err, string_bytes}
 use Rattle.cool_ports.proofs.InputsInParts.{took_nothing, leaves_same}
 use Rattle.cool_words.specs.declared.plan.RunLimits.{RunLimits}
-use Rattle.cool_words.specs.Plans.Asked.{check, asm, build, run, eval, exec, debug, big, session}
-use Rattle.cool_driver.specs.CommandLine.{words_of}
+use Rattle.cool_words.specs.Plans.{plan_of}
+use Rattle.cool_driver.specs.CommandLine.{asked_for, words_of}
 use Rattle.cool_driver.proofs.ReadingNames.{asked_none}
 use Rattle.cool_driver.proofs.DevicesOfCalls.{got_nothing}
-use Rattle.cool_driver.proofs.EndsByCommand.{ends_by, usage_ends, short_ends}
-use Rattle.cool_driver.proofs.Plans.{asked_is}
+use Rattle.cool_driver.proofs.EndsByCommand.{command_ends, usage_ends, short_ends}
 use Rattle.cool_driver.proofs.rooms.Sessions.{read_fault_of_seven}
+use Rattle.cool_driver.proofs.LinesOfNotes.{no_lines}
 use Rattle.cool_driver.proofs.cool.Goals as goal
 use Rattle.cool_driver.proofs.cool.Goals.{in-Ok-Check, in-Ok-Asm, in-Ok-Build, in-Ok-Run, in-Ok-Eval, in-Ok-Exec, in-Ok-Debug, in-Ok-Big, in-Ok-Session, in-Err-Usage, in-Err-Memory}
+
+-- what is asked for is what the words ask for
+asked_is : (given : List (List ℕ)) → asked_for given ≡ plan_of given
+unfolding asked_for
+asked_is given = refl
 
 pub returns-clause-taken : goal.returns-clause-taken
 returns-clause-taken g c =
@@ -78,71 +82,59 @@ returns-clause-ends g c given rest leaves =
     elim c.match-read_words.branch [
       | in-Ok-Check w ↦
           let here = rw w.input-is at leaves in
-          let asked = asked_is words ∙ (rw w.in-Ok-Check.field-0-is at w.in-Ok-Check.ensures.plan) ∙ ap (λ (names : List (String Global)). Some (check (words_of names))) (sym w.deref.ensures.value) in
-          let goes = w.check_files-status.ensures.ends words given (g.I.Source.faults c.args.input.now) _ (got_nothing _ _) in
+          let asked = asked_is words ∙ (rw (w.in-Ok-Check.field-0-is, ← w.deref.ensures.value) at w.in-Ok-Check.ensures.plan) in
           rw (c.code.ensures, w.status-is, w.files-is, w.out-is, w.notes-is, w.input-is, leaves_same _ given rest here)
-          (ends_by _ _ (Some (check (words_of w.deref.result.now))) asked goes.devices goes.ends (λ e. absurd (goes.asked e)))
+          (command_ends asked (w.check_files-status.ensures.ends words given (g.I.Source.faults c.args.input.now) _ (got_nothing _ _)))
       | in-Ok-Asm w ↦
           let here = rw w.input-is at leaves in
-          let asked = asked_is words ∙ (rw w.in-Ok-Asm.field-0-is at w.in-Ok-Asm.ensures.plan) ∙ ap (λ (names : List (String Global)). Some (asm (words_of names))) (sym w.deref-in-Ok-Asm.ensures.value) in
-          let goes = w.build_files-status.ensures.ends words given (g.I.Source.faults c.args.input.now) in
+          let asked = asked_is words ∙ (rw (w.in-Ok-Asm.field-0-is, ← w.deref-in-Ok-Asm.ensures.value) at w.in-Ok-Asm.ensures.plan) in
           rw (c.code.ensures, w.status-is, w.files-is, w.out-is, w.notes-is, w.input-is, leaves_same _ given rest here)
-          (ends_by _ _ (Some (asm (words_of w.deref-in-Ok-Asm.result.now))) asked goes.devices goes.ends (λ e. absurd (goes.asked e)))
+          (command_ends asked (w.build_files-status.ensures.ends words given (g.I.Source.faults c.args.input.now)))
       | in-Ok-Build w ↦
           let here = rw w.input-is at leaves in
-          let asked = asked_is words ∙ (rw w.in-Ok-Build.field-0-is at w.in-Ok-Build.ensures.plan) ∙ ap (λ (names : List (String Global)). Some (build (words_of names))) (sym w.deref-in-Ok-Build.ensures.value) in
-          let goes = w.build_files-status-in-Ok-Build.ensures.ends words given (g.I.Source.faults c.args.input.now) in
+          let asked = asked_is words ∙ (rw (w.in-Ok-Build.field-0-is, ← w.deref-in-Ok-Build.ensures.value) at w.in-Ok-Build.ensures.plan) in
           rw (c.code.ensures, w.status-is, w.files-is, w.out-is, w.notes-is, w.input-is, leaves_same _ given rest here)
-          (ends_by _ _ (Some (build (words_of w.deref-in-Ok-Build.result.now))) asked goes.devices goes.ends (λ e. absurd (goes.asked e)))
+          (command_ends asked (w.build_files-status-in-Ok-Build.ensures.ends words given (g.I.Source.faults c.args.input.now)))
       | in-Ok-Run w ↦
           let here = rw w.input-is at leaves in
-          let asked = asked_is words ∙ (rw w.in-Ok-Run.field-0-is at w.in-Ok-Run.ensures.plan) ∙ ap (λ (names : List (String Global)). Some (run (words_of names) w.in-Ok-Run.limits w.in-Ok-Run.fold)) (sym w.deref-in-Ok-Run.ensures.value) in
-          let goes = w.run_files-status.ensures.ends words given rest here in
+          let asked = asked_is words ∙ (rw (w.in-Ok-Run.field-0-is, ← w.deref-in-Ok-Run.ensures.value) at w.in-Ok-Run.ensures.plan) in
           rw (c.code.ensures, w.status-is, w.files-is, w.out-is, w.notes-is, w.input-is)
-          (ends_by _ _ (Some (run (words_of w.deref-in-Ok-Run.result.now) w.in-Ok-Run.limits w.in-Ok-Run.fold)) asked goes.devices goes.ends (λ e. absurd (goes.asked e)))
+          (command_ends asked (w.run_files-status.ensures.ends words given rest here))
       | in-Ok-Eval w ↦
           let here = rw w.input-is at leaves in
-          let asked = asked_is words ∙ (rw w.in-Ok-Eval.field-0-is at w.in-Ok-Eval.ensures.plan) ∙ ap (λ (names : List (String Global)). Some (eval (words_of names) w.in-Ok-Eval.steps)) (sym w.deref-in-Ok-Eval.ensures.value) in
-          let goes = w.evaluate_files-status.ensures.ends words given rest here in
+          let asked = asked_is words ∙ (rw (w.in-Ok-Eval.field-0-is, ← w.deref-in-Ok-Eval.ensures.value) at w.in-Ok-Eval.ensures.plan) in
           rw (c.code.ensures, w.status-is, w.files-is, w.out-is, w.notes-is, w.input-is)
-          (ends_by _ _ (Some (eval (words_of w.deref-in-Ok-Eval.result.now) w.in-Ok-Eval.steps)) asked goes.devices goes.ends (λ e. absurd (goes.asked e)))
+          (command_ends asked (w.evaluate_files-status.ensures.ends words given rest here))
       | in-Ok-Exec w ↦
           let here = rw w.input-is at leaves in
           let asked = asked_is words ∙ (rw w.in-Ok-Exec.field-0-is at w.in-Ok-Exec.ensures.plan) in
-          let goes = w.execute_file-status.ensures.ends words given rest here in
           rw (c.code.ensures, w.status-is, w.files-is, w.out-is, w.notes-is, w.input-is)
-          (ends_by _ _ (Some (exec (string_bytes w.in-Ok-Exec.file) w.in-Ok-Exec.limits)) asked goes.devices goes.ends (λ e. absurd (goes.asked e)))
+          (command_ends asked (w.execute_file-status.ensures.ends words given rest here))
       | in-Ok-Debug w ↦
           let here = rw w.input-is at leaves in
           let plan = w.in-Ok-Debug in
-          let asked = asked_is words ∙ (rw plan.field-0-is at plan.ensures.plan) in
-          let names = ap (λ (files : List (String Global)). Some (debug (string_bytes plan.script) (words_of files) plan.limits)) (sym w.deref-in-Ok-Debug.ensures.value) in
-          let script = ap (λ (name : List ℕ). Some (debug name (words_of w.deref-in-Ok-Debug.result.now) plan.limits)) (sym w.as_str.ensures.value) in
-          let goes = w.debug_files-status.ensures.ends words given rest here in
+          let asked = asked_is words ∙ (rw (plan.field-0-is, ← w.deref-in-Ok-Debug.ensures.value, ← w.as_str.ensures.value) at plan.ensures.plan) in
           rw (c.code.ensures, w.status-is, w.files-is, w.out-is, w.notes-is, w.input-is)
-          (ends_by _ _ (Some (debug w.as_str.result.now (words_of w.deref-in-Ok-Debug.result.now) plan.limits)) (asked ∙ names ∙ script) goes.devices goes.ends
-          (λ e. absurd (goes.asked e)))
+          (command_ends asked (w.debug_files-status.ensures.ends words given rest here))
       | in-Ok-Big w ↦
           let here = rw w.input-is at leaves in
           let asked = asked_is words ∙ (rw w.in-Ok-Big.field-0-is at w.in-Ok-Big.ensures.plan) in
-          let goes = w.sum_up-status.ensures words _ given (g.I.Source.faults c.args.input.now) _ refl (got_nothing _ _) in
           rw (c.code.ensures, w.status-is, w.files-is, w.out-is, w.notes-is, w.input-is, leaves_same _ given rest here)
-          (ends_by _ _ (Some (big w.in-Ok-Big.n)) asked goes.devices goes.ends (λ e. absurd (goes.asked e)))
+          (command_ends asked (w.sum_up-status.ensures words _ given (g.I.Source.faults c.args.input.now) _ refl (got_nothing _ _)))
       | in-Ok-Session w ↦
           let here = rw w.input-is at leaves in
           let asked = asked_is words ∙ (rw w.in-Ok-Session.field-0-is at w.in-Ok-Session.ensures.plan) in
-          let goes = w.hold_session-status.ensures.ends _ rest refl here in
           rw (c.code.ensures, w.status-is, w.files-is, w.out-is, w.notes-is, w.input-is)
-          (ends_by _ _ (Some session) asked goes.devices goes.ends (λ e. absurd (goes.asked e)))
+          (command_ends asked (w.hold_session-status.ensures.ends _ rest refl here))
       | in-Err-Usage w ↦
           let here = rw w.input-is at leaves in
           let none = asked_is words ∙ c.read_words.ensures.usage (w.in-Err-Usage.is ∙ ap Err w.in-Err-Usage.field-0-is) in
           rw (c.code.ensures, w.status-is, w.files-is, w.out-is, w.notes-is, w.input-is, leaves_same _ given rest here)
-          (usage_ends _ w.tell-status.result none refl refl refl (got_nothing _ _) w.tell-status.ensures)
+          (usage_ends none refl refl refl (got_nothing _ _) w.tell-status.ensures.noted)
       | in-Err-Memory w ↦
           let here = rw w.input-is at leaves in
           rw (c.code.ensures, w.status-is, w.files-is, w.out-is, w.notes-is, w.input-is, leaves_same _ given rest here)
-          (short_ends _ refl (got_nothing _ _, got_nothing _ _, refl, refl))
+          (short_ends refl refl (got_nothing _ _, got_nothing _ _, refl, refl))
     ]
 
 -- the files of the command line were asked for, up to one that was refused
@@ -151,31 +143,77 @@ returns-clause-asked g c =
     let words = words_of c.args.words.now in
     elim c.match-read_words.branch [
       | in-Ok-Check w ↦
-          let asked = asked_is words ∙ (rw w.in-Ok-Check.field-0-is at w.in-Ok-Check.ensures.plan) ∙ ap (λ (names : List (String Global)). Some (check (words_of names))) (sym w.deref.ensures.value) in
+          let asked = asked_is words ∙ (rw (w.in-Ok-Check.field-0-is, ← w.deref.ensures.value) at w.in-Ok-Check.ensures.plan) in
           rw (w.files-is, asked) w.check_files-status.ensures.asked
       | in-Ok-Asm w ↦
-          let asked = asked_is words ∙ (rw w.in-Ok-Asm.field-0-is at w.in-Ok-Asm.ensures.plan) ∙ ap (λ (names : List (String Global)). Some (asm (words_of names))) (sym w.deref-in-Ok-Asm.ensures.value) in
+          let asked = asked_is words ∙ (rw (w.in-Ok-Asm.field-0-is, ← w.deref-in-Ok-Asm.ensures.value) at w.in-Ok-Asm.ensures.plan) in
           rw (w.files-is, asked) w.build_files-status.ensures.asked
       | in-Ok-Build w ↦
-          let asked = asked_is words ∙ (rw w.in-Ok-Build.field-0-is at w.in-Ok-Build.ensures.plan) ∙ ap (λ (names : List (String Global)). Some (build (words_of names))) (sym w.deref-in-Ok-Build.ensures.value) in
+          let asked = asked_is words ∙ (rw (w.in-Ok-Build.field-0-is, ← w.deref-in-Ok-Build.ensures.value) at w.in-Ok-Build.ensures.plan) in
           rw (w.files-is, asked) w.build_files-status-in-Ok-Build.ensures.asked
       | in-Ok-Run w ↦
-          let asked = asked_is words ∙ (rw w.in-Ok-Run.field-0-is at w.in-Ok-Run.ensures.plan) ∙ ap (λ (names : List (String Global)). Some (run (words_of names) w.in-Ok-Run.limits w.in-Ok-Run.fold)) (sym w.deref-in-Ok-Run.ensures.value) in
+          let asked = asked_is words ∙ (rw (w.in-Ok-Run.field-0-is, ← w.deref-in-Ok-Run.ensures.value) at w.in-Ok-Run.ensures.plan) in
           rw (w.files-is, asked) w.run_files-status.ensures.asked
       | in-Ok-Eval w ↦
-          let asked = asked_is words ∙ (rw w.in-Ok-Eval.field-0-is at w.in-Ok-Eval.ensures.plan) ∙ ap (λ (names : List (String Global)). Some (eval (words_of names) w.in-Ok-Eval.steps)) (sym w.deref-in-Ok-Eval.ensures.value) in
+          let asked = asked_is words ∙ (rw (w.in-Ok-Eval.field-0-is, ← w.deref-in-Ok-Eval.ensures.value) at w.in-Ok-Eval.ensures.plan) in
           rw (w.files-is, asked) w.evaluate_files-status.ensures.asked
       | in-Ok-Exec w ↦
           let asked = asked_is words ∙ (rw w.in-Ok-Exec.field-0-is at w.in-Ok-Exec.ensures.plan) in
           rw (w.files-is, asked) w.execute_file-status.ensures.asked
       | in-Ok-Debug w ↦
           let plan = w.in-Ok-Debug in
-          let asked = asked_is words ∙ (rw plan.field-0-is at plan.ensures.plan) in
-          let names = ap (λ (files : List (String Global)). Some (debug (string_bytes plan.script) (words_of files) plan.limits)) (sym w.deref-in-Ok-Debug.ensures.value) in
-          let script = ap (λ (name : List ℕ). Some (debug name (words_of w.deref-in-Ok-Debug.result.now) plan.limits)) (sym w.as_str.ensures.value) in
-          rw (w.files-is, asked ∙ names ∙ script) w.debug_files-status.ensures.asked
+          let asked = asked_is words ∙ (rw (plan.field-0-is, ← w.deref-in-Ok-Debug.ensures.value, ← w.as_str.ensures.value) at plan.ensures.plan) in
+          rw (w.files-is, asked) w.debug_files-status.ensures.asked
       | in-Ok-Big w ↦ rw w.files-is (asked_none _ _)
       | in-Ok-Session w ↦ rw w.files-is (asked_none _ _)
       | in-Err-Usage w ↦ rw w.files-is (asked_none _ _)
       | in-Err-Memory w ↦ rw w.files-is (asked_none _ _)
+    ]
+
+-- each text that was put to the notes ends in a line feed
+pub returns-clause-lines : goal.returns-clause-lines
+returns-clause-lines g c =
+    elim c.match-read_words.branch [
+      | in-Ok-Check w ↦ rw w.notes-is w.check_files-status.ensures.lines
+      | in-Ok-Asm w ↦ rw w.notes-is w.build_files-status.ensures.lines
+      | in-Ok-Build w ↦ rw w.notes-is w.build_files-status-in-Ok-Build.ensures.lines
+      | in-Ok-Run w ↦ rw w.notes-is w.run_files-status.ensures.lines
+      | in-Ok-Eval w ↦ rw w.notes-is w.evaluate_files-status.ensures.lines
+      | in-Ok-Exec w ↦ rw w.notes-is w.execute_file-status.ensures.lines
+      | in-Ok-Debug w ↦ rw w.notes-is w.debug_files-status.ensures.lines
+      | in-Ok-Big w ↦ rw w.notes-is (no_lines _)
+      | in-Ok-Session w ↦ rw w.notes-is w.hold_session-status.ensures.lines
+      | in-Err-Usage w ↦ rw w.notes-is w.tell-status.ensures.lines
+      | in-Err-Memory w ↦ rw w.notes-is (no_lines _)
+    ]
+
+-- where files were refused for their faults, a line was put for each
+pub returns-clause-refused : goal.returns-clause-refused
+returns-clause-refused g c is =
+    let words = words_of c.args.words.now in
+    elim c.match-read_words.branch [
+      | in-Ok-Check w ↦
+          let asked = asked_is words ∙ (rw (w.in-Ok-Check.field-0-is, ← w.deref.ensures.value) at w.in-Ok-Check.ensures.plan) in
+          rw (w.files-is, w.notes-is, asked) (w.check_files-status.ensures.refused (rw (c.code.ensures, w.status-is) at is))
+      | in-Ok-Asm w ↦
+          let asked = asked_is words ∙ (rw (w.in-Ok-Asm.field-0-is, ← w.deref-in-Ok-Asm.ensures.value) at w.in-Ok-Asm.ensures.plan) in
+          rw (w.files-is, w.notes-is, asked) (w.build_files-status.ensures.refused (rw (c.code.ensures, w.status-is) at is))
+      | in-Ok-Build w ↦
+          let asked = asked_is words ∙ (rw (w.in-Ok-Build.field-0-is, ← w.deref-in-Ok-Build.ensures.value) at w.in-Ok-Build.ensures.plan) in
+          rw (w.files-is, w.notes-is, asked) (w.build_files-status-in-Ok-Build.ensures.refused (rw (c.code.ensures, w.status-is) at is))
+      | in-Ok-Run w ↦
+          let asked = asked_is words ∙ (rw (w.in-Ok-Run.field-0-is, ← w.deref-in-Ok-Run.ensures.value) at w.in-Ok-Run.ensures.plan) in
+          rw (w.files-is, w.notes-is, asked) (w.run_files-status.ensures.refused (rw (c.code.ensures, w.status-is) at is))
+      | in-Ok-Eval w ↦
+          let asked = asked_is words ∙ (rw (w.in-Ok-Eval.field-0-is, ← w.deref-in-Ok-Eval.ensures.value) at w.in-Ok-Eval.ensures.plan) in
+          rw (w.files-is, w.notes-is, asked) (w.evaluate_files-status.ensures.refused (rw (c.code.ensures, w.status-is) at is))
+      | in-Ok-Exec w ↦ rw (asked_is words ∙ (rw w.in-Ok-Exec.field-0-is at w.in-Ok-Exec.ensures.plan)) tt
+      | in-Ok-Debug w ↦
+          let plan = w.in-Ok-Debug in
+          let asked = asked_is words ∙ (rw (plan.field-0-is, ← w.deref-in-Ok-Debug.ensures.value, ← w.as_str.ensures.value) at plan.ensures.plan) in
+          rw (w.files-is, w.notes-is, asked) (w.debug_files-status.ensures.refused (rw (c.code.ensures, w.status-is) at is))
+      | in-Ok-Big w ↦ rw (asked_is words ∙ (rw w.in-Ok-Big.field-0-is at w.in-Ok-Big.ensures.plan)) tt
+      | in-Ok-Session w ↦ rw (asked_is words ∙ (rw w.in-Ok-Session.field-0-is at w.in-Ok-Session.ensures.plan)) tt
+      | in-Err-Usage w ↦ rw (asked_is words ∙ c.read_words.ensures.usage (w.in-Err-Usage.is ∙ ap Err w.in-Err-Usage.field-0-is)) tt
+      | in-Err-Memory w ↦ absurd (let nine = rw (c.code.ensures, w.status-is) at is in omega (arith, nine))
     ]

@@ -1,97 +1,63 @@
 -- How a call of `asm` or `build` ends.
-use Rattle.std.proofs.Common.{◌≡◌, ◌≢◌, ℕ, ◌≤◌, List, [], inl, inr, refl, sym, ap, subst, arith}
-use Rattle.std.specs.Prelude.{Result, Ok, Err, IfOk}
+use Rattle.cool_ports.specs.SinkPuts.{PutFront, pieces_of}
+use Rattle.cool_driver.specs.declared.writing.TheConstants.{MOST_PIECE_BYTES}
+use Rattle.std.proofs.Common.{Err, IfOk, List, Ok, Result, [], append-nil, inl, inr, refl, sym, ℕ, ◌∙◌, ◌≡◌, ◌⊎◌}
 use Rattle.std.specs.Global.{Vec}
 use Rattle.cool_classes.specs.Chains.{Class}
 use Rattle.cool_faults.specs.Verdicts.{IsAccepted}
 use Rattle.cool_ports.specs.ShelfFiles.{FileMap}
 use Rattle.cool_syntax.specs.declared.TheConstants.{MOST_SOURCE_BYTES}
-use Rattle.cool_driver.specs.Calls.{Request, Call, Got, ShelfUse, shelf_of, HasTold}
+use Rattle.cool_driver.specs.Calls.{Call, HasTold, Request, ShelfUse, shelf_of}
 use Rattle.cool_driver.specs.Comes.{Comes}
-use Rattle.cool_driver.specs.Comes.Comes.{written, unwritten}
-use Rattle.cool_driver.specs.Ends.{Goes}
 use Rattle.cool_driver.specs.Sources.{AreRead, IsProgram}
-use Rattle.cool_driver.specs.Statuses.{code_of}
-use Rattle.cool_driver.specs.Telling.{Noted}
-use Rattle.cool_driver.specs.commands.Build.{IsCompiled, IsBuilt, built_bytes, DueToBuild, PiecesOfBuild, BuildEnds}
-use Rattle.cool_driver.specs.commands.Build.DueToBuild.{built, refused}
-use Rattle.cool_driver.specs.commands.Build.PiecesOfBuild.{of_program}
+use Rattle.cool_driver.specs.commands.Build.{BuildEnds, DueToBuild, IsBuilt, IsCompiled, PiecesOfBuild, built_bytes}
 use Rattle.cool_driver.specs.declared.commands.build.Form.{Form}
-use Rattle.cool_driver.specs.declared.status.Status.{Status}
-use Rattle.cool_driver.specs.declared.status.Status.TheVariants as statuses
-use Rattle.cool_driver.proofs.ComesOfRefusals.{refused_status, calm_status}
-use Rattle.cool_driver.proofs.DevicesOfCalls.{IsStatus, devices_untaking, no_status}
-use Rattle.cool_driver.proofs.SourcesOfCalls.{IsVerdictOn, comes_so, same_program, no_refusal, sources_exactly}
+use Rattle.cool_driver.proofs.DevicesOfCalls.{came}
+use Rattle.cool_driver.proofs.SourcesOfCalls.{IsVerdictOn, no_refusal, same_program, sources_exactly}
 
 -- what is due comes of a verdict on the files
-verdict_of : (form : Form) (names : List (List ℕ)) (r : Request) (status : ℕ) (output note left : List ℕ) → DueToBuild form names r status output note left
+verdict_of : {form : Form} {names : List (List ℕ)} {r : Request} {status : ℕ} {output note left : List ℕ} → DueToBuild form names r status output note left
     → IsVerdictOn (shelf_of r) names status note
-verdict_of form names r _ _ _ _ (built p is means) = inl (p, is)
-verdict_of form names r _ _ _ _ (refused status note why) = inr why
-
--- its status
-status_of : (form : Form) (names : List (List ℕ)) (r : Request) (status : ℕ) (output note left : List ℕ) → DueToBuild form names r status output note left
-    → IsStatus r status × (status ≢ 2) × (status ≢ 7)
-status_of form names r _ _ _ _ (built p is means) =
-    let calm = is.read.calm in
-    (calm_status r 0 (omega arith) calm, λ e. omega (arith, e), λ e. omega (arith, e))
-status_of form names r _ _ _ _ (refused status note why) = refused_status r names status note why
+verdict_of (DueToBuild.built p is means) = inl (p, is, inl refl)
+verdict_of (DueToBuild.refused status note why) = inr why
 
 -- files that are accepted say the status, the output, and that it means their program
-built_so : (form : Form) (names : List (List ℕ)) (r : Request) (files : FileMap) (contents : List (List ℕ)) (p : List Class)
-    → HasTold (shelf_of r) files → AreRead (shelf_of r) MOST_SOURCE_BYTES names contents → IsAccepted contents p
-    → (status : ℕ) (output note left : List ℕ) → DueToBuild form names r status output note left
-    → (status ≡ 0) × (output ≡ built_bytes form p names) × IsCompiled p names
-built_so form names r files contents p told read is _ _ _ _ (built q other means) =
-    let same = same_program (shelf_of r) files told names contents read p q is other in
-    (refl, ap (λ (x : List Class). built_bytes form x names) same, subst (λ (x : List Class). IsCompiled x names) same means)
-built_so form names r files contents p told read is _ _ _ _ (refused status note why) =
-    absurd (no_refusal (shelf_of r) files told names contents read p status note is why)
+built_so : {form : Form} {names : List (List ℕ)} {r : Request} {files : FileMap} {contents : List (List ℕ)} {p : List Class} {status : ℕ}
+    {output note left : List ℕ} → HasTold (shelf_of r) files → AreRead (shelf_of r) MOST_SOURCE_BYTES names contents → IsAccepted contents p
+    → DueToBuild form names r status output note left → (status ≡ 0) × (output ≡ built_bytes form p names) × IsCompiled p names
+built_so told read is (DueToBuild.built q other means) = rw (← same_program told read is other) (refl, refl, means)
+built_so told read is (DueToBuild.refused status note why) = absurd (no_refusal told read is why)
+
+-- what was put to the output: nothing, or pieces of what is made of the program that the files are
+abbrev pub PutsPieces : Form → List (List ℕ) → Call → Type 0
+PutsPieces form names c =
+    (c.out.puts_after ≡ c.out.puts_before)
+    ⊎ ((p : List Class) × IsProgram (shelf_of c.request) names p
+    × PutFront c.out.puts_before (pieces_of MOST_PIECE_BYTES (built_bytes form p names)) c.out.puts_after)
+
+built_put : (form : Form) (names : List (List ℕ)) (c : Call) {files : FileMap} {contents : List (List ℕ)} {p : List Class}
+    → HasTold (shelf_of c.request) files → AreRead (shelf_of c.request) MOST_SOURCE_BYTES names contents → IsAccepted contents p
+    → PutsPieces form names c → PutFront c.out.puts_before (pieces_of MOST_PIECE_BYTES (built_bytes form p names)) c.out.puts_after
+built_put form names c told read is (inl still) = (_, record { front = []; cut = refl; put = still ∙ sym (append-nil c.out.puts_before) })
+built_put form names c told read is (inr (q, other, put)) = rw (← same_program told read is other) put
 
 -- so it ends as it should
-pub build_goes : (form : Form) (names : List (List ℕ)) (c : Call) (status : ℕ) → c.request.faults_before ≤ c.request.faults_after
-    → c.input_after ≡ c.input_before → Comes (DueToBuild form names c.request) (PiecesOfBuild form names c.request) c status
-    → Goes (BuildEnds form names) c status
-build_goes form names c status shelf input comes =
-    let due = DueToBuild form names c.request in
-    let pieces = PiecesOfBuild form names c.request in
-    record {
-      devices = devices_untaking due pieces c status
-          (λ s output note left is. let known = status_of form names c.request s output note left is in (known.0, known.2)) shelf input comes;
-      ends = record {
-        comes = comes;
-        built_exactly = λ files contents p told read is.
-            comes_so due pieces c status (λ s. (s ≡ 0) × Got c.out (built_bytes form p names)) comes
-            (λ s output note row out notes.
-            let so = built_so form names c.request files contents p told read is s output note c.left row in
-            (so.0, subst (Got c.out) so.1 out));
-        built_means = λ files contents p told read is.
-            comes_so due pieces c status (λ s. IsCompiled p names) comes
-            (λ s output note row out notes. (built_so form names c.request files contents p told read is s output note c.left row).2);
-        sources = sources_exactly due pieces names c status (verdict_of form names c.request) comes;
-      };
-      asked = no_status 2 due pieces c status (λ e. omega (arith, e)) (λ e. omega (arith, e))
-          (λ s output note left is. (status_of form names c.request s output note left is).1) comes;
-    }
-
--- the bytes of a program were written, or that write failed
-pub bytes_come : (form : Form) (names : List (List ℕ)) (c : Call) (p : List Class) (bytes : List ℕ) (answered : Status)
-    → IsProgram (shelf_of c.request) names p → IsCompiled p names → bytes ≡ built_bytes form p names → c.left ≡ c.request.input → Got c.notes []
-    → Noted c.out bytes statuses.Done answered
-    → Comes (DueToBuild form names c.request) (PiecesOfBuild form names c.request) c (code_of answered)
-bytes_come form names c p bytes answered is means made left notes (inl (told, got)) =
-    subst (λ (s : Status). Comes (DueToBuild form names c.request) (PiecesOfBuild form names c.request) c (code_of s)) (sym told)
-    (written 0 (built_bytes form p names) []
-    (subst (λ (l : List ℕ). DueToBuild form names c.request 0 (built_bytes form p names) [] l) (sym left) (built p is means))
-    (subst (Got c.out) made got) notes)
-bytes_come form names c p bytes answered is means made left notes (inr (failed, part)) =
-    subst (λ (s : Status). Comes (DueToBuild form names c.request) (PiecesOfBuild form names c.request) c (code_of s)) (sym failed)
-    (unwritten [] bytes
-    (subst (λ (l : List ℕ). PiecesOfBuild form names c.request [] bytes l) (sym left)
-    (subst (λ (xs : List ℕ). PiecesOfBuild form names c.request [] xs c.request.input) (sym made) (of_program p is))) part notes)
+pub build_ends : {form : Form} {names : List (List ℕ)} {c : Call} {status : ℕ} → PutsPieces form names c → Comes (DueToBuild form names c.request) (PiecesOfBuild form names c.request) c status
+    → BuildEnds form names c status
+build_ends {form} {names} {c} puts comes = record {
+  comes = comes;
+  built_exactly = λ files contents p told read is eight nine.
+      let (output, note, row, out, notes) = came comes eight nine in
+      let so = built_so told read is row in
+      (so.0, rw so.1 at out);
+  built_means = λ files contents p told read is eight nine.
+      let (output, note, row, out, notes) = came comes eight nine in (built_so told read is row).2;
+  built_pieces = λ files contents p told read is. built_put form names c told read is puts;
+  sources = sources_exactly (λ s o n l. verdict_of) comes;
+}
 
 -- bytes that were made are those of the program
-pub built_if : {E : Type 0} (form : Form) (names : List (List ℕ)) (shelf : ShelfUse) (p : List Class) (result : Result (Vec ℕ) E) → IsProgram shelf names p
+pub built_if : {E : Type 0} (form : Form) {names : List (List ℕ)} {shelf : ShelfUse} {p : List Class} (result : Result (Vec ℕ) E) → IsProgram shelf names p
     → IsCompiled p names → IfOk result (λ bytes. bytes.items ≡ built_bytes form p names) → IfOk result (λ bytes. IsBuilt form names shelf bytes.items)
-built_if form names shelf p (Ok bytes) is means made = (p, is, means, made)
-built_if form names shelf p (Err e) is means made = tt
+built_if form (Ok bytes) is means made = (_, is, means, made)
+built_if form (Err e) is means made = tt

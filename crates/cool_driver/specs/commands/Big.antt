@@ -14,9 +14,10 @@ use Rattle.cool_words.specs.Plans.{usual_limits}
 use Rattle.cool_driver.specs.Calls.{Request, Call, Got, UnlessCutShort}
 use Rattle.cool_driver.specs.Comes.{Comes}
 use Rattle.cool_driver.specs.Statuses.{DONE, REFUSED, WRITE_FAULT}
-use Rattle.cool_driver.specs.Execution.{run_of, left_by, status_of}
+use Rattle.cool_driver.specs.Execution.{run_of, status_of}
 use Rattle.cool_driver.specs.Headline.{limits_of}
 use Rattle.cool_driver.specs.declared.TheConstants.{MOST_BIG_OUTPUT}
+use Rattle.spim_debug.specs.Notes.{state_in}
 
 -- its one file, and the file's name
 abbrev pub big_files : ℕ → List (List ℕ)
@@ -32,12 +33,12 @@ big_run p = run_of usual_limits (image_of (program_lines p big_names)) []
 -- its status, its output and what it left of no input accord with the runs of the source within the usual limits
 abbrev pub AccordsWithSource : List Class → Type 0
 AccordsWithSource p =
-    Accord (source.run p big_names []) (limits_of usual_limits) (status_of (big_run p)) (left_by (big_run p)).output (left_by (big_run p)).input
+    Accord (source.run p big_names []) (limits_of usual_limits) (status_of (big_run p)) (state_in (big_run p)).output (state_in (big_run p)).input
 
 -- How a run comes out: the number of bytes of its output, and its status. Where they are more than are counted, the status is 8.
 pub data RunsTo (o : Outcome) : ℕ → ℕ → Type 0 where
-  counted : length (left_by o).output ≤ MOST_BIG_OUTPUT → RunsTo o (length (left_by o).output) (status_of o)
-  too_long : MOST_BIG_OUTPUT < length (left_by o).output → RunsTo o MOST_BIG_OUTPUT WRITE_FAULT
+  counted : length (state_in o).output ≤ MOST_BIG_OUTPUT → RunsTo o (length (state_in o).output) (status_of o)
+  too_long : MOST_BIG_OUTPUT < length (state_in o).output → RunsTo o MOST_BIG_OUTPUT WRITE_FAULT
 
 -- How files of these bytes come out: status 1 without output where they are refused, and else as their program's run does, in accord with
 -- the runs of the source.

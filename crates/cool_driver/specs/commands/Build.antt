@@ -4,6 +4,7 @@ use Rattle.cool_syntax.specs.declared.TheConstants.{MOST_SOURCE_BYTES}
 use Rattle.cool_classes.specs.Chains.{Class}
 use Rattle.cool_faults.specs.Verdicts.{IsAccepted}
 use Rattle.cool_ports.specs.ShelfFiles.{FileMap}
+use Rattle.cool_ports.specs.SinkPuts.{PutFront, pieces_of}
 use Rattle.cool_emit.specs.Programs.{program_lines}
 use Rattle.cool_simulation.specs.Accord.{Means}
 use Rattle.mips_isa.specs.Assembly.{image_of}
@@ -15,6 +16,7 @@ use Rattle.cool_driver.specs.Comes.{Comes}
 use Rattle.cool_driver.specs.Execution.{IsAssembled}
 use Rattle.cool_driver.specs.Sources.{AreRead, IsProgram, IsNoProgram, SourcesExactly}
 use Rattle.cool_driver.specs.Statuses.{DONE}
+use Rattle.cool_driver.specs.declared.writing.TheConstants.{MOST_PIECE_BYTES}
 use Rattle.cool_driver.specs.declared.commands.build.Form.{Form}
 use Rattle.cool_driver.specs.declared.commands.build.Form.TheVariants.{Text, Image}
 
@@ -47,6 +49,10 @@ pub record BuildEnds (form : Form) (names : List (List ℕ)) (c : Call) (status 
   pub built_exactly : (files : FileMap) (contents : List (List ℕ)) (p : List Class) → HasTold (shelf_of c.request) files
       → AreRead (shelf_of c.request) MOST_SOURCE_BYTES names contents → IsAccepted contents p
       → UnlessCutShort status ((status ≡ DONE) × Got c.out (built_bytes form p names))
+  -- it is put in pieces: all of them, or where a write failed those in front of one and that one
+  pub built_pieces : (files : FileMap) (contents : List (List ℕ)) (p : List Class) → HasTold (shelf_of c.request) files
+      → AreRead (shelf_of c.request) MOST_SOURCE_BYTES names contents → IsAccepted contents p
+      → PutFront c.out.puts_before (pieces_of MOST_PIECE_BYTES (built_bytes form p names)) c.out.puts_after
   -- and the image, for which the text stands, too, means the program
   pub built_means : (files : FileMap) (contents : List (List ℕ)) (p : List Class) → HasTold (shelf_of c.request) files
       → AreRead (shelf_of c.request) MOST_SOURCE_BYTES names contents → IsAccepted contents p → UnlessCutShort status (IsCompiled p names)

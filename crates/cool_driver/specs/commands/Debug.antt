@@ -1,6 +1,6 @@
 -- What `debug` promises: the run of the image for the program that its files are, within the limits, with the notes that its script asks for, and
 -- else why there is none.
-use Rattle.std.specs.Prelude.{◌≡◌, ◌≢◌, ℕ, ◌<◌, ◌≤◌, ◌⊎◌, List, [], ◌++◌, length, Some, None, Ok, Err}
+use Rattle.std.specs.Prelude.{◌≡◌, ◌≢◌, ℕ, ◌<◌, ◌≤◌, ◌⊎◌, List, [], ◌∷◌, ◌++◌, length, Some, None, Ok, Err}
 use Rattle.cool_syntax.specs.declared.TheConstants.{MOST_FILES, MOST_SOURCE_BYTES}
 use Rattle.cool_classes.specs.Chains.{Class}
 use Rattle.cool_emit.specs.Programs.{program_lines}
@@ -9,7 +9,6 @@ use Rattle.cool_faults.specs.Verdicts.{IsAccepted, IsFaultList}
 use Rattle.cool_ports.specs.Counts.{Rose}
 use Rattle.cool_ports.specs.ShelfFiles.{FileMap, MayHold, IsMissing, IsLonger}
 use Rattle.cool_ports.specs.SinkBytes.{appended}
-use Rattle.cool_runtime.specs.Contents.{AreBytes}
 use Rattle.cool_simulation.specs.Accord.{Means}
 use Rattle.mips_isa.specs.Assembly.{image_of}
 use Rattle.mips_isa.specs.ImageBounds.{ImageParts}
@@ -25,22 +24,25 @@ use Rattle.cool_words.specs.declared.plan.RunLimits.{RunLimits}
 use Rattle.cool_driver.specs.Calls.{Request, Call, SinkUse, Got, GotPart, ShelfUse, shelf_of, HasTold, UnlessCutShort, DidNothing}
 use Rattle.cool_driver.specs.Comes.{Comes, NoPieces}
 use Rattle.cool_driver.specs.Debugging.{commands_for, debuggee_within, debug_notes}
-use Rattle.cool_driver.specs.Execution.{run_of, left_by, status_of, note_of}
+use Rattle.cool_driver.specs.Execution.{run_of, status_of, note_of}
 use Rattle.cool_driver.specs.Headline.{Headline, IsPartOfSource}
 use Rattle.cool_driver.specs.Notes.{missing_note, unread_note, too_many_note, too_large_note, refused_note, read_fault_note, script_note}
-use Rattle.cool_driver.specs.Sources.{AreRead, IsProgram, IsNoProgram, FilesExactly}
+use Rattle.cool_driver.specs.Sources.{AreRead, EndsWith, IsProgram, IsNoProgram, FilesExactly}
 use Rattle.cool_driver.specs.Statuses.{REFUSED, READ_FAULT, WRITE_FAULT, OUT_OF_MEMORY, FILE_FAULT, UNFIT}
+use Rattle.lists.specs.Bytes.{AreBytes}
+use Rattle.spim_debug.specs.Notes.{state_in}
 
 -- The script of this name has these bytes, as far as the shelf tells, and is not too large.
 pub record ScriptIsRead (shelf : ShelfUse) (script bytes : List ℕ) : Type 0 where
   pub held : MayHold shelf.files script bytes
   pub within : length bytes ≤ MOST_SCRIPT_BYTES
 
--- Why the script of this name was not read, and the note of it.
+-- Why the script of this name was not read, for which the shelf was last asked, and the note of it.
 pub data ScriptIsUnread (shelf : ShelfUse) (script : List ℕ) : List ℕ → Type 0 where
-  missing : IsMissing shelf.files script shelf.faults_before shelf.faults_after → ScriptIsUnread shelf script (missing_note script)
-  unread : Rose shelf.faults_before shelf.faults_after → ScriptIsUnread shelf script (unread_note script)
-  too_large : IsLonger shelf.files script MOST_SCRIPT_BYTES shelf.faults_before shelf.faults_after → ScriptIsUnread shelf script too_large_note
+  missing : EndsWith (script ∷ []) shelf.asked_after → IsMissing shelf.files script shelf.faults_before shelf.faults_after → ScriptIsUnread shelf script (missing_note script)
+  unread : EndsWith (script ∷ []) shelf.asked_after → Rose shelf.faults_before shelf.faults_after → ScriptIsUnread shelf script (unread_note script)
+  too_large : EndsWith (script ∷ []) shelf.asked_after → IsLonger shelf.files script MOST_SCRIPT_BYTES shelf.faults_before shelf.faults_after
+      → ScriptIsUnread shelf script too_large_note
 
 -- the same as what is due: the status and the note
 abbrev pub IsDueUnscripted : ShelfUse → List ℕ → ℕ → List ℕ → Type 0
@@ -93,7 +95,7 @@ with_notes s notes = record s { held_after = appended s.held_before notes; fault
 -- No write failed in a call, and memory sufficed, until the note of the end was due: the status, the notes of the commands, and that note.
 pub data Finished (limits : RunLimits) (image : ImageParts) (commands : List DebugCommand) (c : Call) : ℕ → List ℕ → List ℕ → Type 0 where
   -- the run of the image ended: its output came, and what it leaves of the input is left; the notes are those of all commands
-  debugged : Got c.out (left_by (run_of limits image c.request.input)).output → c.left ≡ (left_by (run_of limits image c.request.input)).input
+  debugged : Got c.out (state_in (run_of limits image c.request.input)).output → c.left ≡ (state_in (run_of limits image c.request.input)).input
       → Finished limits image commands c (status_of (run_of limits image c.request.input)) (debug_notes limits image commands c.request.input)
       (note_of (run_of limits image c.request.input))
   -- it came to a call that failed to read: the notes are those of the commands before the one that was begun

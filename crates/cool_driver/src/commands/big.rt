@@ -3,7 +3,7 @@
 ghost use Rattle.std.specs.Prelude.{◌≡◌, ◌≤◌, ℕ, List, [], ◌∷◌, length, IfOk, map, string_bytes};
 ghost use Rattle.std.specs.List.{AllByRecursion};
 ghost use Rattle.cool_faults.specs.Files.{total};
-ghost use Rattle.cool_runtime.specs.Contents.{AreBytes};
+ghost use Rattle.lists.specs.Bytes.{AreBytes};
 ghost use Rattle.cool_syntax.specs.declared.TheConstants.{MOST_FILES, MOST_SOURCE_BYTES};
 ghost use Rattle.cool_words.specs.Numbers.{IsWithin};
 ghost use Rattle.cool_words.specs.Plans.{usual_limits};
@@ -42,7 +42,7 @@ pub fn sum_up<O: Sink>(alloc: Global, n: u32, out: &mut O) -> Status
     requires { IsWithin 1 300 n }
     ensures { (words : List (List ℕ)) (shelf : ShelfUse) (input : List ℕ) (faults : ℕ) (notes : SinkUse)
         → shelf.faults_after ≡ shelf.faults_before → Got notes []
-        → Goes (BigEnds n) (untaking words shelf input faults (sink_use O.held O.faults out.old out.new) notes) (code_of result) }
+        → Goes (BigEnds n) (untaking words shelf input faults (sink_use O.held O.faults O.puts out.old out.new) notes) (code_of result) }
 {
     match big_line(alloc, n) {
         Ok(line) => write_pieces(out, line.as_bytes()),

@@ -1,6 +1,6 @@
 //! The command `debug`: a program, compiled and run under the debugger, which does what a script says.
 
-ghost use Rattle.std.specs.Prelude.{◌≡◌, ◌<◌, ◌≤◌, ℕ, List, Bool, false, length, IfErr, IfOk, None, OnOk, Ok, true, [], ◌∷◌, ◌++◌};
+ghost use Rattle.std.specs.Prelude.{◌≡◌, ◌≢◌, ◌<◌, ◌≤◌, ℕ, List, Bool, false, length, IfErr, IfOk, None, OnOk, Ok, true, [], ◌∷◌, ◌++◌};
 ghost use Rattle.std.specs.List.{list_all};
 ghost use Rattle.cool_emit.specs.Programs.{program_lines};
 ghost use Rattle.cool_ports.specs.Answers.{Leaves};
@@ -14,8 +14,9 @@ ghost use Rattle.cool_driver.specs.Calls.{Request, request_of, shelf_use, sink_u
 ghost use Rattle.cool_driver.specs.Debugging.{commands_for};
 ghost use Rattle.cool_driver.specs.Ends.{Goes};
 ghost use Rattle.cool_driver.specs.Sources.{AskedFront};
-ghost use Rattle.cool_driver.specs.Refusals.{IsTold};
-ghost use Rattle.cool_driver.specs.Statuses.{code_of};
+ghost use Rattle.cool_driver.specs.Refusals.{AreFaultLines, IsTold, PutsFaults};
+ghost use Rattle.cool_driver.specs.Statuses.{REFUSED, code_of};
+ghost use Rattle.cool_driver.specs.Telling.{PutsLines};
 ghost use Rattle.cool_driver.specs.commands.Debug.{DebugEnds, Debugs, IsDebuggee, IsDueToScript, IsDueUnscripted, IsNoDebuggee, ScriptIsRead};
 
 use crate::execution::{machine_limits, tell_halt};
@@ -57,12 +58,14 @@ pub fn debug_files<F: Shelf, I: Source, O: Sink, E: Sink>(
     requires limits { IsBounded limits }
     ensures kept { F.files files.new ≡ F.files files.old }
     ensures asked { AskedFront (script.now ∷ words_of names.now) (F.asked files.old) (F.asked files.new) }
+    ensures lines { PutsLines (E.puts notes.old) (E.puts notes.new) }
+    ensures refused { code_of result ≡ REFUSED → PutsFaults (words_of names.now) (shelf_use F.files F.faults F.asked files.old files.new) (E.puts notes.old) (E.puts notes.new) }
     ensures taken { (ended : Bool) × Took false ended (I.past input.old) (I.past input.new) (I.left input.old) (I.left input.new) }
     ensures ends { (words : List (List ℕ)) (given rest : List ℕ) → Leaves (I.past input.old) (I.past input.new) given rest
         → Goes (DebugEnds script.now (words_of names.now) limits) (record {
-          request = request_of words (shelf_use F.files F.faults files.old files.new) given;
-          out = sink_use O.held O.faults out.old out.new;
-          notes = sink_use E.held E.faults notes.old notes.new;
+          request = request_of words (shelf_use F.files F.faults F.asked files.old files.new) given;
+          out = sink_use O.held O.faults O.puts out.old out.new;
+          notes = sink_use E.held E.faults E.puts notes.old notes.new;
           left = rest;
           input_before = I.faults input.old;
           input_after = I.faults input.new;
@@ -96,9 +99,10 @@ fn read_debuggee<F: Shelf>(
     ensures kept { F.files files.new ≡ F.files files.old }
     ensures asked { AskedFront (script.now ∷ words_of names.now) (F.asked files.old) (F.asked files.new) }
     ensures count { F.faults files.old ≤ F.faults files.new }
-    ensures debuggee { IfOk result (λ x. IsDebuggee script.now (words_of names.now) (shelf_use F.files F.faults files.old files.new) x.image x.commands.items) }
+    ensures debuggee { IfOk result (λ x. IsDebuggee script.now (words_of names.now) (shelf_use F.files F.faults F.asked files.old files.new) x.image x.commands.items) }
     ensures script { IfOk result (λ x. IsScriptFor x.image.text x.commands.items) }
-    ensures refused { IfErr result (IsTold (IsNoDebuggee script.now (words_of names.now) (shelf_use F.files F.faults files.old files.new))) }
+    ensures refused { IfErr result (IsTold (IsNoDebuggee script.now (words_of names.now) (shelf_use F.files F.faults F.asked files.old files.new))) }
+    ensures lined { IfErr result (AreFaultLines (words_of names.now) (shelf_use F.files F.faults F.asked files.old files.new)) }
 {
     if names.len() > MOST_FILES {
         return Err(refuse_by_line(alloc, Status::FileFault, TOO_MANY_FILES));
@@ -115,8 +119,8 @@ fn read_bytes<F: Shelf>(alloc: Global, script: &str, files: &mut F) -> Result<Ve
     ensures asked { F.asked files.new ≡ F.asked files.old ++ script.now ∷ [] }
     ensures count { F.faults files.old ≤ F.faults files.new }
     ensures calm { OnOk result (F.faults files.new ≡ F.faults files.old) }
-    ensures read { IfOk result (λ bytes. ScriptIsRead (shelf_use F.files F.faults files.old files.new) script.now bytes.items) }
-    ensures refused { IfErr result (IsTold (IsDueUnscripted (shelf_use F.files F.faults files.old files.new) script.now)) }
+    ensures read { IfOk result (λ bytes. ScriptIsRead (shelf_use F.files F.faults F.asked files.old files.new) script.now bytes.items) }
+    ensures refused { IfErr result (IsTold (IsDueUnscripted (shelf_use F.files F.faults F.asked files.old files.new) script.now)) }
 {
     match files.read(alloc, script, MOST_SCRIPT_BYTES) {
         Ok(bytes) => Ok(bytes),
@@ -137,13 +141,14 @@ fn read_scripted<F: Shelf>(
 ) -> Result<Scripted, Refusal>
     requires some { 0 < length names.now }
     requires names { list_all is_file_name (words_of names.now) ≡ true }
-    requires read { ScriptIsRead (shelf_use F.files F.faults files.old files.old) script.now bytes.now }
+    requires read { ScriptIsRead (shelf_use F.files F.faults F.asked files.old files.old) script.now bytes.now }
     ensures kept { F.files files.new ≡ F.files files.old }
     ensures asked { AskedFront (words_of names.now) (F.asked files.old) (F.asked files.new) }
     ensures count { F.faults files.old ≤ F.faults files.new }
-    ensures debuggee { IfOk result (λ x. IsDebuggee script.now (words_of names.now) (shelf_use F.files F.faults files.old files.new) x.image x.commands.items) }
+    ensures debuggee { IfOk result (λ x. IsDebuggee script.now (words_of names.now) (shelf_use F.files F.faults F.asked files.old files.new) x.image x.commands.items) }
     ensures script { IfOk result (λ x. IsScriptFor x.image.text x.commands.items) }
-    ensures refused { IfErr result (IsTold (IsNoDebuggee script.now (words_of names.now) (shelf_use F.files F.faults files.old files.new))) }
+    ensures refused { IfErr result (IsTold (IsNoDebuggee script.now (words_of names.now) (shelf_use F.files F.faults F.asked files.old files.new))) }
+    ensures lined { IfErr result (AreFaultLines (words_of names.now) (shelf_use F.files F.faults F.asked files.old files.new)) }
 {
     match read_program(alloc, names, files) {
         Ok(program) => script_program(alloc, script, bytes, names, &program),
@@ -207,12 +212,14 @@ fn debug_image<I: Source, O: Sink, E: Sink>(
 ) -> Status
     requires bounded { IsBounded limits }
     requires script { IsScriptFor image.now.text commands.now }
+    ensures lines { PutsLines (E.puts notes.old) (E.puts notes.new) }
+    ensures other { code_of result ≢ REFUSED }
     ensures taken { (ended : Bool) × Took false ended (I.past input.old) (I.past input.new) (I.left input.old) (I.left input.new) }
     ensures ends { (r : Request) (rest : List ℕ) → r.faults_after ≡ r.faults_before
         → Leaves (I.past input.old) (I.past input.new) r.input rest → Goes (Debugs limits image.now commands.now) (record {
           request = r;
-          out = sink_use O.held O.faults out.old out.new;
-          notes = sink_use E.held E.faults notes.old notes.new;
+          out = sink_use O.held O.faults O.puts out.old out.new;
+          notes = sink_use E.held E.faults E.puts notes.old notes.new;
           left = rest;
           input_before = I.faults input.old;
           input_after = I.faults input.new;

@@ -7,7 +7,7 @@ ghost use Rattle.cool_driver.specs.Calls.{Request, sink_use};
 ghost use Rattle.cool_driver.specs.Ends.{Goes};
 ghost use Rattle.cool_driver.specs.Notes.{command_note};
 ghost use Rattle.cool_driver.specs.Statuses.{code_of};
-ghost use Rattle.cool_driver.specs.Telling.{NotedIfMade};
+ghost use Rattle.cool_driver.specs.Telling.{NotedIfMade, PutsLines};
 ghost use Rattle.cool_driver.specs.commands.Session.{SessionEnds};
 
 use crate::notes::{READ_FAULT, command_note, tell};
@@ -26,18 +26,20 @@ const ENDS_IN_FILE: &str = "B4: input ends in a file";
 const TOO_LARGE: &str = "B5: session too large";
 
 /// Does what the commands in the input say, and writes why it ended.
+#[tactic(auto, using(crate::proofs::LinesOfNotes::no_lines), unfolding(crate::specs::Telling::ends_line))]
 pub fn hold_session<I: Source, O: Sink, E: Sink>(
     alloc: Global,
     input: &mut I,
     out: &mut O,
     notes: &mut E,
 ) -> Status
+    ensures lines { PutsLines (E.puts notes.old) (E.puts notes.new) }
     ensures taken { (ended : Bool) × Took false ended (I.past input.old) (I.past input.new) (I.left input.old) (I.left input.new) }
     ensures unended { result ≡ Status.ReadFault → (I.past input.new).ends ≡ (I.past input.old).ends }
     ensures ends { (r : Request) (rest : List ℕ) → r.faults_after ≡ r.faults_before → Leaves (I.past input.old) (I.past input.new) r.input rest → Goes SessionEnds (record {
       request = r;
-      out = sink_use O.held O.faults out.old out.new;
-      notes = sink_use E.held E.faults notes.old notes.new;
+      out = sink_use O.held O.faults O.puts out.old out.new;
+      notes = sink_use E.held E.faults E.puts notes.old notes.new;
       left = rest;
       input_before = I.faults input.old;
       input_after = I.faults input.new;
@@ -56,7 +58,8 @@ pub fn hold_session<I: Source, O: Sink, E: Sink>(
 
 /// Writes what is wrong with the command of this number, and answers the status, or that the write failed or memory ran out.
 fn tell_command<E: Sink>(alloc: Global, notes: &mut E, number: u64, words: &str) -> Status
-    ensures { NotedIfMade (sink_use E.held E.faults notes.old notes.new) (command_note number words.now) Status.Unfit result }
+    ensures noted { NotedIfMade (sink_use E.held E.faults E.puts notes.old notes.new) (command_note number words.now) Status.Unfit result }
+    ensures lines { PutsLines (E.puts notes.old) (E.puts notes.new) }
 {
     match command_note(alloc, number, words) {
         Ok(note) => tell(notes, Status::Unfit, note.as_bytes()),

@@ -3,11 +3,12 @@ use Rattle.spim_machine.specs.declared.halt.Halt.{Halt}
 use Rattle.spim_machine.specs.declared.halt.Halt.TheVariants as halts
 use Rattle.cool_driver.specs.declared.status.Status.{Status}
 use Rattle.cool_driver.specs.declared.status.Status.TheVariants as statuses
-use Rattle.cool_driver.specs.Calls.{SinkUse, Got, GotPart}
+use Rattle.cool_driver.specs.Calls.{SinkUse, Got, GotPart, sink_use}
 use Rattle.cool_driver.specs.Execution.{exit_status, exit_note, status_of_halt, note_of_halt}
 use Rattle.cool_driver.specs.Statuses.{code_of}
 use Rattle.cool_driver.specs.Telling.{Noted, HaltNoted}
 use Rattle.cool_driver.proofs.DevicesOfCalls.{got_nothing}
+use Rattle.cool_driver.proofs.LinesOfNotes.{trap_line}
 use Rattle.cool_driver.proofs.execution.tell_halt.Goals as goal
 
 -- the note of a halt was written, or its write failed
@@ -36,38 +37,41 @@ other_status code done heap stack = grind (arith, done, heap, stack)
 other_note : (code : ℕ) → code ≢ 4 → code ≢ 5 → exit_note code ≡ []
 other_note code heap stack = grind (arith, heap, stack)
 
-pub returns-in-Exit-eq0 : goal.returns-in-Exit-eq0
-returns-in-Exit-eq0 g c = silent _ _ (halts.Exit 0) statuses.Done (exits _ _ _ 0 c.in-Exit-eq0.is c.in-Exit-eq0.field-0-is c.in-Exit-eq0.field-0-test) refl refl (got_nothing _ _)
+pub returns-in-Exit-eq0-clause-noted : goal.returns-in-Exit-eq0-clause-noted
+returns-in-Exit-eq0-clause-noted g c = silent (sink_use g.E.Sink.held g.E.Sink.faults g.E.Sink.puts c.args.notes.now c.args.notes.now) _ (halts.Exit 0) statuses.Done (exits _ _ _ 0 c.in-Exit-eq0.is c.in-Exit-eq0.field-0-is c.in-Exit-eq0.field-0-test) refl refl (got_nothing _ _)
 
-pub returns-in-Exit-eq4 : goal.returns-in-Exit-eq4
-returns-in-Exit-eq4 g c =
-    told _ _ (halts.Exit 4) statuses.HeapLimit c.tell.result _ (exits _ _ _ 4 c.in-Exit-eq4.is c.in-Exit-eq4.field-0-is c.in-Exit-eq4.field-0-test) refl refl (λ e. cc) c.tell.ensures
+pub returns-in-Exit-eq4-clause-noted : goal.returns-in-Exit-eq4-clause-noted
+returns-in-Exit-eq4-clause-noted g c =
+    told (sink_use g.E.Sink.held g.E.Sink.faults g.E.Sink.puts c.args.notes.now c.tell.new.notes) _ (halts.Exit 4) statuses.HeapLimit c.tell.result _ (exits _ _ _ 4 c.in-Exit-eq4.is c.in-Exit-eq4.field-0-is c.in-Exit-eq4.field-0-test) refl refl (λ e. cc) c.tell.ensures.noted
 
-pub returns-in-Exit-eq5 : goal.returns-in-Exit-eq5
-returns-in-Exit-eq5 g c =
-    told _ _ (halts.Exit 5) statuses.StackLimit c.tell-in-Exit-eq5.result _ (exits _ _ _ 5 c.in-Exit-eq5.is c.in-Exit-eq5.field-0-is c.in-Exit-eq5.field-0-test) refl refl (λ e. cc)
-    c.tell-in-Exit-eq5.ensures
+pub returns-in-Exit-eq5-clause-noted : goal.returns-in-Exit-eq5-clause-noted
+returns-in-Exit-eq5-clause-noted g c =
+    told (sink_use g.E.Sink.held g.E.Sink.faults g.E.Sink.puts c.args.notes.now c.tell-in-Exit-eq5.new.notes) _ (halts.Exit 5) statuses.StackLimit c.tell-in-Exit-eq5.result _ (exits _ _ _ 5 c.in-Exit-eq5.is c.in-Exit-eq5.field-0-is c.in-Exit-eq5.field-0-test) refl refl (λ e. cc)
+    c.tell-in-Exit-eq5.ensures.noted
 
-pub returns-in-Exit : goal.returns-in-Exit
-returns-in-Exit g c =
+pub returns-in-Exit-clause-noted : goal.returns-in-Exit-clause-noted
+returns-in-Exit-clause-noted g c =
     let other = c.in-Exit.field-0-test in
     let same = c.in-Exit.field-0-is in
-    silent _ _ (halts.Exit c.in-Exit.field-0) statuses.Failed c.in-Exit.is
+    silent (sink_use g.E.Sink.held g.E.Sink.faults g.E.Sink.puts c.args.notes.now c.args.notes.now) _ (halts.Exit c.in-Exit.field-0) statuses.Failed c.in-Exit.is
     (other_status c.in-Exit.field-0 (λ e. other.0.0.1 (same ∙ e)) (λ e. other.0.1 (same ∙ e)) (λ e. other.1 (same ∙ e)))
     (other_note c.in-Exit.field-0 (λ e. other.0.1 (same ∙ e)) (λ e. other.1 (same ∙ e))) (got_nothing _ _)
 
-pub returns-in-Trap : goal.returns-in-Trap
-returns-in-Trap g c =
-    told _ _ (halts.Trap c.in-Trap.trap) statuses.Trapped c.tell-in-Trap.result _ c.in-Trap.is refl
-    (c.as_bytes.ensures.value ∙ (c.as_str.ensures.value ∙ c.trap_note.ensures)) (λ e. cc) c.tell-in-Trap.ensures
+pub tell-requires-in-Trap : goal.tell-requires-in-Trap
+tell-requires-in-Trap g c = rw (c.as_bytes.ensures.value ∙ (c.as_str.ensures.value ∙ c.trap_note.ensures)) (trap_line c.in-Trap.trap)
 
-pub returns-in-StepLimit : goal.returns-in-StepLimit
-returns-in-StepLimit g c =
-    told _ _ halts.StepLimit statuses.StepLimit c.tell-in-StepLimit.result _ c.in-StepLimit.is refl refl (λ e. cc) c.tell-in-StepLimit.ensures
+pub returns-in-Trap-clause-noted : goal.returns-in-Trap-clause-noted
+returns-in-Trap-clause-noted g c =
+    told (sink_use g.E.Sink.held g.E.Sink.faults g.E.Sink.puts c.args.notes.now c.tell-in-Trap.new.notes) _ (halts.Trap c.in-Trap.trap) statuses.Trapped c.tell-in-Trap.result _ c.in-Trap.is refl
+    (c.as_bytes.ensures.value ∙ (c.as_str.ensures.value ∙ c.trap_note.ensures)) (λ e. cc) c.tell-in-Trap.ensures.noted
 
-pub returns-in-ReadFault : goal.returns-in-ReadFault
-returns-in-ReadFault g c =
-    told _ _ halts.ReadFault statuses.ReadFault c.tell-in-ReadFault.result _ c.in-ReadFault.is refl refl (λ e. cc) c.tell-in-ReadFault.ensures
+pub returns-in-StepLimit-clause-noted : goal.returns-in-StepLimit-clause-noted
+returns-in-StepLimit-clause-noted g c =
+    told (sink_use g.E.Sink.held g.E.Sink.faults g.E.Sink.puts c.args.notes.now c.tell-in-StepLimit.new.notes) _ halts.StepLimit statuses.StepLimit c.tell-in-StepLimit.result _ c.in-StepLimit.is refl refl (λ e. cc) c.tell-in-StepLimit.ensures.noted
 
-pub returns-in-WriteFault : goal.returns-in-WriteFault
-returns-in-WriteFault g c = silent _ _ halts.WriteFault statuses.WriteFault c.in-WriteFault.is refl refl (got_nothing _ _)
+pub returns-in-ReadFault-clause-noted : goal.returns-in-ReadFault-clause-noted
+returns-in-ReadFault-clause-noted g c =
+    told (sink_use g.E.Sink.held g.E.Sink.faults g.E.Sink.puts c.args.notes.now c.tell-in-ReadFault.new.notes) _ halts.ReadFault statuses.ReadFault c.tell-in-ReadFault.result _ c.in-ReadFault.is refl refl (λ e. cc) c.tell-in-ReadFault.ensures.noted
+
+pub returns-in-WriteFault-clause-noted : goal.returns-in-WriteFault-clause-noted
+returns-in-WriteFault-clause-noted g c = silent (sink_use g.E.Sink.held g.E.Sink.faults g.E.Sink.puts c.args.notes.now c.args.notes.now) _ halts.WriteFault statuses.WriteFault c.in-WriteFault.is refl refl (got_nothing _ _)

@@ -1,7 +1,8 @@
 use Rattle.std.proofs.Common.{◌≡◌, rules, ap, length, ◌∙◌, arith}
 use Rattle.std.specs.Prelude.{Err}
+use Rattle.cool_driver.specs.Calls.{shelf_use}
 use Rattle.cool_driver.specs.declared.reading.ReadError.TheVariants.{Memory}
-use Rattle.cool_driver.proofs.ReadingNames.{held_turn, bytes_turn, total_turn, cause_of, stop_at, asked_turn, asked_up_to, asked_front}
+use Rattle.cool_driver.proofs.ReadingNames.{held_turn, bytes_turn, total_turn, cause_of, stop_at, asked_turn, asked_part}
 use Rattle.cool_driver.proofs.reading.read_files.Goals as goal
 
 -- a file was refused
@@ -17,10 +18,12 @@ returns-in_default g c =
       kept = c.read.ensures.kept ∙ so_far.kept;
       count = omega (arith, so_far.calm, c.read.ensures.count.no_less);
       asked = tt;
-      asked_for = asked_up_to c.args.names.now c.loop-index.index c.index-names-index.result c.as_str-name.result.now _ _ _ c.loop-index-test.true c.index-names-index.is c.as_str-name.ensures.value so_far.asked c.read.ensures.asked;
-      stop = stop_at _ _ _ _ _ c.args.names.now c.loop-index.index c.index-names-index.result c.as_str-name.result.now c.loop-index.contents.items c.args.most c.loop-index.left c.in-Err.fault so_far.kept so_far.calm c.loop-index-test.true c.index-names-index.is
-          c.as_str-name.ensures.value so_far.held so_far.rest
-          (cause_of _ _ _ c.as_str-name.result.now c.loop-index.left c.in-Err.fault (λ e. read.missing (ap Err e)) (λ e. read.too_large (ap Err e)) (λ e. read.failed (ap Err e)) c.in_default.not-Memory);
+      asked_for = asked_part c.args.names.now c.loop-index.index c.index-names-index.result c.as_str-name.result.now c.loop-index-test.true c.index-names-index.is c.as_str-name.ensures.value _ _ _ so_far.asked c.read.ensures.asked;
+      stop = stop_at c.args.names.now c.loop-index.index c.index-names-index.result c.as_str-name.result.now c.loop-index-test.true c.index-names-index.is c.as_str-name.ensures.value
+          (shelf_use g.F.Shelf.files g.F.Shelf.faults g.F.Shelf.asked c.args.files.now c.read.new.self) _ _ c.loop-index.contents.items c.args.most c.loop-index.left c.in-Err.fault _ _
+          c.requires.few so_far.kept so_far.calm so_far.held so_far.rest
+          (cause_of _ _ _ c.as_str-name.result.now c.loop-index.left c.in-Err.fault (λ e. read.missing (ap Err e)) (λ e. read.too_large (ap Err e)) (λ e. read.failed (ap Err e)) c.in_default.not-Memory)
+          so_far.asked c.read.ensures.asked;
     }
 
 -- one more file was read
@@ -30,20 +33,20 @@ loop-index-preserved g c =
     let so_far = c.loop-index.invariant in
     let pushed = c.in_ok-push-in-Ok.ensures.items in
     record {
-      held = held_turn _ _ c.args.names.now c.loop-index.index c.index-names-index.result c.as_str-name.result.now c.loop-index.contents.items c.push.new.self.items c.in-Ok.bytes so_far.kept c.loop-index-test.true c.index-names-index.is c.as_str-name.ensures.value
-          so_far.held read.read pushed;
+      held = held_turn c.args.names.now c.loop-index.index c.index-names-index.result c.as_str-name.result.now c.loop-index-test.true c.index-names-index.is c.as_str-name.ensures.value
+          _ _ c.loop-index.contents.items c.push.new.self.items c.in-Ok.bytes so_far.kept so_far.held read.read pushed;
       bytes = bytes_turn c.loop-index.contents.items c.push.new.self.items c.in-Ok.bytes pushed so_far.bytes (rw c.deref.ensures.value at c.byte_count-left.ensures.bytes);
       rest = omega (arith, total_turn c.loop-index.contents.items c.push.new.self.items c.in-Ok.bytes pushed, so_far.rest, read.within, c.byte_count-left.ensures.count, ap length c.deref.ensures.value);
       calm = read.no_fault ∙ so_far.calm;
-      asked = asked_turn c.args.names.now c.loop-index.index c.index-names-index.result c.as_str-name.result.now _ _ _ c.loop-index-test.true c.index-names-index.is c.as_str-name.ensures.value so_far.asked c.read.ensures.asked;
+      asked = asked_turn c.args.names.now c.loop-index.index c.index-names-index.result c.as_str-name.result.now c.loop-index-test.true c.index-names-index.is c.as_str-name.ensures.value _ _ _ so_far.asked c.read.ensures.asked;
       kept = c.read.ensures.kept ∙ so_far.kept;
     }
 
 -- memory ran out
 pub returns-in-Memory-clause-asked_for : goal.returns-in-Memory-clause-asked_for
-returns-in-Memory-clause-asked_for g c = asked_front _ _ _ _ (asked_up_to c.args.names.now c.loop-index.index c.index-names-index.result c.as_str-name.result.now _ _ _ c.loop-index-test.true c.index-names-index.is c.as_str-name.ensures.value c.loop-index.invariant.asked c.read.ensures.asked)
+returns-in-Memory-clause-asked_for g c = asked_part c.args.names.now c.loop-index.index c.index-names-index.result c.as_str-name.result.now c.loop-index-test.true c.index-names-index.is c.as_str-name.ensures.value _ _ _ c.loop-index.invariant.asked c.read.ensures.asked
 
 pub returns-in_err-push-in-Ok-clause-asked_for : goal.returns-in_err-push-in-Ok-clause-asked_for
 returns-in_err-push-in-Ok-clause-asked_for g c =
     let same : c.from_residual.result ≡ Err Memory = search rules in
-    rw same (asked_front _ _ _ _ (asked_up_to c.args.names.now c.loop-index.index c.index-names-index.result c.as_str-name.result.now _ _ _ c.loop-index-test.true c.index-names-index.is c.as_str-name.ensures.value c.loop-index.invariant.asked c.read.ensures.asked))
+    rw same (asked_part c.args.names.now c.loop-index.index c.index-names-index.result c.as_str-name.result.now c.loop-index-test.true c.index-names-index.is c.as_str-name.ensures.value _ _ _ c.loop-index.invariant.asked c.read.ensures.asked)

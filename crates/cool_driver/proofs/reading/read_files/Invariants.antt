@@ -1,11 +1,11 @@
 use Rattle.std.proofs.Common.{◌≡◌, ◌+◌, ◌++◌, take}
 use Rattle.std.specs.List.{AllByRecursion}
 use Rattle.cool_faults.specs.Files.{total}
-use Rattle.cool_runtime.specs.Contents.{AreBytes}
 use Rattle.cool_words.specs.Plans.{words_of}
-use Rattle.cool_driver.specs.Calls.{AreHeld}
 use Rattle.cool_driver.specs.Contents.{texts}
 use Rattle.cool_driver.proofs.reading.read_files.Given as goal
+use Rattle.lists.specs.Bytes.{AreBytes}
+use Rattle.cool_ports.specs.ShelfFiles.{AreHeld}
 
 -- the files so far were read, `left` is the rest of the bytes, and no fault came
 abbrev pub invariant-loop-index : goal.invariant-loop-index

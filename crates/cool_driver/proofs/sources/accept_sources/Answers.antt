@@ -6,7 +6,7 @@ use Rattle.cool_words.specs.Plans.{words_of}
 use Rattle.cool_driver.specs.Contents.{texts}
 use Rattle.cool_driver.specs.Refusals.{AreLinesOf}
 use Rattle.cool_driver.proofs.LinesOfNotes.{have_names}
-use Rattle.cool_driver.proofs.RefusalsTold.{faults_told}
+use Rattle.cool_driver.proofs.RefusalsTold.{faults_lined, faults_told}
 use Rattle.cool_driver.proofs.sources.accept_sources.Goals as goal
 
 -- each fault stands in a file that has a name
@@ -21,4 +21,10 @@ pub returns-in-Refused-clause-refused : goal.returns-in-Refused-clause-refused
 returns-in-Refused-clause-refused c =
     let refused : IsRefused (texts c.args.contents.now) c.in-Refused.faults = rw c.in-Refused.is at c.in_ok-program.ensures.verdict in
     faults_told (words_of c.args.names.now) (texts c.args.contents.now) c.in-Refused.faults c.refuse_for_faults.result refused
+    (subst (λ (fs : List Fault). AreLinesOf (words_of c.args.names.now) fs c.refuse_for_faults.result) c.as_slice.ensures c.refuse_for_faults.ensures)
+
+pub returns-in-Refused-clause-lined : goal.returns-in-Refused-clause-lined
+returns-in-Refused-clause-lined c shelf read =
+    let refused : IsRefused (texts c.args.contents.now) c.in-Refused.faults = rw c.in-Refused.is at c.in_ok-program.ensures.verdict in
+    faults_lined (words_of c.args.names.now) (texts c.args.contents.now) shelf c.in-Refused.faults c.refuse_for_faults.result read refused
     (subst (λ (fs : List Fault). AreLinesOf (words_of c.args.names.now) fs c.refuse_for_faults.result) c.as_slice.ensures c.refuse_for_faults.ensures)

@@ -1,15 +1,12 @@
-use Rattle.std.proofs.Common.{ℕ, sym, subst, arith}
-use Rattle.std.specs.Prelude.{string_bytes}
+use Rattle.std.proofs.Common.{arith, string_bytes}
 use Rattle.std.proofs.lemmas.List.{length-map}
-use Rattle.cool_syntax.specs.declared.TheConstants.{MOST_SOURCE_BYTES}
 use Rattle.cool_words.specs.Plans.{words_of}
-use Rattle.cool_driver.specs.Calls.{shelf_use}
 use Rattle.cool_driver.specs.Contents.{texts}
 use Rattle.cool_driver.specs.Sources.{IsDueUnread, IsNoProgram}
-use Rattle.cool_driver.specs.Sources.IsNoProgram.{not_read}
 use Rattle.cool_driver.proofs.HeldFiles.{held_length}
 use Rattle.cool_driver.proofs.RefusalsTold.{told_so}
-use Rattle.cool_driver.proofs.SourcesOfCalls.{sources_read, program_of, faulty_of}
+use Rattle.cool_driver.proofs.SourcesOfCalls.{faulty_of, program_of, sources_read}
+use Rattle.cool_driver.proofs.RefusalsTold.{other_lined}
 use Rattle.cool_driver.proofs.sources.read_program.Goals as goal
 
 -- the files are sources
@@ -26,21 +23,20 @@ accept_sources-requires g c =
 -- they are a program
 pub returns-in-Ok-clause-program : goal.returns-in-Ok-clause-program
 returns-in-Ok-clause-program g c =
-    let shelf = shelf_use g.F.Shelf.files g.F.Shelf.faults c.args.files.now c.read_sources.new.files in
-    program_of shelf (words_of c.args.names.now) c.in-Ok.contents.items c.deref.result.now c.accept_sources.result c.deref.ensures.value
-    c.in-Ok.ensures.read c.in-Ok.ensures.bytes c.accept_sources.ensures.program
+    program_of c.accept_sources.result c.deref.ensures.value c.in-Ok.ensures.read c.in-Ok.ensures.bytes c.accept_sources.ensures.program
 
 -- they have faults
 pub returns-in-Ok-clause-refused : goal.returns-in-Ok-clause-refused
-returns-in-Ok-clause-refused g c =
-    let shelf = shelf_use g.F.Shelf.files g.F.Shelf.faults c.args.files.now c.read_sources.new.files in
-    faulty_of shelf (words_of c.args.names.now) c.in-Ok.contents.items c.deref.result.now c.accept_sources.result c.deref.ensures.value
-    c.in-Ok.ensures.read c.accept_sources.ensures.refused
+returns-in-Ok-clause-refused g c = faulty_of c.accept_sources.result c.deref.ensures.value c.in-Ok.ensures.read c.accept_sources.ensures.refused
 
 -- they were not read
 pub returns-in-Err-clause-refused : goal.returns-in-Err-clause-refused
 returns-in-Err-clause-refused g c =
-    let shelf = shelf_use g.F.Shelf.files g.F.Shelf.faults c.args.files.now c.read_sources.new.files in
-    let names = words_of c.args.names.now in
-    told_so (IsDueUnread shelf MOST_SOURCE_BYTES names) (IsNoProgram shelf names) c.in-Err.refusal
-    (λ status note why. subst (λ (s : ℕ). IsNoProgram shelf names s note) (sym why.0) (not_read note why.1)) c.in-Err.ensures.refused
+    told_so (IsDueUnread _ _ _) (IsNoProgram _ _) c.in-Err.refusal (λ status note why. rw why.0 (IsNoProgram.not_read note why.1)) c.in-Err.ensures.refused
+
+-- the lines that are told
+pub returns-in-Ok-clause-lined : goal.returns-in-Ok-clause-lined
+returns-in-Ok-clause-lined g c = c.accept_sources.ensures.lined _ (rw (← c.deref.ensures.value) at c.in-Ok.ensures.read)
+
+pub returns-in-Err-clause-lined : goal.returns-in-Err-clause-lined
+returns-in-Err-clause-lined g c = other_lined (IsDueUnread _ _ _) _ _ c.in-Err.refusal (λ status note why e. omega (arith, why.0, e)) c.in-Err.ensures.refused

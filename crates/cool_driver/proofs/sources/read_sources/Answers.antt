@@ -1,5 +1,5 @@
-use Rattle.std.proofs.Common.{◌≤◌, ◌<◌, length, refl, arith}
-use Rattle.std.specs.Prelude.{string_bytes}
+use Rattle.std.proofs.Common.{◌<◌, length, refl, arith}
+use Rattle.std.specs.Prelude.{codes, string_bytes}
 use Rattle.std.proofs.lemmas.List.{length-map}
 use Rattle.cool_syntax.specs.declared.TheConstants.{MOST_FILES}
 use Rattle.cool_words.specs.Plans.{words_of}
@@ -8,7 +8,8 @@ use Rattle.cool_driver.specs.Notes.{too_many_note}
 use Rattle.cool_driver.specs.Sources.{IsDueUnread}
 use Rattle.cool_driver.specs.Sources.AreUnread.{too_many}
 use Rattle.cool_driver.specs.declared.status.Status.TheVariants as statuses
-use Rattle.cool_driver.proofs.ReadingNames.{asked_none, asked_whole, asked_front}
+use Rattle.cool_driver.proofs.ReadingNames.{asked_none, asked_whole}
+use Rattle.cool_driver.proofs.LinesOfNotes.{ends_after, feed}
 use Rattle.cool_driver.proofs.RefusalsTold.{line_told, stop_told}
 use Rattle.cool_driver.proofs.sources.read_sources.Goals as goal
 
@@ -16,7 +17,7 @@ use Rattle.cool_driver.proofs.sources.read_sources.Goals as goal
 pub returns-then-names-gt-MOST_FILES-clause-refused : goal.returns-then-names-gt-MOST_FILES-clause-refused
 returns-then-names-gt-MOST_FILES-clause-refused g c =
     let many : MOST_FILES < length (words_of c.args.names.now) = omega (arith, length-map c.args.names.now string_bytes, c.if-names-gt-MOST_FILES.true) in
-    line_told (IsDueUnread (shelf_use g.F.Shelf.files g.F.Shelf.faults c.args.files.now c.args.files.now) c.args.most (words_of c.args.names.now)) statuses.FileFault too_many_note c.refuse_by_line.result (omega arith) (refl, too_many many refl) c.refuse_by_line.ensures
+    line_told (IsDueUnread (shelf_use g.F.Shelf.files g.F.Shelf.faults g.F.Shelf.asked c.args.files.now c.args.files.now) c.args.most (words_of c.args.names.now)) statuses.FileFault too_many_note c.refuse_by_line.result (ends_after (codes "cool: too many files") (codes "\n") feed) (refl, too_many many refl) c.refuse_by_line.ensures
 
 -- the files were read
 pub returns-in-Ok-clause-read : goal.returns-in-Ok-clause-read
@@ -33,11 +34,10 @@ returns-in-Ok-clause-read g c =
 pub returns-in-Err-Refused-clause-refused : goal.returns-in-Err-Refused-clause-refused
 returns-in-Err-Refused-clause-refused g c =
     let names = words_of c.args.names.now in
-    let few : length names ≤ MOST_FILES = omega (arith, length-map c.args.names.now string_bytes, c.if-names-gt-MOST_FILES.false) in
     let refused = c.in-Err-Refused in
     let stop = rw refused.field-0-is at refused.ensures.stop in
-    stop_told (shelf_use g.F.Shelf.files g.F.Shelf.faults c.args.files.now c.read_files.new.files) c.args.most names refused.name.now refused.fault
-    c.refuse_unread.result few stop c.refuse_unread.ensures
+    stop_told (shelf_use g.F.Shelf.files g.F.Shelf.faults g.F.Shelf.asked c.args.files.now c.read_files.new.files) c.args.most names refused.name.now refused.fault
+    c.refuse_unread.result stop c.refuse_unread.ensures
 
 -- what the shelf was asked for
 pub returns-then-names-gt-MOST_FILES-clause-asked : goal.returns-then-names-gt-MOST_FILES-clause-asked
@@ -47,7 +47,7 @@ pub returns-in-Ok-clause-asked : goal.returns-in-Ok-clause-asked
 returns-in-Ok-clause-asked g c = asked_whole _ _ _ c.in-Ok.ensures.asked
 
 pub returns-in-Err-Refused-clause-asked : goal.returns-in-Err-Refused-clause-asked
-returns-in-Err-Refused-clause-asked g c = asked_front _ _ _ _ (rw c.in-Err-Refused.field-0-is at c.in-Err-Refused.ensures.asked_for)
+returns-in-Err-Refused-clause-asked g c = c.in-Err-Refused.ensures.asked_for
 
 pub returns-in-Err-Memory-clause-asked : goal.returns-in-Err-Memory-clause-asked
-returns-in-Err-Memory-clause-asked g c = rw c.in-Err-Memory.field-0-is at c.in-Err-Memory.ensures.asked_for
+returns-in-Err-Memory-clause-asked g c = c.in-Err-Memory.ensures.asked_for

@@ -11,9 +11,9 @@ use Rattle.cool_driver.specs.commands.Big.ComesOut.{refused, ran}
 use Rattle.cool_driver.specs.Execution.{run_of}
 use Rattle.cool_driver.specs.Contents.{texts}
 use Rattle.cool_driver.specs.Statuses.{code_of}
-use Rattle.cool_driver.proofs.Results.{for_ok}
 use Rattle.cool_driver.proofs.ProgramsMeant.{big_accords}
 use Rattle.cool_driver.proofs.commands.big.run_files.Goals as goal
+use Rattle.lists.proofs.Results.{for_ok}
 
 -- the program's run comes out so
 pub returns-in-Accepted : goal.returns-in-Accepted

@@ -1,5 +1,5 @@
 use Rattle.cool_words.specs.Plans.{words_of}
-use Rattle.cool_driver.proofs.Plans.{short_names}
+use Rattle.cool_words.proofs.FileNames.{short_names}
 use Rattle.cool_driver.proofs.commands.build.write_program.Goals as goal
 
 -- the names are short

@@ -1,13 +1,18 @@
-use Rattle.cool_words.specs.Plans.{words_of}
-use Rattle.cool_driver.specs.Calls.{shelf_use}
+use Rattle.cool_driver.specs.Sources.{IsNoProgram}
+use Rattle.cool_driver.specs.commands.Debug.{IsNoDebuggee}
 use Rattle.cool_driver.proofs.ProgramsMeant.{program_fits, program_meant}
-use Rattle.cool_driver.proofs.rooms.Debuggings.{debuggee_if, misscripted_if, refused_told}
+use Rattle.cool_driver.proofs.RefusalsTold.{told_so}
+use Rattle.cool_driver.proofs.rooms.Debuggings.{debuggee_if, misscripted_if}
+use Rattle.std.proofs.Common.{arith}
+use Rattle.cool_driver.proofs.RefusalsTold.{other_lined}
+use Rattle.cool_driver.proofs.Results.{for_err}
+use Rattle.cool_words.specs.Plans.{words_of}
+use Rattle.cool_driver.specs.commands.Debug.{IsDueToScript}
 use Rattle.cool_driver.proofs.commands.debug.read_scripted.Goals as goal
 
 -- the program fits so many files as there are names
 pub script_program-requires-clause-fits : goal.script_program-requires-clause-fits
-script_program-requires-clause-fits g c =
-    program_fits c.args.names.now (shelf_use g.F.Shelf.files g.F.Shelf.faults c.args.files.now c.read_program.new.files) c.in-Ok.program c.in-Ok.ensures.program
+script_program-requires-clause-fits g c = program_fits c.args.names.now _ c.in-Ok.program c.in-Ok.ensures.program
 
 -- the script is not too large
 pub script_program-requires-clause-small : goal.script_program-requires-clause-small
@@ -16,21 +21,24 @@ script_program-requires-clause-small g c = c.requires.read.within
 -- the files are a program
 pub returns-in-Ok-clause-debuggee : goal.returns-in-Ok-clause-debuggee
 returns-in-Ok-clause-debuggee g c =
-    let shelf = shelf_use g.F.Shelf.files g.F.Shelf.faults c.args.files.now c.read_program.new.files in
     let is = c.in-Ok.ensures.program in
-    debuggee_if c.args.script.now c.args.bytes.now (words_of c.args.names.now) shelf (record { held = c.requires.read.held; within = c.requires.read.within })
-    c.in-Ok.program c.script_program.result is (program_meant c.args.names.now shelf c.in-Ok.program c.requires.names is) c.script_program.ensures.image
-    c.script_program.ensures.says
+    let script = c.requires.read in
+    debuggee_if c.script_program.result (record { held = script.held; within = script.within }) is
+    (program_meant c.args.names.now _ c.in-Ok.program c.requires.names is) c.script_program.ensures.image c.script_program.ensures.says
 
 pub returns-in-Ok-clause-refused : goal.returns-in-Ok-clause-refused
 returns-in-Ok-clause-refused g c =
-    let shelf = shelf_use g.F.Shelf.files g.F.Shelf.faults c.args.files.now c.read_program.new.files in
-    misscripted_if c.args.script.now c.args.bytes.now (words_of c.args.names.now) shelf (record { held = c.requires.read.held; within = c.requires.read.within })
-    c.in-Ok.program c.script_program.result c.in-Ok.ensures.program c.script_program.ensures.refused
+    let script = c.requires.read in
+    misscripted_if c.script_program.result (record { held = script.held; within = script.within }) c.in-Ok.ensures.program c.script_program.ensures.refused
 
 -- they are none
 pub returns-in-Err-clause-refused : goal.returns-in-Err-clause-refused
 returns-in-Err-clause-refused g c =
-    refused_told c.args.script.now c.args.bytes.now (words_of c.args.names.now)
-    (shelf_use g.F.Shelf.files g.F.Shelf.faults c.args.files.now c.read_program.new.files)
-    (record { held = c.requires.read.held; within = c.requires.read.within }) c.in-Err.refusal c.in-Err.ensures.refused
+    let script = c.requires.read in
+    told_so (IsNoProgram _ _) (IsNoDebuggee _ _ _) c.in-Err.refusal (λ status note why. IsNoDebuggee.refused _ status note (record { held = script.held; within = script.within }) why) c.in-Err.ensures.refused
+
+pub returns-in-Ok-clause-lined : goal.returns-in-Ok-clause-lined
+returns-in-Ok-clause-lined g c =
+    for_err _ _ c.script_program.result
+    (λ refusal. other_lined (IsDueToScript c.args.script.now c.args.bytes.now (words_of c.args.names.now) c.in-Ok.program) _ _ refusal (λ status note why e. omega (arith, why.2, e)))
+    c.script_program.ensures.refused

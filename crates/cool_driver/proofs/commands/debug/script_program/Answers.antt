@@ -1,13 +1,20 @@
-use Rattle.std.proofs.Common.{◌∙◌, length, ap, sym, subst, arith}
+use Rattle.std.proofs.Common.{ap, arith, length, refl, subst, sym, ◌∙◌}
 use Rattle.std.proofs.lemmas.List.{length-map}
+use Rattle.cool_emit.proofs.SoundLinesAssemble.{few_lines, in_range, no_fault}
+use Rattle.cool_words.specs.Plans.{words_of}
 use Rattle.mips_isa.specs.Assembly.{fault_of, image_of}
 use Rattle.mips_isa.specs.ImageBounds.{ImageParts}
-use Rattle.mips_isa.specs.Lines.{line_of, lines_of, AreInRange}
-use Rattle.cool_emit.proofs.SoundLinesAssemble.{few_lines, in_range, no_fault}
+use Rattle.mips_isa.specs.Lines.{line_of, lines_of}
 use Rattle.spim_debug.specs.Debugging.{IsScriptFor}
-use Rattle.cool_words.specs.Plans.{words_of}
-use Rattle.cool_driver.proofs.Plans.{short_names}
-use Rattle.cool_driver.proofs.rooms.Debuggings.{misscripted_line, says_commands, says_fault}
+use Rattle.cool_driver.specs.Notes.{script_note}
+use Rattle.cool_driver.specs.commands.Debug.{IsDueToScript}
+use Rattle.cool_driver.specs.declared.status.Status.{Status}
+use Rattle.cool_driver.proofs.LinesOfNotes.{placed_line}
+use Rattle.cool_words.proofs.FileNames.{short_names}
+use Rattle.cool_driver.proofs.RefusalsTold.{line_told}
+use Rattle.cool_driver.proofs.rooms.Debuggings.{said_for}
+use Rattle.std.specs.Prelude.{decimal}
+use Rattle.cool_driver.specs.Notes.{script_words}
 use Rattle.cool_driver.proofs.commands.debug.script_program.Goals as goal
 
 -- the names are short
@@ -25,7 +32,7 @@ read_script-requires-clause-few c =
 
 pub read_script-requires-clause-ranges : goal.read_script-requires-clause-ranges
 read_script-requires-clause-ranges c =
-    subst AreInRange (sym (ap lines_of c.deref.ensures.value ∙ c.in_ok-lines.ensures.lines)) (in_range _ _ c.lines.ensures.sound)
+    rw (ap lines_of c.deref.ensures.value ∙ c.in_ok-lines.ensures.lines) (in_range _ _ c.lines.ensures.sound)
 
 pub read_script-requires-clause-image : goal.read_script-requires-clause-image
 read_script-requires-clause-image c =
@@ -41,7 +48,7 @@ assemble_lines-requires-clause-few c =
 
 pub assemble_lines-requires-clause-ranges : goal.assemble_lines-requires-clause-ranges
 assemble_lines-requires-clause-ranges c =
-    subst AreInRange (sym (ap lines_of c.deref-in-Ok.ensures.value ∙ c.in_ok-lines.ensures.lines)) (in_range _ _ c.lines.ensures.sound)
+    rw (ap lines_of c.deref-in-Ok.ensures.value ∙ c.in_ok-lines.ensures.lines) (in_range _ _ c.lines.ensures.sound)
 
 pub assemble_lines-requires-clause-no_fault : goal.assemble_lines-requires-clause-no_fault
 assemble_lines-requires-clause-no_fault c =
@@ -55,8 +62,7 @@ returns-in-Ok-clause-image c =
 
 pub returns-in-Ok-clause-says : goal.returns-in-Ok-clause-says
 returns-in-Ok-clause-says c =
-    let same = ap lines_of c.deref.ensures.value ∙ c.in_ok-lines.ensures.lines in
-    says_commands (lines_of c.deref.result.now) c.args.program.now (words_of c.args.names.now) c.args.bytes.now c.in-Ok.commands.items same c.in-Ok.ensures.exact
+    said_for _ c.args.program.now (words_of c.args.names.now) c.args.bytes.now (ap lines_of c.deref.ensures.value ∙ c.in_ok-lines.ensures.lines) ∙ c.in-Ok.ensures.exact
 
 pub returns-in-Ok-clause-script : goal.returns-in-Ok-clause-script
 returns-in-Ok-clause-script c =
@@ -70,9 +76,8 @@ pub returns-in-Err-Fault-clause-refused : goal.returns-in-Err-Fault-clause-refus
 returns-in-Err-Fault-clause-refused c =
     let fault = c.in-Err-Fault.fault in
     let names = words_of c.args.names.now in
-    let same = ap lines_of c.deref.ensures.value ∙ c.in_ok-lines.ensures.lines in
-    let exact = rw c.in-Err-Fault.field-0-is at c.in-Err-Fault.ensures.exact in
-    let wrong = says_fault (lines_of c.deref.result.now) c.args.program.now names c.args.bytes.now fault same exact in
+    let said = said_for _ c.args.program.now names c.args.bytes.now (ap lines_of c.deref.ensures.value ∙ c.in_ok-lines.ensures.lines) in
     let note = c.as_bytes.ensures.value ∙ c.in_ok-note-in-Err-Fault.ensures in
-    misscripted_line c.args.script.now c.args.bytes.now names c.args.program.now fault c.as_bytes.result.now c.refuse_by_line.result wrong note
-    c.refuse_by_line.ensures
+    line_told (IsDueToScript c.args.script.now c.args.bytes.now names c.args.program.now) Status.Unfit (script_note c.args.script.now fault)
+    c.refuse_by_line.result (placed_line c.args.script.now (decimal fault.line) (script_words fault.kind))
+    (fault, said ∙ (rw c.in-Err-Fault.field-0-is at c.in-Err-Fault.ensures.exact), refl, refl) (rw note at c.refuse_by_line.ensures)

@@ -1,9 +1,8 @@
-use Rattle.std.proofs.Common.{refl, inr, ◌∙◌, subst, ℕ, List}
+use Rattle.std.proofs.Common.{inr, refl, ◌∙◌}
 use Rattle.cool_driver.specs.Notes.{asm_note}
 use Rattle.cool_driver.specs.commands.Exec.{IsDueToBytes}
-use Rattle.cool_driver.specs.Refusals.{IsLine}
-use Rattle.cool_driver.specs.declared.status.Status.TheVariants as statuses
-use Rattle.cool_driver.proofs.LinesOfNotes.{some_misread}
+use Rattle.cool_driver.specs.declared.status.Status.{Status}
+use Rattle.cool_driver.proofs.LinesOfNotes.{placed_line}
 use Rattle.cool_driver.proofs.RefusalsTold.{line_told}
 use Rattle.cool_driver.proofs.commands.exec.load_text.Goals as goal
 
@@ -16,8 +15,8 @@ returns-in-Ok-clause-image c =
 -- it has a fault
 pub returns-in_ok-note-in-Err-Fault-clause-refused : goal.returns-in_ok-note-in-Err-Fault-clause-refused
 returns-in_ok-note-in-Err-Fault-clause-refused c =
-    let note = c.as_bytes.ensures.value ∙ c.in_ok-note-in-Err-Fault.ensures in
+    let fault = c.in-Err-Fault.fault in
     let wrong = rw c.in-Err-Fault.field-0-is at c.in-Err-Fault.ensures in
-    line_told (IsDueToBytes c.args.name.now c.args.bytes.now) statuses.Unfit (asm_note c.args.name.now c.in-Err-Fault.fault) c.refuse_by_line.result
-    (some_misread c.args.name.now c.in-Err-Fault.fault) (refl, inr (c.in-Err-Fault.fault, refl, c.requires.text, wrong))
-    (subst (λ (line : List ℕ). IsLine statuses.Unfit line c.refuse_by_line.result) note c.refuse_by_line.ensures)
+    line_told (IsDueToBytes c.args.name.now c.args.bytes.now) Status.Unfit (asm_note c.args.name.now fault) c.refuse_by_line.result
+    (placed_line c.args.name.now _ _) (refl, inr (fault, refl, c.requires.text, wrong))
+    (rw (c.as_bytes.ensures.value ∙ c.in_ok-note-in-Err-Fault.ensures) at c.refuse_by_line.ensures)

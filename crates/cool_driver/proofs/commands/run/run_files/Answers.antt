@@ -1,12 +1,11 @@
 use Rattle.std.proofs.Common.{false, refl}
-use Rattle.cool_ports.proofs.InputsInParts.{took_nothing, leaves_same}
-use Rattle.cool_words.specs.Plans.{words_of}
-use Rattle.cool_driver.specs.Calls.{shelf_use}
+use Rattle.cool_ports.proofs.InputsInParts.{leaves_same, took_nothing}
 use Rattle.cool_driver.specs.Sources.{IsNoProgram}
+use Rattle.cool_driver.specs.commands.Run.{DueToRunning}
 use Rattle.cool_driver.proofs.ComesOfRefusals.{refusal_goes}
 use Rattle.cool_driver.proofs.DevicesOfCalls.{got_nothing}
 use Rattle.cool_driver.proofs.RefusalsTold.{has_lines}
-use Rattle.cool_driver.proofs.rooms.Runnings.{refused_goes, ran_goes}
+use Rattle.cool_driver.proofs.rooms.Runnings.{ran_goes, running_ends}
 use Rattle.cool_driver.proofs.commands.run.run_files.Goals as goal
 
 -- the files are a program
@@ -16,14 +15,11 @@ returns-in-Ok-clause-taken g c = c.execute.ensures.taken
 pub returns-in-Ok-clause-ends : goal.returns-in-Ok-clause-ends
 returns-in-Ok-clause-ends g c words given rest leaves =
     let is = c.in-Ok.ensures.image in
-    ran_goes _ _ _ _ _ c.in-Ok.image (record { p = is.p; is = is.is; for = is.for; bounded = c.requires.limits })
-    (c.execute.ensures.ends _ rest is.is.read.calm leaves)
+    ran_goes (record { p = is.p; is = is.is; for = is.for; bounded = c.requires.limits }) (c.execute.ensures.ends _ rest is.is.read.calm leaves)
 
 -- no line of the refusal is empty
 pub tell_refusal-requires : goal.tell_refusal-requires
-tell_refusal-requires g c =
-    has_lines (IsNoProgram (shelf_use g.F.Shelf.files g.F.Shelf.faults c.args.files.now c.compile_files.new.files) (words_of c.args.names.now)) c.in-Err.refusal
-    c.in-Err.ensures.refused
+tell_refusal-requires g c = has_lines (IsNoProgram _ _) _ c.in-Err.ensures.refused
 
 -- they are none
 pub returns-in-Err-clause-taken : goal.returns-in-Err-clause-taken
@@ -32,6 +28,8 @@ returns-in-Err-clause-taken g c = (false, took_nothing _ _ _)
 pub returns-in-Err-clause-ends : goal.returns-in-Err-clause-ends
 returns-in-Err-clause-ends g c words given rest leaves =
     rw (leaves_same _ given rest leaves)
-    (refused_goes _ _ _ _ _
-    (refusal_goes _ _ c.in-Err.refusal c.tell_refusal.result c.compile_files.ensures.count refl refl (got_nothing _ _) c.in-Err.ensures.refused
-    c.tell_refusal.ensures))
+    (refusal_goes _ c.in-Err.refusal c.tell_refusal.result (λ s. running_ends) DueToRunning.refused c.compile_files.ensures.count refl refl
+    (got_nothing _ _) c.in-Err.ensures.refused c.tell_refusal.ensures.noted)
+
+pub returns-in-Err-clause-refused : goal.returns-in-Err-clause-refused
+returns-in-Err-clause-refused g c is = c.tell_refusal.ensures.put _ _ c.in-Err.ensures.lined is
