@@ -2,17 +2,11 @@
 use Rattle.std.proofs.Common.{◌≡◌, ◌∙◌, sym, ap, subst, ℕ, ◌<◌, ◌≤◌, List, [], length, arith, refl}
 use Rattle.std.specs.Prelude.{Option, Some}
 use Rattle.cool_ports.specs.SinkBytes.{appended}
-use Rattle.mips_isa.specs.ImageBounds.{ImageParts}
-use Rattle.mips_isa.specs.Calls.{Outcome, Running, Exited, Trapped}
-use Rattle.mips_isa.specs.Run.{start}
-use Rattle.spim_machine.specs.declared.halt.Halt.{Halt}
+use Rattle.mips_isa.specs.{ImageBounds.{ImageParts}, Calls.{Outcome, Running, Exited, Trapped}, Run.{start}}
+use Rattle.spim_machine.specs.{declared.halt.Halt.{Halt}, Machine.{MachineParts, IsIn}, Ends.{Counted, Ran}}
 use Rattle.spim_machine.specs.declared.halt.Halt.TheVariants as halts
-use Rattle.spim_machine.specs.Machine.{MachineParts, IsIn}
-use Rattle.spim_machine.specs.Ends.{Counted, Ran}
 use Rattle.cool_words.specs.declared.plan.RunLimits.{RunLimits}
-use Rattle.cool_driver.specs.Execution.{run_of, segments_within, status_of, status_of_halt}
-use Rattle.cool_driver.specs.commands.Big.{RunsTo}
-use Rattle.cool_driver.specs.commands.Big.RunsTo.{counted, too_long}
+use Rattle.cool_driver.specs.{Execution.{run_of, segments_within, status_of, status_of_halt}, commands.Big.{RunsTo}, commands.Big.RunsTo.{counted, too_long}}
 use Rattle.cool_driver.specs.declared.TheConstants.{MOST_BIG_OUTPUT}
 use Rattle.spim_debug.specs.Notes.{state_in}
 

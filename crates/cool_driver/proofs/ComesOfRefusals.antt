@@ -1,14 +1,7 @@
 -- How a call goes that writes one thing, the bytes or the note that are due, or that refuses its files.
 use Rattle.std.proofs.Common.{List, [], arith, inl, inr, ℕ, ◌≡◌, ◌≢◌, ◌≤◌}
-use Rattle.cool_driver.specs.Calls.{Call, Got, Request, shelf_of}
-use Rattle.cool_driver.specs.Comes.{Comes, Dues, Pieces}
-use Rattle.cool_driver.specs.Ends.{Goes}
-use Rattle.cool_driver.specs.Refusals.{IsTold, RefusalNoted}
-use Rattle.cool_driver.specs.Sources.{IsNoProgram}
-use Rattle.cool_driver.specs.Statuses.{code_of}
-use Rattle.cool_driver.specs.Telling.{Noted}
-use Rattle.cool_driver.specs.declared.refusal.Refusal.{Refusal}
-use Rattle.cool_driver.specs.declared.status.Status.{Status}
+use Rattle.cool_driver.specs.{Calls.{Call, Got, Request, shelf_of}, Comes.{Comes, Dues, Pieces}, Ends.{Goes}, Refusals.{IsTold, RefusalNoted}, Sources.{IsNoProgram}}
+use Rattle.cool_driver.specs.{Statuses.{code_of}, Telling.{Noted}, declared.refusal.Refusal.{Refusal}, declared.status.Status.{Status}}
 use Rattle.cool_driver.proofs.DevicesOfCalls.{IsStatus, due_finished, finished_goes, is_noted, short_goes}
 
 -- bytes that are due with status 0 were written, or that write failed

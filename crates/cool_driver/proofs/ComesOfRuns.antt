@@ -1,22 +1,11 @@
 -- How a call goes that ran an image.
 use Rattle.std.proofs.Common.{List, Option, Some, [], arith, inl, inr, refl, ℕ, ◌∙◌, ◌≡◌, ◌⊎◌}
 use Rattle.cool_words.specs.declared.plan.RunLimits.{RunLimits}
-use Rattle.mips_isa.specs.Calls.{Exited, Outcome, Running, State, Trapped}
-use Rattle.mips_isa.specs.ImageBounds.{ImageParts}
-use Rattle.mips_isa.specs.Run.{start}
-use Rattle.spim_machine.specs.Ends.{Counted, FailsReading, Ran}
-use Rattle.spim_machine.specs.Machine.{IsIn, MachineParts}
-use Rattle.spim_machine.specs.declared.halt.Halt.{Halt}
-use Rattle.cool_driver.specs.Calls.{Call}
-use Rattle.cool_driver.specs.Comes.{Comes}
-use Rattle.cool_driver.specs.Ends.{Goes}
-use Rattle.cool_driver.specs.Execution.{note_of, run_of, segments_within, status_of}
-use Rattle.cool_driver.specs.Runs.{DueToRun, PiecesOfRun}
-use Rattle.cool_driver.specs.Statuses.{code_of}
-use Rattle.cool_driver.specs.Telling.{HaltNoted}
-use Rattle.cool_driver.specs.declared.status.Status.{Status}
-use Rattle.cool_driver.proofs.DevicesOfCalls.{IsFinished, cut_goes, due_finished, finished_goes, got_alone, halt_noted}
-use Rattle.cool_driver.proofs.RunsWithinLimits.{run_of-is}
+use Rattle.mips_isa.specs.{Calls.{Exited, Outcome, Running, State, Trapped}, ImageBounds.{ImageParts}, Run.{start}}
+use Rattle.spim_machine.specs.{Ends.{Counted, FailsReading, Ran}, Machine.{IsIn, MachineParts}, declared.halt.Halt.{Halt}}
+use Rattle.cool_driver.specs.{Calls.{Call}, Comes.{Comes}, Ends.{Goes}, Execution.{note_of, run_of, segments_within, status_of}, Runs.{DueToRun, PiecesOfRun}, Statuses.{code_of}}
+use Rattle.cool_driver.specs.{Telling.{HaltNoted}, declared.status.Status.{Status}}
+use Rattle.cool_driver.proofs.{DevicesOfCalls.{IsFinished, cut_goes, due_finished, finished_goes, got_alone, halt_noted}, RunsWithinLimits.{run_of-is}}
 use Rattle.cool_driver.proofs.StatusesOfRuns.{IsOneOf, end_status, good_status}
 use Rattle.spim_debug.specs.Notes.{state_in}
 

@@ -1,16 +1,10 @@
 -- How calls go: what holds of their devices, what their command promises, and that their words were not at fault.
 use Rattle.std.proofs.Common.{List, Option, Some, [], arith, inl, inr, refl, sym, ℕ, ◌++◌, ◌<◌, ◌≡◌, ◌≢◌, ◌≤◌, ◌⊎◌}
 use Rattle.cool_ports.proofs.GettingBytes.{appended-nil}
-use Rattle.cool_ports.specs.Counts.{Rose}
-use Rattle.cool_ports.specs.SinkBytes.{appended}
+use Rattle.cool_ports.specs.{Counts.{Rose}, SinkBytes.{appended}}
 use Rattle.spim_machine.specs.declared.halt.Halt.{Halt}
-use Rattle.cool_driver.specs.Calls.{Call, Got, GotPart, Request}
-use Rattle.cool_driver.specs.Comes.{Comes, Dues, Pieces}
-use Rattle.cool_driver.specs.Ends.{Goes}
-use Rattle.cool_driver.specs.Execution.{note_of_halt, status_of_halt}
-use Rattle.cool_driver.specs.Statuses.{code_of}
-use Rattle.cool_driver.specs.Telling.{HaltNoted, Noted}
-use Rattle.cool_driver.specs.declared.status.Status.{Status}
+use Rattle.cool_driver.specs.{Calls.{Call, Got, GotPart, Request}, Comes.{Comes, Dues, Pieces}, Ends.{Goes}, Execution.{note_of_halt, status_of_halt}, Statuses.{code_of}}
+use Rattle.cool_driver.specs.{Telling.{HaltNoted, Noted}, declared.status.Status.{Status}}
 
 -- A status that is due: it is one of those that may be, and what it says of the shelf.
 pub record IsStatus (r : Request) (status : ℕ) : Type 0 where

@@ -2,25 +2,10 @@
 use Rattle.std.proofs.Common.{None, Option, Some, [], arith, inl, inr, refl, ℕ, ◌∙◌, ◌≡◌}
 use Rattle.cool_words.specs.Plans.{Asked}
 use Rattle.mips_isa.specs.Calls.{asked}
-use Rattle.cool_driver.specs.Calls.{Call, DidNothing, Got}
-use Rattle.cool_driver.specs.Comes.{Comes}
-use Rattle.cool_driver.specs.CommandLine.{asked_for}
-use Rattle.cool_driver.specs.Devices.{Devices}
-use Rattle.cool_driver.specs.Ends.{Ends, EndsBy, Goes}
-use Rattle.cool_driver.specs.Notes.{usage_note}
-use Rattle.cool_driver.specs.Statuses.{code_of}
-use Rattle.cool_driver.specs.Telling.{Noted}
-use Rattle.cool_driver.specs.commands.Debug.{DebugComes}
-use Rattle.cool_driver.specs.commands.Usage.{DueToUsage}
-use Rattle.cool_driver.specs.declared.status.Status.{Status}
-use Rattle.cool_driver.proofs.rooms.Bigs.{big_ends}
-use Rattle.cool_driver.proofs.rooms.Builds.{build_ends}
-use Rattle.cool_driver.proofs.rooms.Checks.{check_ends}
-use Rattle.cool_driver.proofs.rooms.Debuggings.{debug_ends}
-use Rattle.cool_driver.proofs.rooms.Evaluations.{eval_ends}
-use Rattle.cool_driver.proofs.rooms.Executions.{exec_ends}
-use Rattle.cool_driver.proofs.rooms.Runnings.{running_ends}
-use Rattle.cool_driver.proofs.rooms.Sessions.{unbegun}
+use Rattle.cool_driver.specs.{Calls.{Call, DidNothing, Got}, Comes.{Comes}, CommandLine.{asked_for}, Devices.{Devices}, Ends.{Ends, EndsBy, Goes}, Notes.{usage_note}}
+use Rattle.cool_driver.specs.{Statuses.{code_of}, Telling.{Noted}, commands.Debug.{DebugComes}, commands.Usage.{DueToUsage}, declared.status.Status.{Status}}
+use Rattle.cool_driver.proofs.{rooms.Bigs.{big_ends}, rooms.Builds.{build_ends}, rooms.Checks.{check_ends}, rooms.Debuggings.{debug_ends}, rooms.Evaluations.{eval_ends}}
+use Rattle.cool_driver.proofs.{rooms.Executions.{exec_ends}, rooms.Runnings.{running_ends}, rooms.Sessions.{unbegun}}
 
 -- a call ends as its command promises
 pub ends_by : {c : Call} {status : ℕ} (asked : Option Asked) → asked_for c.request.words ≡ asked → Devices c status → EndsBy asked c status

@@ -6,22 +6,15 @@ use Rattle.cool_meaning.specs.SourceRun as source
 use Rattle.cool_ports.specs.SinkBytes.{appended}
 use Rattle.cool_ports.proofs.GettingBytes.{appended-appended}
 use Rattle.cool_simulation.specs.Accord.{Limits, Accord, Accords, AreLimits, Means}
-use Rattle.cool_words.specs.declared.plan.RunLimits.{RunLimits}
-use Rattle.cool_words.specs.Plans.{IsBounded}
-use Rattle.mips_isa.specs.ImageBounds.{ImageParts}
-use Rattle.mips_isa.specs.Calls.{Outcome, Running, Exited, Trapped}
-use Rattle.mips_isa.proofs.InputShrinks.{input_of}
-use Rattle.mips_isa.proofs.OutputGrows.{output_of}
+use Rattle.cool_words.specs.{declared.plan.RunLimits.{RunLimits}, Plans.{IsBounded}}
+use Rattle.mips_isa.specs.{ImageBounds.{ImageParts}, Calls.{Outcome, Running, Exited, Trapped}}
+use Rattle.mips_isa.proofs.{InputShrinks.{input_of}, OutputGrows.{output_of}}
 use Rattle.spim_machine.proofs.StoppedRuns.{written_before, left_before, left_by_reading, written_by_printing}
-use Rattle.cool_driver.specs.Execution.{run_of, status_of, exit_status}
-use Rattle.cool_driver.specs.Calls.{Got, GotPart, Call}
-use Rattle.cool_driver.specs.Headline.{limits_of, EndsAsImage, StopsReading, StopsWriting, AccordsWith, IsPartOfSource, Headline}
-use Rattle.cool_driver.specs.Runs.{DueToRun, PiecesOfRun}
-use Rattle.cool_driver.specs.Runs.DueToRun.{ended, unread}
-use Rattle.cool_driver.specs.Runs.PiecesOfRun.{of_call}
+use Rattle.cool_driver.specs.{Execution.{run_of, status_of, exit_status}, Calls.{Got, GotPart, Call}}
+use Rattle.cool_driver.specs.{Headline.{limits_of, EndsAsImage, StopsReading, StopsWriting, AccordsWith, IsPartOfSource, Headline}, Runs.{DueToRun, PiecesOfRun}}
+use Rattle.cool_driver.specs.{Runs.DueToRun.{ended, unread}, Runs.PiecesOfRun.{of_call}}
 use Rattle.cool_driver.proofs.ComesOfRuns.{fails_alone}
-use Rattle.lists.specs.Bytes.{AreBytes}
-use Rattle.lists.specs.Prefixes.{IsPrefix, IsSuffix}
+use Rattle.lists.specs.{Bytes.{AreBytes}, Prefixes.{IsPrefix, IsSuffix}}
 use Rattle.spim_debug.specs.Notes.{state_in}
 
 -- The run of an image that means a program

@@ -1,19 +1,14 @@
 -- The notes of the debugger: each ends in a line feed.
 use Rattle.std.proofs.Common.{◌≡◌, ℕ, ◌+◌, Bool, true, false, inl, inr, List, [], ◌∷◌, ◌++◌, refl}
-use Rattle.std.specs.Prelude.{flat_map, codes, decimal, Option}
-use Rattle.std.specs.List.{range_with_len}
-use Rattle.cool_ports.specs.Answers.{Past, Leaves}
-use Rattle.cool_ports.specs.Taking.{Took}
+use Rattle.std.specs.{Prelude.{flat_map, codes, decimal, Option}, List.{range_with_len}}
+use Rattle.cool_ports.specs.{Answers.{Past, Leaves}, Taking.{Took}}
 use Rattle.cool_ports.proofs.InputsInParts.{leaves_none}
-use Rattle.mips_isa.specs.Calls.{Outcome, Running, Exited, Trapped}
-use Rattle.mips_isa.specs.Decoding.{decoded}
-use Rattle.spim_debug.specs.Debugging.{PutInCommand, NotesPut}
-use Rattle.spim_debug.specs.Moves.{Debuggee, Progress, beginning, outcome, moves, all_moves}
+use Rattle.mips_isa.specs.{Calls.{Outcome, Running, Exited, Trapped}, Decoding.{decoded}}
+use Rattle.spim_debug.specs.{Debugging.{PutInCommand, NotesPut}, Moves.{Debuggee, Progress, beginning, outcome, moves, all_moves}}
 use Rattle.spim_debug.specs.Notes.{word_text, place_note, ended_note, spaced, instruction_text, listed_from, words_from, state_in, notes, all_notes}
-use Rattle.spim_debug.specs.declared.debugger.DebugEnd.{DebugEnd}
-use Rattle.spim_debug.specs.declared.debugger.DebugEnd.TheVariants as end
-use Rattle.spim_debug.specs.declared.script.DebugCommand.{DebugCommand}
+use Rattle.spim_debug.specs.{declared.debugger.DebugEnd.{DebugEnd}, declared.script.DebugCommand.{DebugCommand}}
 use Rattle.spim_debug.specs.declared.script.DebugCommand.TheVariants.{Break, Delete, Step, Run, Regs, Show, List as ListWords}
+use Rattle.spim_debug.specs.declared.debugger.DebugEnd.TheVariants as end
 use Rattle.spim_machine.specs.declared.halt.Halt.TheVariants.{Exit, Trap, StepLimit, ReadFault, WriteFault}
 use Rattle.cool_driver.specs.Telling.{AreLines, PutsLines, ends_line}
 use Rattle.cool_driver.proofs.LinesOfNotes.{ends_after, feed, no_lines, front_lines, more_lines}

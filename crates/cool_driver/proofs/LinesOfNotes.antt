@@ -1,21 +1,14 @@
 -- The lines of notes: each ends in a line feed.
 use Rattle.std.proofs.Common.{◌≡◌, ◌≢◌, ℕ, zero, suc, ◌+◌, ◌<◌, true, List, [], ◌∷◌, ◌++◌, length, get_or, drop, map, refl, sym, ◌∙◌, ap, subst, append_assoc, append-nil, arith}
-use Rattle.std.specs.Prelude.{codes, decimal}
-use Rattle.std.specs.Global.{Vec}
-use Rattle.std.specs.List.{concat, AllByRecursion}
 use Rattle.std.proofs.lemmas.List.{at_drop_more}
-use Rattle.cool_faults.specs.declared.fault.Fault.{Fault}
-use Rattle.cool_faults.specs.Texts.{fault_words, fault_line}
-use Rattle.cool_faults.specs.Verdicts.{place_of, IsRefused}
+use Rattle.std.specs.{Prelude.{codes, decimal}, Global.{Vec}, List.{concat, AllByRecursion}}
+use Rattle.cool_faults.specs.{declared.fault.Fault.{Fault}, Texts.{fault_words, fault_line}, Verdicts.{place_of, IsRefused}}
 use Rattle.cool_ports.specs.SinkPuts.{PutFront}
 use Rattle.cool_syntax.specs.TokenFacts.{IsPlaced}
-use Rattle.mips_image.specs.declared.image_error.ImageError.{ImageError}
-use Rattle.mips_image.specs.declared.image_error.ImageError.TheVariants.{Memory, I1, I2, I3, I4, I5}
+use Rattle.mips_image.specs.{declared.image_error.ImageError.{ImageError}, declared.image_error.ImageError.TheVariants.{Memory, I1, I2, I3, I4, I5}}
 use Rattle.mips_isa.specs.declared.trap.Trap.{Trap}
 use Rattle.spim_debug.specs.Notes.{digits}
-use Rattle.cool_driver.specs.Contents.{texts}
-use Rattle.cool_driver.specs.Notes.{command_note, image_note, trap_note, trap_words}
-use Rattle.cool_driver.specs.Telling.{AreLines, PutsLines, ends_line, note_of}
+use Rattle.cool_driver.specs.{Contents.{texts}, Notes.{command_note, image_note, trap_note, trap_words}, Telling.{AreLines, PutsLines, ends_line, note_of}}
 use Rattle.lists.proofs.AllItems.{all_append, all_left}
 
 -- a text that ends in a line feed is not empty

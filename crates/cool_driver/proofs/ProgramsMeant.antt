@@ -1,34 +1,21 @@
 -- What the program of a command's files is compiled to means it, folded or not; and so does what the program of `big` is compiled to.
-use Rattle.std.proofs.Common.{◌≡◌, ℕ, Bool, true, false, List, length, refl, sym, ◌∙◌, subst, [], arith}
-use Rattle.std.specs.Prelude.{String, string_bytes}
-use Rattle.std.specs.List.{list_all, AllByRecursion}
-use Rattle.std.specs.Global.{Global}
-use Rattle.std.proofs.lemmas.List.{length-map}
+use Rattle.std.proofs.{Common.{◌≡◌, ℕ, Bool, true, false, List, length, refl, sym, ◌∙◌, subst, [], arith}, lemmas.List.{length-map}}
+use Rattle.std.specs.{Prelude.{String, string_bytes}, List.{list_all, AllByRecursion}, Global.{Global}}
 use Rattle.cool_classes.specs.Chains.{Class}
 use Rattle.cool_emit.specs.Programs.{program_text, program_data, program_lines}
-use Rattle.cool_emit.proofs.ProgramsAreSound.{programs_sound}
-use Rattle.cool_emit.proofs.SoundLinesAssemble.{no_fault}
+use Rattle.cool_emit.proofs.{ProgramsAreSound.{programs_sound}, SoundLinesAssemble.{no_fault}}
 use Rattle.cool_faults.specs.Verdicts.{IsAccepted}
 use Rattle.cool_rules.specs.Fits.{Fits}
 use Rattle.cool_runtime.specs.RoutineLines.{routine_lines}
-use Rattle.cool_simulation.specs.Accord.{Means}
-use Rattle.cool_simulation.specs.Theorem.{AreFileNames}
-use Rattle.cool_simulation.proofs.theorem.AcceptedPrograms.{accepted_compile, images_mean}
-use Rattle.cool_simulation.proofs.theorem.FoldedImages.{folded_images_mean}
-use Rattle.cool_simulation.proofs.theorem.PrintedPrograms.{programs_read}
+use Rattle.cool_simulation.specs.{Accord.{Means}, Theorem.{AreFileNames}}
+use Rattle.cool_simulation.proofs.{theorem.AcceptedPrograms.{accepted_compile, images_mean}, theorem.FoldedImages.{folded_images_mean}, theorem.PrintedPrograms.{programs_read}}
 use Rattle.cool_words.specs.Plans.{is_file_name, words_of, IsBounded, usual_limits}
 use Rattle.cool_words.proofs.FileNames.{text_names, short_names}
-use Rattle.mips_isa.specs.Assembly.{image_of}
-use Rattle.mips_isa.specs.ImageBounds.{ImageParts}
+use Rattle.mips_isa.specs.{Assembly.{image_of}, ImageBounds.{ImageParts}}
 use Rattle.mips_text.specs.Printing.{printed}
-use Rattle.cool_driver.specs.Calls.{ShelfUse}
-use Rattle.cool_driver.specs.Compiled.{compiled_program, IsImageFor}
-use Rattle.cool_driver.specs.Execution.{is_text_file}
-use Rattle.cool_driver.specs.Sources.{IsProgram}
-use Rattle.cool_driver.specs.commands.Big.{big_names, AccordsWithSource}
+use Rattle.cool_driver.specs.{Calls.{ShelfUse}, Compiled.{compiled_program, IsImageFor}, Execution.{is_text_file}, Sources.{IsProgram}, commands.Big.{big_names, AccordsWithSource}}
 use Rattle.cool_driver.specs.commands.Build.{IsCompiled}
-use Rattle.cool_driver.proofs.HeadlineOfRuns.{image_accords}
-use Rattle.cool_driver.proofs.HeldFiles.{held_length}
+use Rattle.cool_driver.proofs.{HeadlineOfRuns.{image_accords}, HeldFiles.{held_length}}
 use Rattle.lists.specs.Bytes.{AreBytes}
 
 -- the text of a program begins with a label, not with the byte of an image

@@ -1,19 +1,13 @@
 -- The files of names are read one after another, until one is refused.
 use Rattle.std.proofs.Common.{◌≡◌, ◌≢◌, ℕ, suc, ◌+◌, ◌-◌, ◌<◌, ◌≤◌, List, [], ◌∷◌, ◌++◌, length, get_or, take, drop, refl, sym, ◌∙◌, ap, subst, append_assoc, append-nil, take-append-drop, arith}
-use Rattle.std.specs.Prelude.{Option, string_bytes, String}
-use Rattle.std.specs.List.{AllByRecursion}
-use Rattle.std.specs.Global.{Global, Vec}
 use Rattle.std.proofs.lemmas.List.{at_drop_more, length-map, map_more, map_push, map-append}
-use Rattle.cool_ports.specs.Counts.{Rose}
-use Rattle.cool_ports.specs.ShelfFiles.{FileMap, MayHold, IsMissing, IsLonger, AreHeld}
-use Rattle.cool_ports.specs.declared.shelf.ShelfFault.{ShelfFault}
+use Rattle.std.specs.{Prelude.{Option, string_bytes, String}, List.{AllByRecursion}, Global.{Global, Vec}}
+use Rattle.cool_ports.specs.{Counts.{Rose}, ShelfFiles.{FileMap, MayHold, IsMissing, IsLonger, AreHeld}, declared.shelf.ShelfFault.{ShelfFault}}
 use Rattle.cool_ports.specs.declared.shelf.ShelfFault.TheVariants as faults
 use Rattle.cool_faults.specs.Files.{total}
 use Rattle.cool_syntax.specs.declared.TheConstants.{MOST_FILES}
 use Rattle.cool_words.specs.Plans.{words_of}
-use Rattle.cool_driver.specs.Calls.{ShelfUse}
-use Rattle.cool_driver.specs.Sources.{IsCause, IsStopAt, AskedFront}
-use Rattle.cool_driver.specs.Contents.{texts}
+use Rattle.cool_driver.specs.{Calls.{ShelfUse}, Sources.{IsCause, IsStopAt, AskedFront}, Contents.{texts}}
 use Rattle.lists.specs.Bytes.{AreBytes}
 use Rattle.cool_ports.proofs.FilesHeld.{held_more}
 use Rattle.cool_faults.proofs.FileSizes.{total-push}

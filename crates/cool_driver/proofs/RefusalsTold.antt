@@ -1,23 +1,14 @@
 -- Refusals: what their lines say.
 use Rattle.std.proofs.Common.{◌≡◌, ◌≢◌, ◌∙◌, ℕ, true, List, [], ◌++◌, Some, inl, inr, refl, sym, ap, subst, arith}
-use Rattle.std.specs.Prelude.{Result, Ok, Err, IfErr, codes}
-use Rattle.std.specs.List.{concat}
-use Rattle.cool_faults.specs.declared.fault.Fault.{Fault}
-use Rattle.cool_faults.specs.Verdicts.{IsRefused}
+use Rattle.std.specs.{Prelude.{Result, Ok, Err, IfErr, codes}, List.{concat}}
+use Rattle.cool_faults.specs.{declared.fault.Fault.{Fault}, Verdicts.{IsRefused}}
 use Rattle.cool_ports.specs.declared.shelf.ShelfFault.{ShelfFault}
 use Rattle.cool_ports.specs.declared.shelf.ShelfFault.TheVariants as faults
 use Rattle.cool_syntax.specs.declared.TheConstants.{MOST_SOURCE_BYTES}
-use Rattle.cool_driver.specs.Calls.{ShelfUse, SinkUse}
-use Rattle.cool_driver.specs.Notes.{missing_note, unread_note, too_large_note}
-use Rattle.cool_driver.specs.Sources.{IsStopAt}
-use Rattle.cool_driver.specs.Refusals.{IsTold, IsLine, AreLinesOf, IsDueToFaults, HasLines, PutsFaults, AreFaultLines}
-use Rattle.cool_driver.specs.Sources.{AreRead, IsDueUnread}
-use Rattle.cool_driver.specs.Sources.AreUnread.{missing, unread, too_large}
-use Rattle.cool_driver.specs.Statuses.{code_of}
-use Rattle.cool_driver.specs.Telling.{AreLines, Noted, ends_line, fault_note}
-use Rattle.cool_driver.specs.declared.refusal.Refusal.{Refusal}
-use Rattle.cool_driver.specs.declared.refusal.Refusal.TheVariants.{Told, Memory}
-use Rattle.cool_driver.specs.declared.status.Status.{Status}
+use Rattle.cool_driver.specs.{Calls.{ShelfUse, SinkUse}, Notes.{missing_note, unread_note, too_large_note}, Sources.{IsStopAt, AreRead, IsDueUnread}}
+use Rattle.cool_driver.specs.{Refusals.{IsTold, IsLine, AreLinesOf, IsDueToFaults, HasLines, PutsFaults, AreFaultLines}, Sources.AreUnread.{missing, unread, too_large}}
+use Rattle.cool_driver.specs.{Statuses.{code_of}, Telling.{AreLines, Noted, ends_line, fault_note}, declared.refusal.Refusal.{Refusal}}
+use Rattle.cool_driver.specs.{declared.refusal.Refusal.TheVariants.{Told, Memory}, declared.status.Status.{Status}}
 use Rattle.cool_driver.specs.declared.status.Status.TheVariants as statuses
 use Rattle.cool_driver.proofs.LinesOfNotes.{ends_after, feed, file_line, fault_lines, one_line}
 

@@ -1,10 +1,7 @@
 -- What a file of `exec` stands for: one image, or one fault.
 use Rattle.std.proofs.Common.{◌≡◌, ℕ, inl, inr, true, false, List, Some, sym, ◌∙◌, ap}
-use Rattle.mips_isa.specs.Assembly.{fault_of, image_of}
-use Rattle.mips_isa.specs.ImageBounds.{ImageParts}
-use Rattle.mips_isa.specs.declared.asm_fault.AsmFault.{AsmFault}
-use Rattle.mips_image.specs.ImageReading.{first_fault, parts_of}
-use Rattle.mips_image.specs.declared.image_error.ImageError.{ImageError}
+use Rattle.mips_isa.specs.{Assembly.{fault_of, image_of}, ImageBounds.{ImageParts}, declared.asm_fault.AsmFault.{AsmFault}}
+use Rattle.mips_image.specs.{ImageReading.{first_fault, parts_of}, declared.image_error.ImageError.{ImageError}}
 use Rattle.mips_image.proofs.ImagesAreRead.{no_fault, parts_read}
 use Rattle.mips_text.proofs.OneReading.{never_both, one_first_fault, one_reading}
 use Rattle.cool_driver.specs.Execution.{IsImageOf, IsRunnable, IsTextFault, is_text_file}

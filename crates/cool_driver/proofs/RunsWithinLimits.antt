@@ -1,14 +1,9 @@
 -- The run of an image within limits, and of a machine that was loaded with the image.
 use Rattle.std.proofs.Common.{◌≡◌, ◌∙◌, refl, ℕ, List, []}
 use Rattle.std.specs.Prelude.{Option, Some}
-use Rattle.mips_isa.specs.ImageBounds.{ImageParts}
-use Rattle.mips_isa.specs.Bytes.{segments_of}
-use Rattle.mips_isa.specs.Calls.{State}
-use Rattle.mips_isa.specs.Run.{run, start}
+use Rattle.mips_isa.specs.{ImageBounds.{ImageParts}, Bytes.{segments_of}, Calls.{State}, Run.{run, start}}
 use Rattle.spim_memory.specs.Memory.{segments}
-use Rattle.spim_machine.specs.declared.halt.Halt.{Halt}
-use Rattle.spim_machine.specs.Machine.{MachineParts, state_of, IsIn}
-use Rattle.spim_machine.specs.Ends.{Ran}
+use Rattle.spim_machine.specs.{declared.halt.Halt.{Halt}, Machine.{MachineParts, state_of, IsIn}, Ends.{Ran}}
 use Rattle.spim_machine.proofs.LoadedRuns.{ran_loaded}
 use Rattle.cool_words.specs.declared.plan.RunLimits.{RunLimits}
 use Rattle.cool_driver.specs.Execution.{heap_of, run_of, segments_within, stack_of}

@@ -1,29 +1,17 @@
 -- The files of a call: they are read once, and either they are one program, or there is one reason why not.
 use Rattle.std.proofs.Common.{Err, IfErr, IfOk, List, None, Ok, Result, Some, String, [], ap, arith, inl, inr, length, refl, string_bytes, sym, true, ℕ, ◌+◌, ◌<◌, ◌∙◌, ◌≡◌, ◌≢◌, ◌≤◌, ◌⊎◌}
 use Rattle.std.proofs.lemmas.List.{length-map}
-use Rattle.std.specs.Global.{Global, Vec}
-use Rattle.std.specs.List.{AllByRecursion, list_all}
+use Rattle.std.specs.{Global.{Global, Vec}, List.{AllByRecursion, list_all}}
 use Rattle.cool_classes.specs.Chains.{Class}
-use Rattle.cool_faults.proofs.AcceptedFiles.{accepted_list}
-use Rattle.cool_faults.proofs.OneVerdict.{never_both_verdicts, one_list, one_program}
-use Rattle.cool_faults.specs.Files.{total}
-use Rattle.cool_faults.specs.Verdicts.{IsAccepted, IsFaultList}
-use Rattle.cool_faults.specs.declared.fault.Fault.{Fault}
+use Rattle.cool_faults.proofs.{AcceptedFiles.{accepted_list}, OneVerdict.{never_both_verdicts, one_list, one_program}}
+use Rattle.cool_faults.specs.{Files.{total}, Verdicts.{IsAccepted, IsFaultList}, declared.fault.Fault.{Fault}}
 use Rattle.cool_ports.specs.ShelfFiles.{FileMap, AreHeld}
 use Rattle.cool_syntax.specs.declared.TheConstants.{MOST_FILES, MOST_SOURCE_BYTES}
 use Rattle.cool_words.specs.Plans.{is_file_name, words_of}
-use Rattle.cool_driver.specs.Calls.{Call, HasTold, Request, ShelfUse, UnlessCutShort, shelf_of}
-use Rattle.cool_driver.specs.Comes.{Comes, Dues, Pieces}
-use Rattle.cool_driver.specs.Contents.{texts}
-use Rattle.cool_driver.specs.Notes.{refused_note}
-use Rattle.cool_driver.specs.Refusals.{IsDueToFaults, IsTold}
-use Rattle.cool_driver.specs.Sources.{AreRead, AreReadUpTo, AreSources, AreUnread, FilesExactly, IsNoProgram, IsProgram, SourcesExactly}
-use Rattle.cool_driver.specs.Statuses.{FILE_FAULT, REFUSED}
-use Rattle.cool_driver.specs.declared.refusal.Refusal.{Refusal}
-use Rattle.cool_driver.proofs.ComesOfRefusals.{refused_status}
-use Rattle.cool_driver.proofs.DevicesOfCalls.{IsStatus, came}
-use Rattle.cool_driver.proofs.HeldFiles.{held_later, held_same, none_missing}
-use Rattle.cool_driver.proofs.RefusalsTold.{told_so}
+use Rattle.cool_driver.specs.{Calls.{Call, HasTold, Request, ShelfUse, UnlessCutShort, shelf_of}, Comes.{Comes, Dues, Pieces}, Contents.{texts}, Notes.{refused_note}}
+use Rattle.cool_driver.specs.{Refusals.{IsDueToFaults, IsTold}, Sources.{AreRead, AreReadUpTo, AreSources, AreUnread, FilesExactly, IsNoProgram, IsProgram, SourcesExactly}}
+use Rattle.cool_driver.specs.{Statuses.{FILE_FAULT, REFUSED}, declared.refusal.Refusal.{Refusal}}
+use Rattle.cool_driver.proofs.{ComesOfRefusals.{refused_status}, DevicesOfCalls.{IsStatus, came}, HeldFiles.{held_later, held_same, none_missing}, RefusalsTold.{told_so}}
 use Rattle.cool_driver.proofs.StatusesOfRuns.{IsOneOf, good_status}
 use Rattle.lists.specs.Bytes.{AreBytes}
 

@@ -1,8 +1,7 @@
 -- The statuses with which runs of images and of the source end.
 use Rattle.std.proofs.Common.{Bool, arith, cond, false, true, ℕ, ◌==◌, ◌≡◌, ◌≢◌, ◌⊎◌}
 use Rattle.mips_isa.specs.Calls.{Exited, Outcome, Running, Trapped}
-use Rattle.cool_driver.specs.Calls.{Request}
-use Rattle.cool_driver.specs.Execution.{status_of}
+use Rattle.cool_driver.specs.{Calls.{Request}, Execution.{status_of}}
 use Rattle.cool_driver.proofs.DevicesOfCalls.{IsStatus}
 
 -- the statuses of runs

@@ -1,8 +1,6 @@
 -- A call of `cool`: what it was asked, which files were read for it, what came of its output, its notes and its input.
 use Rattle.std.specs.Prelude.{◌≡◌, ◌≢◌, ℕ, ◌<◌, ◌≤◌, List, [], ◌∷◌, Option, Some}
-use Rattle.cool_ports.specs.Counts.{last_count, Rose}
-use Rattle.cool_ports.specs.ShelfFiles.{FileMap, MayHold}
-use Rattle.cool_ports.specs.SinkBytes.{appended, GotPrefix}
+use Rattle.cool_ports.specs.{Counts.{last_count, Rose}, ShelfFiles.{FileMap, MayHold}, SinkBytes.{appended, GotPrefix}}
 use Rattle.cool_driver.specs.Statuses.{WRITE_FAULT, OUT_OF_MEMORY}
 
 -- What a call was asked: its words, the files that the shelf tells, the shelf's count of faults before and after, the names that it was asked for

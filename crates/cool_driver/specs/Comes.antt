@@ -1,7 +1,6 @@
 -- How what is due comes: whole, or in part, where a write failed, or not at all, where memory ran out before it.
 use Rattle.std.specs.Prelude.{ℕ, List, []}
-use Rattle.cool_driver.specs.Calls.{Call, Got, GotPart, DidNothing}
-use Rattle.cool_driver.specs.Statuses.{WRITE_FAULT, OUT_OF_MEMORY}
+use Rattle.cool_driver.specs.{Calls.{Call, Got, GotPart, DidNothing}, Statuses.{WRITE_FAULT, OUT_OF_MEMORY}}
 
 -- what is due: the status, the output, the note, and what is left of the input
 abbrev pub Dues : Type 1

@@ -4,8 +4,7 @@ use Rattle.cool_classes.specs.Chains.{Class}
 use Rattle.cool_emit.specs.Programs.{program_lines}
 use Rattle.cool_opt.specs.Folding.{fold_table}
 use Rattle.cool_simulation.specs.Accord.{Means}
-use Rattle.mips_isa.specs.Assembly.{image_of}
-use Rattle.mips_isa.specs.ImageBounds.{ImageParts}
+use Rattle.mips_isa.specs.{Assembly.{image_of}, ImageBounds.{ImageParts}}
 
 abbrev pub compiled_program : (fold : Bool) → List Class → List Class
 compiled_program false p = p

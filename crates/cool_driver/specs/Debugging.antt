@@ -1,15 +1,10 @@
 -- What `debug` does with an image and a script: which commands the script says for a program, and which notes they ask for in its run.
-use Rattle.std.specs.Prelude.{ℕ, List, Result}
-use Rattle.std.specs.List.{concat}
+use Rattle.std.specs.{Prelude.{ℕ, List, Result}, List.{concat}}
 use Rattle.cool_classes.specs.Chains.{Class}
 use Rattle.cool_emit.specs.Programs.{program_lines}
 use Rattle.mips_isa.specs.ImageBounds.{ImageParts}
 use Rattle.mips_asm.specs.TextLabels.{text_label}
-use Rattle.spim_debug.specs.Debugging.{debuggee}
-use Rattle.spim_debug.specs.Moves.{Debuggee, beginning}
-use Rattle.spim_debug.specs.Notes.{all_notes}
-use Rattle.spim_debug.specs.Scripts.{commands_in}
-use Rattle.spim_debug.specs.declared.script.DebugCommand.{DebugCommand}
+use Rattle.spim_debug.specs.{Debugging.{debuggee}, Moves.{Debuggee, beginning}, Notes.{all_notes}, Scripts.{commands_in}, declared.script.DebugCommand.{DebugCommand}}
 use Rattle.spim_debug.specs.declared.script.ScriptFault.{ScriptFault}
 use Rattle.cool_words.specs.declared.plan.RunLimits.{RunLimits}
 use Rattle.cool_driver.specs.Execution.{heap_of, stack_of}

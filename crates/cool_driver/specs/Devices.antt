@@ -1,8 +1,7 @@
 -- What the status of a call says of its devices, whatever the command is: which of them failed, and that no fault is passed over.
 use Rattle.std.specs.Prelude.{◌≡◌, ℕ, ◌<◌, ◌≤◌, ◌⊎◌}
 use Rattle.cool_ports.specs.Counts.{Rose}
-use Rattle.cool_driver.specs.Calls.{Call, NoLess}
-use Rattle.cool_driver.specs.Statuses.{READ_FAULT, WRITE_FAULT, OUT_OF_MEMORY, FILE_FAULT, UNFIT}
+use Rattle.cool_driver.specs.{Calls.{Call, NoLess}, Statuses.{READ_FAULT, WRITE_FAULT, OUT_OF_MEMORY, FILE_FAULT, UNFIT}}
 
 pub record Devices (c : Call) (status : ℕ) : Type 0 where
   -- no other status comes

@@ -1,21 +1,9 @@
 -- How a call of `cool` ends: what its status says of its devices, and what the command that its words ask for promises.
 use Rattle.std.specs.Prelude.{◌≡◌, ℕ, Option, Some, None}
-use Rattle.cool_words.specs.Plans.{Asked}
-use Rattle.cool_words.specs.Plans.Asked.{check, asm, build, run, eval, exec, debug, big, session}
-use Rattle.cool_driver.specs.CommandLine.{asked_for}
-use Rattle.cool_driver.specs.Calls.{Call}
-use Rattle.cool_driver.specs.Devices.{Devices}
-use Rattle.cool_driver.specs.Statuses.{USAGE}
-use Rattle.cool_driver.specs.commands.Usage.{UsageEnds}
-use Rattle.cool_driver.specs.commands.Check.{CheckEnds}
-use Rattle.cool_driver.specs.commands.Build.{BuildEnds}
-use Rattle.cool_driver.specs.commands.Run.{RunEnds}
-use Rattle.cool_driver.specs.commands.Eval.{EvalEnds}
-use Rattle.cool_driver.specs.commands.Exec.{ExecEnds}
-use Rattle.cool_driver.specs.commands.Big.{BigEnds}
-use Rattle.cool_driver.specs.commands.Debug.{DebugEnds}
-use Rattle.cool_driver.specs.declared.commands.build.Form.TheVariants.{Text, Image}
-use Rattle.cool_driver.specs.commands.Session.{SessionEnds}
+use Rattle.cool_words.specs.{Plans.{Asked}, Plans.Asked.{check, asm, build, run, eval, exec, debug, big, session}}
+use Rattle.cool_driver.specs.{CommandLine.{asked_for}, Calls.{Call}, Devices.{Devices}, Statuses.{USAGE}, commands.Usage.{UsageEnds}, commands.Check.{CheckEnds}}
+use Rattle.cool_driver.specs.{commands.Build.{BuildEnds}, commands.Run.{RunEnds}, commands.Eval.{EvalEnds}, commands.Exec.{ExecEnds}, commands.Big.{BigEnds}}
+use Rattle.cool_driver.specs.{commands.Debug.{DebugEnds}, declared.commands.build.Form.TheVariants.{Text, Image}, commands.Session.{SessionEnds}}
 
 -- what is promised for what the words ask for
 abbrev pub EndsBy : Option Asked → Call → ℕ → Type 0

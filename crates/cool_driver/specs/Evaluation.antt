@@ -1,8 +1,7 @@
 -- The status and the note of an `eval` whose run of the source ended, or stopped at its limit of steps.
 use Rattle.std.specs.Prelude.{ℕ, List, [], Option, Some, None}
 use Rattle.cool_meaning.specs.SourceRun.{End, Done, Failed, GoesOn, IsStuck}
-use Rattle.cool_driver.specs.Notes.{step_limit_note}
-use Rattle.cool_driver.specs.Statuses.{DONE, FAILED, STEP_LIMIT}
+use Rattle.cool_driver.specs.{Notes.{step_limit_note}, Statuses.{DONE, FAILED, STEP_LIMIT}}
 
 -- the status of a run that ended so, or goes on after its last step; to one that is stuck no status belongs
 abbrev pub status_of_end : End → Option ℕ

@@ -1,17 +1,10 @@
 -- What `exec` does with the bytes of a file: the image that they are, its run, and how that ends.
 use Rattle.std.specs.Prelude.{◌≡◌, ℕ, ◌*◌, ◌==◌, ◌⊎◌, not, if◌then◌else◌, Bool, true, List, [], ◌∷◌, None, Some}
-use Rattle.mips_isa.specs.ImageBounds.{ImageParts, IsImage}
-use Rattle.mips_isa.specs.Bytes.{Segments, segments_of}
-use Rattle.mips_isa.specs.Lines.{Line}
-use Rattle.mips_isa.specs.Assembly.{fault_of, image_of}
-use Rattle.mips_isa.specs.declared.asm_fault.AsmFault.{AsmFault}
+use Rattle.mips_isa.specs.{ImageBounds.{ImageParts, IsImage}, Bytes.{Segments, segments_of}, Lines.{Line}, Assembly.{fault_of, image_of}, declared.asm_fault.AsmFault.{AsmFault}}
+use Rattle.mips_isa.specs.{Calls.{State, Outcome, Running, Exited, Trapped}, Run.{start, run_image}}
 use Rattle.mips_text.specs.Reading.{Reads, FirstFault}
-use Rattle.mips_isa.specs.Calls.{State, Outcome, Running, Exited, Trapped}
-use Rattle.mips_isa.specs.Run.{start, run_image}
 use Rattle.mips_image.specs.ImageBytes.{IsVersion, image_bytes, HasWords}
-use Rattle.spim_machine.specs.Ends.{ComesToCall}
-use Rattle.spim_machine.specs.declared.halt.Halt.{Halt}
-use Rattle.spim_machine.specs.declared.halt.Halt.TheVariants.{Exit, Trap, StepLimit, ReadFault, WriteFault}
+use Rattle.spim_machine.specs.{Ends.{ComesToCall}, declared.halt.Halt.{Halt}, declared.halt.Halt.TheVariants.{Exit, Trap, StepLimit, ReadFault, WriteFault}}
 use Rattle.cool_words.specs.declared.plan.RunLimits.{RunLimits}
 use Rattle.cool_driver.specs.Statuses.{DONE, FAILED, HEAP_LIMIT, STACK_LIMIT, STEP_LIMIT, READ_FAULT, WRITE_FAULT, TRAPPED}
 use Rattle.cool_driver.specs.Notes.{heap_limit_note, stack_limit_note, step_limit_note, read_fault_note, trap_note}

@@ -6,12 +6,9 @@ use Rattle.cool_eval.specs.Ends.{IsPart}
 use Rattle.cool_meaning.specs.SourceRun as source
 use Rattle.cool_simulation.specs.Accord.{Limits, Accord, Means}
 use Rattle.cool_words.specs.declared.plan.RunLimits.{RunLimits}
-use Rattle.mips_isa.specs.ImageBounds.{ImageParts}
-use Rattle.mips_isa.specs.Calls.{State, call, print}
+use Rattle.mips_isa.specs.{ImageBounds.{ImageParts}, Calls.{State, call, print}}
 use Rattle.spim_machine.specs.Ends.{FailsReading, call_with}
-use Rattle.cool_driver.specs.Calls.{Call, Got, GotPart}
-use Rattle.cool_driver.specs.Statuses.{READ_FAULT, WRITE_FAULT}
-use Rattle.cool_driver.specs.Execution.{heap_of, stack_of, segments_within, run_of, ComesTo, status_of}
+use Rattle.cool_driver.specs.{Calls.{Call, Got, GotPart}, Statuses.{READ_FAULT, WRITE_FAULT}, Execution.{heap_of, stack_of, segments_within, run_of, ComesTo, status_of}}
 use Rattle.spim_debug.specs.Notes.{state_in}
 
 -- the limits of a run, in bytes and instructions

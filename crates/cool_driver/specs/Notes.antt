@@ -1,23 +1,13 @@
 -- The texts that are written: the end of a run, and the notes.
-use Rattle.std.specs.Prelude.{◌≡◌, refl, ℕ, List, [], ◌++◌, map, codes, decimal}
-use Rattle.std.specs.List.{concat}
+use Rattle.std.specs.{Prelude.{◌≡◌, refl, ℕ, List, [], ◌++◌, map, codes, decimal}, List.{concat}}
 use Rattle.std.specs.Fmt as decimals
-use Rattle.cool_faults.specs.declared.fault.Fault.{Fault}
-use Rattle.cool_faults.specs.Texts.{fault_line}
-use Rattle.mips_isa.specs.declared.trap.Trap.{Trap}
-use Rattle.mips_isa.specs.declared.trap.TrapKind.{TrapKind}
-use Rattle.mips_isa.specs.declared.trap.TrapKind.TheVariants.{BadAddress, Unaligned, Overflow, NoInstruction, BadCall}
-use Rattle.mips_isa.specs.declared.asm_fault.AsmKind.{AsmKind}
-use Rattle.mips_isa.specs.declared.asm_fault.AsmKind.TheVariants.{A1, A2, A3, A4, A5, A6, A7, A8, A9}
-use Rattle.mips_isa.specs.declared.asm_fault.AsmFault.{AsmFault}
-use Rattle.spim_debug.specs.declared.script.ScriptKind.{ScriptKind}
-use Rattle.spim_debug.specs.declared.script.ScriptKind.TheVariants.{B1, B2}
-use Rattle.spim_debug.specs.declared.script.ScriptFault.{ScriptFault}
-use Rattle.spim_debug.specs.Notes.{digits}
-use Rattle.cool_session.specs.declared.ending.Ending.{Ending}
-use Rattle.cool_session.specs.declared.ending.Ending.TheVariants.{Over, BadCommand, EndsInFile, TooLarge}
-use Rattle.mips_image.specs.declared.image_error.ImageError.{ImageError}
-use Rattle.mips_image.specs.declared.image_error.ImageError.TheVariants.{Memory, I1, I2, I3, I4, I5}
+use Rattle.cool_faults.specs.{declared.fault.Fault.{Fault}, Texts.{fault_line}}
+use Rattle.mips_isa.specs.{declared.trap.Trap.{Trap}, declared.trap.TrapKind.{TrapKind}}
+use Rattle.mips_isa.specs.{declared.trap.TrapKind.TheVariants.{BadAddress, Unaligned, Overflow, NoInstruction, BadCall}, declared.asm_fault.AsmKind.{AsmKind}}
+use Rattle.mips_isa.specs.{declared.asm_fault.AsmKind.TheVariants.{A1, A2, A3, A4, A5, A6, A7, A8, A9}, declared.asm_fault.AsmFault.{AsmFault}}
+use Rattle.spim_debug.specs.{declared.script.ScriptKind.{ScriptKind}, declared.script.ScriptKind.TheVariants.{B1, B2}, declared.script.ScriptFault.{ScriptFault}, Notes.{digits}}
+use Rattle.cool_session.specs.{declared.ending.Ending.{Ending}, declared.ending.Ending.TheVariants.{Over, BadCommand, EndsInFile, TooLarge}}
+use Rattle.mips_image.specs.{declared.image_error.ImageError.{ImageError}, declared.image_error.ImageError.TheVariants.{Memory, I1, I2, I3, I4, I5}}
 
 -- what is written at the end of a run that ended well
 abbrev pub end_text : List ℕ

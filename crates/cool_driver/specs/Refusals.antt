@@ -1,17 +1,9 @@
 -- Why a command goes no further: the lines that are told of it, and the status.
 use Rattle.std.specs.Prelude.{◌≡◌, ℕ, List, [], ◌∷◌, ◌++◌, map}
-use Rattle.cool_faults.specs.declared.fault.Fault.{Fault}
-use Rattle.cool_faults.specs.Texts.{fault_line}
-use Rattle.cool_faults.specs.Verdicts.{IsRefused}
+use Rattle.cool_faults.specs.{declared.fault.Fault.{Fault}, Texts.{fault_line}, Verdicts.{IsRefused}}
 use Rattle.cool_syntax.specs.declared.TheConstants.{MOST_SOURCE_BYTES}
-use Rattle.cool_driver.specs.Calls.{ShelfUse, SinkUse, Got}
-use Rattle.cool_driver.specs.Contents.{texts}
-use Rattle.cool_driver.specs.Notes.{refused_note}
-use Rattle.cool_driver.specs.Sources.{AreRead}
-use Rattle.cool_driver.specs.Statuses.{REFUSED, code_of}
-use Rattle.cool_driver.specs.Telling.{AreLines, note_of, Noted}
-use Rattle.cool_driver.specs.declared.refusal.Refusal.{Refusal}
-use Rattle.cool_driver.specs.declared.refusal.Refusal.TheVariants.{Told, Memory}
+use Rattle.cool_driver.specs.{Calls.{ShelfUse, SinkUse, Got}, Contents.{texts}, Notes.{refused_note}, Sources.{AreRead}, Statuses.{REFUSED, code_of}}
+use Rattle.cool_driver.specs.{Telling.{AreLines, note_of, Noted}, declared.refusal.Refusal.{Refusal}, declared.refusal.Refusal.TheVariants.{Told, Memory}}
 use Rattle.cool_driver.specs.declared.status.Status.{Status}
 use Rattle.cool_driver.specs.declared.status.Status.TheVariants as statuses
 

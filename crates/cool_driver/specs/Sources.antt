@@ -1,23 +1,15 @@
 -- The files of a command: that they were read, that they are a program, or why not.
-use Rattle.std.specs.Prelude.{◌≡◌, ◌≢◌, ℕ, ◌-◌, ◌<◌, ◌≤◌, true, List, [], ◌∷◌, ◌++◌, length, Contains, Option, Some, None, String}
-use Rattle.std.specs.List.{list_all, AllByRecursion}
+use Rattle.std.specs.{Prelude.{◌≡◌, ◌≢◌, ℕ, ◌-◌, ◌<◌, ◌≤◌, true, List, [], ◌∷◌, ◌++◌, length, Contains, Option, Some, None, String}, List.{list_all, AllByRecursion}}
 use Rattle.std.specs.Global.{Global, Vec}
 use Rattle.cool_syntax.specs.declared.TheConstants.{MOST_FILES, MOST_SOURCE_BYTES}
 use Rattle.cool_classes.specs.Chains.{Class}
-use Rattle.cool_faults.specs.declared.fault.Fault.{Fault}
-use Rattle.cool_faults.specs.Files.{total}
-use Rattle.cool_faults.specs.Verdicts.{IsAccepted, IsFaultList, IsRefused}
-use Rattle.cool_ports.specs.Counts.{Rose}
-use Rattle.cool_ports.specs.ShelfFiles.{FileMap, IsMissing, IsLonger, AreHeld}
-use Rattle.cool_ports.specs.declared.shelf.ShelfFault.{ShelfFault}
+use Rattle.cool_faults.specs.{declared.fault.Fault.{Fault}, Files.{total}, Verdicts.{IsAccepted, IsFaultList, IsRefused}}
+use Rattle.cool_ports.specs.{Counts.{Rose}, ShelfFiles.{FileMap, IsMissing, IsLonger, AreHeld}, declared.shelf.ShelfFault.{ShelfFault}}
 use Rattle.cool_ports.specs.declared.shelf.ShelfFault.TheVariants as shelf_faults
 use Rattle.cool_words.specs.Plans.{is_file_name, words_of}
-use Rattle.cool_driver.specs.Contents.{texts}
-use Rattle.cool_driver.specs.Calls.{Call, Got, ShelfUse, shelf_of, HasTold, UnlessCutShort}
-use Rattle.cool_driver.specs.Notes.{refused_note, missing_note, unread_note, too_many_note, too_large_note}
-use Rattle.cool_driver.specs.Statuses.{REFUSED, FILE_FAULT}
-use Rattle.cool_driver.specs.declared.reading.ReadError.{ReadError}
-use Rattle.cool_driver.specs.declared.reading.ReadError.TheVariants.{Memory, Refused}
+use Rattle.cool_driver.specs.{Contents.{texts}, Calls.{Call, Got, ShelfUse, shelf_of, HasTold, UnlessCutShort}}
+use Rattle.cool_driver.specs.{Notes.{refused_note, missing_note, unread_note, too_many_note, too_large_note}, Statuses.{REFUSED, FILE_FAULT}}
+use Rattle.cool_driver.specs.{declared.reading.ReadError.{ReadError}, declared.reading.ReadError.TheVariants.{Memory, Refused}}
 use Rattle.lists.specs.Bytes.{AreBytes}
 
 -- The sources of a program: a file's name and bytes for each, one file at least, and neither too many nor too large.

@@ -1,16 +1,10 @@
 -- How notes are told: the lines of a note, the note of a file that was not read, that bytes were written, and how a machine halted.
-use Rattle.std.specs.Prelude.{◌≡◌, ◌≢◌, ℕ, ◌==◌, ◌⊎◌, Bool, true, false, List, [], ◌∷◌, ◌++◌, Option, Some, None}
-use Rattle.std.specs.List.{concat, AllByRecursion}
-use Rattle.std.specs.Global.{Vec}
+use Rattle.std.specs.{Prelude.{◌≡◌, ◌≢◌, ℕ, ◌==◌, ◌⊎◌, Bool, true, false, List, [], ◌∷◌, ◌++◌, Option, Some, None}, List.{concat, AllByRecursion}, Global.{Vec}}
 use Rattle.cool_ports.specs.declared.shelf.ShelfFault.{ShelfFault}
 use Rattle.cool_ports.specs.declared.shelf.ShelfFault.TheVariants as faults
 use Rattle.spim_machine.specs.declared.halt.Halt.{Halt}
-use Rattle.cool_driver.specs.Calls.{SinkUse, Got, GotPart}
-use Rattle.cool_driver.specs.Contents.{texts}
-use Rattle.cool_driver.specs.Execution.{status_of_halt, note_of_halt}
-use Rattle.cool_driver.specs.Notes.{missing_note, unread_note, too_large_note}
-use Rattle.cool_driver.specs.Statuses.{code_of}
-use Rattle.cool_driver.specs.declared.status.Status.{Status}
+use Rattle.cool_driver.specs.{Calls.{SinkUse, Got, GotPart}, Contents.{texts}, Execution.{status_of_halt, note_of_halt}, Notes.{missing_note, unread_note, too_large_note}}
+use Rattle.cool_driver.specs.{Statuses.{code_of}, declared.status.Status.{Status}}
 use Rattle.cool_driver.specs.declared.status.Status.TheVariants as statuses
 
 -- the text ends in a line feed

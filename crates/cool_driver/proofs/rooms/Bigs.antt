@@ -1,8 +1,6 @@
 -- How a call of `big` ends.
 use Rattle.std.proofs.Common.{List, refl, ℕ, ◌≡◌}
-use Rattle.cool_driver.specs.Calls.{Call, Request}
-use Rattle.cool_driver.specs.Comes.{Comes}
-use Rattle.cool_driver.specs.commands.Big.{BigEnds, DueToBig, IsBigLine, PiecesOfBig}
+use Rattle.cool_driver.specs.{Calls.{Call, Request}, Comes.{Comes}, commands.Big.{BigEnds, DueToBig, IsBigLine, PiecesOfBig}}
 use Rattle.cool_driver.proofs.DevicesOfCalls.{came}
 
 -- what is due is its line, with status 0

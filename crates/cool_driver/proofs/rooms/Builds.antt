@@ -1,19 +1,13 @@
 -- How a call of `asm` or `build` ends.
-use Rattle.cool_ports.specs.SinkPuts.{PutFront, pieces_of}
-use Rattle.cool_driver.specs.declared.writing.TheConstants.{MOST_PIECE_BYTES}
+use Rattle.cool_ports.specs.{SinkPuts.{PutFront, pieces_of}, ShelfFiles.{FileMap}}
+use Rattle.cool_driver.specs.{declared.writing.TheConstants.{MOST_PIECE_BYTES}, Calls.{Call, HasTold, Request, ShelfUse, shelf_of}, Comes.{Comes}, Sources.{AreRead, IsProgram}}
+use Rattle.cool_driver.specs.{commands.Build.{BuildEnds, DueToBuild, IsBuilt, IsCompiled, PiecesOfBuild, built_bytes}, declared.commands.build.Form.{Form}}
 use Rattle.std.proofs.Common.{Err, IfOk, List, Ok, Result, [], append-nil, inl, inr, refl, sym, ℕ, ◌∙◌, ◌≡◌, ◌⊎◌}
 use Rattle.std.specs.Global.{Vec}
 use Rattle.cool_classes.specs.Chains.{Class}
 use Rattle.cool_faults.specs.Verdicts.{IsAccepted}
-use Rattle.cool_ports.specs.ShelfFiles.{FileMap}
 use Rattle.cool_syntax.specs.declared.TheConstants.{MOST_SOURCE_BYTES}
-use Rattle.cool_driver.specs.Calls.{Call, HasTold, Request, ShelfUse, shelf_of}
-use Rattle.cool_driver.specs.Comes.{Comes}
-use Rattle.cool_driver.specs.Sources.{AreRead, IsProgram}
-use Rattle.cool_driver.specs.commands.Build.{BuildEnds, DueToBuild, IsBuilt, IsCompiled, PiecesOfBuild, built_bytes}
-use Rattle.cool_driver.specs.declared.commands.build.Form.{Form}
-use Rattle.cool_driver.proofs.DevicesOfCalls.{came}
-use Rattle.cool_driver.proofs.SourcesOfCalls.{IsVerdictOn, no_refusal, same_program, sources_exactly}
+use Rattle.cool_driver.proofs.{DevicesOfCalls.{came}, SourcesOfCalls.{IsVerdictOn, no_refusal, same_program, sources_exactly}}
 
 -- what is due comes of a verdict on the files
 verdict_of : {form : Form} {names : List (List ℕ)} {r : Request} {status : ℕ} {output note left : List ℕ} → DueToBuild form names r status output note left

@@ -1,15 +1,10 @@
 -- How a call of `check` ends.
 use Rattle.std.proofs.Common.{List, [], inl, inr, refl, ℕ, ◌≡◌, ◌≢◌}
-use Rattle.cool_faults.specs.Verdicts.{IsFaultList}
-use Rattle.cool_faults.specs.declared.fault.Fault.{Fault}
+use Rattle.cool_faults.specs.{Verdicts.{IsFaultList}, declared.fault.Fault.{Fault}}
 use Rattle.cool_ports.specs.ShelfFiles.{FileMap}
 use Rattle.cool_syntax.specs.declared.TheConstants.{MOST_SOURCE_BYTES}
-use Rattle.cool_driver.specs.Calls.{Call, HasTold, Request, shelf_of}
-use Rattle.cool_driver.specs.Comes.{Comes, NoPieces}
-use Rattle.cool_driver.specs.Sources.{AreRead}
-use Rattle.cool_driver.specs.commands.Check.{CheckEnds, DueToCheck}
-use Rattle.cool_driver.proofs.DevicesOfCalls.{came}
-use Rattle.cool_driver.proofs.SourcesOfCalls.{IsVerdictOn, program_faultless, refused_with, sources_exactly}
+use Rattle.cool_driver.specs.{Calls.{Call, HasTold, Request, shelf_of}, Comes.{Comes, NoPieces}, Sources.{AreRead}, commands.Check.{CheckEnds, DueToCheck}}
+use Rattle.cool_driver.proofs.{DevicesOfCalls.{came}, SourcesOfCalls.{IsVerdictOn, program_faultless, refused_with, sources_exactly}}
 
 -- what is due comes of a verdict on the files, and takes nothing of the input
 pub verdict_of : {names : List (List ℕ)} {r : Request} {status : ℕ} {output note left : List ℕ} → DueToCheck names r status output note left

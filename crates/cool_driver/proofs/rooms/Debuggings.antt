@@ -1,61 +1,36 @@
 -- How a call of `debug` ends.
 use Rattle.std.specs.Prelude.{◌∷◌, codes}
-use Rattle.cool_driver.specs.Sources.{EndsWith}
-use Rattle.cool_driver.specs.Sources.{AreRead, FilesExactly, IsCause, IsNoProgram, IsProgram}
-use Rattle.cool_driver.proofs.LinesOfNotes.{ends_after, feed, file_line}
+use Rattle.cool_driver.specs.Sources.{EndsWith, AreRead, FilesExactly, IsCause, IsNoProgram, IsProgram}
+use Rattle.cool_driver.specs.{Calls.{Call, DidNothing, Got, HasTold, Request, ShelfUse, SinkUse, UnlessCutShort, shelf_of}, Comes.{Comes, NoPieces}}
+use Rattle.cool_driver.specs.{Debugging.{commands_for, debug_notes, debuggee_within}, Ends.{Goes}}
+use Rattle.cool_driver.specs.Execution.{heap_of, note_of, note_of_halt, run_of, segments_within, stack_of, status_of, status_of_halt}
+use Rattle.cool_driver.specs.{Headline.{EndsAsImage, Headline, IsPartOfSource, StopsReading}, Notes.{missing_note, refused_note, script_note, too_large_note, unread_note}}
+use Rattle.cool_driver.specs.{Refusals.{IsLine, IsTold}, Statuses.{FILE_FAULT, code_of}, Telling.{HaltNoted, fault_note}}
+use Rattle.cool_driver.specs.commands.Debug.{DebugComes, DebugEnds, Debugs, DueToUndebugged, Finished, IsDebuggee, IsDueToScript, IsDueUnscripted, IsNoDebuggee, ScriptIsRead, ScriptIsUnread, Stopped, StopsShort}
+use Rattle.cool_driver.specs.{declared.commands.debug.Scripted.{Scripted}, declared.refusal.Refusal.{Refusal}, declared.status.Status.{Status}}
+use Rattle.cool_driver.proofs.{LinesOfNotes.{ends_after, feed, file_line}, ComesOfRefusals.{IsRefusalStatus, refused_status}, ComesOfRuns.{fails_alone, some_same}}
+use Rattle.cool_driver.proofs.DevicesOfCalls.{IsFinished, IsNoted, came, cut_goes, finished_goes, short_goes}
+use Rattle.cool_driver.proofs.HeadlineOfRuns.{headline_ended, headline_unread, headline_unwritten, noteless_ended, noteless_unread, part_of_source}
+use Rattle.cool_driver.proofs.{RefusalsTold.{line_told, told_so}, RunsWithinLimits.{run_of-is}}
+use Rattle.cool_driver.proofs.SourcesOfCalls.{WereRead, files_told, no_refusal, program_faultless, read_for, refused_with, same_program}
+use Rattle.cool_driver.proofs.StatusesOfRuns.{IsOneOf, end_status, good_status}
 use Rattle.std.proofs.Common.{Err, IfErr, IfOk, List, Ok, Option, Result, Some, [], ap, arith, inl, inr, length, refl, subst, sym, ℕ, ◌∙◌, ◌≡◌, ◌≢◌, ◌⊎◌}
 use Rattle.cool_classes.specs.Chains.{Class}
 use Rattle.cool_emit.specs.Programs.{program_lines}
-use Rattle.cool_faults.specs.Verdicts.{IsAccepted, IsFaultList}
-use Rattle.cool_faults.specs.declared.fault.Fault.{Fault}
+use Rattle.cool_faults.specs.{Verdicts.{IsAccepted, IsFaultList}, declared.fault.Fault.{Fault}}
 use Rattle.cool_ports.proofs.GettingBytes.{appended-appended, appended-nil}
-use Rattle.cool_ports.specs.Counts.{Rose}
-use Rattle.cool_ports.specs.ShelfFiles.{FileMap}
-use Rattle.cool_ports.specs.SinkBytes.{appended}
-use Rattle.cool_ports.specs.declared.shelf.ShelfFault.{ShelfFault}
+use Rattle.cool_ports.specs.{Counts.{Rose}, ShelfFiles.{FileMap}, SinkBytes.{appended}, declared.shelf.ShelfFault.{ShelfFault}}
 use Rattle.cool_simulation.specs.Accord.{Means}
 use Rattle.cool_syntax.specs.declared.TheConstants.{MOST_SOURCE_BYTES}
-use Rattle.cool_words.specs.Plans.{IsBounded}
-use Rattle.cool_words.specs.declared.plan.RunLimits.{RunLimits}
+use Rattle.cool_words.specs.{Plans.{IsBounded}, declared.plan.RunLimits.{RunLimits}}
 use Rattle.mips_asm.specs.TextLabels.{text_label}
-use Rattle.mips_isa.specs.Assembly.{image_of}
-use Rattle.mips_isa.specs.Calls.{Exited, Outcome, Running, Trapped}
-use Rattle.mips_isa.specs.ImageBounds.{ImageParts}
-use Rattle.mips_isa.specs.Lines.{Line}
-use Rattle.mips_isa.specs.Run.{start}
-use Rattle.spim_debug.specs.Debugging.{CountedBy, Debugged, StandsEarlier, debuggee}
-use Rattle.spim_debug.specs.Scripts.{commands_in}
-use Rattle.spim_debug.specs.declared.debugger.DebugEnd.{DebugEnd}
-use Rattle.spim_debug.specs.declared.script.DebugCommand.{DebugCommand}
-use Rattle.spim_debug.specs.declared.script.ScriptFault.{ScriptFault}
-use Rattle.spim_debug.specs.declared.script.TheConstants.{MOST_SCRIPT_BYTES}
-use Rattle.spim_machine.specs.Machine.{IsIn, MachineParts}
-use Rattle.spim_machine.specs.declared.halt.Halt.{Halt}
-use Rattle.cool_driver.specs.Calls.{Call, DidNothing, Got, HasTold, Request, ShelfUse, SinkUse, UnlessCutShort, shelf_of}
-use Rattle.cool_driver.specs.Comes.{Comes, NoPieces}
-use Rattle.cool_driver.specs.Debugging.{commands_for, debug_notes, debuggee_within}
-use Rattle.cool_driver.specs.Ends.{Goes}
-use Rattle.cool_driver.specs.Execution.{heap_of, note_of, note_of_halt, run_of, segments_within, stack_of, status_of, status_of_halt}
-use Rattle.cool_driver.specs.Headline.{EndsAsImage, Headline, IsPartOfSource, StopsReading}
-use Rattle.cool_driver.specs.Notes.{missing_note, refused_note, script_note, too_large_note, unread_note}
-use Rattle.cool_driver.specs.Refusals.{IsLine, IsTold}
-use Rattle.cool_driver.specs.Statuses.{FILE_FAULT, code_of}
-use Rattle.cool_driver.specs.Telling.{HaltNoted, fault_note}
-use Rattle.cool_driver.specs.commands.Debug.{DebugComes, DebugEnds, Debugs, DueToUndebugged, Finished, IsDebuggee, IsDueToScript, IsDueUnscripted, IsNoDebuggee, ScriptIsRead, ScriptIsUnread, Stopped, StopsShort}
-use Rattle.cool_driver.specs.declared.commands.debug.Scripted.{Scripted}
-use Rattle.cool_driver.specs.declared.refusal.Refusal.{Refusal}
-use Rattle.cool_driver.specs.declared.status.Status.{Status}
-use Rattle.cool_driver.proofs.ComesOfRefusals.{IsRefusalStatus, refused_status}
-use Rattle.cool_driver.proofs.ComesOfRuns.{fails_alone, some_same}
-use Rattle.cool_driver.proofs.DevicesOfCalls.{IsFinished, IsNoted, came, cut_goes, finished_goes, short_goes}
-use Rattle.cool_driver.proofs.HeadlineOfRuns.{headline_ended, headline_unread, headline_unwritten, noteless_ended, noteless_unread, part_of_source}
-use Rattle.cool_driver.proofs.RefusalsTold.{line_told, told_so}
-use Rattle.cool_driver.proofs.RunsWithinLimits.{run_of-is}
-use Rattle.cool_driver.proofs.SourcesOfCalls.{WereRead, files_told, no_refusal, program_faultless, read_for, refused_with, same_program}
-use Rattle.cool_driver.proofs.StatusesOfRuns.{IsOneOf, end_status, good_status}
+use Rattle.mips_isa.specs.{Assembly.{image_of}, Calls.{Exited, Outcome, Running, Trapped}, ImageBounds.{ImageParts}, Lines.{Line}, Run.{start}}
+use Rattle.spim_debug.specs.{Debugging.{CountedBy, Debugged, StandsEarlier, debuggee}, Scripts.{commands_in}, declared.debugger.DebugEnd.{DebugEnd}}
+use Rattle.spim_debug.specs.{declared.script.DebugCommand.{DebugCommand}, declared.script.ScriptFault.{ScriptFault}, declared.script.TheConstants.{MOST_SCRIPT_BYTES}}
+use Rattle.spim_debug.specs.Notes.{state_in}
+use Rattle.spim_machine.specs.{Machine.{IsIn, MachineParts}, declared.halt.Halt.{Halt}}
 use Rattle.spim_debug.proofs.RunsLeft.{left_between, written_between}
 use Rattle.lists.specs.Bytes.{AreBytes}
-use Rattle.spim_debug.specs.Notes.{state_in}
 
 -- The script
 

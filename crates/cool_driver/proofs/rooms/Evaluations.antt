@@ -2,26 +2,15 @@
 use Rattle.std.proofs.Common.{List, Option, Some, [], ap, append-nil, arith, inl, inr, refl, sym, ℕ, ◌∙◌, ◌≡◌, ◌≢◌, ◌≤◌, ◌⊎◌}
 use Rattle.cool_classes.specs.Chains.{Class}
 use Rattle.cool_eval.proofs.PartsOfRuns.{part_of_last_line, part_of_reading, part_of_short, part_of_writing}
-use Rattle.cool_eval.specs.Counts.{CountedEnd}
-use Rattle.cool_eval.specs.Ends.{Evaluates, IsPart, IsWhole, StoppedReading, StoppedShort}
-use Rattle.cool_eval.specs.declared.evaluation.EvalEnd.{EvalEnd}
+use Rattle.cool_eval.specs.{Counts.{CountedEnd}, Ends.{Evaluates, IsPart, IsWhole, StoppedReading, StoppedShort}, declared.evaluation.EvalEnd.{EvalEnd}}
 use Rattle.cool_faults.specs.Verdicts.{IsAccepted}
-use Rattle.cool_ports.specs.ShelfFiles.{FileMap}
-use Rattle.cool_ports.specs.SinkBytes.{GotPrefix, appended}
+use Rattle.cool_ports.specs.{ShelfFiles.{FileMap}, SinkBytes.{GotPrefix, appended}}
 use Rattle.cool_syntax.specs.declared.TheConstants.{MOST_SOURCE_BYTES}
-use Rattle.cool_driver.specs.Calls.{Call, DidNothing, Got, HasTold, Request, SinkUse, shelf_of}
-use Rattle.cool_driver.specs.Comes.{Comes}
-use Rattle.cool_driver.specs.Ends.{Goes}
-use Rattle.cool_driver.specs.Evaluation.{note_of_end, status_of_end}
-use Rattle.cool_driver.specs.Notes.{read_fault_note, step_limit_note}
-use Rattle.cool_driver.specs.Sources.{AreRead, IsProgram, SourcesExactly}
-use Rattle.cool_driver.specs.Statuses.{code_of}
-use Rattle.cool_driver.specs.Telling.{Noted}
-use Rattle.cool_driver.specs.commands.Eval.{CutShort, DueToEval, EndsAs, EvalEnds, FailsToNote, FailsToWrite, PiecesOfEval}
-use Rattle.cool_driver.specs.declared.status.Status.{Status}
+use Rattle.cool_driver.specs.{Calls.{Call, DidNothing, Got, HasTold, Request, SinkUse, shelf_of}, Comes.{Comes}, Ends.{Goes}, Evaluation.{note_of_end, status_of_end}}
+use Rattle.cool_driver.specs.{Notes.{read_fault_note, step_limit_note}, Sources.{AreRead, IsProgram, SourcesExactly}, Statuses.{code_of}, Telling.{Noted}}
+use Rattle.cool_driver.specs.{commands.Eval.{CutShort, DueToEval, EndsAs, EvalEnds, FailsToNote, FailsToWrite, PiecesOfEval}, declared.status.Status.{Status}}
 use Rattle.cool_driver.proofs.DevicesOfCalls.{IsFinished, IsNoted, came, cut_goes, due_finished, finished_goes, got_alone, is_noted, short_goes}
-use Rattle.cool_driver.proofs.SourcesOfCalls.{IsVerdictOn, files_told, no_refusal, same_program, sources_exactly, verdict_status}
-use Rattle.cool_driver.proofs.StatusesOfRuns.{IsOneOf}
+use Rattle.cool_driver.proofs.{SourcesOfCalls.{IsVerdictOn, files_told, no_refusal, same_program, sources_exactly, verdict_status}, StatusesOfRuns.{IsOneOf}}
 use Rattle.cool_meaning.specs.SourceRun as source
 
 -- the statuses of runs of the source

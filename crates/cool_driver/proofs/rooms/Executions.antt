@@ -3,26 +3,13 @@ use Rattle.std.proofs.Common.{Err, IfErr, IfOk, List, Ok, Result, [], ap, arith,
 use Rattle.std.specs.Global.{Vec}
 use Rattle.cool_ports.specs.ShelfFiles.{FileMap}
 use Rattle.cool_words.specs.declared.plan.RunLimits.{RunLimits}
-use Rattle.mips_isa.specs.ImageBounds.{ImageParts}
-use Rattle.mips_isa.specs.declared.asm_fault.AsmFault.{AsmFault}
-use Rattle.cool_driver.specs.Calls.{Call, HasTold, Request, ShelfUse, shelf_of}
-use Rattle.cool_driver.specs.Comes.{Comes}
-use Rattle.cool_driver.specs.Contents.{texts}
-use Rattle.cool_driver.specs.Ends.{Goes}
-use Rattle.cool_driver.specs.Execution.{IsRunnable, IsTextFault, is_text_file, run_of, status_of}
-use Rattle.cool_driver.specs.Notes.{asm_note}
-use Rattle.cool_driver.specs.Refusals.{IsTold}
-use Rattle.cool_driver.specs.Runs.{DueToRun, PiecesOfRun}
-use Rattle.cool_driver.specs.Sources.{AreRead}
-use Rattle.cool_driver.specs.commands.Exec.{DueToExec, ExecEnds, FileIsRead, IsDueToBytes, IsLoaded, IsNoImage, PiecesOfExec}
-use Rattle.cool_driver.specs.declared.TheConstants.{MOST_IMAGE_BYTES}
-use Rattle.cool_driver.specs.declared.refusal.Refusal.{Refusal}
-use Rattle.cool_driver.proofs.ComesOfRefusals.{IsRefusalStatus, comes_map, goes_map}
-use Rattle.cool_driver.proofs.ComesOfRuns.{run_so}
-use Rattle.cool_driver.proofs.DevicesOfCalls.{came}
-use Rattle.cool_driver.proofs.RefusalsTold.{told_so}
-use Rattle.cool_driver.proofs.RunnableFiles.{fault_or_runs, one_runnable, one_text_fault, unfit_or_runs}
-use Rattle.cool_driver.proofs.SourcesOfCalls.{WereRead, files_told, no_unread, same_contents}
+use Rattle.mips_isa.specs.{ImageBounds.{ImageParts}, declared.asm_fault.AsmFault.{AsmFault}}
+use Rattle.cool_driver.specs.{Calls.{Call, HasTold, Request, ShelfUse, shelf_of}, Comes.{Comes}, Contents.{texts}, Ends.{Goes}}
+use Rattle.cool_driver.specs.{Execution.{IsRunnable, IsTextFault, is_text_file, run_of, status_of}, Notes.{asm_note}, Refusals.{IsTold}, Runs.{DueToRun, PiecesOfRun}}
+use Rattle.cool_driver.specs.{Sources.{AreRead}, commands.Exec.{DueToExec, ExecEnds, FileIsRead, IsDueToBytes, IsLoaded, IsNoImage, PiecesOfExec}}
+use Rattle.cool_driver.specs.{declared.TheConstants.{MOST_IMAGE_BYTES}, declared.refusal.Refusal.{Refusal}}
+use Rattle.cool_driver.proofs.{ComesOfRefusals.{IsRefusalStatus, comes_map, goes_map}, ComesOfRuns.{run_so}, DevicesOfCalls.{came}, RefusalsTold.{told_so}}
+use Rattle.cool_driver.proofs.{RunnableFiles.{fault_or_runs, one_runnable, one_text_fault, unfit_or_runs}, SourcesOfCalls.{WereRead, files_told, no_unread, same_contents}}
 
 -- What is read of the file
 

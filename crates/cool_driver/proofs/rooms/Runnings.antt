@@ -7,21 +7,11 @@ use Rattle.cool_ports.specs.ShelfFiles.{FileMap}
 use Rattle.cool_simulation.specs.Accord.{Means}
 use Rattle.cool_syntax.specs.declared.TheConstants.{MOST_SOURCE_BYTES}
 use Rattle.cool_words.specs.declared.plan.RunLimits.{RunLimits}
-use Rattle.mips_isa.specs.Assembly.{image_of}
-use Rattle.mips_isa.specs.ImageBounds.{ImageParts}
-use Rattle.cool_driver.specs.Calls.{Call, DidNothing, Got, GotPart, HasTold, Request, shelf_of}
-use Rattle.cool_driver.specs.Comes.{Comes}
-use Rattle.cool_driver.specs.Compiled.{IsImageFor, compiled_program}
-use Rattle.cool_driver.specs.Ends.{Goes}
-use Rattle.cool_driver.specs.Execution.{run_of, status_of}
-use Rattle.cool_driver.specs.Headline.{Headline}
-use Rattle.cool_driver.specs.Runs.{DueToRun, PiecesOfRun}
-use Rattle.cool_driver.specs.Sources.{AreRead}
+use Rattle.mips_isa.specs.{Assembly.{image_of}, ImageBounds.{ImageParts}}
+use Rattle.cool_driver.specs.{Calls.{Call, DidNothing, Got, GotPart, HasTold, Request, shelf_of}, Comes.{Comes}, Compiled.{IsImageFor, compiled_program}, Ends.{Goes}}
+use Rattle.cool_driver.specs.{Execution.{run_of, status_of}, Headline.{Headline}, Runs.{DueToRun, PiecesOfRun}, Sources.{AreRead}}
 use Rattle.cool_driver.specs.commands.Run.{DueToRunning, IsRunFor, PiecesOfRunning, RunEnds}
-use Rattle.cool_driver.proofs.ComesOfRefusals.{comes_map, goes_map}
-use Rattle.cool_driver.proofs.ComesOfRuns.{run_so, run_status}
-use Rattle.cool_driver.proofs.DevicesOfCalls.{came}
-use Rattle.cool_driver.proofs.HeadlineOfRuns.{headline_cut, headline_due}
+use Rattle.cool_driver.proofs.{ComesOfRefusals.{comes_map, goes_map}, ComesOfRuns.{run_so, run_status}, DevicesOfCalls.{came}, HeadlineOfRuns.{headline_cut, headline_due}}
 use Rattle.cool_driver.proofs.SourcesOfCalls.{IsVerdictOn, no_refusal, same_program, sources_exactly, verdict_status}
 use Rattle.lists.specs.Bytes.{AreBytes}
 

@@ -1,21 +1,14 @@
 -- What `big` writes: how the large program of a number comes out, compiled and run within the usual limits over no input.
-use Rattle.std.specs.Prelude.{◌≡◌, ℕ, ◌+◌, ◌<◌, ◌≤◌, List, [], ◌∷◌, ◌++◌, length, codes, decimal, refl}
-use Rattle.std.specs.Fmt.{digits}
+use Rattle.std.specs.{Prelude.{◌≡◌, ℕ, ◌+◌, ◌<◌, ◌≤◌, List, [], ◌∷◌, ◌++◌, length, codes, decimal, refl}, Fmt.{digits}}
 use Rattle.cool_big.specs.BigPrograms.{big_text}
 use Rattle.cool_classes.specs.Chains.{Class}
-use Rattle.cool_faults.specs.declared.fault.Fault.{Fault}
-use Rattle.cool_faults.specs.Verdicts.{IsAccepted, IsRefused}
-use Rattle.mips_isa.specs.Assembly.{image_of}
-use Rattle.mips_isa.specs.Calls.{Outcome}
+use Rattle.cool_faults.specs.{declared.fault.Fault.{Fault}, Verdicts.{IsAccepted, IsRefused}}
+use Rattle.mips_isa.specs.{Assembly.{image_of}, Calls.{Outcome}}
 use Rattle.cool_emit.specs.Programs.{program_lines}
 use Rattle.cool_meaning.specs.SourceRun as source
 use Rattle.cool_simulation.specs.Accord.{Accord}
 use Rattle.cool_words.specs.Plans.{usual_limits}
-use Rattle.cool_driver.specs.Calls.{Request, Call, Got, UnlessCutShort}
-use Rattle.cool_driver.specs.Comes.{Comes}
-use Rattle.cool_driver.specs.Statuses.{DONE, REFUSED, WRITE_FAULT}
-use Rattle.cool_driver.specs.Execution.{run_of, status_of}
-use Rattle.cool_driver.specs.Headline.{limits_of}
+use Rattle.cool_driver.specs.{Calls.{Request, Call, Got, UnlessCutShort}, Comes.{Comes}, Statuses.{DONE, REFUSED, WRITE_FAULT}, Execution.{run_of, status_of}, Headline.{limits_of}}
 use Rattle.cool_driver.specs.declared.TheConstants.{MOST_BIG_OUTPUT}
 use Rattle.spim_debug.specs.Notes.{state_in}
 

@@ -3,22 +3,15 @@ use Rattle.std.specs.Prelude.{◌≡◌, ℕ, List, []}
 use Rattle.cool_syntax.specs.declared.TheConstants.{MOST_SOURCE_BYTES}
 use Rattle.cool_classes.specs.Chains.{Class}
 use Rattle.cool_faults.specs.Verdicts.{IsAccepted}
-use Rattle.cool_ports.specs.ShelfFiles.{FileMap}
-use Rattle.cool_ports.specs.SinkPuts.{PutFront, pieces_of}
+use Rattle.cool_ports.specs.{ShelfFiles.{FileMap}, SinkPuts.{PutFront, pieces_of}}
 use Rattle.cool_emit.specs.Programs.{program_lines}
 use Rattle.cool_simulation.specs.Accord.{Means}
 use Rattle.mips_isa.specs.Assembly.{image_of}
-use Rattle.mips_image.specs.ImageBytes.{image_bytes}
-use Rattle.mips_image.specs.declared.stored_image.TheConstants.{CHECKED_VERSION}
+use Rattle.mips_image.specs.{ImageBytes.{image_bytes}, declared.stored_image.TheConstants.{CHECKED_VERSION}}
 use Rattle.mips_text.specs.Printing.{printed}
-use Rattle.cool_driver.specs.Calls.{Request, Call, Got, ShelfUse, shelf_of, HasTold, UnlessCutShort}
-use Rattle.cool_driver.specs.Comes.{Comes}
-use Rattle.cool_driver.specs.Execution.{IsAssembled}
-use Rattle.cool_driver.specs.Sources.{AreRead, IsProgram, IsNoProgram, SourcesExactly}
-use Rattle.cool_driver.specs.Statuses.{DONE}
-use Rattle.cool_driver.specs.declared.writing.TheConstants.{MOST_PIECE_BYTES}
-use Rattle.cool_driver.specs.declared.commands.build.Form.{Form}
-use Rattle.cool_driver.specs.declared.commands.build.Form.TheVariants.{Text, Image}
+use Rattle.cool_driver.specs.{Calls.{Request, Call, Got, ShelfUse, shelf_of, HasTold, UnlessCutShort}, Comes.{Comes}, Execution.{IsAssembled}}
+use Rattle.cool_driver.specs.{Sources.{AreRead, IsProgram, IsNoProgram, SourcesExactly}, Statuses.{DONE}, declared.writing.TheConstants.{MOST_PIECE_BYTES}}
+use Rattle.cool_driver.specs.{declared.commands.build.Form.{Form}, declared.commands.build.Form.TheVariants.{Text, Image}}
 
 -- what `asm` and `build` write for a program whose files have these names: its lines, and the image of its lines in the version of checked
 -- arithmetic

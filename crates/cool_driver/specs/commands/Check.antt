@@ -2,12 +2,9 @@
 use Rattle.std.specs.Prelude.{◌≡◌, ◌≢◌, ℕ, List, []}
 use Rattle.cool_syntax.specs.declared.TheConstants.{MOST_SOURCE_BYTES}
 use Rattle.cool_classes.specs.Chains.{Class}
-use Rattle.cool_faults.specs.declared.fault.Fault.{Fault}
-use Rattle.cool_faults.specs.Verdicts.{IsFaultList}
+use Rattle.cool_faults.specs.{declared.fault.Fault.{Fault}, Verdicts.{IsFaultList}}
 use Rattle.cool_ports.specs.ShelfFiles.{FileMap}
-use Rattle.cool_driver.specs.Calls.{Request, Call, shelf_of, HasTold, UnlessCutShort}
-use Rattle.cool_driver.specs.Comes.{Comes, NoPieces}
-use Rattle.cool_driver.specs.Sources.{AreRead, IsProgram, IsNoProgram, SourcesExactly}
+use Rattle.cool_driver.specs.{Calls.{Request, Call, shelf_of, HasTold, UnlessCutShort}, Comes.{Comes, NoPieces}, Sources.{AreRead, IsProgram, IsNoProgram, SourcesExactly}}
 use Rattle.cool_driver.specs.Statuses.{DONE, REFUSED}
 
 pub data DueToCheck (names : List (List ℕ)) (r : Request) : ℕ → List ℕ → List ℕ → List ℕ → Type 0 where

@@ -4,33 +4,20 @@ use Rattle.std.specs.Prelude.{◌≡◌, ◌≢◌, ℕ, ◌<◌, ◌≤◌, ◌
 use Rattle.cool_syntax.specs.declared.TheConstants.{MOST_FILES, MOST_SOURCE_BYTES}
 use Rattle.cool_classes.specs.Chains.{Class}
 use Rattle.cool_emit.specs.Programs.{program_lines}
-use Rattle.cool_faults.specs.declared.fault.Fault.{Fault}
-use Rattle.cool_faults.specs.Verdicts.{IsAccepted, IsFaultList}
-use Rattle.cool_ports.specs.Counts.{Rose}
-use Rattle.cool_ports.specs.ShelfFiles.{FileMap, MayHold, IsMissing, IsLonger}
-use Rattle.cool_ports.specs.SinkBytes.{appended}
+use Rattle.cool_faults.specs.{declared.fault.Fault.{Fault}, Verdicts.{IsAccepted, IsFaultList}}
+use Rattle.cool_ports.specs.{Counts.{Rose}, ShelfFiles.{FileMap, MayHold, IsMissing, IsLonger}, SinkBytes.{appended}}
 use Rattle.cool_simulation.specs.Accord.{Means}
-use Rattle.mips_isa.specs.Assembly.{image_of}
-use Rattle.mips_isa.specs.ImageBounds.{ImageParts}
-use Rattle.spim_debug.specs.Debugging.{Debugged, CountedBy}
-use Rattle.spim_debug.specs.declared.debugger.DebugEnd.{DebugEnd}
+use Rattle.mips_isa.specs.{Assembly.{image_of}, ImageBounds.{ImageParts}}
+use Rattle.spim_debug.specs.{Debugging.{Debugged, CountedBy}, declared.debugger.DebugEnd.{DebugEnd}, declared.script.DebugCommand.{DebugCommand}}
+use Rattle.spim_debug.specs.{declared.script.ScriptFault.{ScriptFault}, declared.script.TheConstants.{MOST_SCRIPT_BYTES}, Notes.{state_in}}
 use Rattle.spim_debug.specs.declared.debugger.DebugEnd.TheVariants as end
-use Rattle.spim_debug.specs.declared.script.DebugCommand.{DebugCommand}
-use Rattle.spim_debug.specs.declared.script.ScriptFault.{ScriptFault}
-use Rattle.spim_debug.specs.declared.script.TheConstants.{MOST_SCRIPT_BYTES}
 use Rattle.spim_machine.specs.declared.halt.Halt.TheVariants as halt
-use Rattle.cool_words.specs.Plans.{IsBounded}
-use Rattle.cool_words.specs.declared.plan.RunLimits.{RunLimits}
-use Rattle.cool_driver.specs.Calls.{Request, Call, SinkUse, Got, GotPart, ShelfUse, shelf_of, HasTold, UnlessCutShort, DidNothing}
-use Rattle.cool_driver.specs.Comes.{Comes, NoPieces}
-use Rattle.cool_driver.specs.Debugging.{commands_for, debuggee_within, debug_notes}
-use Rattle.cool_driver.specs.Execution.{run_of, status_of, note_of}
-use Rattle.cool_driver.specs.Headline.{Headline, IsPartOfSource}
+use Rattle.cool_words.specs.{Plans.{IsBounded}, declared.plan.RunLimits.{RunLimits}}
+use Rattle.cool_driver.specs.{Calls.{Request, Call, SinkUse, Got, GotPart, ShelfUse, shelf_of, HasTold, UnlessCutShort, DidNothing}, Comes.{Comes, NoPieces}}
+use Rattle.cool_driver.specs.{Debugging.{commands_for, debuggee_within, debug_notes}, Execution.{run_of, status_of, note_of}, Headline.{Headline, IsPartOfSource}}
 use Rattle.cool_driver.specs.Notes.{missing_note, unread_note, too_many_note, too_large_note, refused_note, read_fault_note, script_note}
-use Rattle.cool_driver.specs.Sources.{AreRead, EndsWith, IsProgram, IsNoProgram, FilesExactly}
-use Rattle.cool_driver.specs.Statuses.{REFUSED, READ_FAULT, WRITE_FAULT, OUT_OF_MEMORY, FILE_FAULT, UNFIT}
+use Rattle.cool_driver.specs.{Sources.{AreRead, EndsWith, IsProgram, IsNoProgram, FilesExactly}, Statuses.{REFUSED, READ_FAULT, WRITE_FAULT, OUT_OF_MEMORY, FILE_FAULT, UNFIT}}
 use Rattle.lists.specs.Bytes.{AreBytes}
-use Rattle.spim_debug.specs.Notes.{state_in}
 
 -- The script of this name has these bytes, as far as the shelf tells, and is not too large.
 pub record ScriptIsRead (shelf : ShelfUse) (script bytes : List ℕ) : Type 0 where

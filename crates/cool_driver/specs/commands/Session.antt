@@ -1,16 +1,10 @@
 -- What `session` promises: it reads commands from the input and puts their replies to the output, as a session over the input does, and ends
 -- with the status and the note of its end.
-use Rattle.std.specs.Prelude.{◌≡◌, ◌⊎◌, ℕ, List, [], Result, Ok, Err}
-use Rattle.std.specs.List.{concat}
-use Rattle.cool_session.specs.declared.ending.Ending.{Ending}
-use Rattle.cool_session.specs.declared.ending.Ending.TheVariants.{Over, BadCommand, EndsInFile, TooLarge}
-use Rattle.cool_session.specs.declared.ending.Interruption.{Interruption}
-use Rattle.cool_session.specs.declared.ending.Interruption.TheVariants.{Memory}
-use Rattle.cool_session.specs.Conversations.{Conversed}
+use Rattle.std.specs.{Prelude.{◌≡◌, ◌⊎◌, ℕ, List, [], Result, Ok, Err}, List.{concat}}
+use Rattle.cool_session.specs.{declared.ending.Ending.{Ending}, declared.ending.Ending.TheVariants.{Over, BadCommand, EndsInFile, TooLarge}}
+use Rattle.cool_session.specs.{declared.ending.Interruption.{Interruption}, declared.ending.Interruption.TheVariants.{Memory}, Conversations.{Conversed}}
 use Rattle.cool_session.specs.Exchanges.{Exchange, Unread, Unwritten}
-use Rattle.cool_driver.specs.Notes.{ending_note, read_fault_note}
-use Rattle.cool_driver.specs.Calls.{Got, GotPart, Call, UnlessCutShort}
-use Rattle.cool_driver.specs.Statuses.{DONE, READ_FAULT, WRITE_FAULT, OUT_OF_MEMORY, UNFIT}
+use Rattle.cool_driver.specs.{Notes.{ending_note, read_fault_note}, Calls.{Got, GotPart, Call, UnlessCutShort}, Statuses.{DONE, READ_FAULT, WRITE_FAULT, OUT_OF_MEMORY, UNFIT}}
 
 -- the status of an end: 0 at `quit` or at the end of the input before a line's first byte, and 12 at B3, B4 and B5
 abbrev pub status_of_ending : Ending → ℕ

@@ -1,9 +1,6 @@
 -- What is due where the words ask for nothing: the note of it.
 use Rattle.std.specs.Prelude.{◌≡◌, ℕ, List, []}
-use Rattle.cool_driver.specs.Calls.{Request, Call, UnlessCutShort}
-use Rattle.cool_driver.specs.Comes.{Comes, NoPieces}
-use Rattle.cool_driver.specs.Notes.{usage_note}
-use Rattle.cool_driver.specs.Statuses.{USAGE}
+use Rattle.cool_driver.specs.{Calls.{Request, Call, UnlessCutShort}, Comes.{Comes, NoPieces}, Notes.{usage_note}, Statuses.{USAGE}}
 
 pub data DueToUsage (r : Request) : ℕ → List ℕ → List ℕ → List ℕ → Type 0 where
   usage : r.faults_after ≡ r.faults_before → DueToUsage r USAGE [] usage_note r.input

@@ -1,10 +1,7 @@
 use Rattle.std.proofs.Common.{[], ap, arith, false, refl}
 use Rattle.cool_ports.proofs.InputsInParts.{leaves_same, took_nothing}
 use Rattle.cool_driver.specs.Comes.{Comes}
-use Rattle.cool_driver.proofs.ComesOfRuns.{run_goes}
-use Rattle.cool_driver.proofs.DevicesOfCalls.{got_nothing, short_goes}
-use Rattle.cool_driver.proofs.RunsWithinLimits.{ran_within}
-use Rattle.cool_driver.proofs.LinesOfNotes.{no_lines}
+use Rattle.cool_driver.proofs.{ComesOfRuns.{run_goes}, DevicesOfCalls.{got_nothing, short_goes}, RunsWithinLimits.{ran_within}, LinesOfNotes.{no_lines}}
 use Rattle.cool_driver.proofs.execution.execute.Goals as goal
 
 -- memory ran out for the machine

@@ -1,14 +1,10 @@
 use Rattle.std.proofs.Common.{◌≡◌, ◌≢◌, ◌∙◌, inl, inr, refl, sym, ap, subst, ℕ, List, [], arith}
 use Rattle.spim_machine.specs.declared.halt.Halt.{Halt}
 use Rattle.spim_machine.specs.declared.halt.Halt.TheVariants as halts
-use Rattle.cool_driver.specs.declared.status.Status.{Status}
+use Rattle.cool_driver.specs.{declared.status.Status.{Status}, Calls.{SinkUse, Got, GotPart, sink_use}, Execution.{exit_status, exit_note, status_of_halt, note_of_halt}}
+use Rattle.cool_driver.specs.{Statuses.{code_of}, Telling.{Noted, HaltNoted}}
 use Rattle.cool_driver.specs.declared.status.Status.TheVariants as statuses
-use Rattle.cool_driver.specs.Calls.{SinkUse, Got, GotPart, sink_use}
-use Rattle.cool_driver.specs.Execution.{exit_status, exit_note, status_of_halt, note_of_halt}
-use Rattle.cool_driver.specs.Statuses.{code_of}
-use Rattle.cool_driver.specs.Telling.{Noted, HaltNoted}
-use Rattle.cool_driver.proofs.DevicesOfCalls.{got_nothing}
-use Rattle.cool_driver.proofs.LinesOfNotes.{trap_line}
+use Rattle.cool_driver.proofs.{DevicesOfCalls.{got_nothing}, LinesOfNotes.{trap_line}}
 use Rattle.cool_driver.proofs.execution.tell_halt.Goals as goal
 
 -- the note of a halt was written, or its write failed

@@ -1,12 +1,8 @@
 use Rattle.std.proofs.Common.{◌≡◌, ◌+◌, true, false, List, ℕ, drop, refl, sym, ap, ◌∙◌, inr, subst}
-use Rattle.std.specs.Prelude.{Option, Result, Ok, Err, OnOk, OnErr}
-use Rattle.std.specs.Result.{is_err}
-use Rattle.cool_ports.specs.Counts.{Rose}
-use Rattle.cool_ports.specs.SinkBytes.{appended, GotPrefix}
-use Rattle.cool_ports.proofs.GettingBytes.{appended-nil}
-use Rattle.cool_ports.proofs.SeenSinks.{seen_none, seen_more, some_next, put_one, failed_one}
-use Rattle.cool_driver.specs.Contents.{texts}
-use Rattle.cool_driver.specs.Telling.{note_of}
+use Rattle.std.specs.{Prelude.{Option, Result, Ok, Err, OnOk, OnErr}, Result.{is_err}}
+use Rattle.cool_ports.specs.{Counts.{Rose}, SinkBytes.{appended, GotPrefix}}
+use Rattle.cool_ports.proofs.{GettingBytes.{appended-nil}, SeenSinks.{seen_none, seen_more, some_next, put_one, failed_one}}
+use Rattle.cool_driver.specs.{Contents.{texts}, Telling.{note_of}}
 use Rattle.cool_driver.proofs.LinesOfNotes.{line_at, lines_at, front_lines, some_line}
 use Rattle.cool_driver.proofs.notes.tell_lines.Goals as goal
 use Rattle.lists.proofs.Results.{on_ok}

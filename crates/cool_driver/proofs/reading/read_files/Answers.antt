@@ -1,7 +1,6 @@
 use Rattle.std.proofs.Common.{◌≡◌, rules, ap, length, ◌∙◌, arith}
 use Rattle.std.specs.Prelude.{Err}
-use Rattle.cool_driver.specs.Calls.{shelf_use}
-use Rattle.cool_driver.specs.declared.reading.ReadError.TheVariants.{Memory}
+use Rattle.cool_driver.specs.{Calls.{shelf_use}, declared.reading.ReadError.TheVariants.{Memory}}
 use Rattle.cool_driver.proofs.ReadingNames.{held_turn, bytes_turn, total_turn, cause_of, stop_at, asked_turn, asked_part}
 use Rattle.cool_driver.proofs.reading.read_files.Goals as goal
 

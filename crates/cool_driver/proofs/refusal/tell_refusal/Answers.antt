@@ -1,9 +1,6 @@
 use Rattle.std.proofs.Common.{refl, ap, arith}
-use Rattle.cool_driver.specs.Calls.{sink_use}
-use Rattle.cool_driver.specs.Statuses.{code_of}
-use Rattle.cool_driver.proofs.DevicesOfCalls.{got_nothing}
-use Rattle.cool_driver.proofs.LinesOfNotes.{no_lines}
-use Rattle.cool_driver.proofs.RefusalsTold.{faults_put, status_told}
+use Rattle.cool_driver.specs.{Calls.{sink_use}, Statuses.{code_of}}
+use Rattle.cool_driver.proofs.{DevicesOfCalls.{got_nothing}, LinesOfNotes.{no_lines}, RefusalsTold.{faults_put, status_told}}
 use Rattle.cool_driver.proofs.refusal.tell_refusal.Goals as goal
 
 -- lines of faults were put

@@ -1,12 +1,8 @@
-use Rattle.std.proofs.Common.{List, length, sym, ◌∙◌, subst}
-use Rattle.std.proofs.lemmas.List.{length-map}
-use Rattle.cool_faults.specs.declared.fault.Fault.{Fault}
-use Rattle.cool_faults.specs.Verdicts.{IsRefused}
+use Rattle.std.proofs.{Common.{List, length, sym, ◌∙◌, subst}, lemmas.List.{length-map}}
+use Rattle.cool_faults.specs.{declared.fault.Fault.{Fault}, Verdicts.{IsRefused}}
 use Rattle.cool_words.specs.Plans.{words_of}
-use Rattle.cool_driver.specs.Contents.{texts}
-use Rattle.cool_driver.specs.Refusals.{AreLinesOf}
-use Rattle.cool_driver.proofs.LinesOfNotes.{have_names}
-use Rattle.cool_driver.proofs.RefusalsTold.{faults_lined, faults_told}
+use Rattle.cool_driver.specs.{Contents.{texts}, Refusals.{AreLinesOf}}
+use Rattle.cool_driver.proofs.{LinesOfNotes.{have_names}, RefusalsTold.{faults_lined, faults_told}}
 use Rattle.cool_driver.proofs.sources.accept_sources.Goals as goal
 
 -- each fault stands in a file that has a name

@@ -1,12 +1,7 @@
-use Rattle.std.proofs.Common.{arith, string_bytes}
-use Rattle.std.proofs.lemmas.List.{length-map}
+use Rattle.std.proofs.{Common.{arith, string_bytes}, lemmas.List.{length-map}}
 use Rattle.cool_words.specs.Plans.{words_of}
-use Rattle.cool_driver.specs.Contents.{texts}
-use Rattle.cool_driver.specs.Sources.{IsDueUnread, IsNoProgram}
-use Rattle.cool_driver.proofs.HeldFiles.{held_length}
-use Rattle.cool_driver.proofs.RefusalsTold.{told_so}
-use Rattle.cool_driver.proofs.SourcesOfCalls.{faulty_of, program_of, sources_read}
-use Rattle.cool_driver.proofs.RefusalsTold.{other_lined}
+use Rattle.cool_driver.specs.{Contents.{texts}, Sources.{IsDueUnread, IsNoProgram}}
+use Rattle.cool_driver.proofs.{HeldFiles.{held_length}, RefusalsTold.{told_so, other_lined}, SourcesOfCalls.{faulty_of, program_of, sources_read}}
 use Rattle.cool_driver.proofs.sources.read_program.Goals as goal
 
 -- the files are sources

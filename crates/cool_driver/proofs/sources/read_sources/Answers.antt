@@ -1,16 +1,10 @@
-use Rattle.std.proofs.Common.{◌<◌, length, refl, arith}
+use Rattle.std.proofs.{Common.{◌<◌, length, refl, arith}, lemmas.List.{length-map}}
 use Rattle.std.specs.Prelude.{codes, string_bytes}
-use Rattle.std.proofs.lemmas.List.{length-map}
 use Rattle.cool_syntax.specs.declared.TheConstants.{MOST_FILES}
 use Rattle.cool_words.specs.Plans.{words_of}
-use Rattle.cool_driver.specs.Calls.{shelf_use}
-use Rattle.cool_driver.specs.Notes.{too_many_note}
-use Rattle.cool_driver.specs.Sources.{IsDueUnread}
-use Rattle.cool_driver.specs.Sources.AreUnread.{too_many}
+use Rattle.cool_driver.specs.{Calls.{shelf_use}, Notes.{too_many_note}, Sources.{IsDueUnread}, Sources.AreUnread.{too_many}}
 use Rattle.cool_driver.specs.declared.status.Status.TheVariants as statuses
-use Rattle.cool_driver.proofs.ReadingNames.{asked_none, asked_whole}
-use Rattle.cool_driver.proofs.LinesOfNotes.{ends_after, feed}
-use Rattle.cool_driver.proofs.RefusalsTold.{line_told, stop_told}
+use Rattle.cool_driver.proofs.{ReadingNames.{asked_none, asked_whole}, LinesOfNotes.{ends_after, feed}, RefusalsTold.{line_told, stop_told}}
 use Rattle.cool_driver.proofs.sources.read_sources.Goals as goal
 
 -- there are too many files

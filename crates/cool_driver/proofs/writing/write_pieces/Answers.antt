@@ -1,7 +1,6 @@
 use Rattle.std.proofs.Common.{List, ℕ, [], append-nil, refl, sym, inr, subst}
 use Rattle.std.specs.Prelude.{Option}
-use Rattle.cool_ports.specs.SinkBytes.{GotPrefix}
-use Rattle.cool_ports.specs.SinkPuts.{pieces_of}
+use Rattle.cool_ports.specs.{SinkBytes.{GotPrefix}, SinkPuts.{pieces_of}}
 use Rattle.cool_ports.proofs.GettingBytes.{appended-nil}
 use Rattle.cool_driver.specs.declared.writing.TheConstants.{MOST_PIECE_BYTES}
 use Rattle.cool_driver.proofs.writing.write_pieces.Goals as goal

@@ -1,9 +1,7 @@
 use Rattle.std.proofs.Common.{◌≡◌, ◌∷◌, [], ◌+◌, ℕ, List, length, sym, ◌∙◌, ap, subst}
 use Rattle.std.specs.List.{AllByRecursion}
 use Rattle.cool_big.specs.BigPrograms.{big_text}
-use Rattle.cool_driver.specs.commands.Big.{big_files, ComesOut, summary}
-use Rattle.cool_driver.specs.Contents.{texts}
-use Rattle.cool_driver.specs.Statuses.{code_of}
+use Rattle.cool_driver.specs.{commands.Big.{big_files, ComesOut, summary}, Contents.{texts}, Statuses.{code_of}}
 use Rattle.cool_driver.proofs.commands.big.big_line.Goals as goal
 use Rattle.lists.specs.Bytes.{AreBytes}
 use Rattle.lists.proofs.Results.{for_ok}

@@ -1,16 +1,10 @@
-use Rattle.std.proofs.Common.{◌≡◌, refl, ◌∷◌, [], ℕ, List, ◌∙◌, ap, subst}
+use Rattle.std.proofs.{Common.{◌≡◌, refl, ◌∷◌, [], ℕ, List, ◌∙◌, ap, subst}, lemmas.List.{length-map}}
 use Rattle.std.specs.Prelude.{map, string_bytes}
-use Rattle.std.proofs.lemmas.List.{length-map}
 use Rattle.cool_faults.specs.Verdicts.{IsAccepted, IsRefused}
-use Rattle.mips_isa.specs.Assembly.{image_of}
-use Rattle.mips_isa.specs.ImageBounds.{ImageParts}
+use Rattle.mips_isa.specs.{Assembly.{image_of}, ImageBounds.{ImageParts}}
 use Rattle.cool_emit.specs.Programs.{program_lines}
 use Rattle.cool_words.specs.Plans.{usual_limits}
-use Rattle.cool_driver.specs.commands.Big.{big_names, RunsTo}
-use Rattle.cool_driver.specs.commands.Big.ComesOut.{refused, ran}
-use Rattle.cool_driver.specs.Execution.{run_of}
-use Rattle.cool_driver.specs.Contents.{texts}
-use Rattle.cool_driver.specs.Statuses.{code_of}
+use Rattle.cool_driver.specs.{commands.Big.{big_names, RunsTo}, commands.Big.ComesOut.{refused, ran}, Execution.{run_of}, Contents.{texts}, Statuses.{code_of}}
 use Rattle.cool_driver.proofs.ProgramsMeant.{big_accords}
 use Rattle.cool_driver.proofs.commands.big.run_files.Goals as goal
 use Rattle.lists.proofs.Results.{for_ok}

@@ -1,8 +1,7 @@
 use Rattle.std.proofs.Common.{Some, refl, [], ◌∙◌, ap, arith}
 use Rattle.cool_ports.proofs.InputsInParts.{leaves_told}
 use Rattle.cool_words.specs.Plans.{usual_limits}
-use Rattle.cool_driver.proofs.BigRuns.{outcome, counted_run, long_run}
-use Rattle.cool_driver.proofs.RunsWithinLimits.{ran_within}
+use Rattle.cool_driver.proofs.{BigRuns.{outcome, counted_run, long_run}, RunsWithinLimits.{ran_within}}
 use Rattle.cool_driver.proofs.commands.big.run_to_end.Goals as goal
 
 pub returns-then-output-gt-MOST_BIG_OUTPUT : goal.returns-then-output-gt-MOST_BIG_OUTPUT

@@ -1,9 +1,6 @@
 use Rattle.std.proofs.Common.{arith, refl}
-use Rattle.cool_driver.specs.Comes.{Comes}
-use Rattle.cool_driver.specs.commands.Big.{DueToBig, PiecesOfBig}
-use Rattle.cool_driver.proofs.ComesOfRefusals.{put_goes}
-use Rattle.cool_driver.proofs.DevicesOfCalls.{got_nothing, short_goes}
-use Rattle.cool_driver.proofs.rooms.Bigs.{big_ends}
+use Rattle.cool_driver.specs.{Comes.{Comes}, commands.Big.{DueToBig, PiecesOfBig}}
+use Rattle.cool_driver.proofs.{ComesOfRefusals.{put_goes}, DevicesOfCalls.{got_nothing, short_goes}, rooms.Bigs.{big_ends}}
 use Rattle.cool_driver.proofs.commands.big.sum_up.Goals as goal
 
 -- the line was made

@@ -1,10 +1,6 @@
 use Rattle.std.proofs.Common.{inl, inr, refl}
-use Rattle.cool_driver.specs.Sources.{IsNoProgram}
-use Rattle.cool_driver.specs.commands.Build.{DueToBuild, PiecesOfBuild}
-use Rattle.cool_driver.proofs.ComesOfRefusals.{put_goes, refusal_goes}
-use Rattle.cool_driver.proofs.DevicesOfCalls.{got_nothing}
-use Rattle.cool_driver.proofs.RefusalsTold.{has_lines}
-use Rattle.cool_driver.proofs.rooms.Builds.{build_ends}
+use Rattle.cool_driver.specs.{Sources.{IsNoProgram}, commands.Build.{DueToBuild, PiecesOfBuild}}
+use Rattle.cool_driver.proofs.{ComesOfRefusals.{put_goes, refusal_goes}, DevicesOfCalls.{got_nothing}, RefusalsTold.{has_lines}, rooms.Builds.{build_ends}}
 use Rattle.cool_driver.proofs.commands.build.build_files.Goals as goal
 
 -- the bytes were made

@@ -1,8 +1,5 @@
-use Rattle.cool_driver.specs.Sources.{IsNoProgram}
-use Rattle.cool_driver.proofs.ProgramsMeant.{program_compiled, program_fits}
-use Rattle.cool_driver.proofs.RefusalsTold.{memory_so}
-use Rattle.cool_driver.proofs.rooms.Builds.{built_if}
-use Rattle.cool_driver.specs.Refusals.{AreFaultLines, IsTold}
+use Rattle.cool_driver.specs.{Sources.{IsNoProgram}, Refusals.{AreFaultLines, IsTold}}
+use Rattle.cool_driver.proofs.{ProgramsMeant.{program_compiled, program_fits}, RefusalsTold.{memory_so}, rooms.Builds.{built_if}}
 use Rattle.cool_driver.proofs.commands.build.make_bytes.Goals as goal
 
 -- the program fits so many files as there are names

@@ -1,11 +1,6 @@
 use Rattle.std.proofs.Common.{[], refl}
-use Rattle.cool_driver.specs.Comes.{Comes}
-use Rattle.cool_driver.specs.Sources.{IsNoProgram}
-use Rattle.cool_driver.specs.commands.Check.{DueToCheck}
-use Rattle.cool_driver.proofs.ComesOfRefusals.{refusal_goes}
-use Rattle.cool_driver.proofs.DevicesOfCalls.{done_goes, got_nothing}
-use Rattle.cool_driver.proofs.RefusalsTold.{has_lines}
-use Rattle.cool_driver.proofs.rooms.Checks.{check_ends}
+use Rattle.cool_driver.specs.{Comes.{Comes}, Sources.{IsNoProgram}, commands.Check.{DueToCheck}}
+use Rattle.cool_driver.proofs.{ComesOfRefusals.{refusal_goes}, DevicesOfCalls.{done_goes, got_nothing}, RefusalsTold.{has_lines}, rooms.Checks.{check_ends}}
 use Rattle.cool_driver.proofs.commands.check.check_files.Goals as goal
 
 -- the files are a program

@@ -1,7 +1,5 @@
 use Rattle.std.proofs.Common.{◌≡◌, ◌∙◌, Some, Err, sym, subst}
-use Rattle.mips_isa.specs.Lines.{lines_of}
-use Rattle.mips_isa.specs.declared.asm_fault.AsmError.{AsmError}
-use Rattle.mips_isa.specs.Assembly.{Assembles, fault_of}
+use Rattle.mips_isa.specs.{Lines.{lines_of}, declared.asm_fault.AsmError.{AsmError}, Assembly.{Assembles, fault_of}}
 use Rattle.cool_driver.proofs.commands.debug.assemble_lines.Goals as goal
 
 -- no line has a fault

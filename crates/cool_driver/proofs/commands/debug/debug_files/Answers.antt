@@ -1,10 +1,7 @@
 use Rattle.std.proofs.Common.{false, refl}
 use Rattle.cool_ports.proofs.InputsInParts.{leaves_same, took_nothing}
 use Rattle.cool_driver.specs.commands.Debug.{DebugComes, DueToUndebugged, IsNoDebuggee}
-use Rattle.cool_driver.proofs.ComesOfRefusals.{goes_map, told_goes}
-use Rattle.cool_driver.proofs.DevicesOfCalls.{got_nothing}
-use Rattle.cool_driver.proofs.RefusalsTold.{has_lines}
-use Rattle.cool_driver.proofs.rooms.Debuggings.{debug_ends, undebugged_status}
+use Rattle.cool_driver.proofs.{ComesOfRefusals.{goes_map, told_goes}, DevicesOfCalls.{got_nothing}, RefusalsTold.{has_lines}, rooms.Debuggings.{debug_ends, undebugged_status}}
 use Rattle.cool_driver.proofs.commands.debug.debug_files.Goals as goal
 
 -- an image is debugged

@@ -1,7 +1,5 @@
-use Rattle.cool_driver.proofs.rooms.Debuggings.{halted_goes, note_failed, ran_short, stopped_at}
+use Rattle.cool_driver.proofs.{rooms.Debuggings.{halted_goes, note_failed, ran_short, stopped_at}, LinesOfDebuggers.{noted_lines}, LinesOfNotes.{more_lines}}
 use Rattle.spim_debug.specs.Debugging.{debuggee}
-use Rattle.cool_driver.proofs.LinesOfDebuggers.{noted_lines}
-use Rattle.cool_driver.proofs.LinesOfNotes.{more_lines}
 use Rattle.cool_driver.proofs.commands.debug.debug_image.Goals as goal
 
 -- the machine halted

@@ -1,13 +1,7 @@
-use Rattle.cool_driver.specs.Sources.{IsNoProgram}
-use Rattle.cool_driver.specs.commands.Debug.{IsNoDebuggee}
-use Rattle.cool_driver.proofs.ProgramsMeant.{program_fits, program_meant}
-use Rattle.cool_driver.proofs.RefusalsTold.{told_so}
-use Rattle.cool_driver.proofs.rooms.Debuggings.{debuggee_if, misscripted_if}
+use Rattle.cool_driver.specs.{Sources.{IsNoProgram}, commands.Debug.{IsNoDebuggee, IsDueToScript}}
+use Rattle.cool_driver.proofs.{ProgramsMeant.{program_fits, program_meant}, RefusalsTold.{told_so, other_lined}, rooms.Debuggings.{debuggee_if, misscripted_if}, Results.{for_err}}
 use Rattle.std.proofs.Common.{arith}
-use Rattle.cool_driver.proofs.RefusalsTold.{other_lined}
-use Rattle.cool_driver.proofs.Results.{for_err}
 use Rattle.cool_words.specs.Plans.{words_of}
-use Rattle.cool_driver.specs.commands.Debug.{IsDueToScript}
 use Rattle.cool_driver.proofs.commands.debug.read_scripted.Goals as goal
 
 -- the program fits so many files as there are names

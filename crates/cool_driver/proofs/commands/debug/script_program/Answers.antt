@@ -1,20 +1,12 @@
-use Rattle.std.proofs.Common.{ap, arith, length, refl, subst, sym, ◌∙◌}
-use Rattle.std.proofs.lemmas.List.{length-map}
+use Rattle.std.proofs.{Common.{ap, arith, length, refl, subst, sym, ◌∙◌}, lemmas.List.{length-map}}
 use Rattle.cool_emit.proofs.SoundLinesAssemble.{few_lines, in_range, no_fault}
 use Rattle.cool_words.specs.Plans.{words_of}
-use Rattle.mips_isa.specs.Assembly.{fault_of, image_of}
-use Rattle.mips_isa.specs.ImageBounds.{ImageParts}
-use Rattle.mips_isa.specs.Lines.{line_of, lines_of}
+use Rattle.mips_isa.specs.{Assembly.{fault_of, image_of}, ImageBounds.{ImageParts}, Lines.{line_of, lines_of}}
 use Rattle.spim_debug.specs.Debugging.{IsScriptFor}
-use Rattle.cool_driver.specs.Notes.{script_note}
-use Rattle.cool_driver.specs.commands.Debug.{IsDueToScript}
-use Rattle.cool_driver.specs.declared.status.Status.{Status}
-use Rattle.cool_driver.proofs.LinesOfNotes.{placed_line}
+use Rattle.cool_driver.specs.{Notes.{script_note, script_words}, commands.Debug.{IsDueToScript}, declared.status.Status.{Status}}
+use Rattle.cool_driver.proofs.{LinesOfNotes.{placed_line}, RefusalsTold.{line_told}, rooms.Debuggings.{said_for}}
 use Rattle.cool_words.proofs.FileNames.{short_names}
-use Rattle.cool_driver.proofs.RefusalsTold.{line_told}
-use Rattle.cool_driver.proofs.rooms.Debuggings.{said_for}
 use Rattle.std.specs.Prelude.{decimal}
-use Rattle.cool_driver.specs.Notes.{script_words}
 use Rattle.cool_driver.proofs.commands.debug.script_program.Goals as goal
 
 -- the names are short

@@ -1,12 +1,8 @@
 use Rattle.std.proofs.Common.{inl, inr, List, ℕ, Result, Ok, Err}
 use Rattle.std.specs.Global.{Global}
-use Rattle.mips_isa.specs.ImageBounds.{ImageParts}
-use Rattle.mips_isa.specs.Assembly.{Assembles}
-use Rattle.mips_isa.specs.Lines.{Line, lines_of}
-use Rattle.mips_isa.specs.declared.asm_fault.AsmError.{AsmError}
+use Rattle.mips_isa.specs.{ImageBounds.{ImageParts}, Assembly.{Assembles}, Lines.{Line, lines_of}, declared.asm_fault.AsmError.{AsmError}}
 use Rattle.mips_isa.specs.declared.asm_fault.AsmError.TheVariants.{Memory, Fault}
-use Rattle.mips_text.specs.Reading.{Reads}
-use Rattle.mips_text.specs.Answers.{TextReadsAs}
+use Rattle.mips_text.specs.{Reading.{Reads}, Answers.{TextReadsAs}}
 use Rattle.cool_driver.specs.commands.Exec.{AssemblesText}
 use Rattle.cool_driver.proofs.commands.exec.assemble_text.Goals as goal
 

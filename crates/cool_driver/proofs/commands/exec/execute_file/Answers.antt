@@ -1,10 +1,7 @@
 use Rattle.std.proofs.Common.{false, refl}
 use Rattle.cool_ports.proofs.InputsInParts.{leaves_same, took_nothing}
 use Rattle.cool_driver.specs.commands.Exec.{DueToExec, IsNoImage}
-use Rattle.cool_driver.proofs.ComesOfRefusals.{told_goes}
-use Rattle.cool_driver.proofs.DevicesOfCalls.{got_nothing}
-use Rattle.cool_driver.proofs.RefusalsTold.{has_lines}
-use Rattle.cool_driver.proofs.rooms.Executions.{exec_ends, no_image_status, ran_goes}
+use Rattle.cool_driver.proofs.{ComesOfRefusals.{told_goes}, DevicesOfCalls.{got_nothing}, RefusalsTold.{has_lines}, rooms.Executions.{exec_ends, no_image_status, ran_goes}}
 use Rattle.cool_driver.proofs.commands.exec.execute_file.Goals as goal
 
 -- the file stands for an image

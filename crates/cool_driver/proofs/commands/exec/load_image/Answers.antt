@@ -1,9 +1,6 @@
 use Rattle.std.proofs.Common.{inl, refl, rules, ◌∙◌}
-use Rattle.cool_driver.specs.Notes.{image_note}
-use Rattle.cool_driver.specs.commands.Exec.{IsDueToBytes}
-use Rattle.cool_driver.specs.declared.status.Status.{Status}
-use Rattle.cool_driver.proofs.LinesOfNotes.{image_line}
-use Rattle.cool_driver.proofs.RefusalsTold.{line_told}
+use Rattle.cool_driver.specs.{Notes.{image_note}, commands.Exec.{IsDueToBytes}, declared.status.Status.{Status}}
+use Rattle.cool_driver.proofs.{LinesOfNotes.{image_line}, RefusalsTold.{line_told}}
 use Rattle.cool_driver.proofs.commands.exec.load_image.Goals as goal
 
 -- the file is an image

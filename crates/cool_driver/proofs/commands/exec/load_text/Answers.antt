@@ -1,9 +1,6 @@
 use Rattle.std.proofs.Common.{inr, refl, ◌∙◌}
-use Rattle.cool_driver.specs.Notes.{asm_note}
-use Rattle.cool_driver.specs.commands.Exec.{IsDueToBytes}
-use Rattle.cool_driver.specs.declared.status.Status.{Status}
-use Rattle.cool_driver.proofs.LinesOfNotes.{placed_line}
-use Rattle.cool_driver.proofs.RefusalsTold.{line_told}
+use Rattle.cool_driver.specs.{Notes.{asm_note}, commands.Exec.{IsDueToBytes}, declared.status.Status.{Status}}
+use Rattle.cool_driver.proofs.{LinesOfNotes.{placed_line}, RefusalsTold.{line_told}}
 use Rattle.cool_driver.proofs.commands.exec.load_text.Goals as goal
 
 -- the text is assembled

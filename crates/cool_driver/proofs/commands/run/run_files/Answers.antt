@@ -1,11 +1,7 @@
 use Rattle.std.proofs.Common.{false, refl}
 use Rattle.cool_ports.proofs.InputsInParts.{leaves_same, took_nothing}
-use Rattle.cool_driver.specs.Sources.{IsNoProgram}
-use Rattle.cool_driver.specs.commands.Run.{DueToRunning}
-use Rattle.cool_driver.proofs.ComesOfRefusals.{refusal_goes}
-use Rattle.cool_driver.proofs.DevicesOfCalls.{got_nothing}
-use Rattle.cool_driver.proofs.RefusalsTold.{has_lines}
-use Rattle.cool_driver.proofs.rooms.Runnings.{ran_goes, running_ends}
+use Rattle.cool_driver.specs.{Sources.{IsNoProgram}, commands.Run.{DueToRunning}}
+use Rattle.cool_driver.proofs.{ComesOfRefusals.{refusal_goes}, DevicesOfCalls.{got_nothing}, RefusalsTold.{has_lines}, rooms.Runnings.{ran_goes, running_ends}}
 use Rattle.cool_driver.proofs.commands.run.run_files.Goals as goal
 
 -- the files are a program

@@ -1,7 +1,6 @@
 use Rattle.std.proofs.Common.{Err, Ok, ap, refl, ◌∙◌}
 use Rattle.cool_session.specs.declared.ending.Ending.{Ending}
-use Rattle.cool_driver.proofs.DevicesOfCalls.{IsNoted, finished_goes, got_nothing, is_noted}
-use Rattle.cool_driver.proofs.rooms.Sessions.{came_to_end, cut_by_memory, cut_by_read, cut_by_write, noted_end}
+use Rattle.cool_driver.proofs.{DevicesOfCalls.{IsNoted, finished_goes, got_nothing, is_noted}, rooms.Sessions.{came_to_end, cut_by_memory, cut_by_read, cut_by_write, noted_end}}
 use Rattle.cool_driver.proofs.commands.session.hold_session.Goals as goal
 
 pub returns-in-Ok-Over-clause-ends : goal.returns-in-Ok-Over-clause-ends

@@ -1,6 +1,5 @@
 use Rattle.std.proofs.Common.{inr, refl, ◌∙◌}
-use Rattle.cool_driver.proofs.DevicesOfCalls.{got_nothing}
-use Rattle.cool_driver.proofs.LinesOfNotes.{command_line, no_lines}
+use Rattle.cool_driver.proofs.{DevicesOfCalls.{got_nothing}, LinesOfNotes.{command_line, no_lines}}
 use Rattle.cool_driver.proofs.commands.session.tell_command.Goals as goal
 
 -- the note is a line
