@@ -79,7 +79,7 @@ pub(crate) fn begin_args<'a>(
 }
 
 /// A call of a method on a receiver.
-#[tactic(auto, using(crate::proofs::QuietSteps::quiet_counts, crate::proofs::QuietSteps::spent_faults, crate::proofs::QuietSteps::untouched))]
+#[tactic(auto, using(crate::proofs::QuietSteps::quiet_counts, crate::proofs::QuietSteps::spent_faults, cool_ports::proofs::InputsInParts::took_nothing))]
 pub(crate) fn call<'a, S: Source, K: Sink>(
     setting: &Setting<'a>,
     machine: &mut Machine<'a>,
@@ -134,7 +134,7 @@ fn method_of(setting: &Setting<'_>, class: ClassId, name: &Name) -> Option<Metho
 }
 
 /// A method on a receiver, where the class has it.
-#[tactic(auto, using(crate::proofs::QuietSteps::quiet_counts, crate::proofs::QuietSteps::untouched))]
+#[tactic(auto, using(crate::proofs::QuietSteps::quiet_counts, cool_ports::proofs::InputsInParts::took_nothing))]
 fn begin_call<'a, S: Source, K: Sink>(
     setting: &Setting<'a>,
     machine: &mut Machine<'a>,

@@ -32,7 +32,7 @@ use cool_ports::{Sink, Source};
 use cool_syntax::{Name, Place};
 
 /// A value comes to what waits for it.
-#[tactic(auto, using(crate::proofs::QuietFrames::quiet_else, crate::proofs::QuietSteps::quiet_counts, crate::proofs::QuietSteps::quiet_faults, crate::proofs::QuietSteps::untouched), unfolding(crate::specs::Machine::returned))]
+#[tactic(auto, using(crate::proofs::QuietFrames::quiet_else, crate::proofs::QuietSteps::quiet_counts, crate::proofs::QuietSteps::quiet_faults, cool_ports::proofs::InputsInParts::took_nothing), unfolding(crate::specs::Machine::returned))]
 fn give<'a, S: Source, K: Sink>(
     setting: &Setting<'a>,
     machine: &mut Machine<'a>,
@@ -261,7 +261,7 @@ pub(crate) fn first<'a>(
 }
 
 /// One step. `Ok(None)` comes where the value of the whole was returned.
-#[tactic(auto, using(crate::proofs::QuietSteps::quiet_counts, crate::proofs::QuietSteps::quiet_faults, crate::proofs::QuietSteps::untouched))]
+#[tactic(auto, using(crate::proofs::QuietSteps::quiet_counts, crate::proofs::QuietSteps::quiet_faults, cool_ports::proofs::InputsInParts::took_nothing))]
 pub(crate) fn step<'a, S: Source, K: Sink>(
     setting: &Setting<'a>,
     machine: &mut Machine<'a>,
