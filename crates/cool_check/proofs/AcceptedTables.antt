@@ -1,27 +1,18 @@
 -- A whole table that keeps the rules of classes is a typed table exactly where checking finds no fault in it.
-use Rattle.std.proofs.Common.{◌≡◌, ◌↔◌, ℕ, zero, suc, ◌+◌, ◌<◌, List, [], ◌∷◌, ◌++◌, map, length, get_or, Some, ap, refl, subst, sym, arith}
+use Rattle.std.proofs.Common.{◌≡◌, ◌↔◌, ℕ, zero, suc, ◌+◌, ◌<◌, List, [], ◌∷◌, ◌++◌, length, get_or, Some, ap, refl, subst, sym, arith}
 use Rattle.std.specs.Prelude.{Ok, Err, slice_get}
-use Rattle.std.specs.List.{AllByRecursion}
 use Rattle.cool_syntax.specs.declared.file_tree.Feature.{Feature}
-use Rattle.cool_syntax.specs.declared.file_tree.Feature.TheVariants.{Method, Attribute}
-use Rattle.cool_syntax.specs.declared.file_tree.Formal.{Formal}
 use Rattle.cool_classes.specs.declared.class_id.ClassId.{ClassId}
-use Rattle.cool_classes.specs.declared.method.AttributeRef.{AttributeRef}
 use Rattle.cool_classes.specs.Chains.{Class, class_number, nothing, features_of}
-use Rattle.cool_classes.specs.ClimbedChains as climbed
-use Rattle.cool_classes.specs.Features.{attributes_of, attribute_name}
 use Rattle.cool_classes.specs.LawfulTables.{IsLawful, HasDifferentFormals}
 use Rattle.cool_classes.specs.Tables.{IsTyped, IsWholeTable}
-use Rattle.cool_classes.proofs.ChainsOfTables.{chain_is}
-use Rattle.cool_rules.specs.Scopes.{Binding}
 use Rattle.cool_rules.specs.Typing.{IsTypedFeature}
 use Rattle.cool_rules.specs.TypedTables.{IsTypedTable}
+use Rattle.cool_rules.proofs.EnteredScopes.{own_differ}
 use Rattle.cool_check.specs.FirstFaults.{Checked}
-use Rattle.cool_rules.specs.Rules.{attribute_binding, formal_binding}
 use Rattle.cool_check.specs.TypingFaults.{feature_checked, fault_of, features_faults, classes_faults, typing_faults}
 use Rattle.cool_check.proofs.CheckedDecides.{IsDecided, Decides}
-use Rattle.cool_check.proofs.FeaturesDecide.{OwnDiffer, NamesDiffer, feature_decided}
-use Rattle.lists.specs.Different.{AreDifferent}
+use Rattle.cool_check.proofs.FeaturesDecide.{feature_decided}
 use Rattle.lists.proofs.JoinedLists.{none_both}
 use Rattle.lists.proofs.AllItems.{all_get}
 
@@ -50,22 +41,6 @@ both_none [] ys e f = f
 both_none (x ∷ xs) ys e f = absurd (cc)
 
 module _ (p : List Class) where
-  -- the names of bindings are those of attributes and formals
-  attribute_names : (rs : List AttributeRef) → map (attribute_name p) rs ≡ map (λ (b : Binding). b.name) (map (attribute_binding p) rs)
-  attribute_names [] = refl
-  attribute_names (r ∷ rs) = ap (λ (ns : List (List ℕ)). attribute_name p r ∷ ns) (attribute_names rs)
-
-  formal_names : (fs : List Formal) → map (λ (f : Formal). f.name) fs ≡ map (λ (b : Binding). b.name) (map (formal_binding p) fs)
-  formal_names [] = refl
-  formal_names (f ∷ fs) = ap (λ (ns : List (List ℕ)). f.name ∷ ns) (formal_names fs)
-
-  own_differ : (whole : IsWholeTable p) → IsLawful p → (c : ClassId) (within : c.0 < length p) → OwnDiffer p whole c within
-  own_differ whole lawful c within = subst AreDifferent (attribute_names (attributes_of p (climbed.chain p c))) (lawful.attributes c (climbed.chain p c) within (chain_is p c whole.table within))
-
-  names_differ : (whole : IsWholeTable p) (c : ClassId) (within : c.0 < length p) (x : Feature) → HasDifferentFormals x → NamesDiffer p whole c within x
-  names_differ whole c within (Method m) h = subst AreDifferent (formal_names m.formals) h
-  names_differ whole c within (Attribute a) h = tt
-
   -- no feature of a class has a fault
   class_typed : (k : ℕ) (cs : List Class) → classes_faults p k cs ≡ [] → (i : ℕ) → i < length cs → (n : ℕ) → n ≡ k + i → features_faults p (class_number n) (get_or cs i nothing).features ≡ []
   class_typed k [] h i less n sum = absurd (omega arith)
@@ -82,7 +57,7 @@ module _ (p : List Class) where
   -- checking a feature of a class decides whether the rules type it
   decided : IsWholeTable p → IsLawful p → (c : ClassId) (k : ℕ) (x : Feature) → c.0 < length p → slice_get (features_of p c) k ≡ Some x → IsDecided (feature_checked p c x) (λ u. IsTypedFeature p c x)
   decided whole lawful c k x within at =
-      feature_decided p whole c within x (own_differ whole lawful c within) (names_differ whole c within x (all_get HasDifferentFormals (features_of p c) k x (lawful.formals c within) at))
+      feature_decided p whole c within x (own_differ p whole.table lawful c within) (all_get HasDifferentFormals (features_of p c) k x (lawful.formals c within) at)
       (all_get (IsTyped p) (features_of p c) k x (whole.table.types c within) at)
 
   features_typed : IsWholeTable p → IsLawful p → typing_faults p ≡ [] → (c : ClassId) (k : ℕ) (x : Feature) → c.0 < length p → slice_get (features_of p c) k ≡ Some x → IsTypedFeature p c x

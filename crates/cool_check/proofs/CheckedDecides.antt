@@ -1,7 +1,7 @@
 -- An expression has a type by the declarative rules exactly where checking it finds no fault, and it is the one that checking gives.
-use Rattle.std.proofs.Common.{◌≡◌, ◌≢◌, inl, inr, ℕ, ◌<◌, List, [], ◌∷◌, ◌++◌, length, Option, Some, None, Bool, true, false, not, ◌&&◌, ◌||◌, cond, ap, sym, ◌∙◌, refl, subst, arith, true≢false, append-nil, append_assoc}
+use Rattle.std.proofs.Common.{◌≡◌, ◌≢◌, inl, inr, ℕ, ◌<◌, List, [], ◌∷◌, ◌++◌, length, Option, Some, None, Bool, true, false, not, ◌&&◌, ◌||◌, ap, sym, ◌∙◌, refl, subst, arith, true≢false, append-nil, append_assoc}
 use Rattle.std.specs.Option.{option_or}
-use Rattle.std.specs.Prelude.{Contains, Ok, Err, if◌then◌else◌, nat_eq, unwrap_or, bytes_eq}
+use Rattle.std.specs.Prelude.{Contains, Ok, Err, if◌then◌else◌, nat_eq, unwrap_or}
 use Rattle.std.specs.List.{AllByRecursion}
 use Rattle.cool_syntax.specs.declared.place.Place.{Place}
 use Rattle.cool_syntax.specs.declared.type_ref.TypeRef.{TypeRef}
@@ -26,6 +26,7 @@ use Rattle.cool_rules.proofs.ChainsOfTables.{chain_within, below_trans, below_it
 use Rattle.cool_classes.proofs.ChainsOfTables.{chain_is}
 use Rattle.cool_rules.proofs.RulesDecided.{same_types, types_same, named_denotes, denoted, denotes_type, join_is, one_type, conforming_type}
 use Rattle.cool_rules.proofs.TypesOfMethods.{formals_named, result_named, expression_type}
+use Rattle.cool_rules.proofs.EnteredScopes.{found_after}
 use Rattle.cool_check.specs.declared.fault.TypeKind.{TypeKind}
 use Rattle.cool_check.specs.declared.fault.TypeKind.TheVariants.{E2, E3, E5, E8, E9, E10, E13, E14, E15, E16, E17}
 use Rattle.cool_check.specs.FirstFaults.{Checked, refuse, and_then, expect, is_self, bind, conform, or_unknown, name_checked, or_no_type, named, static_among, static_class, misfit, resulting, or_misfit, called_with, call_checked, initialized, bound_type, branch_among, branch_class, joined, compared, checked, all_checked, last_checked, maybe_checked, cases_checked}
@@ -79,20 +80,11 @@ one_by P (Err fault) h a b ha hb = absurd (h a ha)
 pub one_of : {A : Type 0} {r : Checked A} {P : A → Type 0} → IsDecided r P → (a b : A) → P a → P b → a ≡ b
 one_of {r = r} {P = P} h a b ha hb = one_by P r h.decided a b ha hb
 
--- names in one scope, with those of another after them
-pub found_after : (o scope : List Binding) (name : List ℕ) → option_or (found o name) (found scope name) ≡ found (o ++ scope) name
-found_after [] scope name = refl
-found_after (b ∷ o) scope name = by (bytes_eq b.name name) (found_after o scope name)
-  where
-    by : (x : Bool) → option_or (found o name) (found scope name) ≡ found (o ++ scope) name → option_or (cond x (Some b.type) (found o name)) (found scope name) ≡ cond x (Some b.type) (found (o ++ scope) name)
-    by true e = refl
-    by false e = e
-
 module _ (s : Context) (whole : IsWholeTable s.table) (within : s.class.0 < length s.table) (typed : AllByRecursion (λ (b : Binding). IsType s.table b.type) s.attributes) where
   abbrev AreTypes : List Binding → Type 0
   AreTypes o = AllByRecursion (λ (b : Binding). IsType s.table b.type) o
 
-  both_types : (o : List Binding) → AreTypes o → AreTypes (o ++ s.attributes)
+  pub both_types : (o : List Binding) → AreTypes o → AreTypes (o ++ s.attributes)
   both_types [] h = typed
   both_types (b ∷ o) h = (h.0, both_types o h.1)
 

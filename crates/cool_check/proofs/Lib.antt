@@ -1,5 +1,7 @@
 pub mod AcceptedTables
 mod CheckedDecides
+mod ColumnsOfFeatures
+mod ColumnsOfParts
 mod FaultsInOrder
 mod FeaturesDecide
 mod Misfits
@@ -8,4 +10,5 @@ pub mod OrderOfKinds
 mod PartsLeft
 mod PlacedFaults
 pub mod PlacesOfParts
+mod TypesGiven
 mod TypesInScope

@@ -1,18 +1,18 @@
 -- What is entered and found from one position on: the part there, and what comes after it.
 use Rattle.std.proofs.Common.{◌≡◌, ℕ, zero, suc, ◌+◌, ◌<◌, List, [], ◌∷◌, ◌++◌, length, map, drop, get_or, Option, Some, ap, sym, ◌∙◌, refl, subst, arith, append_assoc}
 use Rattle.std.specs.List.{AllByRecursion}
-use native.Mathlib.Numerals.{add-one}
 use Rattle.cool_syntax.specs.declared.file_tree.Feature.{Feature}
 use Rattle.cool_syntax.specs.declared.file_tree.Feature.TheVariants.{Method}
 use Rattle.cool_syntax.specs.declared.file_tree.Formal.{Formal}
 use Rattle.cool_syntax.specs.declared.file_tree.MethodDef.{MethodDef}
 use Rattle.cool_classes.specs.declared.class_id.ClassId.{ClassId}
+use Rattle.cool_classes.specs.declared.class_id.Ty.{Ty}
 use Rattle.cool_classes.specs.Chains.{Class, class_number, features_of}
 use Rattle.cool_classes.specs.Features.{formals_in}
-use Rattle.cool_rules.specs.Scopes.{Binding}
+use Rattle.cool_rules.specs.NodeTypes.{feature_types, features_types}
+use Rattle.cool_rules.specs.Scopes.{Binding, entered}
 use Rattle.cool_check.specs.declared.fault.TypeFault.{TypeFault}
 use Rattle.cool_rules.specs.Rules.{formal_binding}
-use Rattle.cool_check.specs.Contexts.{entered}
 use Rattle.cool_check.specs.FirstFaults.{Checked}
 use Rattle.cool_check.specs.TypingFaults.{feature_checked, fault_of, features_faults, classes_faults}
 use Rattle.lists.proofs.ItemsLeft.{drop_one}
@@ -62,6 +62,15 @@ classes_later p before k within =
     let here = subst (λ (j : ℕ). classes_faults p j (drop k p) ≡ features_faults p (class_number j) (features_of p (class_number k)) ++ classes_faults p (suc j) (drop (suc k) p)) z (class_first p p k 0 within) in
     let next = subst (λ (j : ℕ). classes_faults p k (drop k p) ≡ features_faults p (class_number k) (features_of p (class_number k)) ++ classes_faults p j (drop j p)) n here in
     append_assoc before (features_faults p (class_number k) (features_of p (class_number k))) (classes_faults p (k + 1) (drop (k + 1) p)) ∙ sym (ap (λ (fs : List TypeFault). before ++ fs) next)
+
+-- the types of the nodes of a feature are found before those of the features after it
+pub columns_later : (p : List Class) (c : ClassId) (fs gs : List Feature) (before : List (List Ty)) (i : ℕ) (x : Feature) (column : List Ty) → gs ≡ fs → i < length gs → x ≡ get_or gs i x
+    → column ≡ feature_types p c x → (before ++ column ∷ []) ++ features_types p c (drop (i + 1) fs) ≡ before ++ features_types p c (drop i fs)
+columns_later p c fs gs before i x column same within is gives =
+    let there : drop i fs ≡ x ∷ drop (i + 1) fs = subst (λ (hs : List Feature). drop i hs ≡ x ∷ drop (i + 1) hs) same (drop_one gs i x within is) in
+    append_assoc before (column ∷ []) (features_types p c (drop (i + 1) fs))
+    ∙ ap (λ (t : List Ty). before ++ t ∷ features_types p c (drop (i + 1) fs)) gives
+    ∙ sym (ap (λ (hs : List Feature). before ++ features_types p c hs) there)
 
 -- what holds of all holds of each
 holds_there : {X : Type 0} (P : X → Type 0) (xs : List X) (i : ℕ) (x : X) → AllByRecursion P xs → i < length xs → x ≡ get_or xs i x → P x

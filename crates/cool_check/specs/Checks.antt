@@ -1,5 +1,6 @@
--- What the checks of expressions are asked and answer: what the definition gives, a value or the first fault, or that memory is wanting.
-use Rattle.std.specs.Prelude.{◌≡◌, ℕ, ◌<◌, List, length, map, Option, Result, Ok, IfOk, IfErr, OnOk}
+-- What the checks of expressions are asked and answer: what the definition gives, a value or the first fault, or that memory is wanting;
+-- and which types of nodes they add to those before.
+use Rattle.std.specs.Prelude.{◌≡◌, ℕ, ◌<◌, List, ◌++◌, length, map, Option, Result, Ok, IfOk, IfErr}
 use Rattle.std.specs.List.{AllByRecursion}
 use Rattle.std.specs.Option.{option_map}
 use Rattle.cool_syntax.specs.declared.file_tree.Feature.{Feature}
@@ -13,6 +14,7 @@ use Rattle.cool_classes.specs.declared.class_id.ClassId.{ClassId}
 use Rattle.cool_classes.specs.declared.class_id.Ty.{Ty}
 use Rattle.cool_classes.specs.Chains.{Class}
 use Rattle.cool_rules.specs.Conformance.{IsType}
+use Rattle.cool_rules.specs.NodeTypes.{node_types, part_types, types_of_all, types_of_maybe, types_of_cases, feature_types}
 use Rattle.cool_rules.specs.Scopes.{Binding}
 use Rattle.cool_check.specs.declared.fault.CheckError.{CheckError}
 use Rattle.cool_check.specs.declared.setting.Setting.{Setting}
@@ -34,6 +36,23 @@ maybe_tree_of s id = of_option (option_map (at_id (all_trees s.body.now)) id)
 
 abbrev pub cases_of : Setting → List NodeBranch → Cases
 cases_of s branches = of_twigs (map (twig_at (all_trees s.body.now)) branches)
+
+-- the types of the nodes of an expression, or of its parts, with these variables in scope before the attributes
+abbrev pub nodes_typed : Setting → List Binding → Tree → List Ty
+nodes_typed s locals t = node_types s.table.now s.class (locals ++ s.attributes.now) t
+
+abbrev pub parts_typed : Setting → List Binding → Tree → List Ty
+parts_typed s locals t = part_types s.table.now s.class (locals ++ s.attributes.now) t
+
+-- those of the nodes of several expressions, of one that may be missing, and of the branches of a case
+abbrev pub all_typed : Setting → List Binding → Trees → List Ty
+all_typed s locals ts = types_of_all s.table.now s.class (locals ++ s.attributes.now) ts
+
+abbrev pub maybe_typed : Setting → List Binding → MaybeTree → List Ty
+maybe_typed s locals o = types_of_maybe s.table.now s.class (locals ++ s.attributes.now) o
+
+abbrev pub cases_typed : Setting → List Binding → Cases → List Ty
+cases_typed s locals cs = types_of_cases s.table.now s.class (locals ++ s.attributes.now) cs
 
 -- expressions before this number of the body can be checked with these variables in scope
 pub record IsReady (s : Setting) (scope : List Binding) (number : ℕ) : Type 0 where
@@ -59,8 +78,9 @@ pub record IsAnswer {X : Type 0} (given : Checked X) (IsGood : X → Type 0) (Is
 abbrev pub IsTypeOf : Setting → List Binding → Tree → Result Ty CheckError → Type 0
 IsTypeOf s locals t = IsAnswer (checked (context s) locals t) (IsType s.table.now) (λ n. IsTreeWithin n t)
 
--- the answer for a feature of a class
-pub record IsFeatureAnswer (p : List Class) (c : ClassId) (x : Feature) (result : Result (Unit {0}) CheckError) : Type 0 where
-  pub typed : OnOk result (feature_checked p c x ≡ Ok tt)
+-- the answer for a feature of a class: the types of the nodes of its expression, or the first fault
+pub record IsFeatureAnswer (p : List Class) (c : ClassId) (x : Feature) (result : Result (List Ty) CheckError) : Type 0 where
+  pub typed : IfOk result (λ types. feature_checked p c x ≡ Ok tt)
+  pub column : IfOk result (λ types. types ≡ feature_types p c x)
   pub first : IfErr result (IsFirst (feature_checked p c x))
   pub places : (n : ℕ) → IsFeatureWithin n x → IfErr result (IsPlacedError n)

@@ -1,18 +1,13 @@
 -- Where an expression is checked: in a class of a table, with the names in scope that its feature has from the first.
-use Rattle.std.specs.Prelude.{List, [], ◌∷◌, map}
+use Rattle.std.specs.Prelude.{List, [], map}
 use Rattle.cool_syntax.specs.declared.file_tree.Formal.{Formal}
 use Rattle.cool_classes.specs.declared.class_id.ClassId.{ClassId}
 use Rattle.cool_classes.specs.Chains.{Class}
 use Rattle.cool_classes.specs.ClimbedChains.{chain}
 use Rattle.cool_classes.specs.Features.{attributes_of}
 use Rattle.cool_rules.specs.Rules.{attribute_binding, formal_binding}
-use Rattle.cool_rules.specs.Scopes.{Binding}
+use Rattle.cool_rules.specs.Scopes.{Binding, entered}
 use Rattle.cool_check.specs.declared.setting.Setting.{Setting}
-
--- bindings entered one after the other into a scope
-abbrev pub entered : List Binding → List Binding → List Binding
-entered [] o = o
-entered (b ∷ bs) o = entered bs (b ∷ o)
 
 -- the attributes of a class with those that it inherits, the latest first
 abbrev pub attribute_bindings : List Class → ClassId → List Binding

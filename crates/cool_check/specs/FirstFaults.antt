@@ -14,7 +14,7 @@ use Rattle.cool_classes.specs.declared.class_id.ClassId.{ClassId}
 use Rattle.cool_classes.specs.declared.class_id.Ty.{Ty}
 use Rattle.cool_classes.specs.declared.class_id.Ty.TheVariants.{Class as IsClass, SelfType}
 use Rattle.cool_classes.specs.declared.method.MethodRef.{MethodRef}
-use Rattle.cool_classes.specs.Chains.{Class, class_number}
+use Rattle.cool_classes.specs.Chains.{Class}
 use Rattle.cool_classes.specs.Features.{formals_of, result_of}
 use Rattle.cool_rules.specs.Conformance.{class_of}
 use Rattle.cool_rules.specs.Scopes.{Binding, found}

@@ -3,7 +3,7 @@ use Rattle.std.specs.Prelude.{◌<◌, List, length}
 use Rattle.std.specs.List.{AllByRecursion}
 use Rattle.cool_classes.specs.declared.class_id.ClassId.{ClassId}
 use Rattle.cool_classes.specs.Chains.{Class}
-use Rattle.cool_classes.specs.Tables.{IsTable}
+use Rattle.cool_classes.specs.Tables.{IsWholeTable}
 use Rattle.cool_rules.specs.Conformance.{IsType}
 use Rattle.cool_rules.specs.Scopes.{Binding}
 use Rattle.cool_check.specs.declared.setting.Setting.{Setting}
@@ -13,7 +13,7 @@ HaveTypes p bindings = AllByRecursion (λ b. IsType p b.type) bindings
 
 -- a class of a whole table, with its attributes in scope
 pub record IsSoundClass (p : List Class) (c : ClassId) (attributes : List Binding) : Type 0 where
-  pub table : IsTable p
+  pub whole : IsWholeTable p
   pub class : c.0 < length p
   pub types : HaveTypes p attributes
 

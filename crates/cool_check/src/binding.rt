@@ -1,13 +1,13 @@
 //! The types of `let` and `case`.
 
-ghost use Rattle.std.specs.Prelude.{◌≡◌, ◌<◌, [], None, length, IfSome, OnOk};
+ghost use Rattle.std.specs.Prelude.{◌≡◌, ◌++◌, ◌<◌, [], None, length, IfSome, OnOk};
 ghost use Rattle.std.specs.List.{AllByRecursion};
 ghost use Rattle.cool_syntax.specs.NodeGroups.{IsBinding};
 ghost use Rattle.cool_syntax.specs.NodeLists.{tree_at, HasPartsBelow};
 ghost use Rattle.cool_syntax.specs.TokenFacts.{IsPlaced};
 ghost use Rattle.cool_syntax.specs.TreesWithinLimits.{AreCasesWithin, IsMaybeWithin};
 ghost use Rattle.cool_rules.specs.Conformance.{IsType};
-ghost use Rattle.cool_check.specs.Checks.{tree_of_node, maybe_tree_of, cases_of, IsReady, IsAnswer, IsTypeOf};
+ghost use Rattle.cool_check.specs.Checks.{tree_of_node, maybe_tree_of, cases_of, nodes_typed, parts_typed, maybe_typed, cases_typed, IsReady, IsAnswer, IsTypeOf};
 ghost use Rattle.cool_check.specs.FirstFaults.{maybe_checked, cases_checked, bound_type, branch_class, joined, bind};
 ghost use Rattle.cool_rules.specs.Rules.{is_among};
 ghost use Rattle.cool_check.specs.Contexts.{context};
@@ -17,7 +17,7 @@ use crate::expression::{is_self, type_of};
 use crate::fault::{CheckError, TypeKind};
 use crate::setting::Setting;
 use cool_classes::{ClassId, OBJECT, Ty};
-use cool_rules::Scope;
+use cool_rules::{NodeTypes, Scope};
 use cool_syntax::{Name, Node, NodeBranch, NodeId, Place, TypeRef};
 
 /// The type of a `let` or a `case`, whose parts have numbers below this one.
@@ -25,6 +25,7 @@ use cool_syntax::{Name, Node, NodeBranch, NodeId, Place, TypeRef};
 pub(crate) fn type_of_binding<'a>(
     setting: &Setting<'a, '_>,
     locals: &mut Scope<'a>,
+    types: &mut NodeTypes,
     id: NodeId,
     node: &'a Node,
 ) -> Result<Ty, CheckError>
@@ -32,6 +33,7 @@ pub(crate) fn type_of_binding<'a>(
     requires parts { HasPartsBelow id.0 node.now }
     requires ready { IsReady setting.now locals.old id.0 }
     ensures scope { OnOk result (locals.new ≡ locals.old) }
+    ensures column { OnOk result (types.new ≡ types.old ++ parts_typed setting.now locals.old (tree_of_node setting.now node.now)) }
     ensures answer { IsTypeOf setting.now locals.old (tree_of_node setting.now node.now) result }
 {
     match node {
@@ -42,17 +44,17 @@ pub(crate) fn type_of_binding<'a>(
             init,
             body,
         } => {
-            let given = type_of_option(setting, locals, id, *init)?;
+            let given = type_of_option(setting, locals, types, id, *init)?;
             let bound = bound_type(setting, *at, name, declared, given)?;
-            type_within(setting, locals, name, bound, *body)
+            type_within(setting, locals, types, name, bound, *body)
         }
         Node::Case {
             value,
             branches,
             ..
         } => {
-            type_of(setting, locals, *value)?;
-            type_of_branches(setting, locals, id, branches.as_slice())
+            type_of(setting, locals, types, *value)?;
+            type_of_branches(setting, locals, types, id, branches.as_slice())
         }
         _ => unreachable!(),
     }
@@ -63,16 +65,18 @@ pub(crate) fn type_of_binding<'a>(
 fn type_of_option<'a>(
     setting: &Setting<'a, '_>,
     locals: &mut Scope<'a>,
+    types: &mut NodeTypes,
     end: NodeId,
     init: Option<NodeId>,
 ) -> Result<Option<Ty>, CheckError>
     requires init { IfSome init (λ value. value.0 < end.0) }
     requires ready { IsReady setting.now locals.old end.0 }
     ensures scope { OnOk result (locals.new ≡ locals.old) }
+    ensures column { OnOk result (types.new ≡ types.old ++ maybe_typed setting.now locals.old (maybe_tree_of setting.now init)) }
     ensures answer { IsAnswer (maybe_checked (context setting.now) locals.old (maybe_tree_of setting.now init)) (λ given. IfSome given (IsType setting.now.table.now)) (λ n. IsMaybeWithin n (maybe_tree_of setting.now init)) result }
 {
     match init {
-        Some(value) => Ok(Some(type_of(setting, locals, value)?)),
+        Some(value) => Ok(Some(type_of(setting, locals, types, value)?)),
         None => Ok(None),
     }
 }
@@ -106,6 +110,7 @@ fn bound_type(
 fn type_within<'a>(
     setting: &Setting<'a, '_>,
     locals: &mut Scope<'a>,
+    types: &mut NodeTypes,
     name: &'a Name,
     bound: Ty,
     body: NodeId,
@@ -113,10 +118,11 @@ fn type_within<'a>(
     requires bound { IsType setting.now.table.now bound }
     requires ready { IsReady setting.now locals.old body.0 }
     ensures scope { OnOk result (locals.new ≡ locals.old) }
+    ensures column { OnOk result (types.new ≡ types.old ++ nodes_typed setting.now (bind name.now bound locals.old) (tree_at setting.now.body.now body)) }
     ensures answer { IsTypeOf setting.now (bind name.now bound locals.old) (tree_at setting.now.body.now body) result }
 {
     locals.enter(name, bound)?;
-    let found = type_of(setting, locals, body)?;
+    let found = type_of(setting, locals, types, body)?;
     locals.leave();
     Ok(found)
 }
@@ -126,19 +132,28 @@ fn type_within<'a>(
 fn type_of_branches<'a>(
     setting: &Setting<'a, '_>,
     locals: &mut Scope<'a>,
+    types: &mut NodeTypes,
     end: NodeId,
     branches: &'a [NodeBranch],
 ) -> Result<Ty, CheckError>
     requires branches { AllByRecursion (λ branch. branch.body.0 < end.0) branches.now }
     requires ready { IsReady setting.now locals.old end.0 }
     ensures scope { OnOk result (locals.new ≡ locals.old) }
+    ensures column { OnOk result (types.new ≡ types.old ++ cases_typed setting.now locals.old (cases_of setting.now branches.now)) }
     ensures answer { IsAnswer (cases_checked (context setting.now) locals.old [] None (cases_of setting.now branches.now)) (IsType setting.now.table.now) (λ n. AreCasesWithin n (cases_of setting.now branches.now)) result }
 {
     let mut classes = Vec::new(setting.alloc);
     let mut joined = None;
     for branch in branches {
         let class = branch_class(setting, branch, &classes)?;
-        let found = type_within(setting, locals, &branch.name, Ty::Class(class), branch.body)?;
+        let found = type_within(
+            setting,
+            locals,
+            types,
+            &branch.name,
+            Ty::Class(class),
+            branch.body,
+        )?;
         classes.push(class)?;
         joined = Some(joined_with(setting, joined, found));
     }

@@ -11,6 +11,7 @@ ghost use Rattle.cool_classes.specs.declared.class_id.ClassId as number;
 ghost use Rattle.cool_classes.specs.Chains.{features_of};
 ghost use Rattle.cool_classes.specs.LawfulTables.{IsLawful};
 ghost use Rattle.cool_classes.specs.Tables.{IsWholeTable};
+ghost use Rattle.cool_rules.specs.NodeTypes.{columns_of, features_types, table_types};
 ghost use Rattle.cool_rules.specs.TypedTables.{IsTypedTable};
 ghost use Rattle.cool_rules.specs.Fits.{Fits};
 ghost use Rattle.cool_check.specs.Faults.{AreWithin, IsPlacedRefusal, IsRefusal, standing_of};
@@ -19,9 +20,17 @@ ghost use Rattle.cool_check.specs.TypingFaults.{IsExactRefusal, features_faults,
 use crate::fault::{CheckAllError, CheckError, TypeFault};
 use crate::feature::{attribute_scope, check_among};
 use cool_classes::{ClassId, ClassTable};
-use cool_rules::TypedProgram;
+use cool_rules::{NodeTypes, TypedProgram};
 use cool_syntax::Listed;
 use std::alloc::{AllocError, Global};
+
+/// What checking finds in classes: the first fault of each feature that has one, and the types of the nodes of the expressions of all others,
+/// class by class.
+#[derive(Drop)]
+struct Findings {
+    faults: Vec<TypeFault>,
+    types: Vec<Vec<NodeTypes>>,
+}
 
 /// Checks all features of a program (Cool manual, section 12).
 ///
@@ -36,9 +45,9 @@ pub fn check(alloc: Global, t: ClassTable) -> Result<TypedProgram, CheckAllError
     ensures refusal { IfErr result IsRefusal }
     ensures places { (n : ℕ) → AreWithin n t → IfErr result (IsPlacedRefusal n) }
 {
-    let faults = all_faults(alloc, &t)?;
+    let Findings { faults, types } = check_classes(alloc, &t)?;
     if faults.is_empty() {
-        return Ok(TypedProgram::new(t));
+        return Ok(TypedProgram::new(t, types));
     }
     Err(CheckAllError::Faults(Listed::new(in_order(faults))))
 }
@@ -54,39 +63,46 @@ pub fn in_order(mut faults: Vec<TypeFault>) -> Vec<TypeFault>
     faults
 }
 
-/// The first fault of each feature that has one. `Err` comes only for want of memory.
-fn all_faults(alloc: Global, t: &ClassTable) -> Result<Vec<TypeFault>, AllocError>
-    ensures faults { IfOk result (λ faults. faults.items ≡ typing_faults t.now) }
+/// Checks all features of all classes. `Err` comes only for want of memory.
+fn check_classes(alloc: Global, t: &ClassTable) -> Result<Findings, AllocError>
+    ensures faults { IfOk result (λ found. found.faults.items ≡ typing_faults t.now) }
+    ensures types { IfOk result (λ found. found.faults.items ≡ [] → columns_of found.types.items ≡ table_types t.now) }
     ensures whole { OnOk result (IsWholeTable t.now) }
     ensures lawful { OnOk result (IsLawful t.now) }
-    ensures places { (n : ℕ) → AreWithin n t.now → IfOk result (λ faults. AllByRecursion (λ f. IsPlaced n f.at) faults.items) }
+    ensures places { (n : ℕ) → AreWithin n t.now → IfOk result (λ found. AllByRecursion (λ f. IsPlaced n f.at) found.faults.items) }
 {
     let mut faults = Vec::new(alloc);
+    let mut types = Vec::new(alloc);
     for number in 0..t.count() {
-        add_faults(alloc, t, ClassId(number), &mut faults)?;
+        types.push(check_class(alloc, t, ClassId(number), &mut faults)?)?;
     }
-    Ok(faults)
+    Ok(Findings { faults, types })
 }
 
-/// Adds the first fault of each feature of a class that has one. `Err` comes only for want of memory.
-fn add_faults(
+/// Checks all features of a class, and adds the first fault of each that has one. Gives the types of the nodes of the expressions of all
+/// others. `Err` comes only for want of memory.
+fn check_class(
     alloc: Global,
     t: &ClassTable,
     c: ClassId,
     faults: &mut Vec<TypeFault>,
-) -> Result<(), AllocError>
+) -> Result<Vec<NodeTypes>, AllocError>
+    requires whole { IsWholeTable t.now }
+    requires lawful { IsLawful t.now }
     requires class { c.0 < length t.now }
     ensures faults { OnOk result (faults.new.items ≡ faults.old.items ++ features_faults t.now c (features_of t.now c)) }
+    ensures types { IfOk result (λ types. faults.new.items ≡ [] → types.items ≡ features_types t.now c (features_of t.now c)) }
     ensures places { (n : ℕ) → AllByRecursion (IsFeatureWithin n) (features_of t.now c) → AllByRecursion (λ f. IsPlaced n f.at) faults.old.items → OnOk result (AllByRecursion (λ f. IsPlaced n f.at) faults.new.items) }
 {
     let features = t.features(c);
     let attributes = attribute_scope(alloc, t, c)?;
+    let mut types = Vec::new(alloc);
     for index in 0..features.len() {
         match check_among(alloc, t, c, &attributes, index as u32, &features[index]) {
-            Ok(()) => {}
+            Ok(found) => types.push(found)?,
             Err(CheckError::Fault(fault)) => faults.push(fault)?,
             Err(CheckError::Memory) => return Err(AllocError),
         }
     }
-    Ok(())
+    Ok(types)
 }

@@ -1,13 +1,13 @@
 //! The types of dispatches.
 
-ghost use Rattle.std.specs.Prelude.{◌≡◌, ◌<◌, ℕ, length, IfSome, OnOk};
+ghost use Rattle.std.specs.Prelude.{◌≡◌, ◌++◌, ◌<◌, ℕ, length, IfSome, OnOk};
 ghost use Rattle.cool_syntax.specs.NodeGroups.{IsCall};
 ghost use Rattle.cool_syntax.specs.NodeLists.{HasPartsBelow};
 ghost use Rattle.cool_syntax.specs.TokenFacts.{IsPlaced};
 ghost use Rattle.cool_syntax.specs.TreesWithinLimits.{AreTreesWithin};
 ghost use Rattle.cool_classes.specs.Features.{HasMethod, formals_of};
 ghost use Rattle.cool_rules.specs.Conformance.{IsType};
-ghost use Rattle.cool_check.specs.Checks.{tree_of_node, trees_of, IsReady, AreArguments, IsAnswer, IsTypeOf};
+ghost use Rattle.cool_check.specs.Checks.{tree_of_node, trees_of, parts_typed, IsReady, AreArguments, IsAnswer, IsTypeOf};
 ghost use Rattle.cool_check.specs.FirstFaults.{static_class, call_checked, misfit, resulting};
 ghost use Rattle.cool_check.specs.Contexts.{context};
 ghost use Rattle.cool_check.specs.Settings.{IsSound};
@@ -16,7 +16,7 @@ use crate::expression::{type_of, types_of};
 use crate::fault::{CheckError, TypeKind};
 use crate::setting::Setting;
 use cool_classes::{ClassId, MethodRef, Ty};
-use cool_rules::{Scope, class_of};
+use cool_rules::{NodeTypes, Scope, class_of};
 use cool_syntax::{Name, Node, NodeId, Place, TypeRef};
 
 /// The type of a dispatch, whose parts have numbers below this one.
@@ -24,6 +24,7 @@ use cool_syntax::{Name, Node, NodeId, Place, TypeRef};
 pub(crate) fn type_of_call<'a>(
     setting: &Setting<'a, '_>,
     locals: &mut Scope<'a>,
+    types: &mut NodeTypes,
     id: NodeId,
     node: &'a Node,
 ) -> Result<Ty, CheckError>
@@ -31,6 +32,7 @@ pub(crate) fn type_of_call<'a>(
     requires parts { HasPartsBelow id.0 node.now }
     requires ready { IsReady setting.now locals.old id.0 }
     ensures scope { OnOk result (locals.new ≡ locals.old) }
+    ensures column { OnOk result (types.new ≡ types.old ++ parts_typed setting.now locals.old (tree_of_node setting.now node.now)) }
     ensures answer { IsTypeOf setting.now locals.old (tree_of_node setting.now node.now) result }
 {
     match node {
@@ -40,8 +42,8 @@ pub(crate) fn type_of_call<'a>(
             name,
             args,
         } => {
-            let object = type_of(setting, locals, *receiver)?;
-            let given = types_of(setting, locals, id, args.as_slice())?;
+            let object = type_of(setting, locals, types, *receiver)?;
+            let given = types_of(setting, locals, types, id, args.as_slice())?;
             let class = class_of(setting.class, object);
             let called = Called {
                 at: *at,
@@ -58,8 +60,8 @@ pub(crate) fn type_of_call<'a>(
             name,
             args,
         } => {
-            let object = type_of(setting, locals, *receiver)?;
-            let given = types_of(setting, locals, id, args.as_slice())?;
+            let object = type_of(setting, locals, types, *receiver)?;
+            let given = types_of(setting, locals, types, id, args.as_slice())?;
             let class = static_class(setting, class, object)?;
             let called = Called {
                 at: *at,

@@ -1,6 +1,6 @@
 //! The types of expressions: names, constants, conditionals, loops and blocks.
 
-ghost use Rattle.std.specs.Prelude.{◌≡◌, ◌<◌, ℕ, [], Ok, true, false, length, IfOk, IfErr, OnOk};
+ghost use Rattle.std.specs.Prelude.{◌≡◌, ◌<◌, ◌++◌, ℕ, [], Ok, true, false, length, IfOk, IfErr, OnOk};
 ghost use Rattle.std.specs.List.{AllByRecursion};
 ghost use Rattle.cool_syntax.specs.Tree.{place_of, tree_size};
 ghost use Rattle.cool_syntax.specs.NodeGroups.{IsControl, IsLeaf};
@@ -8,7 +8,7 @@ ghost use Rattle.cool_syntax.specs.NodeLists.{tree_at, HasPartsBelow};
 ghost use Rattle.cool_syntax.specs.TokenFacts.{IsPlaced};
 ghost use Rattle.cool_syntax.specs.TreesWithinLimits.{AreTreesWithin, IsTreeWithin};
 ghost use Rattle.cool_rules.specs.Conformance.{IsType};
-ghost use Rattle.cool_check.specs.Checks.{tree_of_node, trees_of, IsReady, IsAnswer, IsTypeOf};
+ghost use Rattle.cool_check.specs.Checks.{tree_of_node, trees_of, nodes_typed, parts_typed, all_typed, IsReady, IsAnswer, IsTypeOf};
 ghost use Rattle.cool_check.specs.Faults.{IsPlacedError, StandsAt};
 ghost use Rattle.cool_rules.specs.Rules.{same_type};
 ghost use Rattle.cool_check.specs.FirstFaults.{all_checked, last_checked, name_checked, is_self, IsFirst};
@@ -25,33 +25,56 @@ use crate::fault::{CheckError, TypeKind};
 use crate::operator::{type_of_binary, type_of_unary};
 use crate::setting::Setting;
 use cool_classes::{BOOL, ClassId, INT, OBJECT, STRING, Ty};
-use cool_rules::Scope;
+use cool_rules::{NodeTypes, Scope};
 use cool_syntax::{Name, Node, NodeId, Place};
 
-/// The type of the expression at this number.
+/// The type of the expression at this number. It is added to the types of the nodes, after those of the parts.
 #[cycle(typing)]
 pub(crate) fn type_of<'a>(
     setting: &Setting<'a, '_>,
     locals: &mut Scope<'a>,
+    types: &mut NodeTypes,
     id: NodeId,
 ) -> Result<Ty, CheckError>
     requires ready { IsReady setting.now locals.old id.0 }
     ensures scope { OnOk result (locals.new ≡ locals.old) }
+    ensures column { OnOk result (types.new ≡ types.old ++ nodes_typed setting.now locals.old (tree_at setting.now.body.now id)) }
     ensures answer { IsTypeOf setting.now locals.old (tree_at setting.now.body.now id) result }
 {
-    let node = setting.body.node(id);
+    let found = type_of_node(setting, locals, types, id, setting.body.node(id))?;
+    types.push(found)?;
+    Ok(found)
+}
+
+/// The type of the expression of a node, whose parts have numbers below this one.
+#[cycle(typing)]
+fn type_of_node<'a>(
+    setting: &Setting<'a, '_>,
+    locals: &mut Scope<'a>,
+    types: &mut NodeTypes,
+    id: NodeId,
+    node: &'a Node,
+) -> Result<Ty, CheckError>
+    requires parts { HasPartsBelow id.0 node.now }
+    requires ready { IsReady setting.now locals.old id.0 }
+    ensures scope { OnOk result (locals.new ≡ locals.old) }
+    ensures column { OnOk result (types.new ≡ types.old ++ parts_typed setting.now locals.old (tree_of_node setting.now node.now)) }
+    ensures answer { IsTypeOf setting.now locals.old (tree_of_node setting.now node.now) result }
+{
     match node {
         Node::Dispatch { .. } | Node::StaticDispatch { .. } => {
-            type_of_call(setting, locals, id, node)
+            type_of_call(setting, locals, types, id, node)
         }
-        Node::Let { .. } | Node::Case { .. } => type_of_binding(setting, locals, id, node),
+        Node::Let { .. } | Node::Case { .. } => type_of_binding(setting, locals, types, id, node),
         Node::If { .. } | Node::While { .. } | Node::Block { .. } => {
-            type_of_control(setting, locals, id, node)
+            type_of_control(setting, locals, types, id, node)
         }
         Node::Assign { .. } | Node::IsVoid { .. } | Node::Neg { .. } | Node::Not { .. } => {
-            type_of_unary(setting, locals, id, node)
+            type_of_unary(setting, locals, types, id, node)
         }
-        Node::Arith { .. } | Node::Compare { .. } => type_of_binary(setting, locals, id, node),
+        Node::Arith { .. } | Node::Compare { .. } => type_of_binary(
+            setting, locals, types, id, node,
+        ),
         Node::New { .. }
         | Node::Id { .. }
         | Node::Int { .. }
@@ -117,6 +140,7 @@ pub(crate) fn is_self(name: &Name) -> bool
 fn type_of_control<'a>(
     setting: &Setting<'a, '_>,
     locals: &mut Scope<'a>,
+    types: &mut NodeTypes,
     id: NodeId,
     node: &'a Node,
 ) -> Result<Ty, CheckError>
@@ -124,23 +148,24 @@ fn type_of_control<'a>(
     requires parts { HasPartsBelow id.0 node.now }
     requires ready { IsReady setting.now locals.old id.0 }
     ensures scope { OnOk result (locals.new ≡ locals.old) }
+    ensures column { OnOk result (types.new ≡ types.old ++ parts_typed setting.now locals.old (tree_of_node setting.now node.now)) }
     ensures answer { IsTypeOf setting.now locals.old (tree_of_node setting.now node.now) result }
 {
     match node {
         Node::If { test, yes, no, .. } => {
-            let predicate = type_of(setting, locals, *test)?;
-            let first = type_of(setting, locals, *yes)?;
-            let second = type_of(setting, locals, *no)?;
+            let predicate = type_of(setting, locals, types, *test)?;
+            let first = type_of(setting, locals, types, *yes)?;
+            let second = type_of(setting, locals, types, *no)?;
             expect_bool(setting, *test, predicate)?;
             Ok(setting.join(first, second))
         }
         Node::While { test, body, .. } => {
-            let predicate = type_of(setting, locals, *test)?;
-            type_of(setting, locals, *body)?;
+            let predicate = type_of(setting, locals, types, *test)?;
+            type_of(setting, locals, types, *body)?;
             expect_bool(setting, *test, predicate)?;
             Ok(Ty::Class(OBJECT))
         }
-        Node::Block { items, .. } => type_of_last(setting, locals, id, items.as_slice()),
+        Node::Block { items, .. } => type_of_last(setting, locals, types, id, items.as_slice()),
         _ => unreachable!(),
     }
 }
@@ -173,17 +198,19 @@ pub(crate) fn is_class(a: Ty, class: ClassId) -> bool
 fn type_of_last<'a>(
     setting: &Setting<'a, '_>,
     locals: &mut Scope<'a>,
+    types: &mut NodeTypes,
     end: NodeId,
     items: &[NodeId],
 ) -> Result<Ty, CheckError>
     requires items { AllByRecursion (λ item. item.0 < end.0) items.now }
     requires ready { IsReady setting.now locals.old end.0 }
     ensures scope { OnOk result (locals.new ≡ locals.old) }
+    ensures column { OnOk result (types.new ≡ types.old ++ all_typed setting.now locals.old (trees_of setting.now items.now)) }
     ensures answer { IsAnswer (last_checked (context setting.now) locals.old object_type (trees_of setting.now items.now)) (IsType setting.now.table.now) (λ n. AreTreesWithin n (trees_of setting.now items.now)) result }
 {
     let mut last = Ty::Class(OBJECT);
     for item in items {
-        last = type_of(setting, locals, *item)?;
+        last = type_of(setting, locals, types, *item)?;
     }
     Ok(last)
 }
@@ -193,21 +220,23 @@ fn type_of_last<'a>(
 pub(crate) fn types_of<'a>(
     setting: &Setting<'a, '_>,
     locals: &mut Scope<'a>,
+    types: &mut NodeTypes,
     end: NodeId,
     items: &[NodeId],
 ) -> Result<Vec<Ty>, CheckError>
     requires items { AllByRecursion (λ item. item.0 < end.0) items.now }
     requires ready { IsReady setting.now locals.old end.0 }
-    ensures types { IfOk result (λ types. AllByRecursion (IsType setting.now.table.now) types.items) }
-    ensures each { IfOk result (λ types. length types.items ≡ length items.now) }
-    ensures typed { IfOk result (λ types. all_checked (context setting.now) locals.old [] (trees_of setting.now items.now) ≡ Ok types.items) }
+    ensures types { IfOk result (λ found. AllByRecursion (IsType setting.now.table.now) found.items) }
+    ensures each { IfOk result (λ found. length found.items ≡ length items.now) }
+    ensures typed { IfOk result (λ found. all_checked (context setting.now) locals.old [] (trees_of setting.now items.now) ≡ Ok found.items) }
     ensures first { IfErr result (IsFirst (all_checked (context setting.now) locals.old [] (trees_of setting.now items.now))) }
     ensures scope { OnOk result (locals.new ≡ locals.old) }
+    ensures column { OnOk result (types.new ≡ types.old ++ all_typed setting.now locals.old (trees_of setting.now items.now)) }
     ensures places { (n : ℕ) → AreTreesWithin n (trees_of setting.now items.now) → IfErr result (IsPlacedError n) }
 {
-    let mut types = Vec::new(setting.alloc);
+    let mut found = Vec::new(setting.alloc);
     for item in items {
-        types.push(type_of(setting, locals, *item)?)?;
+        found.push(type_of(setting, locals, types, *item)?)?;
     }
-    Ok(types)
+    Ok(found)
 }

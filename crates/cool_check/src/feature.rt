@@ -6,6 +6,7 @@ ghost use Rattle.cool_syntax.specs.declared.file_tree.Feature as syntax;
 ghost use Rattle.cool_syntax.specs.declared.file_tree.Feature.TheVariants.{Method, Attribute};
 ghost use Rattle.cool_syntax.specs.TreesWithinLimits.{IsFeatureWithin};
 ghost use Rattle.cool_classes.specs.Chains.{features_of};
+ghost use Rattle.cool_classes.specs.LawfulTables.{IsLawful};
 ghost use Rattle.cool_classes.specs.Tables.{IsTable};
 ghost use Rattle.cool_check.specs.Checks.{IsFeatureAnswer};
 ghost use Rattle.cool_check.specs.Faults.{IsPlacedError};
@@ -18,7 +19,7 @@ use crate::expression::type_of;
 use crate::fault::{CheckError, TypeKind};
 use crate::setting::Setting;
 use cool_classes::{AttributeRef, ClassId, ClassTable, MethodRef};
-use cool_rules::Scope;
+use cool_rules::{NodeTypes, Scope};
 use cool_syntax::{AttributeDef, Feature, MethodDef};
 use std::alloc::{AllocError, Global};
 
@@ -39,6 +40,8 @@ pub fn check_feature(
     ensures first { (x : syntax.Feature) → slice_get (features_of t.now c) feature ≡ Some x → IfErr result (IsFirst (feature_checked t.now c x)) }
     ensures places { (n : ℕ) → AllByRecursion (IsFeatureWithin n) (features_of t.now c) → IfErr result (IsPlacedError n) }
 {
+    // A table that is counted is known to be whole and lawful.
+    prove!(c.0 < t.count());
     let features = t.features(c);
     let attributes = attribute_scope(alloc, t, c)?;
     check_among(
@@ -48,7 +51,8 @@ pub fn check_feature(
         &attributes,
         feature,
         &features[feature as usize],
-    )
+    )?;
+    Ok(())
 }
 
 /// The attributes of a class with those that it inherits, as a scope. `Err` comes only for want of memory.
@@ -69,7 +73,7 @@ pub(crate) fn attribute_scope(
     Ok(scope)
 }
 
-/// Checks the feature at this position of a class with these attributes.
+/// Checks the feature at this position of a class with these attributes. Gives the types of the nodes of its expression.
 pub(crate) fn check_among<'a>(
     alloc: Global,
     t: &'a ClassTable,
@@ -77,7 +81,8 @@ pub(crate) fn check_among<'a>(
     attributes: &Scope<'a>,
     index: u32,
     feature: &'a Feature,
-) -> Result<(), CheckError>
+) -> Result<NodeTypes, CheckError>
+    requires lawful { IsLawful t.now }
     requires class { IsSoundClass t.now c attributes.now }
     requires attributes { attributes.now ≡ attribute_bindings t.now c }
     requires feature { slice_get (features_of t.now c) index ≡ Some feature.now }
@@ -89,7 +94,7 @@ pub(crate) fn check_among<'a>(
     }
 }
 
-/// Checks a method: its body must conform to its result.
+/// Checks a method: its body must conform to its result. Gives the types of the nodes of the body.
 fn check_method<'a>(
     alloc: Global,
     t: &'a ClassTable,
@@ -97,7 +102,8 @@ fn check_method<'a>(
     attributes: &Scope<'a>,
     index: u32,
     method: &'a MethodDef,
-) -> Result<(), CheckError>
+) -> Result<NodeTypes, CheckError>
+    requires lawful { IsLawful t.now }
     requires class { IsSoundClass t.now c attributes.now }
     requires attributes { attributes.now ≡ attribute_bindings t.now c }
     requires method { slice_get (features_of t.now c) index ≡ Some (Method method.now) }
@@ -112,9 +118,10 @@ fn check_method<'a>(
     };
     let called = MethodRef::User { owner: c, index };
     let mut locals = formal_scope(&setting, index, method)?;
-    let found = type_of(&setting, &mut locals, method.body.root())?;
+    let mut types = NodeTypes::new(alloc);
+    let found = type_of(&setting, &mut locals, &mut types, method.body.root())?;
     if setting.conforms(found, setting.result(called)) {
-        Ok(())
+        Ok(types)
     } else {
         Err(CheckError::at(TypeKind::E18, method.at))
     }
@@ -143,7 +150,7 @@ fn formal_scope<'a>(
     Ok(locals)
 }
 
-/// Checks an attribute: its initial value, where it has one, must conform to its type.
+/// Checks an attribute: its initial value, where it has one, must conform to its type. Gives the types of the nodes of the initial value.
 fn check_attribute<'a>(
     alloc: Global,
     t: &'a ClassTable,
@@ -151,14 +158,16 @@ fn check_attribute<'a>(
     attributes: &Scope<'a>,
     index: u32,
     attribute: &'a AttributeDef,
-) -> Result<(), CheckError>
+) -> Result<NodeTypes, CheckError>
+    requires lawful { IsLawful t.now }
     requires class { IsSoundClass t.now c attributes.now }
     requires attributes { attributes.now ≡ attribute_bindings t.now c }
     requires attribute { slice_get (features_of t.now c) index ≡ Some (Attribute attribute.now) }
     ensures { IsFeatureAnswer t.now c (Attribute attribute.now) result }
 {
+    let mut types = NodeTypes::new(alloc);
     let Some(body) = &attribute.init else {
-        return Ok(());
+        return Ok(types);
     };
     let setting = Setting {
         alloc,
@@ -167,10 +176,10 @@ fn check_attribute<'a>(
         attributes,
         body,
     };
-    let found = type_of(&setting, &mut Scope::new(alloc), body.root())?;
+    let found = type_of(&setting, &mut Scope::new(alloc), &mut types, body.root())?;
     let declared = setting.attribute(AttributeRef { owner: c, index });
     if setting.conforms(found, declared) {
-        Ok(())
+        Ok(types)
     } else {
         Err(CheckError::at(TypeKind::E17, attribute.at))
     }

@@ -1,11 +1,11 @@
 //! The types of assignments and operators.
 
-ghost use Rattle.std.specs.Prelude.{◌≡◌, true, false, IfOk, IfErr, OnOk};
+ghost use Rattle.std.specs.Prelude.{◌≡◌, ◌++◌, true, false, IfOk, IfErr, OnOk};
 ghost use Rattle.cool_syntax.specs.NodeGroups.{IsBinary, IsUnary};
 ghost use Rattle.cool_syntax.specs.NodeLists.{HasPartsBelow};
 ghost use Rattle.cool_syntax.specs.TokenFacts.{IsPlaced};
 ghost use Rattle.cool_rules.specs.Conformance.{IsType};
-ghost use Rattle.cool_check.specs.Checks.{tree_of_node, IsReady, IsAnswer, IsTypeOf};
+ghost use Rattle.cool_check.specs.Checks.{tree_of_node, parts_typed, IsReady, IsAnswer, IsTypeOf};
 ghost use Rattle.cool_check.specs.Faults.{StandsAt};
 ghost use Rattle.cool_rules.specs.Rules.{same_type};
 ghost use Rattle.cool_rules.specs.Typing.{has_values};
@@ -19,7 +19,7 @@ use crate::expression::{is_class, is_self, type_of, type_of_name};
 use crate::fault::{CheckError, TypeKind};
 use crate::setting::Setting;
 use cool_classes::{BOOL, ClassId, INT, STRING, Ty};
-use cool_rules::Scope;
+use cool_rules::{NodeTypes, Scope};
 use cool_syntax::{CompareOp, Name, Node, NodeId, Place};
 
 /// The type of an assignment or of an operator with one operand, which has a number below this one.
@@ -27,6 +27,7 @@ use cool_syntax::{CompareOp, Name, Node, NodeId, Place};
 pub(crate) fn type_of_unary<'a>(
     setting: &Setting<'a, '_>,
     locals: &mut Scope<'a>,
+    types: &mut NodeTypes,
     id: NodeId,
     node: &'a Node,
 ) -> Result<Ty, CheckError>
@@ -34,24 +35,25 @@ pub(crate) fn type_of_unary<'a>(
     requires parts { HasPartsBelow id.0 node.now }
     requires ready { IsReady setting.now locals.old id.0 }
     ensures scope { OnOk result (locals.new ≡ locals.old) }
+    ensures column { OnOk result (types.new ≡ types.old ++ parts_typed setting.now locals.old (tree_of_node setting.now node.now)) }
     ensures answer { IsTypeOf setting.now locals.old (tree_of_node setting.now node.now) result }
 {
     match node {
         Node::Assign { at, name, value } => {
-            let given = type_of(setting, locals, *value)?;
+            let given = type_of(setting, locals, types, *value)?;
             assigned(setting, locals, *at, name, given)
         }
         Node::IsVoid { value, .. } => {
-            type_of(setting, locals, *value)?;
+            type_of(setting, locals, types, *value)?;
             Ok(Ty::Class(BOOL))
         }
         Node::Neg { at, value } => {
-            let found = type_of(setting, locals, *value)?;
+            let found = type_of(setting, locals, types, *value)?;
             expect(found, INT, TypeKind::E14, *at)?;
             Ok(Ty::Class(INT))
         }
         Node::Not { at, value } => {
-            let found = type_of(setting, locals, *value)?;
+            let found = type_of(setting, locals, types, *value)?;
             expect(found, BOOL, TypeKind::E16, *at)?;
             Ok(Ty::Class(BOOL))
         }
@@ -101,6 +103,7 @@ fn expect(found: Ty, class: ClassId, kind: TypeKind, at: Place) -> Result<(), Ch
 pub(crate) fn type_of_binary<'a>(
     setting: &Setting<'a, '_>,
     locals: &mut Scope<'a>,
+    types: &mut NodeTypes,
     id: NodeId,
     node: &'a Node,
 ) -> Result<Ty, CheckError>
@@ -108,6 +111,7 @@ pub(crate) fn type_of_binary<'a>(
     requires parts { HasPartsBelow id.0 node.now }
     requires ready { IsReady setting.now locals.old id.0 }
     ensures scope { OnOk result (locals.new ≡ locals.old) }
+    ensures column { OnOk result (types.new ≡ types.old ++ parts_typed setting.now locals.old (tree_of_node setting.now node.now)) }
     ensures answer { IsTypeOf setting.now locals.old (tree_of_node setting.now node.now) result }
 {
     match node {
@@ -117,8 +121,8 @@ pub(crate) fn type_of_binary<'a>(
             right,
             ..
         } => {
-            let first = type_of(setting, locals, *left)?;
-            let second = type_of(setting, locals, *right)?;
+            let first = type_of(setting, locals, types, *left)?;
+            let second = type_of(setting, locals, types, *right)?;
             expect(first, INT, TypeKind::E14, *at)?;
             expect(second, INT, TypeKind::E14, *at)?;
             Ok(Ty::Class(INT))
@@ -129,8 +133,8 @@ pub(crate) fn type_of_binary<'a>(
             left,
             right,
         } => {
-            let first = type_of(setting, locals, *left)?;
-            let second = type_of(setting, locals, *right)?;
+            let first = type_of(setting, locals, types, *left)?;
+            let second = type_of(setting, locals, types, *right)?;
             compared(*op, first, second, *at)
         }
         _ => unreachable!(),

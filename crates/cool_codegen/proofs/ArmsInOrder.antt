@@ -1,5 +1,5 @@
 -- A branch is put after those that are not less deep, one after the other.
-use Rattle.std.proofs.Common.{◌≡◌, ℕ, zero, suc, ◌<◌, ◌≤◌, List, [], ◌∷◌, ◌++◌, map, take, drop, length, get_or, Bool, true, false, ap, sym, subst, ◌∙◌, refl, append_assoc, arith, drop-cons}
+use Rattle.std.proofs.Common.{◌≡◌, ℕ, zero, suc, ◌<◌, List, [], ◌∷◌, ◌++◌, map, take, drop, length, get_or, Bool, true, false, ap, sym, subst, ◌∙◌, refl, append_assoc, arith, drop-cons}
 use Rattle.std.proofs.Math.Seq.{take-suc}
 use Rattle.std.proofs.lemmas.List.{drop-map, get_or-map, length-map}
 use Rattle.std.specs.List.{insert}

@@ -1,7 +1,7 @@
--- What the expression at a number is, is what its node is by the numbers of its parts: the lines, the constants after them, the type, the
--- size.
-use Rattle.std.proofs.Common.{◌≡◌, ℕ, ◌+◌, List, [], ◌∷◌, ◌++◌, Some, None, Option, length, refl, sym, ◌∙◌, ap, subst, arith}
+-- What the expression at a number is, is what its node is by the numbers of its parts: the lines, the constants after them, the size.
+use Rattle.std.proofs.Common.{◌≡◌, ℕ, ◌+◌, List, [], ◌∷◌, ◌++◌, Some, length, refl, sym, ◌∙◌, ap, subst, arith}
 use Rattle.std.specs.Prelude.{slice_get, codes}
+use Rattle.std.proofs.lemmas.Option.{same_Some}
 use Rattle.cool_syntax.specs.declared.place.Place.{Place}
 use Rattle.cool_syntax.specs.declared.operator.ArithOp.{ArithOp}
 use Rattle.cool_syntax.specs.declared.operator.ArithOp.TheVariants as arith_op
@@ -14,20 +14,20 @@ use Rattle.cool_syntax.specs.NodeLists.{root, root_of_maybe, roots, branch_roots
 use Rattle.mips_isa.specs.Lines.{Name}
 use Rattle.cool_classes.specs.declared.class_id.Ty.{Ty}
 use Rattle.cool_classes.specs.ClimbedChains.{above}
+use Rattle.cool_rules.specs.Conformance.{class_of}
 use Rattle.cool_rules.specs.Rules.{type_meant}
 use Rattle.cool_rules.specs.Scopes.{Binding}
-use Rattle.cool_rules.specs.StaticTypes.{type_of, last_type_of, cases_type_of}
-use Rattle.cool_rules.specs.Typing.{with_name, object_type}
+use Rattle.cool_rules.specs.StaticTypes.{type_of}
+use Rattle.cool_rules.specs.TypedParts.{IsPart, Lies, TypedBody}
 use Rattle.cool_consts.specs.Constants.{Constants}
 use Rattle.cool_consts.specs.Labels.{int_constant, string_constant}
 use Rattle.cool_codegen.specs.Variables.{Named, bind, scope_of}
-use Rattle.cool_rules.specs.Meant.{joined}
 use Rattle.cool_codegen.specs.Types.{class_meant, trees_count}
 use Rattle.cool_codegen.specs.Arms.{Arm, with_arm}
 use Rattle.cool_codegen.specs.Asked.{Extends, integers_in, integers_in_all, integers_in_maybe, integers_in_cases, strings_in, strings_in_all, strings_in_maybe, strings_in_cases, files_of, file_of}
 use Rattle.cool_codegen.specs.Code.{Context, code, arguments_code, items_code, initial_code, arms_code, string_label, label_at}
-use Rattle.cool_codegen.specs.Numbered.{Lies, Stands, IsRoot, size_at, sizes_at, maybe_size_at, branch_sizes_at, node_size, after, with_value, with_bytes, with_file, operation_asked, asked_at, all_asked, maybe_asked, branches_asked, node_asked, type_at, last_type_at, branches_type_at, node_type, nodes_before, lines_at, items_lines, arguments_lines, initial_lines, branch_lines, branches_arms, node_lines}
-use Rattle.cool_codegen.proofs.NodesThere.{tree_there, top, first_stands, others_stand, first_branch_stands, other_branches_stand, one_stands, two_stand, maybe_stands, three_stand, all_stand, node_is_top}
+use Rattle.cool_codegen.specs.Numbered.{size_at, sizes_at, maybe_size_at, branch_sizes_at, node_size, after, with_value, with_bytes, with_file, operation_asked, asked_at, all_asked, maybe_asked, branches_asked, node_asked, receiver_class, nodes_before, lines_at, items_lines, arguments_lines, initial_lines, branch_lines, branches_arms, node_lines}
+use Rattle.cool_rules.proofs.PartsStand.{Stands, tree_there, top, first_stands, others_stand, first_branch_stands, other_branches_stand, one_stands, two_stand, maybe_stands, three_stand, all_stand, part_node}
 use Rattle.cool_codegen.proofs.NumbersAgree.{SameIntegers, SameStrings, agrees, after_both, after_strings, extends_same, extends_before, integer_stays, string_stays}
 
 -- a table that extends another one numbers alike what that one was asked for
@@ -62,9 +62,9 @@ lines_is s b t g vs d k e there x =
     let before : k ≡ nodes_before b (root k e) = omega (arith, one_le_size e) in
     stable s t g vs d k e x ∙ (λ i. code s (after t (integers_in (is i)) (strings_in s.files (is i))) vs d (before i) (is i))
 
-pub type_is : (s : Context) (b : Tree) (scope : List Binding) (k : ℕ) (e : Tree) → Stands (nodes 0 b) k e → type_of s.table s.class scope e ≡ type_at s b scope (root k e)
-unfolding type_at
-type_is s b scope k e there = ap (type_of s.table s.class scope) (sym (tree_there b k e there))
+receiver_is : (s : Context) (b : Tree) (scope : List Binding) (k : ℕ) (e : Tree) → Stands (nodes 0 b) k e → class_of s.class (type_of s.table s.class scope e) ≡ receiver_class s b scope (root k e)
+unfolding receiver_class
+receiver_is s b scope k e there = ap (λ (t : Tree). class_of s.class (type_of s.table s.class scope t)) (sym (tree_there b k e there))
 
 pub size_is : (b : Tree) (k : ℕ) (e : Tree) → Stands (nodes 0 b) k e → tree_size e ≡ size_at b (root k e)
 unfolding size_at
@@ -240,7 +240,7 @@ node_coded s b t vs d k (trees.Dispatch at e name ts) there =
       count_is (k + tree_size e) ts,
       arguments_are s b t g vs d (k + tree_size e) ts parts.1 args.0,
       lines_is s b (all_asked s.files b t (roots (k + tree_size e) ts)) g vs (d + length (roots (k + tree_size e) ts)) k e parts.0 object.0,
-      type_is s b (scope_of vs) k e parts.0,
+      receiver_is s b (scope_of vs) k e parts.0,
     ) refl
 node_coded s b t vs d k (trees.StaticDispatch at e class name ts) there =
     let g = node_asked s.files b t (top k (trees.StaticDispatch at e class name ts)) in
@@ -312,49 +312,6 @@ node_coded s b t vs d k (trees.Int at value) there = refl
 node_coded s b t vs d k (trees.Str at bytes) there = refl
 node_coded s b t vs d k (trees.Bool at value) there = refl
 
--- the types of trees in order, and of branches
-last_type_is : (s : Context) (b : Tree) (scope : List Binding) (k : ℕ) (last : Ty) (ts : Trees) → Lies (nodes 0 b) k (nodes_of_all k ts) → last_type_of s.table s.class scope last ts ≡ last_type_at s b scope last (roots k ts)
-last_type_is s b scope k last Last there = refl
-last_type_is s b scope k last (More e ts) there =
-    simp (type_is s b scope k e (first_stands e ts there)) (last_type_is s b scope (k + tree_size e) (type_at s b scope (root k e)) ts (others_stand e ts there))
-
-cases_type_is : (s : Context) (b : Tree) (scope : List Binding) (k : ℕ) (join : Option Ty) (cs : Cases) → Lies (nodes 0 b) k (nodes_of_cases k cs) → cases_type_of s.table s.class scope join cs ≡ branches_type_at s b scope join (branch_roots k cs)
-cases_type_is s b scope k join NoCase there = refl
-cases_type_is s b scope k join (CaseOf at name declared e cs) there =
-    simp (type_is s b (with_name name (type_meant s.table declared.name) scope) k e (first_branch_stands e cs there))
-    (cases_type_is s b scope (k + tree_size e) (Some (joined s.table s.class join (type_at s b (with_name name (type_meant s.table declared.name) scope) (root k e)))) cs (other_branches_stand e cs there))
-
--- the type of an expression is that of its node
-pub node_typed : (s : Context) (b : Tree) (scope : List Binding) (k : ℕ) (e : Tree) → Stands (nodes 0 b) k e → type_of s.table s.class scope e ≡ node_type s b scope (top k e)
-node_typed s b scope k (trees.Assign at name e) there = type_is s b scope k e (one_stands e _ there)
-node_typed s b scope k (trees.Dispatch at e name ts) there =
-    let parts = two_stand e (nodes_of_all (k + tree_size e) ts) _ there in
-    simp (type_is s b scope k e parts.0) refl
-node_typed s b scope k (trees.StaticDispatch at e class name ts) there =
-    let parts = two_stand e (nodes_of_all (k + tree_size e) ts) _ there in
-    simp (type_is s b scope k e parts.0) refl
-node_typed s b scope k (trees.If at c y n) there =
-    let parts = three_stand c y n _ there in
-    simp (type_is s b scope (k + tree_size c) y parts.1, type_is s b scope (k + tree_size c + tree_size y) n parts.2) refl
-node_typed s b scope k (trees.While at c a) there = refl
-node_typed s b scope k (trees.Block at ts) there = last_type_is s b scope k object_type ts (all_stand ts _ there)
-node_typed s b scope k (trees.Let at name declared o a) there =
-    let parts = maybe_stands o a _ there in
-    type_is s b (with_name name (type_meant s.table declared.name) scope) (k + maybe_size o) a parts.1
-node_typed s b scope k (trees.Case at a cs) there =
-    let parts = two_stand a (nodes_of_cases (k + tree_size a) cs) _ there in
-    simp (cases_type_is s b scope (k + tree_size a) None cs parts.1) refl
-node_typed s b scope k (trees.New at class) there = refl
-node_typed s b scope k (trees.IsVoid at e) there = refl
-node_typed s b scope k (trees.Arith at op l r) there = refl
-node_typed s b scope k (trees.Neg at e) there = refl
-node_typed s b scope k (trees.Compare at op l r) there = refl
-node_typed s b scope k (trees.Not at e) there = refl
-node_typed s b scope k (trees.Id at name) there = refl
-node_typed s b scope k (trees.Int at value) there = refl
-node_typed s b scope k (trees.Str at bytes) there = refl
-node_typed s b scope k (trees.Bool at value) there = refl
-
 -- the sizes of trees in order, of a tree or none, and of branches
 sizes_are : (b : Tree) (k : ℕ) (ts : Trees) → Lies (nodes 0 b) k (nodes_of_all k ts) → trees_size ts ≡ sizes_at b (roots k ts)
 sizes_are b k Last there = refl
@@ -405,26 +362,27 @@ node_sized b k (trees.Int at value) there = refl
 node_sized b k (trees.Str at bytes) there = refl
 node_sized b k (trees.Bool at value) there = refl
 
--- the node at the number of a root, as the last node of its tree
-at_root : (b : Tree) (id : NodeId) (n : Node) (r : IsRoot b id) → slice_get (nodes 0 b) id.0 ≡ Some n → n ≡ top r.before r.tree
-at_root b id n r e = node_is_top b r.before r.tree n r.stands (subst (λ (i : NodeId). slice_get (nodes 0 b) i.0 ≡ Some n) r.number e)
+-- the node at the number of a part, as the last node of its tree
+at_part : (b : TypedBody) (scope : List Binding) (id : NodeId) (n : Node) (h : IsPart b scope id) → slice_get (nodes 0 b.body) id.0 ≡ Some n → n ≡ top h.before h.tree
+at_part b scope id n h e = same_Some n (top h.before h.tree) (sym e ∙ part_node b scope id h)
 
--- at the number of a root: the lines, the constants, the type and the size
-pub lines_of_node : (s : Context) (b : Tree) (t : Constants) (vs : List Named) (d : ℕ) (id : NodeId) (n : Node) → IsRoot b id → slice_get (nodes 0 b) id.0 ≡ Some n → lines_at s b t vs d id ≡ node_lines s b t vs d id n
-lines_of_node s b t vs d id n r e =
-    ap (lines_at s b t vs d) r.number
-    ∙ sym (lines_is s b t (node_asked s.files b t (top r.before r.tree)) vs d r.before r.tree r.stands (whole s.files b t r.before r.tree r.stands))
-    ∙ node_coded s b t vs d r.before r.tree r.stands
-    ∙ (λ i. node_lines s b t vs d (sym r.number i) (sym (at_root b id n r e) i))
+-- at the number of a part: the lines, the constants and the size
+pub lines_of_node : (s : Context) (b : TypedBody) (scope : List Binding) (t : Constants) (vs : List Named) (d : ℕ) (id : NodeId) (n : Node) → IsPart b scope id → slice_get (nodes 0 b.body) id.0 ≡ Some n
+    → lines_at s b.body t vs d id ≡ node_lines s b.body t vs d id n
+lines_of_node s b scope t vs d id n h e =
+    ap (lines_at s b.body t vs d) h.number
+    ∙ sym (lines_is s b.body t (node_asked s.files b.body t (top h.before h.tree)) vs d h.before h.tree h.stands (whole s.files b.body t h.before h.tree h.stands))
+    ∙ node_coded s b.body t vs d h.before h.tree h.stands
+    ∙ (λ i. node_lines s b.body t vs d (sym h.number i) (sym (at_part b scope id n h e) i))
 
-pub asked_of_node : (files : List (List ℕ)) (b : Tree) (t : Constants) (id : NodeId) (n : Node) → IsRoot b id → slice_get (nodes 0 b) id.0 ≡ Some n → asked_at files b t id ≡ node_asked files b t n
-asked_of_node files b t id n r e =
-    ap (asked_at files b t) r.number ∙ sym (asked_is files b t r.before r.tree r.stands) ∙ node_asks files b t r.before r.tree r.stands ∙ ap (node_asked files b t) (sym (at_root b id n r e))
+pub asked_of_node : (files : List (List ℕ)) (b : TypedBody) (scope : List Binding) (t : Constants) (id : NodeId) (n : Node) → IsPart b scope id → slice_get (nodes 0 b.body) id.0 ≡ Some n
+    → asked_at files b.body t id ≡ node_asked files b.body t n
+asked_of_node files b scope t id n h e =
+    ap (asked_at files b.body t) h.number
+    ∙ sym (asked_is files b.body t h.before h.tree h.stands)
+    ∙ node_asks files b.body t h.before h.tree h.stands
+    ∙ ap (node_asked files b.body t) (sym (at_part b scope id n h e))
 
-pub type_of_node : (s : Context) (b : Tree) (scope : List Binding) (id : NodeId) (n : Node) → IsRoot b id → slice_get (nodes 0 b) id.0 ≡ Some n → type_at s b scope id ≡ node_type s b scope n
-type_of_node s b scope id n r e =
-    ap (type_at s b scope) r.number ∙ sym (type_is s b scope r.before r.tree r.stands) ∙ node_typed s b scope r.before r.tree r.stands ∙ ap (node_type s b scope) (sym (at_root b id n r e))
-
-pub size_of_node : (b : Tree) (id : NodeId) (n : Node) → IsRoot b id → slice_get (nodes 0 b) id.0 ≡ Some n → size_at b id ≡ node_size b n
-size_of_node b id n r e =
-    ap (size_at b) r.number ∙ sym (size_is b r.before r.tree r.stands) ∙ node_sized b r.before r.tree r.stands ∙ ap (node_size b) (sym (at_root b id n r e))
+pub size_of_node : (b : TypedBody) (scope : List Binding) (id : NodeId) (n : Node) → IsPart b scope id → slice_get (nodes 0 b.body) id.0 ≡ Some n → size_at b.body id ≡ node_size b.body n
+size_of_node b scope id n h e =
+    ap (size_at b.body) h.number ∙ sym (size_is b.body h.before h.tree h.stands) ∙ node_sized b.body h.before h.tree h.stands ∙ ap (node_size b.body) (sym (at_part b scope id n h e))

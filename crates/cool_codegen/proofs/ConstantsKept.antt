@@ -1,5 +1,5 @@
 -- A table keeps the numbers of the constants of another one exactly where it goes on from it, as it does when one more is asked for.
-use Rattle.std.proofs.Common.{◌≡◌, ℕ, suc, zero, ◌+◌, ◌<◌, ◌≤◌, List, [], ◌∷◌, ◌++◌, length, refl, sym, ◌∙◌, ap, subst, arith, length-append}
+use Rattle.std.proofs.Common.{◌≡◌, ℕ, suc, ◌<◌, ◌≤◌, List, [], ◌∷◌, ◌++◌, length, refl, sym, ◌∙◌, ap, subst, arith, length-append}
 use Rattle.std.specs.Prelude.{slice_get}
 use Rattle.cool_consts.specs.Constants.{Constants, with_integer, with_string}
 use Rattle.cool_codegen.specs.Asked.{Extends, Keeps}

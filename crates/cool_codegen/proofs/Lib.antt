@@ -5,7 +5,7 @@ pub mod VariablesHave
 mod CodeByNumbers
 mod ConstantsKept
 pub mod NumbersAgree
-mod NodesThere
+mod ScopesOfFeatures
 mod ArmsInOrder
 pub mod FeaturesThere
 mod NumbersStay

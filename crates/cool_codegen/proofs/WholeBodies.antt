@@ -2,29 +2,25 @@
 use Rattle.std.proofs.Common.{◌≡◌, ℕ, List, ap, sym, subst, ◌∙◌}
 use Rattle.cool_syntax.specs.declared.node.NodeId.{NodeId}
 use Rattle.cool_syntax.specs.Tree.{Tree, tree_size}
-use Rattle.cool_syntax.specs.NodeLists.{root, tree_at}
+use Rattle.cool_syntax.specs.NodeLists.{root, nodes, tree_at}
 use Rattle.cool_consts.specs.Constants.{Constants}
 use Rattle.cool_codegen.specs.Asked.{Extends, integers_in, strings_in}
 use Rattle.cool_codegen.specs.Code.{Context, code}
-use Rattle.cool_codegen.specs.Numbered.{after, asked_at, lines_at, size_at, IsRoot}
+use Rattle.cool_codegen.specs.Numbered.{after, asked_at, lines_at, size_at}
 use Rattle.cool_codegen.specs.Variables.{Named}
 use Rattle.cool_codegen.proofs.CodeByNumbers.{asked_is, lines_is}
-use Rattle.cool_codegen.proofs.NodesThere.{whole_is_root, whole_stands}
+use Rattle.cool_rules.proofs.PartsStand.{whole_stands}
 
--- the last number is that of a root
-pub whole_root : (b : Tree) (id : NodeId) → id ≡ root 0 b → IsRoot b id
-whole_root b id e = subst (IsRoot b) (sym e) (whole_is_root b)
-
--- its expression has the size of the body
+-- the expression at the last number has the size of the body
 pub whole_size : (b : Tree) (id : NodeId) → tree_at b id ≡ b → size_at b id ≡ tree_size b
 unfolding size_at
 whole_size b id e = ap tree_size e
 
 -- the constants after it are those after the body
 pub whole_asked : (files : List (List ℕ)) (b : Tree) (t : Constants) (id : NodeId) → id ≡ root 0 b → asked_at files b t id ≡ after t (integers_in b) (strings_in files b)
-whole_asked files b t id e = ap (asked_at files b t) e ∙ sym (asked_is files b t 0 b (whole_stands b))
+whole_asked files b t id e = ap (asked_at files b t) e ∙ sym (asked_is files b t 0 b (whole_stands (nodes 0 b)))
 
 -- its lines are the code of the body by each table that extends the one after it
 pub whole_lines : (s : Context) (b : Tree) (t g : Constants) (vs : List Named) (id : NodeId) → id ≡ root 0 b → Extends (asked_at s.files b t id) g → lines_at s b t vs 0 id ≡ code s g vs 0 0 b
 whole_lines s b t g vs id e x =
-    ap (lines_at s b t vs 0) e ∙ sym (lines_is s b t g vs 0 0 b (whole_stands b) (subst (λ (u : Constants). Extends u g) (whole_asked s.files b t id e) x))
+    ap (lines_at s b t vs 0) e ∙ sym (lines_is s b t g vs 0 0 b (whole_stands (nodes 0 b)) (subst (λ (u : Constants). Extends u g) (whole_asked s.files b t id e) x))

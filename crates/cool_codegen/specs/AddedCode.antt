@@ -1,5 +1,5 @@
 -- What a part of a body asks for before its code is made, and what the code adds to the lines and to the constants.
-use Rattle.std.specs.Prelude.{◌≡◌, ℕ, ◌+◌, ◌*◌, ◌-◌, ◌^◌, ◌<◌, ◌≤◌, List, ◌++◌, length, map, Result, IfOk, OnOk}
+use Rattle.std.specs.Prelude.{◌≡◌, ℕ, ◌+◌, ◌*◌, ◌-◌, ◌^◌, ◌<◌, ◌≤◌, List, ◌++◌, length, map, Result, OnOk}
 use Rattle.std.specs.List.{AllByRecursion}
 use Rattle.mips_isa.specs.declared.line.Line as declared_line
 use Rattle.mips_isa.specs.Lines.{Line, lines_of}
@@ -9,26 +9,20 @@ use Rattle.cool_syntax.specs.declared.place.Place.{Place}
 use Rattle.cool_syntax.specs.Tree.{of_list}
 use Rattle.cool_syntax.specs.NodeLists.{all_trees, at_id, made, tree_at, HasPartsBelow}
 use Rattle.cool_syntax.specs.TreesWithinLimits.{AreTreesWithin, IsTreeWithin}
-use Rattle.cool_classes.specs.declared.class_id.Ty.{Ty}
-use Rattle.cool_classes.specs.Chains.{Class}
-use Rattle.cool_rules.specs.Conformance.{IsType}
+use Rattle.cool_rules.specs.Scopes.{Binding}
+use Rattle.cool_rules.specs.TypedParts.{AreParts, HasParts, IsPart}
 use Rattle.cool_consts.specs.Constants.{Constants}
 use Rattle.cool_codegen.specs.declared.code.Code.{Code}
 use Rattle.cool_codegen.specs.declared.setting.Setting.{Setting}
 use Rattle.cool_codegen.specs.Asked.{integers_in, strings_in, with_integers, with_strings, Extends, Keeps}
-use Rattle.cool_codegen.specs.Numbered.{node_asked, node_lines, node_size, node_type, AreRoots, HasRoots, IsRoot}
-use Rattle.cool_codegen.specs.Settings.{context, HaveTypes, IsSound}
-use Rattle.cool_codegen.specs.Variables.{Named, scope_of}
+use Rattle.cool_codegen.specs.Numbered.{node_asked, node_lines, node_size}
+use Rattle.cool_codegen.specs.Settings.{context, typed_body, HaveTypes, IsSound}
+use Rattle.cool_codegen.specs.Variables.{Named}
 
 -- The setting is sound, and the variables in scope have types of its table.
 pub record IsReady (s : Setting) (vs : List Named) : Type 0 where
   pub sound : IsSound s
   pub types : HaveTypes s.table.now vs
-
--- What is answered is this type, which is one of the table.
-pub record HasType {E : Type 0} (p : List Class) (type : Ty) (result : Result Ty E) : Type 0 where
-  pub is_type : IfOk result (IsType p)
-  pub typed : IfOk result (λ t. t ≡ type)
 
 -- At this depth, after these constants, there is room for the words that so many nodes push and the constants that they name.
 pub record HasRoom (t : Constants) (depth size : ℕ) : Type 0 where
@@ -36,21 +30,21 @@ pub record HasRoom (t : Constants) (depth size : ℕ) : Type 0 where
   pub integers : length t.integers + size < 2 ^ 32 - 1
   pub strings : length t.strings + 2 * size < 2 ^ 32 - 1
 
--- A number is that of an expression of the body, whose places are in the files.
-pub record IsExpressionOf (s : Setting) (id : NodeId) : Type 0 where
-  pub root : IsRoot s.body.now id
+-- A number is that of an expression of the body, with these names in scope, whose places are in the files.
+pub record IsExpressionOf (s : Setting) (scope : List Binding) (id : NodeId) : Type 0 where
+  pub part : IsPart (typed_body s) scope id
   pub places : IsTreeWithin (length s.names.now) (tree_at s.body.now id)
 
--- Numbers are those of expressions of the body that are parts of the one at this number.
-pub record AreExpressionsOf (s : Setting) (end : NodeId) (ids : List NodeId) : Type 0 where
-  pub roots : AreRoots s.body.now ids
-  pub parts : AllByRecursion (λ id. id.0 < end.0) ids
+-- Numbers are those of expressions of the body, with these names in scope, that are parts of the one at this number.
+pub record AreExpressionsOf (s : Setting) (scope : List Binding) (end : NodeId) (ids : List NodeId) : Type 0 where
+  pub parts : AreParts (typed_body s) scope ids
+  pub below : AllByRecursion (λ id. id.0 < end.0) ids
   pub places : AreTreesWithin (length s.names.now) (of_list (map (at_id (all_trees s.body.now)) ids))
 
--- A node of this number has expressions of the body as parts.
-pub record IsNodeOf (s : Setting) (id : NodeId) (node : Node) : Type 0 where
-  pub roots : HasRoots s.body.now node
-  pub parts : HasPartsBelow id.0 node
+-- A node of this number has expressions of the body as parts, where it has these names in scope.
+pub record IsNodeOf (s : Setting) (scope : List Binding) (id : NodeId) (node : Node) : Type 0 where
+  pub parts : HasParts (typed_body s) scope node
+  pub below : HasPartsBelow id.0 node
   pub places : IsTreeWithin (length s.names.now) (made (all_trees s.body.now) node)
 
 -- Code was added for so many nodes, and the constants are those after it, of which those before it have kept their numbers. The setting
@@ -70,10 +64,6 @@ AddsNode depth id node before after result =
     Adds (node_lines (context before.setting) before.setting.body.now before.consts before.variables depth id node)
     (node_asked (context before.setting).files before.setting.body.now before.consts node)
     (node_size before.setting.body.now node) before after result
-
--- What is answered is the type of the expression of a node at this depth.
-abbrev pub HasNodeType : {E : Type 0} → Node → Code → Result Ty E → Type 0
-HasNodeType node before result = HasType before.setting.table.now (node_type (context before.setting) before.setting.body.now (scope_of before.variables) node) result
 
 -- The file of a place has a name, for which there is room among the strings, and for one more.
 pub record CanName (s : Setting) (t : Constants) (at : Place) : Type 0 where

@@ -1,6 +1,6 @@
--- Expressions by the numbers of their nodes in a body: their lines, the constants after them, their types and sizes, as functions of the
--- numbers, and the same for a node by the numbers of its parts. Lines name constants by the table after the expression.
-use Rattle.std.specs.Prelude.{◌≡◌, ℕ, ◌+◌, ◌-◌, List, [], ◌∷◌, ◌++◌, length, codes, Option, Some, None, unwrap_or, get_or}
+-- Expressions by the numbers of their nodes in a body: their lines, the constants after them and their sizes, as functions of the numbers,
+-- and the same for a node by the numbers of its parts. Lines name constants by the table after the expression.
+use Rattle.std.specs.Prelude.{ℕ, ◌+◌, ◌-◌, List, [], ◌∷◌, ◌++◌, length, codes, Option, Some, None, get_or}
 use Rattle.cool_syntax.specs.declared.place.Place.{Place}
 use Rattle.cool_syntax.specs.declared.operator.ArithOp.{ArithOp}
 use Rattle.cool_syntax.specs.declared.operator.ArithOp.TheVariants as arith
@@ -9,76 +9,23 @@ use Rattle.cool_syntax.specs.declared.node.Node.TheVariants as node
 use Rattle.cool_syntax.specs.declared.node.NodeId.{NodeId}
 use Rattle.cool_syntax.specs.declared.node.NodeBranch.{NodeBranch}
 use Rattle.cool_syntax.specs.Tree.{Tree, tree_size}
-use Rattle.cool_syntax.specs.NodeLists.{root, nodes, tree_at}
+use Rattle.cool_syntax.specs.NodeLists.{tree_at}
 use Rattle.mips_isa.specs.Lines.{Name, Line}
 use Rattle.cool_classes.specs.declared.class_id.ClassId.{ClassId}
 use Rattle.cool_classes.specs.declared.class_id.Ty.{Ty}
 use Rattle.cool_classes.specs.ClimbedChains.{above}
 use Rattle.cool_rules.specs.Conformance.{class_of}
-use Rattle.cool_rules.specs.Rules.{join_in, type_meant}
+use Rattle.cool_rules.specs.Rules.{type_meant}
 use Rattle.cool_rules.specs.Scopes.{Binding}
 use Rattle.cool_rules.specs.StaticTypes.{type_of}
-use Rattle.cool_rules.specs.Typing.{type_in_scope, with_name, object_type, int_type, bool_type, string_type}
 use Rattle.cool_runtime.specs.Routines.{push_lines}
 use Rattle.cool_consts.specs.Constants.{Constants, with_integer, with_string}
 use Rattle.cool_codegen.specs.Pieces.{pop_lines, take_lines, test_lines, mark_lines, turn_lines, repeat_lines, values_lines, is_void_lines, complement_lines, negate_lines, case_begin_lines, case_end_lines}
 use Rattle.cool_codegen.specs.Variables.{Named, bind, scope_of}
-use Rattle.cool_rules.specs.Meant.{joined, type_of_call}
 use Rattle.cool_codegen.specs.Types.{class_meant}
 use Rattle.cool_codegen.specs.Arms.{Arm, with_arm, arms_lines}
 use Rattle.cool_codegen.specs.Asked.{integers_in, strings_in, with_integers, with_strings}
 use Rattle.cool_codegen.specs.Code.{Context, code, name_code, assign_code, new_code, default_code, truth_label, integer_label, string_label, file_label, label_at, bool_code, int_code, operation_code, compare_code, slot_code, static_code, range_code}
-
--- Some nodes stand among nodes after so many others.
-pub record Lies (ns : List Node) (k : ℕ) (ms : List Node) : Type 0 where
-  pub front : List Node
-  pub back : List Node
-  pub before : length front ≡ k
-  pub is : ns ≡ front ++ (ms ++ back)
-
--- The nodes of a tree stand among nodes after so many others.
-abbrev pub Stands : List Node → ℕ → Tree → Type 0
-Stands ns k t = Lies ns k (nodes k t)
-
--- A number of a body is that of the root of a tree whose nodes stand there.
-pub record IsRoot (b : Tree) (id : NodeId) : Type 0 where
-  pub before : ℕ
-  pub tree : Tree
-  pub stands : Stands (nodes 0 b) before tree
-  pub number : id ≡ root before tree
-
-abbrev pub AreRoots : Tree → List NodeId → Type 0
-AreRoots b [] = Unit {0}
-AreRoots b (id ∷ ids) = IsRoot b id × AreRoots b ids
-
-abbrev pub MayBeRoot : Tree → Option NodeId → Type 0
-MayBeRoot b None = Unit {0}
-MayBeRoot b (Some id) = IsRoot b id
-
-abbrev pub AreBodies : Tree → List NodeBranch → Type 0
-AreBodies b [] = Unit {0}
-AreBodies b (w ∷ ws) = IsRoot b w.body × AreBodies b ws
-
--- the parts of a node are roots
-abbrev pub HasRoots : Tree → Node → Type 0
-HasRoots b (node.Assign at name a) = IsRoot b a
-HasRoots b (node.Dispatch at a name ids) = IsRoot b a × AreRoots b ids
-HasRoots b (node.StaticDispatch at a class name ids) = IsRoot b a × AreRoots b ids
-HasRoots b (node.If at t y n) = IsRoot b t × IsRoot b y × IsRoot b n
-HasRoots b (node.While at t a) = IsRoot b t × IsRoot b a
-HasRoots b (node.Block at ids) = AreRoots b ids
-HasRoots b (node.Let at name declared o a) = MayBeRoot b o × IsRoot b a
-HasRoots b (node.Case at a ws) = IsRoot b a × AreBodies b ws
-HasRoots b (node.New at class) = Unit {0}
-HasRoots b (node.IsVoid at a) = IsRoot b a
-HasRoots b (node.Arith at op l r) = IsRoot b l × IsRoot b r
-HasRoots b (node.Neg at a) = IsRoot b a
-HasRoots b (node.Compare at op l r) = IsRoot b l × IsRoot b r
-HasRoots b (node.Not at a) = IsRoot b a
-HasRoots b (node.Id at name) = Unit {0}
-HasRoots b (node.Int at value) = Unit {0}
-HasRoots b (node.Str at bytes) = Unit {0}
-HasRoots b (node.Bool at value) = Unit {0}
 
 -- sizes: how many nodes the expression at a number has
 
@@ -181,44 +128,9 @@ node_asked files b t (node.Int at value) = with_value t value
 node_asked files b t (node.Str at bytes) = with_bytes t bytes
 node_asked files b t (node.Bool at value) = t
 
--- types, with these names in scope
-
-unfoldable pub type_at : Context → Tree → List Binding → NodeId → Ty
-type_at s b scope id = type_of s.table s.class scope (tree_at b id)
-
--- of the last of some expressions, after one of this type
-abbrev pub last_type_at : Context → Tree → List Binding → Ty → List NodeId → Ty
-last_type_at s b scope last [] = last
-last_type_at s b scope last (id ∷ ids) = last_type_at s b scope (type_at s b scope id) ids
-
--- of the body of a branch
-abbrev pub branch_type_at : Context → Tree → List Binding → NodeBranch → Ty
-branch_type_at s b scope w = type_at s b (with_name w.name (type_meant s.table w.declared.name) scope) w.body
-
--- the join of the branches after branches with this join
-abbrev pub branches_type_at : Context → Tree → List Binding → Option Ty → List NodeBranch → Option Ty
-branches_type_at s b scope join [] = join
-branches_type_at s b scope join (w ∷ ws) = branches_type_at s b scope (Some (joined s.table s.class join (branch_type_at s b scope w))) ws
-
-abbrev pub node_type : Context → Tree → List Binding → Node → Ty
-node_type s b scope (node.Assign at name a) = type_at s b scope a
-node_type s b scope (node.Dispatch at a name ids) = type_of_call s.table (class_of s.class (type_at s b scope a)) (type_at s b scope a) name
-node_type s b scope (node.StaticDispatch at a class name ids) = type_of_call s.table (class_meant s.table s.class class.name) (type_at s b scope a) name
-node_type s b scope (node.If at t y n) = join_in s.table s.class (type_at s b scope y) (type_at s b scope n)
-node_type s b scope (node.While at t a) = object_type
-node_type s b scope (node.Block at ids) = last_type_at s b scope object_type ids
-node_type s b scope (node.Let at name declared o a) = type_at s b (with_name name (type_meant s.table declared.name) scope) a
-node_type s b scope (node.Case at a ws) = unwrap_or (branches_type_at s b scope None ws) object_type
-node_type s b scope (node.New at class) = type_meant s.table class.name
-node_type s b scope (node.IsVoid at a) = bool_type
-node_type s b scope (node.Arith at op l r) = int_type
-node_type s b scope (node.Neg at a) = int_type
-node_type s b scope (node.Compare at op l r) = bool_type
-node_type s b scope (node.Not at a) = bool_type
-node_type s b scope (node.Id at name) = unwrap_or (type_in_scope scope name) object_type
-node_type s b scope (node.Int at value) = int_type
-node_type s b scope (node.Str at bytes) = string_type
-node_type s b scope (node.Bool at value) = bool_type
+-- the class of the receiver at a number, with these names in scope
+unfoldable pub receiver_class : Context → Tree → List Binding → NodeId → ClassId
+receiver_class s b scope id = class_of s.class (type_of s.table s.class scope (tree_at b id))
 
 -- the class that a branch declares
 abbrev pub class_of_branch : Context → NodeBranch → ClassId
@@ -274,7 +186,7 @@ node_lines s b t vs d id (node.Assign at name a) = lines_at s b t vs d a ++ assi
 node_lines s b t vs d id (node.Dispatch at a name ids) =
     arguments_lines s b t vs d ids
     ++ (lines_at s b (all_asked s.files b t ids) vs (d + length ids) a
-    ++ slot_code s (node_asked s.files b t (node.Dispatch at a name ids)) at (class_of s.class (type_at s b (scope_of vs) a)) name)
+    ++ slot_code s (node_asked s.files b t (node.Dispatch at a name ids)) at (receiver_class s b (scope_of vs) a) name)
 node_lines s b t vs d id (node.StaticDispatch at a class name ids) =
     arguments_lines s b t vs d ids
     ++ (lines_at s b (all_asked s.files b t ids) vs (d + length ids) a

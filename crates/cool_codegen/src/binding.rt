@@ -1,6 +1,6 @@
 //! The code of `let` and `case`.
 
-ghost use Rattle.std.specs.Prelude.{◌≡◌, ◌++◌, ◌+◌, ◌^◌, ◌<◌, ◌≤◌, [], None, length, map, unwrap_or, IfSome, OnOk};
+ghost use Rattle.std.specs.Prelude.{◌≡◌, ◌++◌, ◌+◌, ◌^◌, ◌<◌, ◌≤◌, [], length, map, IfSome, OnOk};
 ghost use Rattle.std.specs.List.{AllByRecursion};
 ghost use Rattle.std.specs.Option.{option_map};
 ghost use Rattle.mips_isa.specs.Lines.{lines_of};
@@ -9,14 +9,16 @@ ghost use Rattle.cool_syntax.specs.NodeGroups.{IsBinding};
 ghost use Rattle.cool_syntax.specs.NodeLists.{all_trees, at_id, twig_at};
 ghost use Rattle.cool_syntax.specs.TreesWithinLimits.{AreCasesWithin, IsMaybeWithin};
 ghost use Rattle.cool_rules.specs.Conformance.{IsType};
-ghost use Rattle.cool_rules.specs.Typing.{object_type, with_name};
-ghost use Rattle.cool_codegen.specs.AddedCode.{Adds, AddsNode, CanName, HasNodeType, HasRoom, HasType, IsExpressionOf, IsNodeOf, IsReady};
+ghost use Rattle.cool_rules.specs.Rules.{type_meant};
+ghost use Rattle.cool_rules.specs.TypedParts.{AreBranches, MayBePart};
+ghost use Rattle.cool_rules.specs.Typing.{with_name};
+ghost use Rattle.cool_codegen.specs.AddedCode.{Adds, AddsNode, CanName, HasRoom, IsExpressionOf, IsNodeOf, IsReady};
 ghost use Rattle.cool_codegen.specs.Asked.{Keeps};
 ghost use Rattle.cool_codegen.specs.Arms.{arm_of, arms_lines};
 ghost use Rattle.cool_codegen.specs.Code.{file_label, range_code};
 ghost use Rattle.cool_codegen.specs.Pieces.{case_begin_lines};
-ghost use Rattle.cool_codegen.specs.Numbered.{asked_at, branch_lines, branch_sizes_at, branches_arms, branches_asked, branch_type_at, branches_type_at, class_of_branch, initial_lines, lines_at, maybe_asked, maybe_size_at, node_size, size_at, type_at, with_file, AreBodies, MayBeRoot};
-ghost use Rattle.cool_codegen.specs.Settings.{context, IsSound};
+ghost use Rattle.cool_codegen.specs.Numbered.{asked_at, branch_lines, branch_sizes_at, branches_arms, branches_asked, class_of_branch, initial_lines, lines_at, maybe_asked, maybe_size_at, node_size, size_at, with_file};
+ghost use Rattle.cool_codegen.specs.Settings.{context, typed_body, IsSound};
 ghost use Rattle.cool_codegen.specs.Variables.{bind, pushed, scope_of};
 
 use crate::arm::{Arm, insert_arm};
@@ -28,9 +30,9 @@ use crate::operation::take_default;
 use crate::piece::{case_begin, case_end, pop, try_tags, turn};
 use crate::setting::Setting;
 use crate::variables::Variable;
-use cool_classes::{ClassId, OBJECT, Ty};
+use cool_classes::{ClassId, Ty};
 use cool_consts::Consts;
-use cool_rules::{class_of, joined_with, type_meant};
+use cool_rules::{class_of, type_meant};
 use cool_runtime::draft::write;
 use cool_runtime::piece::push;
 use cool_syntax::{Name, Node, NodeBranch, NodeId, Place};
@@ -48,12 +50,11 @@ impl<'a> Code<'a> {
         depth: u32,
         id: NodeId,
         node: &'a Node,
-    ) -> Result<Ty, AllocError>
+    ) -> Result<(), AllocError>
         requires group { IsBinding node.now }
-        requires node { IsNodeOf self.old.setting id node.now }
+        requires node { IsNodeOf self.old.setting (scope_of self.old.variables) id node.now }
         requires ready { IsReady self.old.setting self.old.variables }
         requires room { HasRoom self.old.consts depth (node_size self.old.setting.body.now node.now) }
-        ensures typed { HasNodeType node.now self.old result }
         ensures made { AddsNode depth id node.now self.old self.new result }
     {
         let alloc = self.setting.alloc;
@@ -68,9 +69,9 @@ impl<'a> Code<'a> {
                 let bound = type_meant(self.setting.table, &declared.name);
                 self.initial(depth, id, bound, *init)?;
                 write(alloc, &mut self.lines, &push())?;
-                let found = self.within(depth, name, bound, *body)?;
+                self.within(depth, name, bound, *body)?;
                 write(alloc, &mut self.lines, &pop())?;
-                Ok(found)
+                Ok(())
             }
             Node::Case {
                 at,
@@ -81,10 +82,9 @@ impl<'a> Code<'a> {
                 self.begin_case(*at)?;
                 write(alloc, &mut self.lines, &push())?;
                 let end = inner_label(&self.setting, "end", id)?;
-                let parts = branches.as_slice();
-                let found = self.arms(depth, id, parts, &end)?;
+                self.arms(depth, id, branches.as_slice(), &end)?;
                 write(alloc, &mut self.lines, &case_end(&end))?;
-                Ok(found)
+                Ok(())
             }
             _ => unreachable!(),
         }
@@ -99,8 +99,8 @@ impl<'a> Code<'a> {
         bound: Ty,
         init: Option<NodeId>,
     ) -> Result<(), AllocError>
-        requires root { MayBeRoot self.old.setting.body.now init }
-        requires parts { IfSome init (λ part. part.0 < end.0) }
+        requires part { MayBePart (typed_body self.old.setting) (scope_of self.old.variables) init }
+        requires below { IfSome init (λ part. part.0 < end.0) }
         requires places { IsMaybeWithin (length self.old.setting.names.now) (of_option (option_map (at_id (all_trees self.old.setting.body.now)) init)) }
         requires ready { IsReady self.old.setting self.old.variables }
         requires room { HasRoom self.old.consts depth (maybe_size_at self.old.setting.body.now init) }
@@ -126,22 +126,20 @@ impl<'a> Code<'a> {
         name: &'a Name,
         bound: Ty,
         body: NodeId,
-    ) -> Result<Ty, AllocError>
-        requires expression { IsExpressionOf self.old.setting body }
+    ) -> Result<(), AllocError>
+        requires expression { IsExpressionOf self.old.setting (with_name name.now bound (scope_of self.old.variables)) body }
         requires bound { IsType self.old.setting.table.now bound }
         requires ready { IsReady self.old.setting self.old.variables }
         requires room { HasRoom self.old.consts (depth + 1) (size_at self.old.setting.body.now body) }
-        ensures typed { HasType self.old.setting.table.now (type_at (context self.old.setting) self.old.setting.body.now (with_name name.now bound (scope_of self.old.variables)) body) result }
         ensures made { Adds (lines_at (context self.old.setting) self.old.setting.body.now self.old.consts (bind depth name.now bound self.old.variables) (depth + 1) body) (asked_at (context self.old.setting).files self.old.setting.body.now self.old.consts body) (size_at self.old.setting.body.now body) self.old self.new result }
     {
         self.variables.enter(name, pushed(depth, bound))?;
-        let found = self.expression(depth + 1, body)?;
+        self.expression(depth + 1, body)?;
         self.variables.leave();
-        Ok(found)
+        Ok(())
     }
 
-    /// Adds the code of branches, that of the deepest class first, and answers the join of their types. A text has one at least; that of
-    /// none is Object.
+    /// Adds the code of branches, that of the deepest class first.
     #[cycle(coding)]
     fn arms(
         &mut self,
@@ -149,25 +147,23 @@ impl<'a> Code<'a> {
         id: NodeId,
         branches: &'a [NodeBranch],
         end: &[u8],
-    ) -> Result<Ty, AllocError>
-        requires roots { AreBodies self.old.setting.body.now branches.now }
-        requires parts { AllByRecursion (λ branch. branch.body.0 < id.0) branches.now }
+    ) -> Result<(), AllocError>
+        requires parts { AreBranches (typed_body self.old.setting) (scope_of self.old.variables) branches.now }
+        requires below { AllByRecursion (λ branch. branch.body.0 < id.0) branches.now }
         requires places { AreCasesWithin (length self.old.setting.names.now) (of_twigs (map (twig_at (all_trees self.old.setting.body.now)) branches.now)) }
         requires ready { IsReady self.old.setting self.old.variables }
         requires room { HasRoom self.old.consts (depth + 1) (branch_sizes_at self.old.setting.body.now branches.now) }
-        ensures typed { HasType self.old.setting.table.now (unwrap_or (branches_type_at (context self.old.setting) self.old.setting.body.now (scope_of self.old.variables) None branches.now) object_type) result }
         ensures made { Adds (arms_lines (branches_arms (context self.old.setting) self.old.setting.body.now self.old.consts self.old.variables depth end.now [] branches.now)) (branches_asked (context self.old.setting).files self.old.setting.body.now self.old.consts branches.now) (branch_sizes_at self.old.setting.body.now branches.now) self.old self.new result }
     {
         let setting = self.setting;
         let mut sorted = Vec::new(setting.alloc);
-        let mut joined = None;
         for branch in branches {
             let class = class_of(
                 setting.class,
                 type_meant(setting.table, &branch.declared.name),
             );
             let earlier = replace(&mut self.lines, Vec::new(setting.alloc));
-            let found = self.arm(depth, branch, class, end)?;
+            self.arm(depth, branch, class, end)?;
             let own = replace(&mut self.lines, earlier);
             insert_arm(
                 &mut sorted,
@@ -176,10 +172,9 @@ impl<'a> Code<'a> {
                     lines: own,
                 },
             )?;
-            joined = Some(joined_with(setting.table, setting.class, joined, found));
         }
         add_arms(sorted, &mut self.lines)?;
-        Ok(joined.unwrap_or(Ty::Class(OBJECT)))
+        Ok(())
     }
 
     /// Adds the code of a branch for objects of this class and those below it.
@@ -190,22 +185,21 @@ impl<'a> Code<'a> {
         branch: &'a NodeBranch,
         class: ClassId,
         end: &[u8],
-    ) -> Result<Ty, AllocError>
-        requires expression { IsExpressionOf self.old.setting branch.now.body }
+    ) -> Result<(), AllocError>
+        requires expression { IsExpressionOf self.old.setting (with_name branch.now.name (type_meant self.old.setting.table.now branch.now.declared.name) (scope_of self.old.variables)) branch.now.body }
         requires class { class.0 < length self.old.setting.table.now }
         requires declared { class ≡ class_of_branch (context self.old.setting) branch.now }
         requires ready { IsReady self.old.setting self.old.variables }
         requires room { HasRoom self.old.consts (depth + 1) (size_at self.old.setting.body.now branch.now.body) }
-        ensures typed { HasType self.old.setting.table.now (branch_type_at (context self.old.setting) self.old.setting.body.now (scope_of self.old.variables) branch.now) result }
         ensures made { Adds (branch_lines (context self.old.setting) self.old.setting.body.now self.old.consts self.old.variables depth end.now branch.now) (asked_at (context self.old.setting).files self.old.setting.body.now self.old.consts branch.now.body) (size_at self.old.setting.body.now branch.now.body) self.old self.new result }
     {
         let alloc = self.setting.alloc;
         let next = inner_label(&self.setting, "next", branch.body)?;
         try_class(&self.setting, class, &next, &mut self.lines)?;
         let bound = type_meant(self.setting.table, &branch.declared.name);
-        let found = self.within(depth, &branch.name, bound, branch.body)?;
+        self.within(depth, &branch.name, bound, branch.body)?;
         write(alloc, &mut self.lines, &turn(end, &next))?;
-        Ok(found)
+        Ok(())
     }
 
     /// Adds the begin of a case, after the code of its value.

@@ -3,20 +3,22 @@
 ghost use Rattle.std.specs.Prelude.{◌≡◌, ◌++◌, ◌+◌, ◌<◌, ◌≤◌, length, IfOk, OnOk};
 ghost use Rattle.mips_isa.specs.Lines.{lines_of};
 ghost use Rattle.cool_syntax.specs.NodeGroups.{IsCall};
-ghost use Rattle.cool_codegen.specs.AddedCode.{Adds, AddsNode, AreExpressionsOf, CanName, HasNodeType, HasRoom, IsNodeOf, IsReady};
+ghost use Rattle.cool_rules.specs.TypedParts.{IsPart};
+ghost use Rattle.cool_codegen.specs.AddedCode.{Adds, AddsNode, AreExpressionsOf, CanName, HasRoom, IsNodeOf, IsReady};
 ghost use Rattle.cool_codegen.specs.Asked.{Keeps};
 ghost use Rattle.cool_codegen.specs.Code.{slot_code, static_code};
-ghost use Rattle.cool_codegen.specs.Numbered.{all_asked, arguments_lines, node_size, sizes_at, with_file};
-ghost use Rattle.cool_codegen.specs.Settings.{context, IsSound};
+ghost use Rattle.cool_codegen.specs.Numbered.{all_asked, arguments_lines, node_size, receiver_class, sizes_at, with_file};
+ghost use Rattle.cool_codegen.specs.Settings.{context, typed_body, IsSound};
+ghost use Rattle.cool_codegen.specs.Variables.{scope_of};
 
 use crate::code::Code;
 use crate::constant_labels::file_label;
 use crate::piece::{call, call_static};
 use crate::setting::Setting;
-use cool_classes::{ClassId, Ty};
+use cool_classes::ClassId;
 use cool_consts::Consts;
 use cool_layout::method_label;
-use cool_rules::{call_meant, class_of, method_meant, type_meant};
+use cool_rules::{class_of, method_meant, type_meant};
 use cool_runtime::draft::write;
 use cool_runtime::piece::push;
 use cool_syntax::{Name, Node, NodeId, Place};
@@ -32,12 +34,11 @@ impl<'a> Code<'a> {
         depth: u32,
         id: NodeId,
         node: &'a Node,
-    ) -> Result<Ty, AllocError>
+    ) -> Result<(), AllocError>
         requires group { IsCall node.now }
-        requires node { IsNodeOf self.old.setting id node.now }
+        requires node { IsNodeOf self.old.setting (scope_of self.old.variables) id node.now }
         requires ready { IsReady self.old.setting self.old.variables }
         requires room { HasRoom self.old.consts depth (node_size self.old.setting.body.now node.now) }
-        ensures typed { HasNodeType node.now self.old result }
         ensures made { AddsNode depth id node.now self.old self.new result }
     {
         match node {
@@ -48,11 +49,11 @@ impl<'a> Code<'a> {
                 args,
             } => {
                 let args = args.as_slice();
+                let class = self.class_of_receiver(*receiver);
                 let after = self.arguments(depth, id, args)?;
-                let object = self.expression(after, *receiver)?;
-                let class = class_of(self.setting.class, object);
+                self.expression(after, *receiver)?;
                 self.call_by_slot(*at, class, name)?;
-                Ok(call_meant(self.setting.table, class, object, name))
+                Ok(())
             }
             Node::StaticDispatch {
                 at,
@@ -63,13 +64,13 @@ impl<'a> Code<'a> {
             } => {
                 let args = args.as_slice();
                 let inner = self.arguments(depth, id, args)?;
-                let object = self.expression(inner, *receiver)?;
+                self.expression(inner, *receiver)?;
                 let class = class_of(
                     self.setting.class,
                     type_meant(self.setting.table, &class.name),
                 );
                 self.call_by_label(*at, class, name)?;
-                Ok(call_meant(self.setting.table, class, object, name))
+                Ok(())
             }
             _ => unreachable!(),
         }
@@ -78,7 +79,7 @@ impl<'a> Code<'a> {
     /// Adds the code of arguments, each of which goes to the stack, and answers how many words are then there.
     #[cycle(coding)]
     fn arguments(&mut self, depth: u32, end: NodeId, args: &[NodeId]) -> Result<u32, AllocError>
-        requires args { AreExpressionsOf self.old.setting end args.now }
+        requires args { AreExpressionsOf self.old.setting (scope_of self.old.variables) end args.now }
         requires ready { IsReady self.old.setting self.old.variables }
         requires room { HasRoom self.old.consts depth (sizes_at self.old.setting.body.now args.now) }
         ensures pushed { IfOk result (λ inner. inner ≡ depth + length args.now) }
@@ -92,6 +93,17 @@ impl<'a> Code<'a> {
             inner += 1;
         }
         Ok(inner)
+    }
+
+    /// The class whose methods the receiver at this number has, by its type.
+    fn class_of_receiver(&self, receiver: NodeId) -> ClassId
+        requires part { IsPart (typed_body self.now.setting) (scope_of self.now.variables) receiver }
+        requires ready { IsReady self.now.setting self.now.variables }
+        ensures class { result ≡ receiver_class (context self.now.setting) self.now.setting.body.now (scope_of self.now.variables) receiver }
+        ensures within { result.0 < length self.now.setting.table.now }
+    {
+        let object = self.setting.types.get(receiver);
+        class_of(self.setting.class, object)
     }
 
     /// Adds the call of the method that the receiver has at the slot of this name.

@@ -1,39 +1,33 @@
 //! The code of expressions: names, constants, new objects, conditionals, loops and blocks.
 
-ghost use Rattle.std.specs.Prelude.{◌≡◌, ◌≤◌, unwrap_or};
+ghost use Rattle.std.specs.Prelude.{◌≡◌, ◌≤◌};
 ghost use Rattle.cool_syntax.specs.NodeGroups.{IsControl, IsLeaf};
-ghost use Rattle.cool_rules.specs.Conformance.{IsType};
-ghost use Rattle.cool_rules.specs.Typing.{object_type, type_in_scope};
-ghost use Rattle.cool_codegen.specs.AddedCode.{Adds, AddsNode, AreExpressionsOf, HasNodeType, HasRoom, HasType, IsExpressionOf, IsNodeOf, IsReady};
+ghost use Rattle.cool_codegen.specs.AddedCode.{Adds, AddsNode, AreExpressionsOf, HasRoom, IsExpressionOf, IsNodeOf, IsReady};
 ghost use Rattle.cool_codegen.specs.Code.{truth_label};
-ghost use Rattle.cool_codegen.specs.Numbered.{all_asked, asked_at, items_lines, last_type_at, lines_at, node_asked, node_lines, node_size, node_type, size_at, sizes_at, type_at};
+ghost use Rattle.cool_codegen.specs.Numbered.{all_asked, asked_at, items_lines, lines_at, node_asked, node_lines, node_size, size_at, sizes_at};
 ghost use Rattle.cool_codegen.specs.Settings.{context};
 ghost use Rattle.cool_codegen.specs.Variables.{scope_of};
 
 use crate::code::Code;
 use crate::constant_labels::{int_label, string_label};
 use crate::inner_labels::inner_label;
-use crate::operation::{is_self, take_name, take_new};
+use crate::operation::{take_name, take_new};
 use crate::piece::{mark, repeat, take, test, turn};
-use crate::setting::Setting;
-use crate::variables::Variables;
-use cool_classes::{BOOL, INT, OBJECT, STRING, Ty};
-use cool_rules::{join_meant, type_meant};
+use cool_rules::type_meant;
 use cool_runtime::draft::write;
-use cool_syntax::{Name, Node, NodeId};
+use cool_syntax::{Node, NodeId};
 use std::alloc::AllocError;
 
 impl<'a> Code<'a> {
-    /// Adds the code of the expression at this number, which begins and ends with so many words on the stack behind the frame, and
-    /// answers its type. `Err` comes only for want of memory.
+    /// Adds the code of the expression at this number, which begins and ends with so many words on the stack behind the frame. `Err`
+    /// comes only for want of memory.
     ///
     /// The functions of the groups are not inlined: so a level of an expression takes no more of the stack than its own group needs.
     #[cycle(coding)]
-    pub(crate) fn expression(&mut self, depth: u32, id: NodeId) -> Result<Ty, AllocError>
-        requires expression { IsExpressionOf self.old.setting id }
+    pub(crate) fn expression(&mut self, depth: u32, id: NodeId) -> Result<(), AllocError>
+        requires expression { IsExpressionOf self.old.setting (scope_of self.old.variables) id }
         requires ready { IsReady self.old.setting self.old.variables }
         requires room { HasRoom self.old.consts depth (size_at self.old.setting.body.now id) }
-        ensures typed { HasType self.old.setting.table.now (type_at (context self.old.setting) self.old.setting.body.now (scope_of self.old.variables) id) result }
         ensures made { Adds (lines_at (context self.old.setting) self.old.setting.body.now self.old.consts self.old.variables depth id) (asked_at (context self.old.setting).files self.old.setting.body.now self.old.consts id) (size_at self.old.setting.body.now id) self.old self.new result }
         ensures some { 1 ≤ size_at self.old.setting.body.now id }
     {
@@ -58,11 +52,10 @@ impl<'a> Code<'a> {
 
     /// The node of this number, by which the expression there is what its node is.
     fn node_of(&self, depth: u32, id: NodeId) -> &'a Node
-        requires { IsExpressionOf self.now.setting id }
-        ensures node { IsNodeOf self.now.setting id result.now }
+        requires { IsExpressionOf self.now.setting (scope_of self.now.variables) id }
+        ensures node { IsNodeOf self.now.setting (scope_of self.now.variables) id result.now }
         ensures size { size_at self.now.setting.body.now id ≡ node_size self.now.setting.body.now result.now }
         ensures some { 1 ≤ size_at self.now.setting.body.now id }
-        ensures typed { type_at (context self.now.setting) self.now.setting.body.now (scope_of self.now.variables) id ≡ node_type (context self.now.setting) self.now.setting.body.now (scope_of self.now.variables) result.now }
         ensures lines { lines_at (context self.now.setting) self.now.setting.body.now self.now.consts self.now.variables depth id ≡ node_lines (context self.now.setting) self.now.setting.body.now self.now.consts self.now.variables depth id result.now }
         ensures asked { asked_at (context self.now.setting).files self.now.setting.body.now self.now.consts id ≡ node_asked (context self.now.setting).files self.now.setting.body.now self.now.consts result.now }
     {
@@ -71,38 +64,37 @@ impl<'a> Code<'a> {
 
     /// Adds the code of a name, a constant or a new object.
     #[inline(never)]
-    fn leaf(&mut self, depth: u32, id: NodeId, node: &Node) -> Result<Ty, AllocError>
+    fn leaf(&mut self, depth: u32, id: NodeId, node: &Node) -> Result<(), AllocError>
         requires group { IsLeaf node.now }
-        requires node { IsNodeOf self.old.setting id node.now }
+        requires node { IsNodeOf self.old.setting (scope_of self.old.variables) id node.now }
         requires ready { IsReady self.old.setting self.old.variables }
         requires room { HasRoom self.old.consts depth (node_size self.old.setting.body.now node.now) }
-        ensures typed { HasNodeType node.now self.old result }
         ensures made { AddsNode depth id node.now self.old self.new result }
     {
         let alloc = self.setting.alloc;
         match node {
             Node::Id { name, .. } => {
                 take_name(alloc, &self.variables, name, &mut self.lines)?;
-                Ok(type_of_name(&self.setting, &self.variables, name))
+                Ok(())
             }
             Node::New { class, .. } => {
                 let made = type_meant(self.setting.table, &class.name);
                 take_new(&self.setting, made, &mut self.lines)?;
-                Ok(made)
+                Ok(())
             }
             Node::Int { value, .. } => {
                 let label = int_label(alloc, &mut self.consts, *value)?;
                 write(alloc, &mut self.lines, &take(&label))?;
-                Ok(Ty::Class(INT))
+                Ok(())
             }
             Node::Str { bytes, .. } => {
                 let label = string_label(alloc, &mut self.consts, bytes.as_slice())?;
                 write(alloc, &mut self.lines, &take(&label))?;
-                Ok(Ty::Class(STRING))
+                Ok(())
             }
             Node::Bool { value, .. } => {
                 write(alloc, &mut self.lines, &take(truth_label(*value)))?;
-                Ok(Ty::Class(BOOL))
+                Ok(())
             }
             _ => unreachable!(),
         }
@@ -111,12 +103,11 @@ impl<'a> Code<'a> {
     /// Adds the code of a conditional, a loop or a block, whose parts have numbers below this one.
     #[cycle(coding)]
     #[inline(never)]
-    fn control(&mut self, depth: u32, id: NodeId, node: &'a Node) -> Result<Ty, AllocError>
+    fn control(&mut self, depth: u32, id: NodeId, node: &'a Node) -> Result<(), AllocError>
         requires group { IsControl node.now }
-        requires node { IsNodeOf self.old.setting id node.now }
+        requires node { IsNodeOf self.old.setting (scope_of self.old.variables) id node.now }
         requires ready { IsReady self.old.setting self.old.variables }
         requires room { HasRoom self.old.consts depth (node_size self.old.setting.body.now node.now) }
-        ensures typed { HasNodeType node.now self.old result }
         ensures made { AddsNode depth id node.now self.old self.new result }
     {
         let alloc = self.setting.alloc;
@@ -131,11 +122,11 @@ impl<'a> Code<'a> {
                 let end = inner_label(&self.setting, "end", id)?;
                 self.expression(depth, *predicate)?;
                 write(alloc, &mut self.lines, &test(&other))?;
-                let first = self.expression(depth, *yes)?;
+                self.expression(depth, *yes)?;
                 write(alloc, &mut self.lines, &turn(&end, &other))?;
-                let second = self.expression(depth, *no)?;
+                self.expression(depth, *no)?;
                 write(alloc, &mut self.lines, &mark(&end))?;
-                Ok(join_meant(self.setting.table, self.setting.class, first, second))
+                Ok(())
             }
             Node::While {
                 test: predicate,
@@ -149,27 +140,25 @@ impl<'a> Code<'a> {
                 write(alloc, &mut self.lines, &test(&end))?;
                 self.expression(depth, *body)?;
                 write(alloc, &mut self.lines, &repeat(&begin, &end))?;
-                Ok(Ty::Class(OBJECT))
+                Ok(())
             }
             Node::Block { items: parts, .. } => self.items(depth, id, parts.as_slice()),
             _ => unreachable!(),
         }
     }
 
-    /// Adds the code of the items of a block, and answers the type of the last one. A text has one at least; that of none is Object.
+    /// Adds the code of the items of a block.
     #[cycle(coding)]
-    fn items(&mut self, depth: u32, end: NodeId, items: &[NodeId]) -> Result<Ty, AllocError>
-        requires items { AreExpressionsOf self.old.setting end items.now }
+    fn items(&mut self, depth: u32, end: NodeId, items: &[NodeId]) -> Result<(), AllocError>
+        requires items { AreExpressionsOf self.old.setting (scope_of self.old.variables) end items.now }
         requires ready { IsReady self.old.setting self.old.variables }
         requires room { HasRoom self.old.consts depth (sizes_at self.old.setting.body.now items.now) }
-        ensures typed { HasType self.old.setting.table.now (last_type_at (context self.old.setting) self.old.setting.body.now (scope_of self.old.variables) object_type items.now) result }
         ensures made { Adds (items_lines (context self.old.setting) self.old.setting.body.now self.old.consts self.old.variables depth items.now) (all_asked (context self.old.setting).files self.old.setting.body.now self.old.consts items.now) (sizes_at self.old.setting.body.now items.now) self.old self.new result }
     {
-        let mut last = Ty::Class(OBJECT);
         for item in items {
-            last = self.expression(depth, *item)?;
+            self.expression(depth, *item)?;
         }
-        Ok(last)
+        Ok(())
     }
 }
 
@@ -182,21 +171,5 @@ fn truth_label(value: bool) -> &'static [u8]
         b"bool_const1"
     } else {
         b"bool_const0"
-    }
-}
-
-/// The type of a name: of `self`, or of a variable; Object where there is none.
-#[tactic(auto, using(crate::proofs::VariablesHave::type_of_none, crate::proofs::VariablesHave::type_of_variable))]
-fn type_of_name(setting: &Setting<'_>, variables: &Variables<'_>, name: &Name) -> Ty
-    requires { IsReady setting.now variables.now }
-    ensures is_type { IsType setting.now.table.now result }
-    ensures typed { result ≡ unwrap_or (type_in_scope (scope_of variables.now) name.now) object_type }
-{
-    if is_self(name) {
-        return Ty::SelfType;
-    }
-    match variables.find(name) {
-        Some(variable) => variable.ty,
-        None => Ty::Class(OBJECT),
     }
 }

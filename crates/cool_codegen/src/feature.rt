@@ -16,7 +16,8 @@ ghost use Rattle.cool_codegen.specs.AddedCode.{AddsBody, HasRoom, IsReady};
 ghost use Rattle.cool_codegen.specs.Asked.{with_integers, with_strings, Extends, Keeps};
 ghost use Rattle.cool_codegen.specs.Code.{code};
 ghost use Rattle.cool_codegen.specs.Features.{attributes_in, feature_code, feature_integers, feature_strings, initial_value_code, method_code, with_formals};
-ghost use Rattle.cool_codegen.specs.Settings.{attribute_of, context, IsSound};
+ghost use Rattle.cool_codegen.specs.Settings.{attribute_of, context, HasTypesIn, IsSound};
+ghost use Rattle.cool_codegen.specs.Variables.{scope_of};
 
 use crate::code::Code;
 use crate::number::signed;
@@ -61,6 +62,7 @@ pub fn feature_lines(
     ensures kept { Extends consts.old consts.new }
 {
     let table = p.table();
+    let types = p.types(c, feature);
     let mut lines = Vec::new(alloc);
     match &table.features(c)[feature as usize] {
         Feature::Method(method) => {
@@ -72,6 +74,7 @@ pub fn feature_lines(
                 class: c,
                 feature,
                 body: &method.body,
+                types,
             };
             method_lines(&setting, method.formals.as_slice(), consts, &mut lines)?;
         }
@@ -85,6 +88,7 @@ pub fn feature_lines(
                     class: c,
                     feature,
                     body,
+                    types,
                 };
                 attribute_lines(&setting, consts, &mut lines)?;
             }
@@ -103,6 +107,7 @@ fn body_lines<'a>(
     lines: &mut Vec<Line>,
 ) -> Result<(), AllocError>
     requires places { IsTreeWithin (length setting.now.names.now) setting.now.body.now }
+    requires types { HasTypesIn setting.now (scope_of variables) }
     requires ready { IsReady setting.now variables }
     requires room { HasRoom consts.old 0 (tree_size setting.now.body.now) }
     ensures made { AddsBody setting.now (λ g. code (context setting.now) g variables.entry 0 0 setting.now.body.now) consts.old consts.new lines.old.items lines.new.items result }
@@ -179,6 +184,7 @@ fn method_lines<'a>(
     requires sound { IsSound setting.now }
     requires has { HasMethod setting.now.table.now (User setting.now.class setting.now.feature) }
     requires few { length formals.now < 2 ^ 28 }
+    requires types { HasTypesIn setting.now (scope_of (with_formals setting.now.table.now formals.now (attributes_in setting.now.table.now setting.now.class))) }
     requires places { IsTreeWithin (length setting.now.names.now) setting.now.body.now }
     requires room { HasRoom consts.old 0 (tree_size setting.now.body.now) }
     ensures made { AddsBody setting.now (λ g. method_code (context setting.now) g formals.now setting.now.body.now) consts.old consts.new lines.old.items lines.new.items result }
@@ -208,6 +214,7 @@ fn attribute_lines<'a>(
 ) -> Result<(), AllocError>
     requires sound { IsSound setting.now }
     requires there { Contains (attributes setting.now.table.now setting.now.class) (attribute_of setting.now) }
+    requires types { HasTypesIn setting.now (scope_of (attributes_in setting.now.table.now setting.now.class)) }
     requires places { IsTreeWithin (length setting.now.names.now) setting.now.body.now }
     requires room { HasRoom consts.old 0 (tree_size setting.now.body.now) }
     ensures made { AddsBody setting.now (λ g. initial_value_code (context setting.now) g (Some setting.now.body.now)) consts.old consts.new lines.old.items lines.new.items result }

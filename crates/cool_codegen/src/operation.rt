@@ -93,7 +93,7 @@ pub fn compare(
 }
 
 /// Whether this is the name `self`.
-pub fn is_self(name: &Name) -> bool
+fn is_self(name: &Name) -> bool
     ensures { result ≡ is_self name.now }
 {
     name.as_slice() == b"self".as_slice()

@@ -4,18 +4,18 @@ ghost use Rattle.std.specs.Prelude.{◌≡◌, ◌++◌, ◌+◌, ◌<◌, ◌�
 ghost use Rattle.mips_isa.specs.Lines.{lines_of};
 ghost use Rattle.cool_syntax.specs.NodeGroups.{IsBinary, IsUnary};
 ghost use Rattle.cool_runtime.specs.Routines.{push_lines};
-ghost use Rattle.cool_codegen.specs.AddedCode.{Adds, AddsNode, CanName, HasNodeType, HasRoom, IsExpressionOf, IsNodeOf, IsReady};
+ghost use Rattle.cool_codegen.specs.AddedCode.{Adds, AddsNode, CanName, HasRoom, IsExpressionOf, IsNodeOf, IsReady};
 ghost use Rattle.cool_codegen.specs.Numbered.{asked_at, lines_at, node_size, operation_asked, operation_lines, size_at, tested_strings};
 ghost use Rattle.cool_consts.specs.Constants.{Constants};
 ghost use Rattle.cool_codegen.specs.Asked.{Extends, Keeps};
 ghost use Rattle.cool_codegen.specs.Code.{operation_code};
 ghost use Rattle.cool_codegen.specs.Settings.{context};
+ghost use Rattle.cool_codegen.specs.Variables.{scope_of};
 
 use crate::code::Code;
 use crate::operation::{assign, compare, make_bool, make_int, test_divisor};
 use crate::piece::{add, complement, divide, is_void, multiply, negate, subtract, values};
 use crate::setting::Setting;
-use cool_classes::{BOOL, INT, Ty};
 use cool_consts::Consts;
 use cool_runtime::draft::write;
 use cool_runtime::piece::push;
@@ -27,38 +27,37 @@ impl<'a> Code<'a> {
     /// Adds the code of an assignment or of an operator with one operand, which has a number below this one.
     #[cycle(coding)]
     #[inline(never)]
-    pub(crate) fn unary(&mut self, depth: u32, id: NodeId, node: &'a Node) -> Result<Ty, AllocError>
+    pub(crate) fn unary(&mut self, depth: u32, id: NodeId, node: &'a Node) -> Result<(), AllocError>
         requires group { IsUnary node.now }
-        requires node { IsNodeOf self.old.setting id node.now }
+        requires node { IsNodeOf self.old.setting (scope_of self.old.variables) id node.now }
         requires ready { IsReady self.old.setting self.old.variables }
         requires room { HasRoom self.old.consts depth (node_size self.old.setting.body.now node.now) }
-        ensures typed { HasNodeType node.now self.old result }
         ensures made { AddsNode depth id node.now self.old self.new result }
     {
         let alloc = self.setting.alloc;
         match node {
             Node::Assign { name, value, .. } => {
-                let given = self.expression(depth, *value)?;
+                self.expression(depth, *value)?;
                 assign(alloc, &self.variables, name, &mut self.lines)?;
-                Ok(given)
+                Ok(())
             }
             Node::IsVoid { value, .. } => {
                 self.expression(depth, *value)?;
                 write(alloc, &mut self.lines, &is_void())?;
                 make_bool(&self.setting, id, &mut self.lines)?;
-                Ok(Ty::Class(BOOL))
+                Ok(())
             }
             Node::Neg { at, value } => {
                 self.expression(depth, *value)?;
                 write(alloc, &mut self.lines, &negate())?;
                 make_int(&self.setting, *at, id, &mut self.consts, &mut self.lines)?;
-                Ok(Ty::Class(INT))
+                Ok(())
             }
             Node::Not { value, .. } => {
                 self.expression(depth, *value)?;
                 write(alloc, &mut self.lines, &complement())?;
                 make_bool(&self.setting, id, &mut self.lines)?;
-                Ok(Ty::Class(BOOL))
+                Ok(())
             }
             _ => unreachable!(),
         }
@@ -72,12 +71,11 @@ impl<'a> Code<'a> {
         depth: u32,
         id: NodeId,
         node: &'a Node,
-    ) -> Result<Ty, AllocError>
+    ) -> Result<(), AllocError>
         requires group { IsBinary node.now }
-        requires node { IsNodeOf self.old.setting id node.now }
+        requires node { IsNodeOf self.old.setting (scope_of self.old.variables) id node.now }
         requires ready { IsReady self.old.setting self.old.variables }
         requires room { HasRoom self.old.consts depth (node_size self.old.setting.body.now node.now) }
-        ensures typed { HasNodeType node.now self.old result }
         ensures made { AddsNode depth id node.now self.old self.new result }
     {
         match node {
@@ -89,7 +87,7 @@ impl<'a> Code<'a> {
             } => {
                 self.operands(depth, id, *left, *right)?;
                 self.compute(*op, *at, id)?;
-                Ok(Ty::Class(INT))
+                Ok(())
             }
             Node::Compare {
                 op,
@@ -99,7 +97,7 @@ impl<'a> Code<'a> {
             } => {
                 self.operands(depth, id, *left, *right)?;
                 compare(&self.setting, *op, id, &mut self.lines)?;
-                Ok(Ty::Class(BOOL))
+                Ok(())
             }
             _ => unreachable!(),
         }
@@ -116,8 +114,8 @@ impl<'a> Code<'a> {
     ) -> Result<(), AllocError>
         requires left_below { left.0 < end.0 }
         requires right_below { right.0 < end.0 }
-        requires left { IsExpressionOf self.old.setting left }
-        requires right { IsExpressionOf self.old.setting right }
+        requires left { IsExpressionOf self.old.setting (scope_of self.old.variables) left }
+        requires right { IsExpressionOf self.old.setting (scope_of self.old.variables) right }
         requires ready { IsReady self.old.setting self.old.variables }
         requires room { HasRoom self.old.consts depth (size_at self.old.setting.body.now left + size_at self.old.setting.body.now right + 1) }
         ensures made { Adds (lines_at (context self.old.setting) self.old.setting.body.now self.old.consts self.old.variables depth left ++ (push_lines ++ lines_at (context self.old.setting) self.old.setting.body.now (asked_at (context self.old.setting).files self.old.setting.body.now self.old.consts left) self.old.variables (depth + 1) right)) (asked_at (context self.old.setting).files self.old.setting.body.now (asked_at (context self.old.setting).files self.old.setting.body.now self.old.consts left) right) (size_at self.old.setting.body.now left + size_at self.old.setting.body.now right) self.old self.new result }

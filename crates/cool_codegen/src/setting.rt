@@ -13,10 +13,11 @@ ghost use Rattle.cool_codegen.specs.Settings.{IsSound};
 use crate::number::{negative, signed};
 use cool_classes::{AttributeRef, ClassId, ClassTable, Ty};
 use cool_layout::Layout;
+use cool_rules::NodeTypes;
 use cool_syntax::{Body, Name};
 use std::alloc::Global;
 
-/// The classes with their layout, the names of the files, the feature, and its expression.
+/// The classes with their layout, the names of the files, the feature, and its expression with the types of its nodes.
 #[derive(Clone, Copy)]
 pub struct Setting<'a> {
     pub alloc: Global,
@@ -26,6 +27,7 @@ pub struct Setting<'a> {
     pub class: ClassId,
     pub feature: u32,
     pub body: &'a Body,
+    pub types: &'a NodeTypes,
 }
 
 impl<'a> Setting<'a> {

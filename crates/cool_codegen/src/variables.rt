@@ -9,7 +9,8 @@ use cool_syntax::Name;
 use std::alloc::{AllocError, Global};
 use std::marker::Model;
 
-/// A variable: the register from which its word is addressed, the word's offset in bytes, and the type of the values.
+/// A variable: the register from which its word is addressed, the word's offset in bytes, and the type of its values, by which contracts
+/// say with which names in scope an expression has the types that it has (`scope_of` of `specs/Variables.antt`).
 #[derive(Clone, Copy, Debug)]
 pub struct Variable {
     pub base: u32,

@@ -40,10 +40,6 @@ or_assoc false b c = refl
 pub class_later : (now a b c : Truth) → now ≡ (a || b) → (now || c) ≡ (a || (b || c))
 class_later now a b c h = ap (λ (x : Truth). x || c) h ∙ or_assoc a b c
 
-pub or_none : (a : Truth) → (a || false) ≡ a
-or_none true = refl
-or_none false = refl
-
 -- a class has a method of its own where one of its methods has the name
 
 first_any : (k : ℕ) (fs : List Feature) (name : List ℕ) → is_some (first_method k fs name) ≡ list_any (is_method_named name) fs

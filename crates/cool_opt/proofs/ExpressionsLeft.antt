@@ -11,7 +11,7 @@ use Rattle.cool_classes.specs.declared.class_id.ClassId.{ClassId}
 use Rattle.cool_classes.specs.Chains.{Class, class_number, features_of}
 use Rattle.cool_opt.specs.declared.program.Expression.{Expression}
 use Rattle.cool_opt.specs.Expressions.{expression_at, expressions_of, expressions_from}
-use Rattle.cool_opt.specs.FoldedNodes.{expression_of}
+use Rattle.cool_rules.specs.NodeScopes.{expression_of}
 use Rattle.cool_opt.specs.Folding.{fold_feature, fold_table}
 use Rattle.cool_opt.proofs.FoldedTables.{folded_shape, features_folded, feature_at}
 use Rattle.lists.proofs.ItemsAt.{there_is}
@@ -37,8 +37,8 @@ classes_later ds before k within =
     ∙ sym (ap (λ (es : List Expression). before ++ es) first)
 
 -- where nothing is left
-nothing_after : (found left all : List Expression) → found ++ left ≡ all → left ≡ [] → found ≡ all
-nothing_after found left all is none = sym (append-nil found) ∙ (sym (ap (λ (es : List Expression). found ++ es) none) ∙ is)
+pub nothing_after : {A : Type 0} (found left all : List A) → found ++ left ≡ all → left ≡ [] → found ≡ all
+nothing_after found left all is none = sym (append-nil found) ∙ (sym (ap (λ xs. found ++ xs) none) ∙ is)
 
 pub no_class_left : (p : List Class) (found all : List Expression) (k : ℕ) → length p ≤ k → found ++ expressions_from k (drop k (fold_table p)) ≡ all
     → found ≡ all

@@ -24,7 +24,7 @@ use Rattle.cool_rules.proofs.NamesOfTables.{class_by_name}
 use Rattle.cool_meaning.proofs.FittingValues.{World, Grown, not_grown, grown_on, Fits, AllFit, still_fits, meant, still_all_fit, below_conforming, class_fits}
 use Rattle.cool_meaning.proofs.SoundComputations.{Sound, give_sound}
 use Rattle.cool_meaning.proofs.MethodsOfTables.{implementation_own, formals_are_classes}
-use Rattle.cool_syntax.specs.Tree.{Tree, Trees, MaybeTree, Cases, Last, More, Without, With, NoCase, CaseOf}
+use Rattle.cool_syntax.specs.Tree.{Tree, Trees}
 use Rattle.cool_rules.specs.Rules.{class_named}
 use Rattle.cool_meaning.proofs.SoundParts.{class_or_sound, AllCallsSound, arguments_fit}
 use Rattle.cool_syntax.specs.Tree as trees

@@ -1,18 +1,17 @@
 -- The folded expression keeps the meaning, and no meter grows, where calls do.
-use Rattle.std.proofs.Common.{◌≡◌, ◌*◌, ◌≢◌, ℕ, suc, ◌<◌, List, [], ◌∷◌, map, length, Option, Some, Bool, true, false, ap, sym, ◌∙◌, refl, subst, arith, neg_ℤ, not}
+use Rattle.std.proofs.Common.{◌≡◌, ◌*◌, ◌≢◌, ℕ, suc, ◌<◌, List, [], ◌∷◌, map, length, Option, Some, Bool, true, false, ap, sym, ◌∙◌, refl, subst, neg_ℤ, not}
 use Rattle.std.specs.Prelude.{if◌then◌else◌, bytes_eq, slice_get}
 use Rattle.std.specs.List.{AllByRecursion}
 use Rattle.std.proofs.lemmas.Slice.Eq.{bytes_eq-Decides}
 use Rattle.cool_classes.specs.declared.class_id.ClassId.{ClassId}
 use Rattle.cool_classes.specs.declared.class_id.Ty.{Ty}
 use Rattle.cool_classes.specs.declared.class_id.Ty.TheVariants.{Class as IsClass, SelfType}
-use Rattle.cool_classes.specs.Chains.{Class, class_number, name_of, Below}
+use Rattle.cool_classes.specs.Chains.{Class, name_of, Below}
 use Rattle.cool_classes.specs.Features.{Denotes}
 use Rattle.cool_rules.specs.Conformance.{class_of as class_meant}
 use Rattle.cool_rules.specs.Conformance.{IsType}
 use Rattle.cool_rules.specs.Scopes.{Binding}
 use Rattle.cool_rules.specs.Typing.{int_type, bool_type, object_type, with_name, HasType, HaveTypes, HaveItems, HasInit, HaveBranches}
-use Rattle.cool_classes.specs.LawfulTables.{MayInherit}
 use Rattle.cool_rules.specs.TypedTables.{IsTypedTable}
 use Rattle.cool_meaning.specs.Values.{Value, Void, Int, Bool as Truth, Str, class_of, default_of, Environment}
 use Rattle.cool_meaning.specs.Meters.{◌>>=◌, give, rule, working, locate, CaseVoid}
@@ -86,9 +85,6 @@ module _ (p p' : List Class) (typed : IsTypedTable p) (same_tables : SameTables 
   renamed : (w : World) (d : ClassId) (o : Option Branch) (branch : List ℕ → Option Branch) → KeptBranch p p' typed same_tables calls calls' b calls_sound keep w d o (branch (name_of p d))
       → KeptBranch p p' typed same_tables calls calls' b calls_sound keep w d o (branch (name_of p' d))
   renamed w d o branch h = subst (λ (n : List ℕ). KeptBranch p p' typed same_tables calls calls' b calls_sound keep w d o (branch n)) (sym (same_tables.names d)) h
-
-  object_plain : MayInherit (class_number 0)
-  object_plain = record { no_int = λ e. omega arith; no_bool = λ e. omega arith; no_string = λ e. omega arith }
 
   -- Expressions
 

@@ -7,25 +7,24 @@ use Rattle.cool_syntax.specs.declared.file_tree.Feature.TheVariants.{Attribute}
 use Rattle.cool_syntax.specs.declared.file_tree.Feature.TheVariants.{Method}
 use Rattle.cool_classes.specs.declared.class_id.ClassId.{ClassId}
 use Rattle.cool_classes.specs.Chains.{Class, features_of}
-use Rattle.cool_classes.specs.Tables.{IsTyped}
 use Rattle.cool_rules.specs.Scopes.{Binding}
 use Rattle.cool_rules.specs.Typing.{HasType}
 use Rattle.cool_rules.specs.Typing.{FitsDeclared, IsTypedInit, formals_in_scope, attributes_in_scope}
 use Rattle.cool_rules.specs.TypedTables.{IsTypedTable}
 use Rattle.cool_classes.specs.ClimbedChains.{chain as chain_of}
-use Rattle.cool_meaning.specs.Lookups.{attributes}
 use Rattle.cool_syntax.specs.Tree.{Tree}
 use Rattle.cool_classes.specs.Features.{attributes_of}
 use Rattle.cool_classes.proofs.ChainsOfTables.{chain_of as chain_by}
 use Rattle.cool_rules.specs.Conformance.{IsType}
-use Rattle.cool_opt.specs.Folding.{fold, own_scope}
+use Rattle.cool_rules.specs.NodeTypes.{own_scope}
+use Rattle.cool_opt.specs.Folding.{fold}
 use Rattle.cool_opt.specs.Foldable.{IsDone}
 use Rattle.cool_opt.proofs.FoldedTypes.{still_typed}
 use Rattle.cool_opt.specs.Shrinking.{shrunk}
 use Rattle.cool_opt.proofs.NothingLeft.{is_done}
 use Rattle.cool_opt.proofs.ShrinkingFolds.{shrunk_is}
-use Rattle.cool_opt.proofs.FoldedRuns.{formal_types, attribute_types, scope_types, attributes_there}
-use Rattle.lists.proofs.AllItems.{all_get}
+use Rattle.cool_opt.proofs.TypesInScope.{scope_typed}
+use Rattle.cool_rules.proofs.TypesAreTypes.{formals_are_types}
 
 -- a declared expression, folded in its scope, still fits, and nothing is left to fold; the code folds it to the same
 pub record FoldsDeclared (p : List Class) (c : ClassId) (inner : List Binding) (e : Tree) (declared : List ℕ) : Type 0 where
@@ -46,7 +45,7 @@ module _ (p : List Class) (typed : IsTypedTable p) where
   declared_folds c within inner inner_types e declared f =
       let same : chain_of p c ≡ f.chain = chain_by p c f.chain f.is_chain in
       let scope_same : inner ++ attributes_in_scope p (attributes_of p f.chain) ≡ inner ++ own_scope p c = ap (λ (ds : List ClassId). inner ++ attributes_in_scope p (attributes_of p ds)) (sym same) in
-      let types = scope_types p typed inner (own_scope p c) inner_types (attribute_types p typed (attributes p c) (attributes_there p typed c within)) in
+      let types = scope_typed p typed.whole c inner inner_types in
       let has : HasType p c (inner ++ own_scope p c) e f.type = subst (λ (s : List Binding). HasType p c s e f.type) scope_same f.has in
       record {
         fits = record {
@@ -65,8 +64,7 @@ module _ (p : List Class) (typed : IsTypedTable p) where
   -- every feature of a typed table
   pub feature_folds : (c : ClassId) (i : ℕ) (x : Feature) → c.0 < length p → slice_get (features_of p c) i ≡ Some x → FoldsFeature p c x
   feature_folds c i (Method m) within there =
-      let types : IsTyped p (Method m) = all_get (IsTyped p) (features_of p c) i (Method m) (typed.whole.table.types c within) there in
-      declared_folds c within (formals_in_scope p m.formals) (formal_types p typed m.formals types.1) m.body m.result.name (typed.features c i (Method m) within there)
+      declared_folds c within (formals_in_scope p m.formals) (formals_are_types p typed.whole m.formals) m.body m.result.name (typed.features c i (Method m) within there)
   feature_folds c i (Attribute a) within there = by a.init (typed.features c i (Attribute a) within there)
     where
       by : (o : Option Tree) → IsTypedInit p c a.declared.name o → FoldsInit p c a.declared.name o

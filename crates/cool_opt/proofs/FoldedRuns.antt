@@ -6,15 +6,12 @@ use Rattle.cool_syntax.specs.declared.file_tree.Feature.{Feature}
 use Rattle.cool_syntax.specs.declared.file_tree.Feature.TheVariants.{Attribute}
 use Rattle.cool_syntax.specs.declared.file_tree.Feature.TheVariants.{Method}
 use Rattle.cool_classes.specs.declared.class_id.ClassId.{ClassId}
-use Rattle.cool_classes.specs.declared.class_id.Ty.{Ty}
-use Rattle.cool_classes.specs.declared.class_id.Ty.TheVariants.{Class as IsClass}
 use Rattle.cool_classes.specs.declared.method.MethodRef.TheVariants.{User}
 use Rattle.cool_classes.specs.declared.method.AttributeRef.{AttributeRef}
 use Rattle.cool_classes.specs.Chains.{Class, features_of, Below}
-use Rattle.cool_classes.specs.Features.{Denotes, formals_of, HasMethod, attribute_type, HasAttribute, result_in}
+use Rattle.cool_classes.specs.Features.{formals_of, HasMethod, HasAttribute}
 use Rattle.cool_classes.specs.Features.{attribute_name}
 use Rattle.cool_classes.specs.Features.{attributes_of, formals_in}
-use Rattle.cool_classes.specs.Tables.{IsClassName, IsTyped}
 use Rattle.cool_classes.proofs.AttributesOfChains.{attributes_have}
 use Rattle.cool_classes.proofs.Climbs.{all_within}
 use Rattle.cool_rules.specs.Conformance.{class_of as class_meant}
@@ -31,10 +28,10 @@ use Rattle.cool_meaning.specs.Lookups.{attributes}
 use Rattle.cool_meaning.specs.Lookups.{method_in, init_in, init_of, located, attribute_names, formal_names, locations_of, environment_of, attributes_at}
 use Rattle.cool_meaning.specs.Evaluation.{Body, Initials, Calls, eval}
 use Rattle.cool_meaning.specs.Evaluation.{run_method, run_initial, run_initials, run_call, calls_within}
+use Rattle.cool_rules.proofs.TypesAreTypes.{formals_are_types}
 use Rattle.cool_rules.proofs.ChainsOfTables.{attributes_above, below_trans}
 use Rattle.cool_classes.proofs.ChainsOfTables.{chain_is}
 use Rattle.cool_classes.proofs.ChainsOfTables.{chain_of as chain_by}
-use Rattle.cool_rules.proofs.RulesOfTables.{meant_is}
 use Rattle.cool_meaning.proofs.FittingValues.{World, AreMade, still_all_made, Fits, AllFit, still_fits, meant, attribute_classes, Holds}
 use Rattle.cool_meaning.proofs.SoundComputations.{locate_all_sound}
 use Rattle.cool_meaning.proofs.SoundMethods.{Any}
@@ -46,15 +43,15 @@ use Rattle.cool_meaning.specs.BasicMethods.{locate_all}
 use Rattle.cool_opt.proofs.NoMoreMeters.{Keeps, keeps_same, bind_keeps, then_keeps, working_keeps}
 use Rattle.cool_syntax.specs.declared.file_tree.Formal.{Formal}
 use Rattle.cool_syntax.specs.declared.file_tree.MethodDef.{MethodDef}
-use Rattle.cool_rules.proofs.RulesDecided.{denotes_type}
 use Rattle.cool_meaning.proofs.SoundEvaluation.{Scene, eval_sound}
 use Rattle.cool_meaning.proofs.SoundRuns.{holds_formals, attributes_hold, own_locations, within_sound}
 use Rattle.cool_meaning.proofs.SoundRuns as runs
-use Rattle.cool_opt.specs.Folding.{fold, fold_feature, fold_option, fold_table, own_scope}
+use Rattle.cool_rules.specs.NodeTypes.{own_scope}
+use Rattle.cool_opt.specs.Folding.{fold, fold_feature, fold_option, fold_table}
 use Rattle.cool_opt.proofs.FoldedCalls.{CallsKeep, AllCallsKeep}
 use Rattle.cool_opt.proofs.FoldedExpressions.{folds}
 use Rattle.cool_opt.proofs.FoldedTables.{features_folded, got_folded, tables_same}
-use Rattle.lists.proofs.AllItems.{all_get}
+use Rattle.cool_opt.proofs.TypesInScope.{scope_typed}
 
 module _ (p : List Class) (typed : IsTypedTable p) where
   -- the names of attributes, and what they are located at
@@ -75,31 +72,8 @@ module _ (p : List Class) (typed : IsTypedTable p) where
   feature_folded : (c : ClassId) (i : ℕ) (x : Feature) → slice_get (features_of p c) i ≡ Some x → slice_get (features_of (fold_table p) c) i ≡ Some (fold_feature p c x)
   feature_folded c i x there = ap (λ (fs : List Feature). slice_get fs i) (features_folded p c) ∙ got_folded p c (features_of p c) i ∙ ap (option_map (fold_feature p c)) there
 
-  -- the types in scope of a body
-
-  pub formal_types : (fs : List Formal) → AllByRecursion (λ (f : Formal). IsClassName p f.declared.name) fs → AllByRecursion (λ (x : Binding). IsType p x.type) (formals_in_scope p fs)
-  formal_types [] h = tt
-  formal_types (f ∷ fs) h =
-      let (c, within, is) = h.0 in
-      (subst (λ (t : Ty). IsType p t) (sym (meant_is p typed.whole.table f.declared.name (IsClass c) (within, is))) within, formal_types fs h.1)
-
-  attribute_denotes : (r : AttributeRef) → HasAttribute p r → (t : Ty) × Denotes p (attribute_type p r) t
-  attribute_denotes r h =
-      let (a, is) = defined_attribute (slice_get (features_of p r.owner) r.index) h.1 in
-      let types : IsTyped p (Attribute a) = all_get (IsTyped p) (features_of p r.owner) r.index (Attribute a) (typed.whole.table.types r.owner h.0) is in
-      subst (λ (o : Option Feature). (t : Ty) × Denotes p (result_in o) t) (sym is) types
-
-  pub attribute_types : (rs : List AttributeRef) → AllByRecursion (HasAttribute p) rs → AllByRecursion (λ (x : Binding). IsType p x.type) (attributes_in_scope p rs)
-  attribute_types [] h = tt
-  attribute_types (r ∷ rs) h =
-      let (t, denotes) = attribute_denotes r h.0 in
-      (subst (λ (u : Ty). IsType p u) (sym (meant_is p typed.whole.table (attribute_type p r) t denotes)) (denotes_type p typed.whole (attribute_type p r) t denotes), attribute_types rs h.1)
-
-  pub scope_types : (xs ys : List Binding) → AllByRecursion (λ (x : Binding). IsType p x.type) xs → AllByRecursion (λ (x : Binding). IsType p x.type) ys → AllByRecursion (λ (x : Binding). IsType p x.type) (xs ++ ys)
-  scope_types [] ys h g = g
-  scope_types (x ∷ xs) ys h g = (h.0, scope_types xs ys h.1 g)
-
-  pub attributes_there : (k : ClassId) → k.0 < length p → AllByRecursion (HasAttribute p) (attributes p k)
+  -- the attributes of a class
+  attributes_there : (k : ClassId) → k.0 < length p → AllByRecursion (HasAttribute p) (attributes p k)
   attributes_there k within = attributes_have p (chain_of p k) (λ j d less. all_within p typed.whole.depth typed.whole.grounded k within (chain_of p k) (chain_is p k typed.whole.table within) j d less)
 
   module _ (calls calls' : Calls) (b : ℕ) (sound : AllCallsSound p calls b) (keep : AllCallsKeep p calls calls' b) where
@@ -110,7 +84,7 @@ module _ (p : List Class) (typed : IsTypedTable p) where
     declared_keeps w c k self inner env e declared c_within within may below is fit inner_types f holds =
         let same : chain_of p c ≡ f.chain = chain_by p c f.chain f.is_chain in
         let scope_same : inner ++ attributes_in_scope p (attributes_of p f.chain) ≡ inner ++ own_scope p c = ap (λ (ds : List ClassId). inner ++ attributes_in_scope p (attributes_of p ds)) (sym same) in
-        let types = scope_types inner (own_scope p c) inner_types (attribute_types (attributes p c) (attributes_there c c_within)) in
+        let types = scope_typed p typed.whole c inner inner_types in
         folds p (fold_table p) typed (tables_same p) calls calls' b sound keep c k self c_within e w (inner ++ own_scope p c) env f.type types
         (record { c_within = c_within; k_within = within; below = below; plain = may; class = is; fits = fit; holds = subst (λ (s : List Binding). Holds w k s env) scope_same holds })
         (subst (λ (s : List Binding). HasType p c s e f.type) scope_same f.has)
@@ -123,14 +97,13 @@ module _ (p : List Class) (typed : IsTypedTable p) where
         let there' = feature_folded owner i (Method m) there in
         let m' : MethodDef = record m { body = fold p owner (formals_in_scope p m.formals ++ own_scope p owner) m.body } in
         let f : FitsDeclared p owner (formals_in_scope p m.formals) m.body m.result.name = typed.features owner i (Method m) has.0 there in
-        let types : IsTyped p (Method m) = all_get (IsTyped p) (features_of p owner) i (Method m) (typed.whole.table.types owner has.0) there in
         let args' : AllFit p w vs (map (meant p k) (map (λ (x : Formal). x.declared.name) m.formals)) = subst (λ (o : Option Feature). AllFit p w vs (map (meant p k) (formals_in o))) there args in
         subst (λ (o : Option Feature). Keeps p b w (run_method p calls self vs (method_in o)) (run_method (fold_table p) calls' self vs (method_in (slice_get (features_of (fold_table p) owner) i)))) (sym there)
         (subst (λ (o : Option Feature). Keeps p b w (run_method p calls self vs (Some m)) (run_method (fold_table p) calls' self vs (method_in o))) (sym there')
         (bind_keeps {Q = λ w' ls. AreMade w' ls (map (meant p k) (map (λ (x : Formal). x.declared.name) m.formals))} (locate_all_sound vs (map (meant p k) (map (λ (x : Formal). x.declared.name) m.formals)) args') (keeps_same (locate_all vs)) (λ w1 ls g1 made.
         let fit1 = still_fits p w w1 g1 self k fit in
         subst (λ (env : Environment). Keeps p b w1 (eval p calls self (located (formal_names m.formals) ls ++ environment_of p self) m.body) (eval (fold_table p) calls' self (located (formal_names m.formals) ls ++ env) m'.body)) (sym (environment_same self))
-        (declared_keeps w1 owner k self (formals_in_scope p m.formals) (located (formal_names m.formals) ls ++ environment_of p self) m.body m.result.name has.0 within may below is fit1 (formal_types m.formals types.1) f
+        (declared_keeps w1 owner k self (formals_in_scope p m.formals) (located (formal_names m.formals) ls ++ environment_of p self) m.body m.result.name has.0 within may below is fit1 (formals_are_types p typed.whole m.formals) f
         (holds_formals p w1 k m.formals ls (attributes_in_scope p (attributes_of p f.chain)) (environment_of p self) made (attributes_hold p typed w1 owner k self f.chain f.is_chain is within may below fit1))))))
 
     -- an initial value

@@ -13,7 +13,6 @@ use Rattle.cool_classes.specs.Chains.{Class, features_of}
 use Rattle.cool_classes.specs.ClimbedChains.{chain}
 use Rattle.cool_classes.specs.Features.{attributes_of}
 use Rattle.cool_classes.specs.Limits.{IsImplemented, KeepsLimits}
-use Rattle.cool_classes.specs.Tables.{IsTyped}
 use Rattle.cool_classes.proofs.AlikeTables.{FindSame, flipped}
 use Rattle.cool_classes.proofs.ChainsOfTables.{chain_of}
 use Rattle.cool_rules.specs.Conformance.{IsType}
@@ -21,9 +20,10 @@ use Rattle.cool_rules.specs.Fits.{weight_of, Fits}
 use Rattle.cool_rules.specs.Scopes.{Binding}
 use Rattle.cool_rules.specs.TypedTables.{IsTypedTable}
 use Rattle.cool_rules.specs.Typing.{FitsDeclared, IsTypedInit, formals_in_scope, attributes_in_scope, HasType}
-use Rattle.cool_meaning.specs.Lookups.{attributes}
-use Rattle.cool_opt.specs.Folding.{fold, fold_option, fold_feature, fold_from, fold_table, own_scope}
-use Rattle.cool_opt.proofs.FoldedRuns.{formal_types, attribute_types, scope_types, attributes_there}
+use Rattle.cool_rules.specs.NodeTypes.{own_scope}
+use Rattle.cool_opt.specs.Folding.{fold, fold_option, fold_feature, fold_from, fold_table}
+use Rattle.cool_opt.proofs.TypesInScope.{scope_typed}
+use Rattle.cool_rules.proofs.TypesAreTypes.{formals_are_types}
 use Rattle.cool_opt.proofs.FoldedSizes.{folded_most}
 use Rattle.cool_opt.proofs.FoldedTableIsTyped.{each_folded}
 use Rattle.cool_opt.proofs.FoldedTables.{folded_shape, features_folded}
@@ -89,21 +89,19 @@ module _ (p : List Class) (typed : IsTypedTable p) (count : ℕ) (fits : Fits p 
       → IsTreeWithin count (fold p c (inner ++ own_scope p c) e)
   declared_within c within inner inner_types e declared f h =
       let same : chain p c ≡ f.chain = chain_of p c f.chain f.is_chain in
-      let types =
-      scope_types p typed inner (own_scope p c) inner_types (attribute_types p typed (attributes p c) (attributes_there p typed c within)) in
+      let types = scope_typed p typed.whole c inner inner_types in
       let has = subst (λ (ds : List ClassId). HasType p c (inner ++ attributes_in_scope p (attributes_of p ds)) e f.type) (sym same) f.has in
       folded_within count p typed.whole fits.names c within e (inner ++ own_scope p c) f.type types has h
 
   feature_within : (c : ClassId) (k : ℕ) (x : Feature) → c.0 < length p → slice_get (features_of p c) k ≡ Some x
       → IsFeatureWithin count (fold_feature p c x)
   feature_within c k (Method m) within there =
-      let (placed, named, formals, result, h) = all_get (IsFeatureWithin count) (features_of p c) k (Method m) (fits.within c within) there in
-      let types : IsTyped p (Method m) = all_get (IsTyped p) (features_of p c) k (Method m) (typed.whole.table.types c within) there in (
+      let (placed, named, formals, result, h) = all_get (IsFeatureWithin count) (features_of p c) k (Method m) (fits.within c within) there in (
         placed,
         named,
         formals,
         result,
-        declared_within c within (formals_in_scope p m.formals) (formal_types p typed m.formals types.1) m.body m.result.name
+        declared_within c within (formals_in_scope p m.formals) (formals_are_types p typed.whole m.formals) m.body m.result.name
             (typed.features c k (Method m) within there) h,
       )
   feature_within c k (Attribute a) within there =

@@ -12,7 +12,8 @@ use Rattle.cool_classes.proofs.AlikeTablesKept.{table_kept, grounded_kept, lawfu
 use Rattle.cool_rules.specs.Scopes.{Binding}
 use Rattle.cool_rules.specs.TypedTables.{IsTypedTable}
 use Rattle.cool_rules.specs.Typing.{IsTypedInit, IsTypedFeature, formals_in_scope}
-use Rattle.cool_opt.specs.Folding.{fold, fold_option, fold_feature, fold_table, own_scope}
+use Rattle.cool_rules.specs.NodeTypes.{own_scope}
+use Rattle.cool_opt.specs.Folding.{fold, fold_option, fold_feature, fold_table}
 use Rattle.cool_opt.specs.Foldable.{IsDone}
 use Rattle.cool_opt.specs.NothingLeft.{IsDoneFeature, IsDoneTable}
 use Rattle.cool_opt.proofs.FoldedFeatures.{FoldsInit, FoldsFeature, feature_folds}

@@ -7,6 +7,7 @@ mod FoldedExpressions
 mod FoldedTypes
 mod SameShapes
 pub mod FoldedTables
+mod TypesInScope
 mod FoldedRuns
 pub mod FoldedPrograms
 mod NothingLeft
@@ -17,13 +18,10 @@ pub mod FoldedTableIsTyped
 mod FoldedSizes
 mod FoldedWithin
 mod FoldedTableFits
-mod TypesInScope
 mod ShrinkingFolds
 mod ClassesAbove
 mod NodesPlaced
-mod ShrunkSizes
 mod FoldedRows
-mod ScopesEntered
 mod FoldedConditionals
 mod PartsPlaced
 mod FoldedForms
@@ -33,3 +31,8 @@ mod DefinersGrow
 mod ExpressionsLeft
 mod ReplacedExpressions
 mod PartsOfForms
+mod ShrunkTypes
+mod FoldedColumns
+mod TypesPlaced
+mod StandingNodes
+mod PartsFolded

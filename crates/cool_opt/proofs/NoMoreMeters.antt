@@ -1,9 +1,9 @@
 -- Computations that come to the same as others, with no meter greater, wherever the store fits its world.
-use Rattle.std.proofs.Common.{◌≡◌, ℕ, zero, suc, ◌<◌, ◌≤◌, Bool as Truth, true, false, List, refl, sym, ap, ◌∙◌, subst, arith}
+use Rattle.std.proofs.Common.{◌≡◌, ℕ, zero, suc, ◌<◌, ◌≤◌, Bool as Truth, true, false, List, refl, sym, ◌∙◌, subst, arith}
 use Rattle.std.specs.Prelude.{if◌then◌else◌}
 use Rattle.cool_classes.specs.Chains.{Class}
 use Rattle.cool_meaning.specs.Values.{State}
-use Rattle.cool_meaning.specs.Meters.{Outcome, Val, Stop, On, Stuck, Metered, Computation, join, seq_of, ◌>>=◌, ◌>>◌, spend, working, giving, holding, rule}
+use Rattle.cool_meaning.specs.Meters.{Outcome, Val, Stop, On, Stuck, Metered, Computation, seq_of, ◌>>=◌, ◌>>◌, spend, working, giving, holding, rule}
 use Rattle.cool_meaning.proofs.FittingValues.{World, Grown, AllFit}
 use Rattle.cool_meaning.proofs.SoundComputations.{IsFine, NotStuck, Sound}
 
@@ -37,9 +37,6 @@ pub keeps_then : {A : Type 0} {p : List Class} {b : ℕ} {w : World} {d e f : Co
 keeps_then {d = d} {e = e} {f = f} h k = record { keeps = λ s n less fits. no_more_then (d s n) (e s n) (f s n) (h.keeps s n less fits) (k.always s n) }
 
 -- One after the other
-
-seq_value : {A B : Type 0} (o : Outcome A) (v : A) (t : State) (left a b c : ℕ) (f : A → Computation B) → o ≡ Val v t left → seq_of o a b c f ≡ join a b c (f v t left)
-seq_value o v t left a b c f e = ap (λ x. seq_of x a b c f) e
 
 bind_by : {A B : Type 0} (o : Outcome A) (a b c a' b' c' : ℕ) (o' : Outcome A) (f f' : A → Computation B) → o' ≡ o → a' ≤ a → b' ≤ b → c' ≤ c
     → ((v : A) (t : State) (left : ℕ) → o ≡ Val v t left → NoMore (f v t left) (f' v t left)) → NoMore (seq_of o a b c f) (seq_of o' a' b' c' f')

@@ -1,11 +1,13 @@
--- The parts of operators have smaller numbers, and with the operator they make up its nodes.
-use Rattle.std.proofs.Common.{◌≡◌, ℕ, ◌+◌, ◌≤◌, ◌<◌, List, ◌++◌, length, ap, length-append, refl, sym, subst, arith}
+-- The parts of operators have smaller numbers and stand where the operator does, and with the operator they make up its nodes.
+use Rattle.std.proofs.Common.{◌≡◌, ℕ, ◌+◌, ◌<◌, List, refl, sym, subst}
 use Rattle.cool_syntax.specs.declared.node.Node.{Node}
 use Rattle.cool_syntax.specs.declared.node.Node.TheVariants.{Assign, Dispatch, StaticDispatch, If, While, Block, Let, Case, New, IsVoid, Arith, Neg, Compare, Not, Id, Int, Str, Bool}
 use Rattle.cool_syntax.specs.declared.node.NodeId.{NodeId}
 use Rattle.cool_syntax.specs.NodeGroups.{IsBinary, IsUnary}
 use Rattle.cool_syntax.specs.NodeLists.{at_id, made, HasPartsBelow}
 use Rattle.cool_syntax.specs.Tree.{Tree, tree_size}
+use Rattle.cool_rules.specs.Scopes.{Binding}
+use Rattle.cool_rules.specs.TypedParts.{HasParts, IsPart, TypedBody}
 use Rattle.cool_opt.specs.Forms.{operand, left_operand, right_operand}
 
 -- the part of an assignment or of an operator with one operand
@@ -63,6 +65,53 @@ operands_within k ts n i j is is2 group parts =
     by (Neg _ _) g h = elim g [ ]
     by (Not _ _) g h = elim g [ ]
 
--- what is placed after nodes makes them no fewer
-pub no_fewer : {A : Type 0} (before rest after : List A) → after ≡ before ++ rest → length before ≤ length after
-no_fewer before rest after placed = omega (arith, ap length placed, length-append before rest)
+-- an operator with one operand that stands in a body has its operand there
+pub has_operand : (b : TypedBody) (scope : List Binding) (n : Node) (i : NodeId) → i ≡ operand n → IsUnary n → HasParts b scope n → IsPart b scope i
+has_operand b scope n i is group parts = subst (IsPart b scope) (sym is) (by n group parts)
+  where
+    by : (m : Node) → IsUnary m → HasParts b scope m → IsPart b scope (operand m)
+    by (Assign at name a) g h = h
+    by (IsVoid at a) g h = h
+    by (Neg at a) g h = h
+    by (Not at a) g h = h
+    by (Dispatch _ _ _ _) g h = elim g [ ]
+    by (StaticDispatch _ _ _ _ _) g h = elim g [ ]
+    by (If _ _ _ _) g h = elim g [ ]
+    by (While _ _ _) g h = elim g [ ]
+    by (Block _ _) g h = elim g [ ]
+    by (Let _ _ _ _ _) g h = elim g [ ]
+    by (Case _ _ _) g h = elim g [ ]
+    by (New _ _) g h = elim g [ ]
+    by (Id _ _) g h = elim g [ ]
+    by (Int _ _) g h = elim g [ ]
+    by (Str _ _) g h = elim g [ ]
+    by (Bool _ _) g h = elim g [ ]
+    by (Arith _ _ _ _) g h = elim g [ ]
+    by (Compare _ _ _ _) g h = elim g [ ]
+
+-- and one with two operands has both
+pub has_operands : (b : TypedBody) (scope : List Binding) (n : Node) (i j : NodeId) → i ≡ left_operand n → j ≡ right_operand n → IsBinary n
+    → HasParts b scope n → IsPart b scope i × IsPart b scope j
+has_operands b scope n i j is is2 group parts =
+    subst (λ (x : NodeId). IsPart b scope x × IsPart b scope j) (sym is)
+    (subst (λ (x : NodeId). IsPart b scope (left_operand n) × IsPart b scope x) (sym is2) (by n group parts))
+  where
+    by : (m : Node) → IsBinary m → HasParts b scope m → IsPart b scope (left_operand m) × IsPart b scope (right_operand m)
+    by (Arith at op l r) g h = h
+    by (Compare at op l r) g h = h
+    by (Dispatch _ _ _ _) g h = elim g [ ]
+    by (StaticDispatch _ _ _ _ _) g h = elim g [ ]
+    by (If _ _ _ _) g h = elim g [ ]
+    by (While _ _ _) g h = elim g [ ]
+    by (Block _ _) g h = elim g [ ]
+    by (Let _ _ _ _ _) g h = elim g [ ]
+    by (Case _ _ _) g h = elim g [ ]
+    by (New _ _) g h = elim g [ ]
+    by (Id _ _) g h = elim g [ ]
+    by (Int _ _) g h = elim g [ ]
+    by (Str _ _) g h = elim g [ ]
+    by (Bool _ _) g h = elim g [ ]
+    by (Assign _ _ _) g h = elim g [ ]
+    by (IsVoid _ _) g h = elim g [ ]
+    by (Neg _ _) g h = elim g [ ]
+    by (Not _ _) g h = elim g [ ]

@@ -12,8 +12,9 @@ use Rattle.cool_classes.specs.Chains.{Class, class_number, features_of}
 use Rattle.cool_classes.proofs.SwappedBodies.{length_changed}
 use Rattle.cool_opt.specs.declared.program.Expression.{Expression}
 use Rattle.cool_opt.specs.Expressions.{expression_at, expressions_of, expressions_from}
-use Rattle.cool_opt.specs.FoldedNodes.{expression_of}
-use Rattle.cool_opt.specs.Folding.{fold, fold_option, fold_feature, fold_from, fold_table, own_scope}
+use Rattle.cool_rules.specs.NodeScopes.{expression_of}
+use Rattle.cool_rules.specs.NodeTypes.{own_scope}
+use Rattle.cool_opt.specs.Folding.{fold, fold_option, fold_feature, fold_from, fold_table}
 use Rattle.lists.proofs.AllItems.{all_append}
 use Rattle.lists.proofs.ItemsAt.{seam_get}
 

@@ -6,7 +6,7 @@ use Rattle.cool_syntax.specs.declared.operator.ArithOp.{ArithOp}
 use Rattle.cool_syntax.specs.declared.operator.ArithOp.TheVariants.{Add, Sub, Mul, Div}
 use Rattle.cool_syntax.specs.declared.operator.CompareOp.{CompareOp}
 use Rattle.cool_syntax.specs.declared.operator.CompareOp.TheVariants.{Less, LessEqual, Equal}
-use Rattle.cool_syntax.specs.Tree.{Tree, Trees}
+use Rattle.cool_syntax.specs.Tree.{Tree}
 use Rattle.cool_syntax.specs.Tree as trees
 use Rattle.cool_classes.specs.Chains.{Class}
 use Rattle.cool_classes.specs.declared.class_id.ClassId.{ClassId}

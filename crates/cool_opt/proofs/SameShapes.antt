@@ -20,7 +20,8 @@ use Rattle.cool_rules.specs.Rules.{is_among, first_among, join_in, class_named, 
 use Rattle.cool_rules.specs.Scopes.{Binding}
 use Rattle.cool_rules.specs.Typing.{formals_in_scope, attributes_in_scope, result_on}
 use Rattle.cool_rules.specs.Meant.{method_in, type_of_call}
-use Rattle.cool_opt.specs.Folding.{classes_from, defines_below, is_redefined, own_scope}
+use Rattle.cool_rules.specs.NodeTypes.{own_scope}
+use Rattle.cool_opt.specs.Folding.{classes_from, defines_below, is_redefined}
 
 -- tables of as many classes, each with the name that it has in the other, have the same names
 names_same : (p p' : List Class) → length p' ≡ length p → ((n : ℕ) → name_of p' (record { 0 = n }) ≡ name_of p (record { 0 = n }))

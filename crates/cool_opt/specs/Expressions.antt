@@ -5,7 +5,7 @@ use Rattle.cool_syntax.specs.Tree.{Tree}
 use Rattle.cool_classes.specs.declared.class_id.ClassId.{ClassId}
 use Rattle.cool_classes.specs.Chains.{Class, class_number}
 use Rattle.cool_opt.specs.declared.program.Expression.{Expression}
-use Rattle.cool_opt.specs.FoldedNodes.{expression_of}
+use Rattle.cool_rules.specs.NodeScopes.{expression_of}
 
 -- the expression of the feature of a class with this number; an attribute may have none
 abbrev pub expression_at : ClassId → ℕ → Option Tree → List Expression

@@ -1,25 +1,25 @@
 -- What the code of folding answers and adds to the nodes that it places.
-use Rattle.std.specs.Prelude.{◌≡◌, ℕ, ◌+◌, ◌≤◌, ℤ, Bool as Truth, List, [], ◌∷◌, ◌++◌, length, take, Option, Some, None, unwrap_or, Result, IfOk, OnOk}
-use Rattle.cool_syntax.specs.declared.file_tree.Feature.{Feature}
-use Rattle.cool_syntax.specs.declared.file_tree.Feature.TheVariants.{Method, Attribute}
+use Rattle.std.specs.Prelude.{◌≡◌, ℕ, ℤ, Bool as Truth, List, [], ◌∷◌, ◌++◌, length, take, Option, Some, None, Result, IfOk, OnOk}
+use Rattle.std.specs.Global.{Vec}
 use Rattle.cool_syntax.specs.declared.node.Node.{Node}
 use Rattle.cool_syntax.specs.declared.node.Node.TheVariants as node
+use Rattle.cool_syntax.specs.declared.node.NodeBranch.{NodeBranch}
 use Rattle.cool_syntax.specs.declared.node.NodeId.{NodeId}
 use Rattle.cool_syntax.specs.declared.place.Place.{Place}
-use Rattle.cool_syntax.specs.Tree.{Tree, Trees, MaybeTree, Cases, tree_size, trees_size, maybe_size, cases_size}
-use Rattle.cool_syntax.specs.NodeLists.{nodes, nodes_of_all, nodes_of_maybe, nodes_of_cases, root, roots, root_of_maybe, branch_roots}
+use Rattle.cool_syntax.specs.Tree.{Tree, Trees, MaybeTree, Cases}
+use Rattle.cool_syntax.specs.NodeLists.{nodes, nodes_of_all, nodes_of_maybe, nodes_of_cases, root, roots, root_of_maybe, branch_roots, tree_at}
+use Rattle.cool_classes.specs.declared.class_id.Ty.{Ty}
 use Rattle.cool_meaning.specs.Values.{Value, Int, Bool, Str}
-use Rattle.cool_rules.specs.Conformance.{IsType}
+use Rattle.cool_rules.specs.NodeTypes.{node_types, types_of_all, types_of_maybe, types_of_cases}
 use Rattle.cool_rules.specs.Scopes.{Binding}
-use Rattle.cool_rules.specs.Typing.{object_type}
+use Rattle.cool_rules.specs.TypedParts.{AreBranches, AreParts, IsPart, MayBePart}
 use Rattle.cool_opt.specs.declared.constant.Constant.{Constant}
 use Rattle.cool_opt.specs.declared.constant.Constant.TheVariants.{Number, Text, Truth as TruthOf}
 use Rattle.cool_opt.specs.declared.place.Found.{Found}
-use Rattle.cool_opt.specs.declared.place.Parts.{Parts}
-use Rattle.cool_opt.specs.declared.place.Branches.{Branches}
+use Rattle.cool_opt.specs.declared.place.Placed.{Placed}
 use Rattle.cool_opt.specs.declared.setting.Setting.{Setting}
-use Rattle.cool_rules.specs.StaticTypes.{type_of, last_type_of, cases_type_of}
 use Rattle.cool_opt.specs.Folding.{constant_in, word_of}
+use Rattle.cool_opt.specs.Settings.{cases_of, maybe_tree_of, tree_of_node, trees_of, typed_body, HaveTypes, IsStanding}
 use Rattle.cool_opt.specs.Shrinking.{shrunk, shrunk_all, shrunk_maybe, shrunk_cases}
 
 -- the value that a constant is
@@ -46,35 +46,54 @@ abbrev pub with_truth : List Node → ℕ → Node → Place → Option Truth �
 with_truth ns start n at None = ns ++ n ∷ []
 with_truth ns start n at (Some b) = take start ns ++ node.Bool at b ∷ []
 
--- The nodes of the folded tree came after those before, and this was found of it.
-pub record Folds {E : Type 0} (s : Setting) (scope : List Binding) (t : Tree) (before after : List Node) (result : Result Found E) : Type 0 where
-  pub is_type : IfOk result (λ f. IsType s.table.now f.ty)
-  pub typed : IfOk result (λ f. f.ty ≡ type_of s.table.now s.class scope t)
+-- types with one more, or with this one after the first of them
+abbrev pub with_type : {A : Type 0} → List Ty → ℕ → Ty → Option A → List Ty
+with_type types start type None = types ++ type ∷ []
+with_type types start type (Some v) = take start types ++ type ∷ []
+
+-- each node has a type
+abbrev pub HasTypes : Placed → Type 0
+HasTypes placed = length placed.types ≡ length placed.nodes.items
+
+-- The nodes of the folded tree came after those before, with their types, and this was found of it.
+pub record Folds {E : Type 0} (s : Setting) (scope : List Binding) (t : Tree) (before after : Placed) (result : Result Found E) : Type 0 where
   pub constant : IfOk result (λ f. value_of f.constant ≡ constant_in (shrunk s.table.now s.class scope t))
-  pub id : IfOk result (λ f. f.id ≡ root (length before) (shrunk s.table.now s.class scope t))
-  pub placed : OnOk result (after ≡ before ++ nodes (length before) (shrunk s.table.now s.class scope t))
-  pub few : OnOk result (length after ≤ length before + tree_size t)
+  pub id : IfOk result (λ f. f.id ≡ root (length before.nodes.items) (shrunk s.table.now s.class scope t))
+  pub placed : OnOk result (after.nodes.items ≡ before.nodes.items ++ nodes (length before.nodes.items) (shrunk s.table.now s.class scope t))
+  pub typed : HasTypes before → OnOk result (after.types ≡ before.types ++ node_types s.table.now s.class scope (shrunk s.table.now s.class scope t))
 
-pub record FoldsAll {E : Type 0} (s : Setting) (scope : List Binding) (ts : Trees) (before after : List Node) (result : Result Parts E) : Type 0 where
-  pub is_type : IfOk result (λ f. IsType s.table.now f.last)
-  pub typed : IfOk result (λ f. f.last ≡ last_type_of s.table.now s.class scope object_type ts)
-  pub ids : IfOk result (λ f. f.ids.items ≡ roots (length before) (shrunk_all s.table.now s.class scope ts))
-  pub placed : OnOk result (after ≡ before ++ nodes_of_all (length before) (shrunk_all s.table.now s.class scope ts))
-  pub few : OnOk result (length after ≤ length before + trees_size ts)
+pub record FoldsAll {E : Type 0} (s : Setting) (scope : List Binding) (ts : Trees) (before after : Placed) (result : Result (Vec NodeId) E) : Type 0 where
+  pub ids : IfOk result (λ f. f.items ≡ roots (length before.nodes.items) (shrunk_all s.table.now s.class scope ts))
+  pub placed : OnOk result (after.nodes.items ≡ before.nodes.items ++ nodes_of_all (length before.nodes.items) (shrunk_all s.table.now s.class scope ts))
+  pub typed : HasTypes before → OnOk result (after.types ≡ before.types ++ types_of_all s.table.now s.class scope (shrunk_all s.table.now s.class scope ts))
 
-pub record FoldsMaybe {E : Type 0} (s : Setting) (scope : List Binding) (o : MaybeTree) (before after : List Node) (result : Result (Option NodeId) E) : Type 0 where
-  pub id : IfOk result (λ id. id ≡ root_of_maybe (length before) (shrunk_maybe s.table.now s.class scope o))
-  pub placed : OnOk result (after ≡ before ++ nodes_of_maybe (length before) (shrunk_maybe s.table.now s.class scope o))
-  pub few : OnOk result (length after ≤ length before + maybe_size o)
+pub record FoldsMaybe {E : Type 0} (s : Setting) (scope : List Binding) (o : MaybeTree) (before after : Placed) (result : Result (Option NodeId) E) : Type 0 where
+  pub id : IfOk result (λ id. id ≡ root_of_maybe (length before.nodes.items) (shrunk_maybe s.table.now s.class scope o))
+  pub placed : OnOk result (after.nodes.items ≡ before.nodes.items ++ nodes_of_maybe (length before.nodes.items) (shrunk_maybe s.table.now s.class scope o))
+  pub typed : HasTypes before → OnOk result (after.types ≡ before.types ++ types_of_maybe s.table.now s.class scope (shrunk_maybe s.table.now s.class scope o))
 
-pub record FoldsCases {E : Type 0} (s : Setting) (scope : List Binding) (cs : Cases) (before after : List Node) (result : Result Branches E) : Type 0 where
-  pub is_type : IfOk result (λ f. IsType s.table.now f.joined)
-  pub typed : IfOk result (λ f. f.joined ≡ unwrap_or (cases_type_of s.table.now s.class scope None cs) object_type)
-  pub branches : IfOk result (λ f. f.branches.items ≡ branch_roots (length before) (shrunk_cases s.table.now s.class scope cs))
-  pub placed : OnOk result (after ≡ before ++ nodes_of_cases (length before) (shrunk_cases s.table.now s.class scope cs))
-  pub few : OnOk result (length after ≤ length before + cases_size cs)
+pub record FoldsCases {E : Type 0} (s : Setting) (scope : List Binding) (cs : Cases) (before after : Placed) (result : Result (Vec NodeBranch) E) : Type 0 where
+  pub branches : IfOk result (λ f. f.items ≡ branch_roots (length before.nodes.items) (shrunk_cases s.table.now s.class scope cs))
+  pub placed : OnOk result (after.nodes.items ≡ before.nodes.items ++ nodes_of_cases (length before.nodes.items) (shrunk_cases s.table.now s.class scope cs))
+  pub typed : HasTypes before → OnOk result (after.types ≡ before.types ++ types_of_cases s.table.now s.class scope (shrunk_cases s.table.now s.class scope cs))
 
--- the expression of a feature
-abbrev pub expression_of : Feature → Option Tree
-expression_of (Method m) = Some m.body
-expression_of (Attribute a) = a.init
+-- so it is with all names in scope with which these parts, or this node, stand in the body
+abbrev pub FoldsPart : {E : Type 0} → Setting → NodeId → Placed → Placed → Result Found E → Type 0
+FoldsPart s id before after result =
+    (scope : List Binding) → HaveTypes s.table.now scope → IsPart (typed_body s) scope id → Folds s scope (tree_at s.body.now id) before after result
+
+abbrev pub FoldsParts : {E : Type 0} → Setting → List NodeId → Placed → Placed → Result (Vec NodeId) E → Type 0
+FoldsParts s ids before after result =
+    (scope : List Binding) → HaveTypes s.table.now scope → AreParts (typed_body s) scope ids → FoldsAll s scope (trees_of s ids) before after result
+
+abbrev pub MayFoldPart : {E : Type 0} → Setting → Option NodeId → Placed → Placed → Result (Option NodeId) E → Type 0
+MayFoldPart s o before after result =
+    (scope : List Binding) → HaveTypes s.table.now scope → MayBePart (typed_body s) scope o → FoldsMaybe s scope (maybe_tree_of s o) before after result
+
+abbrev pub FoldsBranches : {E : Type 0} → Setting → List NodeBranch → Placed → Placed → Result (Vec NodeBranch) E → Type 0
+FoldsBranches s branches before after result =
+    (scope : List Binding) → HaveTypes s.table.now scope → AreBranches (typed_body s) scope branches
+    → FoldsCases s scope (cases_of s branches) before after result
+
+abbrev pub FoldsNode : {E : Type 0} → Setting → NodeId → Node → Placed → Placed → Result Found E → Type 0
+FoldsNode s id n before after result = (scope : List Binding) → IsStanding s scope id n → Folds s scope (tree_of_node s n) before after result

@@ -14,12 +14,13 @@ use Rattle.cool_syntax.specs.Tree as trees
 use Rattle.cool_classes.specs.declared.class_id.ClassId.{ClassId}
 use Rattle.cool_classes.specs.declared.class_id.Ty.{Ty}
 use Rattle.cool_classes.specs.Chains.{Class, class_number, name_of}
-use Rattle.cool_classes.specs.ClimbedChains.{above, chain}
-use Rattle.cool_classes.specs.Features.{own_method, attributes_of}
+use Rattle.cool_classes.specs.ClimbedChains.{above}
+use Rattle.cool_classes.specs.Features.{own_method}
 use Rattle.cool_rules.specs.Conformance.{class_of}
+use Rattle.cool_rules.specs.NodeTypes.{own_scope}
 use Rattle.cool_rules.specs.Rules.{is_among, same_type, type_meant}
 use Rattle.cool_rules.specs.Scopes.{Binding}
-use Rattle.cool_rules.specs.Typing.{with_name, formals_in_scope, attributes_in_scope}
+use Rattle.cool_rules.specs.Typing.{with_name, formals_in_scope}
 use Rattle.cool_meaning.specs.Values.{Value, Int, Bool, Str}
 use Rattle.cool_meaning.specs.Numbers.{fits, is_zero, signed}
 use Rattle.cool_meaning.specs.Evaluation.{same, is_void}
@@ -173,9 +174,6 @@ abbrev mutual
       CaseOf at name declared (fold p c (with_name name (type_meant p declared.name) scope) t) (fold_cases p c scope cs)
 
 -- Features and tables: the bodies of each class, with its attributes in scope
-
-abbrev pub own_scope : List Class → ClassId → List Binding
-own_scope p c = attributes_in_scope p (attributes_of p (chain p c))
 
 abbrev pub fold_option : List Class → ClassId → Option Tree → Option Tree
 fold_option p c None = None

@@ -5,7 +5,7 @@ use Rattle.cool_syntax.specs.declared.file_tree.Feature.TheVariants.{Method, Att
 use Rattle.cool_classes.specs.declared.class_id.ClassId.{ClassId}
 use Rattle.cool_classes.specs.Chains.{Class, features_of}
 use Rattle.cool_rules.specs.Typing.{formals_in_scope}
-use Rattle.cool_opt.specs.Folding.{own_scope}
+use Rattle.cool_rules.specs.NodeTypes.{own_scope}
 use Rattle.cool_opt.specs.Foldable.{IsDone}
 
 -- in a body, with the formals and the attributes of its class in scope; in an initial value, with the attributes

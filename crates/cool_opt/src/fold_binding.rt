@@ -1,93 +1,84 @@
 //! Folding `let` and `case`.
 
-ghost use Rattle.std.specs.Prelude.{◌≡◌, ◌+◌, ◌-◌, ◌<◌, ◌^◌, length, IfSome, OnOk};
+ghost use Rattle.std.specs.Prelude.{◌≡◌, ◌+◌, ◌-◌, ◌<◌, ◌≤◌, ◌^◌, length, IfSome, OnOk};
 ghost use Rattle.std.specs.List.{AllByRecursion};
 ghost use Rattle.cool_syntax.specs.NodeLists.{HasPartsBelow};
 ghost use Rattle.cool_syntax.specs.Tree.{cases_size, maybe_size, tree_size};
-ghost use Rattle.cool_opt.specs.FoldedNodes.{Folds, FoldsCases, FoldsMaybe};
+ghost use Rattle.cool_opt.specs.FoldedNodes.{FoldsBranches, FoldsNode, MayFoldPart};
 ghost use Rattle.cool_opt.specs.Forms.{IsCase, IsLet};
-ghost use Rattle.cool_opt.specs.Settings.{tree_of_node, maybe_tree_of, cases_of, IsReady};
+ghost use Rattle.cool_opt.specs.Settings.{tree_of_node, maybe_tree_of, cases_of, IsSound};
 
-use crate::expression::{fold, fold_within};
-use crate::place::{Branches, Found};
+use crate::expression::fold;
+use crate::place::{Found, Placed};
 use crate::place_form::{add_branch, place_case, place_let};
 use crate::setting::Setting;
-use cool_classes::{OBJECT, Ty};
-use cool_rules::{Scope, joined_with, type_meant};
 use cool_syntax::{Node, NodeBranch, NodeId};
 use std::alloc::AllocError;
 
-/// Folds a `let`, whose parts have numbers below this one.
+/// Folds a `let`, whose parts have numbers below this one. `Err` comes only for want of memory.
 #[cycle(folding)]
 #[inline(never)]
 pub(crate) fn fold_let<'a>(
     setting: &Setting<'a, '_>,
-    scope: &mut Scope<'a>,
-    nodes: &mut Vec<Node>,
+    placed: &mut Placed,
     id: NodeId,
     node: &'a Node,
 ) -> Result<Found<'a>, AllocError>
     requires form { IsLet node.now }
     requires parts { HasPartsBelow id.0 node.now }
-    requires ready { IsReady setting.now scope.old id.0 }
-    requires room { length nodes.old.items + tree_size (tree_of_node setting.now node.now) < 2 ^ 32 - 1 }
-    ensures scope { OnOk result (scope.new ≡ scope.old) }
-    ensures folded { Folds setting.now scope.old (tree_of_node setting.now node.now) nodes.old.items nodes.new.items result }
+    requires sound { IsSound setting.now }
+    requires below { id.0 < tree_size setting.now.body.now }
+    requires room { length placed.old.nodes.items + tree_size (tree_of_node setting.now node.now) < 2 ^ 32 - 1 }
+    ensures few { OnOk result (length placed.new.nodes.items ≤ length placed.old.nodes.items + tree_size (tree_of_node setting.now node.now)) }
+    ensures folded { FoldsNode setting.now id node.now placed.old placed.new result }
 {
     match node {
-        Node::Let {
-            name,
-            declared,
-            init,
-            body,
-            ..
-        } => {
-            let init = fold_option(setting, scope, nodes, id, *init)?;
-            let bound = type_meant(setting.table, &declared.name);
-            let found = fold_within(setting, scope, nodes, name, bound, *body)?;
-            place_let(setting, nodes, node, init, &found)
+        Node::Let { init, body, .. } => {
+            let init = fold_option(setting, placed, id, *init)?;
+            let found = fold(setting, placed, *body)?.id;
+            place_let(setting, placed, node, setting.types.get(id), init, found)
         }
         _ => unreachable!(),
     }
 }
 
-/// Folds an initial value, where there is one.
+/// Folds an initial value, where there is one. `Err` comes only for want of memory.
 #[cycle(folding)]
 fn fold_option<'a>(
     setting: &Setting<'a, '_>,
-    scope: &mut Scope<'a>,
-    nodes: &mut Vec<Node>,
+    placed: &mut Placed,
     end: NodeId,
     init: Option<NodeId>,
 ) -> Result<Option<NodeId>, AllocError>
     requires init { IfSome init (λ value. value.0 < end.0) }
-    requires ready { IsReady setting.now scope.old end.0 }
-    requires room { length nodes.old.items + maybe_size (maybe_tree_of setting.now init) < 2 ^ 32 - 1 }
-    ensures scope { OnOk result (scope.new ≡ scope.old) }
-    ensures folded { FoldsMaybe setting.now scope.old (maybe_tree_of setting.now init) nodes.old.items nodes.new.items result }
+    requires sound { IsSound setting.now }
+    requires below { end.0 < tree_size setting.now.body.now }
+    requires room { length placed.old.nodes.items + maybe_size (maybe_tree_of setting.now init) < 2 ^ 32 - 1 }
+    ensures few { OnOk result (length placed.new.nodes.items ≤ length placed.old.nodes.items + maybe_size (maybe_tree_of setting.now init)) }
+    ensures folded { MayFoldPart setting.now init placed.old placed.new result }
 {
     match init {
-        Some(value) => Ok(Some(fold(setting, scope, nodes, value)?.id)),
+        Some(value) => Ok(Some(fold(setting, placed, value)?.id)),
         None => Ok(None),
     }
 }
 
-/// Folds a `case`, whose parts have numbers below this one.
+/// Folds a `case`, whose parts have numbers below this one. `Err` comes only for want of memory.
 #[cycle(folding)]
 #[inline(never)]
 pub(crate) fn fold_case<'a>(
     setting: &Setting<'a, '_>,
-    scope: &mut Scope<'a>,
-    nodes: &mut Vec<Node>,
+    placed: &mut Placed,
     id: NodeId,
     node: &'a Node,
 ) -> Result<Found<'a>, AllocError>
     requires form { IsCase node.now }
     requires parts { HasPartsBelow id.0 node.now }
-    requires ready { IsReady setting.now scope.old id.0 }
-    requires room { length nodes.old.items + tree_size (tree_of_node setting.now node.now) < 2 ^ 32 - 1 }
-    ensures scope { OnOk result (scope.new ≡ scope.old) }
-    ensures folded { Folds setting.now scope.old (tree_of_node setting.now node.now) nodes.old.items nodes.new.items result }
+    requires sound { IsSound setting.now }
+    requires below { id.0 < tree_size setting.now.body.now }
+    requires room { length placed.old.nodes.items + tree_size (tree_of_node setting.now node.now) < 2 ^ 32 - 1 }
+    ensures few { OnOk result (length placed.new.nodes.items ≤ length placed.old.nodes.items + tree_size (tree_of_node setting.now node.now)) }
+    ensures folded { FoldsNode setting.now id node.now placed.old placed.new result }
 {
     match node {
         Node::Case {
@@ -95,40 +86,34 @@ pub(crate) fn fold_case<'a>(
             branches,
             ..
         } => {
-            let first = fold(setting, scope, nodes, *value)?.id;
-            let rest = fold_branches(setting, scope, nodes, id, branches.as_slice())?;
-            place_case(setting, nodes, node, first, rest)
+            let first = fold(setting, placed, *value)?.id;
+            let rest = fold_branches(setting, placed, id, branches.as_slice())?;
+            place_case(setting, placed, node, setting.types.get(id), first, rest)
         }
         _ => unreachable!(),
     }
 }
 
-/// Folds branches, in order, and joins their types. A text has one at least; that of none is Object.
+/// Folds branches, in order. `Err` comes only for want of memory.
 #[cycle(folding)]
 #[inline(always)]
 fn fold_branches<'a>(
     setting: &Setting<'a, '_>,
-    scope: &mut Scope<'a>,
-    nodes: &mut Vec<Node>,
+    placed: &mut Placed,
     end: NodeId,
     branches: &'a [NodeBranch],
-) -> Result<Branches, AllocError>
+) -> Result<Vec<NodeBranch>, AllocError>
     requires branches { AllByRecursion (λ branch. branch.body.0 < end.0) branches.now }
-    requires ready { IsReady setting.now scope.old end.0 }
-    requires room { length nodes.old.items + cases_size (cases_of setting.now branches.now) < 2 ^ 32 - 1 }
-    ensures scope { OnOk result (scope.new ≡ scope.old) }
-    ensures folded { FoldsCases setting.now scope.old (cases_of setting.now branches.now) nodes.old.items nodes.new.items result }
+    requires sound { IsSound setting.now }
+    requires below { end.0 < tree_size setting.now.body.now }
+    requires room { length placed.old.nodes.items + cases_size (cases_of setting.now branches.now) < 2 ^ 32 - 1 }
+    ensures few { OnOk result (length placed.new.nodes.items ≤ length placed.old.nodes.items + cases_size (cases_of setting.now branches.now)) }
+    ensures folded { FoldsBranches setting.now branches.now placed.old placed.new result }
 {
     let mut folded = Vec::new(setting.alloc);
-    let mut joined = None;
     for branch in branches {
-        let bound = type_meant(setting.table, &branch.declared.name);
-        let found = fold_within(setting, scope, nodes, &branch.name, bound, branch.body)?;
-        add_branch(setting.alloc, &mut folded, branch, found.id)?;
-        joined = Some(joined_with(setting.table, setting.class, joined, found.ty));
+        let body = fold(setting, placed, branch.body)?.id;
+        add_branch(setting.alloc, &mut folded, branch, body)?;
     }
-    Ok(Branches {
-        branches: folded,
-        joined: joined.unwrap_or(Ty::Class(OBJECT)),
-    })
+    Ok(folded)
 }

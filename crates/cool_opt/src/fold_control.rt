@@ -1,109 +1,115 @@
 //! Folding loops, blocks and conditionals.
 
-ghost use Rattle.std.specs.Prelude.{◌≡◌, ◌+◌, ◌-◌, ◌<◌, ◌^◌, length, if◌then◌else◌, IfOk, None, OnOk, Some};
-ghost use Rattle.cool_syntax.specs.NodeLists.{tree_at, HasPartsBelow};
+ghost use Rattle.std.specs.Prelude.{◌≡◌, ◌+◌, ◌-◌, ◌<◌, ◌≤◌, ◌^◌, length, slice_get, if◌then◌else◌, None, OnOk, Some};
+ghost use Rattle.cool_syntax.specs.NodeLists.{HasPartsBelow};
 ghost use Rattle.cool_syntax.specs.Tree.{tree_size};
-ghost use Rattle.cool_rules.specs.Rules.{join_in, same_type};
-ghost use Rattle.cool_opt.specs.FoldedNodes.{Folds};
+ghost use Rattle.cool_classes.specs.declared.class_id.Ty.{Ty as StaticType};
+ghost use Rattle.cool_rules.specs.Rules.{same_type};
+ghost use Rattle.cool_opt.specs.FoldedNodes.{FoldsNode};
 ghost use Rattle.cool_opt.specs.Forms.{IsBlock, IsConditional, IsLoop};
-ghost use Rattle.cool_opt.specs.Settings.{tree_of_node, IsReady};
+ghost use Rattle.cool_opt.specs.Settings.{tree_of_node, IsSound};
 ghost use Rattle.cool_opt.specs.Shrinking.{taken};
-ghost use Rattle.cool_rules.specs.StaticTypes.{type_of};
 
 use crate::constant::truth_in;
 use crate::expression::{fold, fold_all};
-use crate::place::{Found, cut};
+use crate::place::{Found, Placed, cut};
 use crate::place_form::{place_block, place_if, place_while};
 use crate::setting::Setting;
-use crate::typing::type_of;
 use cool_classes::Ty;
-use cool_rules::{Scope, join_meant};
 use cool_syntax::{Node, NodeId};
 use std::alloc::AllocError;
 
-/// Folds a loop, whose parts have numbers below this one.
+/// Folds a loop, whose parts have numbers below this one. `Err` comes only for want of memory.
 #[cycle(folding)]
 #[inline(never)]
 pub(crate) fn fold_while<'a>(
     setting: &Setting<'a, '_>,
-    scope: &mut Scope<'a>,
-    nodes: &mut Vec<Node>,
+    placed: &mut Placed,
     id: NodeId,
     node: &'a Node,
 ) -> Result<Found<'a>, AllocError>
     requires form { IsLoop node.now }
     requires parts { HasPartsBelow id.0 node.now }
-    requires ready { IsReady setting.now scope.old id.0 }
-    requires room { length nodes.old.items + tree_size (tree_of_node setting.now node.now) < 2 ^ 32 - 1 }
-    ensures scope { OnOk result (scope.new ≡ scope.old) }
-    ensures folded { Folds setting.now scope.old (tree_of_node setting.now node.now) nodes.old.items nodes.new.items result }
+    requires sound { IsSound setting.now }
+    requires below { id.0 < tree_size setting.now.body.now }
+    requires room { length placed.old.nodes.items + tree_size (tree_of_node setting.now node.now) < 2 ^ 32 - 1 }
+    ensures few { OnOk result (length placed.new.nodes.items ≤ length placed.old.nodes.items + tree_size (tree_of_node setting.now node.now)) }
+    ensures folded { FoldsNode setting.now id node.now placed.old placed.new result }
 {
     match node {
         Node::While { test, body, .. } => {
-            let first = fold(setting, scope, nodes, *test)?.id;
-            let second = fold(setting, scope, nodes, *body)?.id;
-            place_while(setting, nodes, node, first, second)
+            let first = fold(setting, placed, *test)?.id;
+            let second = fold(setting, placed, *body)?.id;
+            place_while(setting, placed, node, setting.types.get(id), first, second)
         }
         _ => unreachable!(),
     }
 }
 
-/// Folds a block, whose items have numbers below this one.
+/// Folds a block, whose items have numbers below this one. `Err` comes only for want of memory.
 #[cycle(folding)]
 #[inline(never)]
 pub(crate) fn fold_block<'a>(
     setting: &Setting<'a, '_>,
-    scope: &mut Scope<'a>,
-    nodes: &mut Vec<Node>,
+    placed: &mut Placed,
     id: NodeId,
     node: &'a Node,
 ) -> Result<Found<'a>, AllocError>
     requires form { IsBlock node.now }
     requires parts { HasPartsBelow id.0 node.now }
-    requires ready { IsReady setting.now scope.old id.0 }
-    requires room { length nodes.old.items + tree_size (tree_of_node setting.now node.now) < 2 ^ 32 - 1 }
-    ensures scope { OnOk result (scope.new ≡ scope.old) }
-    ensures folded { Folds setting.now scope.old (tree_of_node setting.now node.now) nodes.old.items nodes.new.items result }
+    requires sound { IsSound setting.now }
+    requires below { id.0 < tree_size setting.now.body.now }
+    requires room { length placed.old.nodes.items + tree_size (tree_of_node setting.now node.now) < 2 ^ 32 - 1 }
+    ensures few { OnOk result (length placed.new.nodes.items ≤ length placed.old.nodes.items + tree_size (tree_of_node setting.now node.now)) }
+    ensures folded { FoldsNode setting.now id node.now placed.old placed.new result }
 {
     match node {
         Node::Block { items, .. } => {
-            let parts = fold_all(setting, scope, nodes, id, items.as_slice())?;
-            place_block(setting, nodes, node, parts)
+            let items = fold_all(setting, placed, id, items.as_slice())?;
+            place_block(setting, placed, node, setting.types.get(id), items)
         }
         _ => unreachable!(),
     }
 }
 
 /// Folds a conditional, whose parts have numbers below this one: to one of them, where the test is decided and the part has the type of the
-/// whole.
+/// whole. Then the other part is not folded. `Err` comes only for want of memory.
 #[cycle(folding)]
 #[inline(never)]
 pub(crate) fn fold_if<'a>(
     setting: &Setting<'a, '_>,
-    scope: &mut Scope<'a>,
-    nodes: &mut Vec<Node>,
+    placed: &mut Placed,
     id: NodeId,
     node: &'a Node,
 ) -> Result<Found<'a>, AllocError>
     requires form { IsConditional node.now }
     requires parts { HasPartsBelow id.0 node.now }
-    requires ready { IsReady setting.now scope.old id.0 }
-    requires room { length nodes.old.items + tree_size (tree_of_node setting.now node.now) < 2 ^ 32 - 1 }
-    ensures scope { OnOk result (scope.new ≡ scope.old) }
-    ensures folded { Folds setting.now scope.old (tree_of_node setting.now node.now) nodes.old.items nodes.new.items result }
+    requires sound { IsSound setting.now }
+    requires below { id.0 < tree_size setting.now.body.now }
+    requires room { length placed.old.nodes.items + tree_size (tree_of_node setting.now node.now) < 2 ^ 32 - 1 }
+    ensures few { OnOk result (length placed.new.nodes.items ≤ length placed.old.nodes.items + tree_size (tree_of_node setting.now node.now)) }
+    ensures folded { FoldsNode setting.now id node.now placed.old placed.new result }
 {
-    let start = nodes.len();
+    let start = placed.nodes.len();
     match node {
         Node::If { test, yes, no, .. } => {
-            let decided = fold(setting, scope, nodes, *test)?;
+            let decided = fold(setting, placed, *test)?;
             let truth = truth_in(decided.constant);
-            if let Some(part) = taken_part(setting, scope, id, truth, *yes, *no)? {
-                cut(nodes, start);
-                return fold(setting, scope, nodes, part);
+            if let Some(part) = taken_part(setting, id, truth, *yes, *no) {
+                cut(placed, start);
+                return fold(setting, placed, part);
             }
-            let first = fold(setting, scope, nodes, *yes)?;
-            let second = fold(setting, scope, nodes, *no)?;
-            place_if(setting, nodes, node, decided.id, &first, &second)
+            let first = fold(setting, placed, *yes)?.id;
+            let second = fold(setting, placed, *no)?.id;
+            place_if(
+                setting,
+                placed,
+                node,
+                setting.types.get(id),
+                decided.id,
+                first,
+                second,
+            )
         }
         _ => unreachable!(),
     }
@@ -111,29 +117,23 @@ pub(crate) fn fold_if<'a>(
 
 /// The part of a conditional that a truth takes, where it has the type of the whole.
 #[inline(never)]
-fn taken_part<'a>(
-    setting: &Setting<'a, '_>,
-    scope: &mut Scope<'a>,
-    end: NodeId,
+fn taken_part(
+    setting: &Setting<'_, '_>,
+    whole: NodeId,
     test: Option<bool>,
     yes: NodeId,
     no: NodeId,
-) -> Result<Option<NodeId>, AllocError>
-    requires parts { (yes.0 < end.0) × (no.0 < end.0) }
-    requires ready { IsReady setting.now scope.old end.0 }
-    ensures scope { OnOk result (scope.new ≡ scope.old) }
-    ensures taken { IfOk result (λ part. part ≡ taken test (type_of setting.now.table.now setting.now.class scope.old (tree_at setting.now.body.now yes)) (type_of setting.now.table.now setting.now.class scope.old (tree_at setting.now.body.now no)) (join_in setting.now.table.now setting.now.class (type_of setting.now.table.now setting.now.class scope.old (tree_at setting.now.body.now yes)) (type_of setting.now.table.now setting.now.class scope.old (tree_at setting.now.body.now no))) yes no) }
+) -> Option<NodeId>
+    requires sound { IsSound setting.now }
+    requires parts { (yes.0 < whole.0) × (no.0 < whole.0) }
+    requires below { whole.0 < tree_size setting.now.body.now }
+    ensures { (v w u : StaticType) → slice_get setting.now.types.now yes.0 ≡ Some v → slice_get setting.now.types.now no.0 ≡ Some w → slice_get setting.now.types.now whole.0 ≡ Some u → result ≡ taken test v w u yes no }
 {
-    let Some(truth) = test else {
-        return Ok(None);
-    };
-    let first = type_of(setting, scope, yes)?;
-    let second = type_of(setting, scope, no)?;
-    let whole = join_meant(setting.table, setting.class, first, second);
-    if truth {
-        Ok(part_of_type(first, whole, yes))
+    let ty = setting.types.get(whole);
+    if test? {
+        part_of_type(setting.types.get(yes), ty, yes)
     } else {
-        Ok(part_of_type(second, whole, no))
+        part_of_type(setting.types.get(no), ty, no)
     }
 }
 

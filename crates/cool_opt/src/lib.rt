@@ -1,8 +1,8 @@
 //! Folding: constants are computed, tests on constants decided, and a dispatch that can go to one method only is called directly.
 //!
 //! Comes in: an accepted program. Goes out: the folded program. `specs/Folding.antt` defines what becomes of each form of expression and of a
-//! table, over the types of `specs/Types.antt`; `specs/Foldable.antt` says of what nothing is left to fold. The functions `law_*` say what a
-//! folded program is.
+//! table, over the static types of `cool_rules`; `specs/Foldable.antt` says of what nothing is left to fold. The functions `law_*` say what a
+//! folded program is. The types of expressions are read in the program's columns and not computed, and the folded program has its own.
 #![tactic(auto)]
 
 mod constant;
@@ -20,7 +20,6 @@ mod place_form;
 mod place_operator;
 mod program;
 mod setting;
-mod typing;
 
 pub use laws::{law_folded, law_folded_fits, law_folded_is_typed, law_nothing_left};
 pub use program::fold;

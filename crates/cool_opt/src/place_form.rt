@@ -1,108 +1,107 @@
 //! Placing loops, blocks, conditionals, `let`, `case` and dispatches whose parts were folded.
 
-ghost use Rattle.std.specs.Prelude.{◌≡◌, ◌∷◌, ◌++◌, ◌-◌, ◌<◌, ◌^◌, [], length, OnOk};
-ghost use Rattle.cool_rules.specs.Conformance.{IsType};
+ghost use Rattle.std.specs.Prelude.{◌≡◌, ◌∷◌, ◌++◌, ◌+◌, ◌-◌, ◌<◌, ◌≤◌, ◌^◌, [], length, OnOk};
 ghost use Rattle.cool_opt.specs.Forms.{IsBlock, IsCase, IsConditional, IsDispatch, IsLet, IsLoop, IsStaticDispatch};
 ghost use Rattle.cool_opt.specs.PlacedForms.{PlacesBlock, PlacesCase, PlacesConditional, PlacesDispatch, PlacesLet, PlacesLoop, PlacesStaticDispatch};
 ghost use Rattle.cool_opt.specs.Settings.{IsSound};
 
-use crate::place::{Branches, Found, Parts, place};
+use crate::place::{Found, Placed, place};
 use crate::setting::Setting;
-use cool_classes::{OBJECT, Ty};
-use cool_rules::{call_meant, class_of, join_meant, type_meant};
+use cool_classes::{ClassId, Ty};
 use cool_syntax::{Listed, Node, NodeBranch, NodeId, TypeRef};
 use std::alloc::{AllocError, Global};
 
-/// Places a loop of these parts. `Err` comes only for want of memory.
+/// Places a loop of this type and these parts. `Err` comes only for want of memory.
 #[inline(never)]
 pub(crate) fn place_while<'a>(
     setting: &Setting<'_, '_>,
-    nodes: &mut Vec<Node>,
+    placed: &mut Placed,
     node: &Node,
+    ty: Ty,
     test: NodeId,
     body: NodeId,
 ) -> Result<Found<'a>, AllocError>
     requires form { IsLoop node.now }
     requires sound { IsSound setting.now }
-    requires few { length nodes.old.items < 2 ^ 32 - 1 }
-    ensures { PlacesLoop setting.now node.now test body nodes.old.items nodes.new.items result }
+    requires few { length placed.old.nodes.items < 2 ^ 32 - 1 }
+    ensures few { OnOk result (length placed.new.nodes.items ≤ length placed.old.nodes.items + 1) }
+    ensures placed { PlacesLoop setting.now node.now ty test body placed.old placed.new result }
 {
     match node {
         Node::While { at, .. } => {
             let at = *at;
-            place(nodes, Node::While { at, test, body }, Ty::Class(OBJECT))
+            place(placed, Node::While { at, test, body }, ty)
         }
         _ => unreachable!(),
     }
 }
 
-/// Places a block of these items. `Err` comes only for want of memory.
+/// Places a block of this type and these items. `Err` comes only for want of memory.
 #[inline(never)]
 pub(crate) fn place_block<'a>(
     setting: &Setting<'_, '_>,
-    nodes: &mut Vec<Node>,
+    placed: &mut Placed,
     node: &Node,
-    parts: Parts,
+    ty: Ty,
+    items: Vec<NodeId>,
 ) -> Result<Found<'a>, AllocError>
     requires form { IsBlock node.now }
     requires sound { IsSound setting.now }
-    requires few { length nodes.old.items < 2 ^ 32 - 1 }
-    ensures { PlacesBlock setting.now node.now parts nodes.old.items nodes.new.items result }
+    requires few { length placed.old.nodes.items < 2 ^ 32 - 1 }
+    ensures few { OnOk result (length placed.new.nodes.items ≤ length placed.old.nodes.items + 1) }
+    ensures placed { PlacesBlock setting.now node.now ty items placed.old placed.new result }
 {
     match node {
         Node::Block { at, .. } => {
-            let items = Listed::new(parts.ids);
-            place(nodes, Node::Block { at: *at, items }, parts.last)
+            let items = Listed::new(items);
+            place(placed, Node::Block { at: *at, items }, ty)
         }
         _ => unreachable!(),
     }
 }
 
-/// Places a conditional of these parts, which stays. `Err` comes only for want of memory.
+/// Places a conditional of this type and these parts, which stays. `Err` comes only for want of memory.
 #[inline(never)]
 pub(crate) fn place_if<'a>(
     setting: &Setting<'_, '_>,
-    nodes: &mut Vec<Node>,
+    placed: &mut Placed,
     node: &Node,
+    ty: Ty,
     test: NodeId,
-    yes: &Found<'_>,
-    no: &Found<'_>,
+    yes: NodeId,
+    no: NodeId,
 ) -> Result<Found<'a>, AllocError>
     requires form { IsConditional node.now }
     requires sound { IsSound setting.now }
-    requires yes { IsType setting.now.table.now yes.now.ty }
-    requires no { IsType setting.now.table.now no.now.ty }
-    requires few { length nodes.old.items < 2 ^ 32 - 1 }
-    ensures { PlacesConditional setting.now node.now test yes.now no.now nodes.old.items nodes.new.items result }
+    requires few { length placed.old.nodes.items < 2 ^ 32 - 1 }
+    ensures few { OnOk result (length placed.new.nodes.items ≤ length placed.old.nodes.items + 1) }
+    ensures placed { PlacesConditional setting.now node.now ty test yes no placed.old placed.new result }
 {
     match node {
         Node::If { at, .. } => {
-            let whole = join_meant(setting.table, setting.class, yes.ty, no.ty);
-            let made = Node::If {
-                at: *at,
-                test,
-                yes: yes.id,
-                no: no.id,
-            };
-            place(nodes, made, whole)
+            let at = *at;
+            let made = Node::If { at, test, yes, no };
+            place(placed, made, ty)
         }
         _ => unreachable!(),
     }
 }
 
-/// Places a `let` of these parts. `Err` comes only for want of memory.
+/// Places a `let` of this type and these parts. `Err` comes only for want of memory.
 #[inline(never)]
 pub(crate) fn place_let<'a>(
     setting: &Setting<'_, '_>,
-    nodes: &mut Vec<Node>,
+    placed: &mut Placed,
     node: &Node,
+    ty: Ty,
     init: Option<NodeId>,
-    body: &Found<'_>,
+    body: NodeId,
 ) -> Result<Found<'a>, AllocError>
     requires form { IsLet node.now }
     requires sound { IsSound setting.now }
-    requires few { length nodes.old.items < 2 ^ 32 - 1 }
-    ensures { PlacesLet setting.now node.now init body.now nodes.old.items nodes.new.items result }
+    requires few { length placed.old.nodes.items < 2 ^ 32 - 1 }
+    ensures few { OnOk result (length placed.new.nodes.items ≤ length placed.old.nodes.items + 1) }
+    ensures placed { PlacesLet setting.now node.now ty init body placed.old placed.new result }
 {
     match node {
         Node::Let {
@@ -118,36 +117,38 @@ pub(crate) fn place_let<'a>(
                 name,
                 declared,
                 init,
-                body: body.id,
+                body,
             };
-            place(nodes, made, body.ty)
+            place(placed, made, ty)
         }
         _ => unreachable!(),
     }
 }
 
-/// Places a `case` of these parts. `Err` comes only for want of memory.
+/// Places a `case` of this type and these parts. `Err` comes only for want of memory.
 #[inline(never)]
 pub(crate) fn place_case<'a>(
     setting: &Setting<'_, '_>,
-    nodes: &mut Vec<Node>,
+    placed: &mut Placed,
     node: &Node,
+    ty: Ty,
     value: NodeId,
-    rest: Branches,
+    branches: Vec<NodeBranch>,
 ) -> Result<Found<'a>, AllocError>
     requires form { IsCase node.now }
     requires sound { IsSound setting.now }
-    requires few { length nodes.old.items < 2 ^ 32 - 1 }
-    ensures { PlacesCase setting.now node.now value rest nodes.old.items nodes.new.items result }
+    requires few { length placed.old.nodes.items < 2 ^ 32 - 1 }
+    ensures few { OnOk result (length placed.new.nodes.items ≤ length placed.old.nodes.items + 1) }
+    ensures placed { PlacesCase setting.now node.now ty value branches placed.old placed.new result }
 {
     match node {
         Node::Case { at, .. } => {
             let made = Node::Case {
                 at: *at,
                 value,
-                branches: Listed::new(rest.branches),
+                branches: Listed::new(branches),
             };
-            place(nodes, made, rest.joined)
+            place(placed, made, ty)
         }
         _ => unreachable!(),
     }
@@ -174,41 +175,42 @@ pub(crate) fn add_branch(
     Ok(())
 }
 
-/// Places a dispatch of these parts: a direct call where no class below the receiver's defines the method anew. `Err` comes only for want
-/// of memory.
+/// Places a dispatch of this type on a receiver of this class, with these parts: a direct call where no class below the receiver's defines
+/// the method anew. `Err` comes only for want of memory.
 #[inline(never)]
 pub(crate) fn place_dispatch<'a>(
     setting: &Setting<'_, '_>,
-    nodes: &mut Vec<Node>,
+    placed: &mut Placed,
     node: &Node,
-    object: &Found<'_>,
-    parts: Parts,
+    ty: Ty,
+    class: ClassId,
+    object: NodeId,
+    args: Vec<NodeId>,
 ) -> Result<Found<'a>, AllocError>
     requires form { IsDispatch node.now }
     requires sound { IsSound setting.now }
-    requires object { IsType setting.now.table.now object.now.ty }
-    requires few { length nodes.old.items < 2 ^ 32 - 1 }
-    ensures { PlacesDispatch setting.now node.now object.now parts nodes.old.items nodes.new.items result }
+    requires class { class.0 < length setting.now.table.now }
+    requires few { length placed.old.nodes.items < 2 ^ 32 - 1 }
+    ensures few { OnOk result (length placed.new.nodes.items ≤ length placed.old.nodes.items + 1) }
+    ensures placed { PlacesDispatch setting.now node.now ty class object args placed.old placed.new result }
 {
     match node {
         Node::Dispatch { at, name, .. } => {
-            let args = Listed::new(parts.ids);
-            let class = class_of(setting.class, object.ty);
-            let ty = call_meant(setting.table, class, object.ty, name);
+            let args = Listed::new(args);
             let copy = name.copy(setting.alloc)?;
             if setting.is_redefined(class, name) {
                 let made = Node::Dispatch {
                     at: *at,
-                    receiver: object.id,
+                    receiver: object,
                     name: copy,
                     args,
                 };
-                return place(nodes, made, ty);
+                return place(placed, made, ty);
             }
             let named = setting.table.name(class).copy(setting.alloc)?;
             let made = Node::StaticDispatch {
                 at: *at,
-                receiver: object.id,
+                receiver: object,
                 class: TypeRef {
                     name: named,
                     at: *at,
@@ -216,26 +218,27 @@ pub(crate) fn place_dispatch<'a>(
                 name: copy,
                 args,
             };
-            place(nodes, made, ty)
+            place(placed, made, ty)
         }
         _ => unreachable!(),
     }
 }
 
-/// Places a dispatch of these parts to the method of the class that it names. `Err` comes only for want of memory.
+/// Places a dispatch of this type and these parts to the method of the class that it names. `Err` comes only for want of memory.
 #[inline(never)]
 pub(crate) fn place_static<'a>(
     setting: &Setting<'_, '_>,
-    nodes: &mut Vec<Node>,
+    placed: &mut Placed,
     node: &Node,
-    object: &Found<'_>,
-    parts: Parts,
+    ty: Ty,
+    object: NodeId,
+    args: Vec<NodeId>,
 ) -> Result<Found<'a>, AllocError>
     requires form { IsStaticDispatch node.now }
     requires sound { IsSound setting.now }
-    requires object { IsType setting.now.table.now object.now.ty }
-    requires few { length nodes.old.items < 2 ^ 32 - 1 }
-    ensures { PlacesStaticDispatch setting.now node.now object.now parts nodes.old.items nodes.new.items result }
+    requires few { length placed.old.nodes.items < 2 ^ 32 - 1 }
+    ensures few { OnOk result (length placed.new.nodes.items ≤ length placed.old.nodes.items + 1) }
+    ensures placed { PlacesStaticDispatch setting.now node.now ty object args placed.old placed.new result }
 {
     match node {
         Node::StaticDispatch {
@@ -244,18 +247,16 @@ pub(crate) fn place_static<'a>(
             name,
             ..
         } => {
-            let meant = class_of(setting.class, type_meant(setting.table, &class.name));
-            let ty = call_meant(setting.table, meant, object.ty, name);
             let class = class.copy(setting.alloc)?;
             let name = name.copy(setting.alloc)?;
             let made = Node::StaticDispatch {
                 at: *at,
-                receiver: object.id,
+                receiver: object,
                 class,
                 name,
-                args: Listed::new(parts.ids),
+                args: Listed::new(args),
             };
-            place(nodes, made, ty)
+            place(placed, made, ty)
         }
         _ => unreachable!(),
     }

@@ -1,31 +1,33 @@
 //! Placing assignments and operators whose parts were folded.
 
-ghost use Rattle.std.specs.Prelude.{◌≡◌, ◌+◌, ◌-◌, ◌<◌, ◌≤◌, ◌^◌, length};
+ghost use Rattle.std.specs.Prelude.{◌≡◌, ◌+◌, ◌-◌, ◌<◌, ◌≤◌, ◌^◌, length, OnOk};
 ghost use Rattle.cool_syntax.specs.NodeGroups.{IsBinary, IsUnary};
 ghost use Rattle.cool_opt.specs.PlacedForms.{PlacesBinary, PlacesUnary};
 ghost use Rattle.cool_opt.specs.Settings.{IsSound};
 
 use crate::constant::{compared, complemented, computed, negated, voided};
-use crate::place::{Found, place, place_number, place_truth};
+use crate::place::{Found, Placed, place, place_number, place_truth};
 use crate::setting::Setting;
+use cool_classes::Ty;
 use cool_syntax::Node;
 use std::alloc::AllocError;
 
-/// Places an assignment, `isvoid`, `~` or `not` of this part, or the constant that it is. The nodes of the part are those from a number on.
-/// `Err` comes only for want of memory.
+/// Places an assignment, `isvoid`, `~` or `not` of this type and this part, or the constant that it is. The nodes of the part are those
+/// from a number on. `Err` comes only for want of memory.
 #[inline(never)]
 pub(crate) fn place_unary<'a>(
     setting: &Setting<'_, '_>,
-    nodes: &mut Vec<Node>,
+    placed: &mut Placed,
     start: usize,
     node: &Node,
+    ty: Ty,
     part: &Found<'_>,
 ) -> Result<Found<'a>, AllocError>
     requires group { IsUnary node.now }
     requires sound { IsSound setting.now }
-    requires few { length nodes.old.items < 2 ^ 32 - 1 }
-    requires start { start ≤ length nodes.old.items }
-    ensures { PlacesUnary setting.now start node.now part.now nodes.old.items nodes.new.items result }
+    requires few { length placed.old.nodes.items < 2 ^ 32 - 1 }
+    ensures few { OnOk result (length placed.new.nodes.items ≤ length placed.old.nodes.items + 1) }
+    ensures placed { PlacesUnary setting.now start node.now ty part.now placed.old placed.new result }
 {
     match node {
         Node::Assign { at, name, .. } => {
@@ -35,28 +37,28 @@ pub(crate) fn place_unary<'a>(
                 name,
                 value: part.id,
             };
-            place(nodes, made, part.ty)
+            place(placed, made, ty)
         }
         Node::IsVoid { at, .. } => {
             let made = Node::IsVoid {
                 at: *at,
                 value: part.id,
             };
-            place_truth(nodes, start, made, *at, voided(part.constant))
+            place_truth(placed, start, made, *at, voided(part.constant))
         }
         Node::Neg { at, .. } => {
             let made = Node::Neg {
                 at: *at,
                 value: part.id,
             };
-            place_number(nodes, start, made, *at, negated(part.constant))
+            place_number(placed, start, made, *at, negated(part.constant))
         }
         Node::Not { at, .. } => {
             let made = Node::Not {
                 at: *at,
                 value: part.id,
             };
-            place_truth(nodes, start, made, *at, complemented(part.constant))
+            place_truth(placed, start, made, *at, complemented(part.constant))
         }
         _ => unreachable!(),
     }
@@ -67,7 +69,7 @@ pub(crate) fn place_unary<'a>(
 #[inline(never)]
 pub(crate) fn place_binary<'a>(
     setting: &Setting<'_, '_>,
-    nodes: &mut Vec<Node>,
+    placed: &mut Placed,
     start: usize,
     node: &Node,
     first: &Found<'_>,
@@ -75,9 +77,9 @@ pub(crate) fn place_binary<'a>(
 ) -> Result<Found<'a>, AllocError>
     requires group { IsBinary node.now }
     requires sound { IsSound setting.now }
-    requires few { length nodes.old.items < 2 ^ 32 - 1 }
-    requires start { start ≤ length nodes.old.items }
-    ensures { PlacesBinary setting.now start node.now first.now second.now nodes.old.items nodes.new.items result }
+    requires few { length placed.old.nodes.items < 2 ^ 32 - 1 }
+    ensures few { OnOk result (length placed.new.nodes.items ≤ length placed.old.nodes.items + 1) }
+    ensures placed { PlacesBinary setting.now start node.now first.now second.now placed.old placed.new result }
 {
     match node {
         Node::Arith { at, op, .. } => {
@@ -88,7 +90,7 @@ pub(crate) fn place_binary<'a>(
                 right: second.id,
             };
             let number = computed(*op, first.constant, second.constant);
-            place_number(nodes, start, made, *at, number)
+            place_number(placed, start, made, *at, number)
         }
         Node::Compare { at, op, .. } => {
             let made = Node::Compare {
@@ -98,7 +100,7 @@ pub(crate) fn place_binary<'a>(
                 right: second.id,
             };
             let truth = compared(*op, first.constant, second.constant);
-            place_truth(nodes, start, made, *at, truth)
+            place_truth(placed, start, made, *at, truth)
         }
         _ => unreachable!(),
     }

@@ -8,10 +8,11 @@ ghost use Rattle.cool_opt.specs.Settings.{IsSound};
 
 use crate::definers::Definers;
 use cool_classes::{ClassId, ClassTable};
+use cool_rules::NodeTypes;
 use cool_syntax::{Body, Name};
 use std::alloc::Global;
 
-/// The class table with the classes that define each method, the class whose feature it is, and the expression.
+/// The class table with the classes that define each method, the class whose feature it is, and the expression with the types of its nodes.
 #[derive(Clone, Copy)]
 pub(crate) struct Setting<'a, 'b> {
     pub(crate) alloc: Global,
@@ -19,6 +20,7 @@ pub(crate) struct Setting<'a, 'b> {
     pub(crate) definers: &'b Definers<'a>,
     pub(crate) class: ClassId,
     pub(crate) body: &'a Body,
+    pub(crate) types: &'a NodeTypes,
 }
 
 impl<'a, 'b> Setting<'a, 'b> {

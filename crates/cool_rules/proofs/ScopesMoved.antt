@@ -14,7 +14,7 @@ use Rattle.cool_rules.specs.Typing.{HasType, HaveTypes, HaveItems, HasInit, Have
 abbrev pub AreSame : List Binding → List Binding → Type 0
 AreSame s t = (name : List ℕ) → found s name ≡ found t name
 
-same_with : (x : List ℕ) (t : Ty) (s1 s2 : List Binding) → AreSame s1 s2 → AreSame (with_name x t s1) (with_name x t s2)
+pub same_with : (x : List ℕ) (t : Ty) (s1 s2 : List Binding) → AreSame s1 s2 → AreSame (with_name x t s1) (with_name x t s2)
 same_with x t s1 s2 h = λ name. ap (λ (o : Option Ty). if bytes_eq x name then Some t else o) (h name)
 
 module _ (p : List Class) (c : ClassId) where

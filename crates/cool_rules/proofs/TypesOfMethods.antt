@@ -1,5 +1,5 @@
 -- The types that methods declare are types, in whole tables, and so are those of typed expressions.
-use Rattle.std.proofs.Common.{◌≡◌, ℕ, zero, suc, ◌<◌, List, [], ◌∷◌, map, length, get_or, take, Option, Some, None, Bool, true, false, ap, sym, ◌∙◌, refl, subst, arith, length-take}
+use Rattle.std.proofs.Common.{◌≡◌, ℕ, ◌<◌, List, [], ◌∷◌, map, length, get_or, take, Option, Some, None, Bool, true, false, ap, sym, ◌∙◌, refl, subst, arith, length-take}
 use Rattle.std.specs.Prelude.{if◌then◌else◌, bytes_eq, codes, slice_get, cond}
 use Rattle.std.specs.List.{AllByRecursion}
 use Rattle.std.proofs.lemmas.List.{get_or-take}
@@ -7,7 +7,7 @@ use Rattle.cool_syntax.specs.declared.file_tree.Feature.{Feature}
 use Rattle.cool_syntax.specs.declared.file_tree.Feature.TheVariants.{Method, Attribute}
 use Rattle.cool_syntax.specs.declared.file_tree.Formal.{Formal}
 use Rattle.cool_syntax.specs.declared.file_tree.MethodDef.{MethodDef}
-use Rattle.cool_syntax.specs.Tree.{Tree, Trees, Cases, Last, More, Without, With, NoCase, CaseOf}
+use Rattle.cool_syntax.specs.Tree.{Tree, Trees, Cases, Last, More, NoCase, CaseOf}
 use Rattle.cool_syntax.specs.Tree as trees
 use Rattle.cool_classes.specs.declared.class_id.ClassId.{ClassId}
 use Rattle.cool_classes.specs.declared.class_id.Ty.{Ty}
@@ -95,7 +95,7 @@ module _ (p : List Class) (whole : IsWholeTable p) where
   -- Types of expressions
 
   module _ (c : ClassId) (within : c.0 < length p) where
-    in_scope : (scope : List Binding) (name : List ℕ) (t : Ty) → AllByRecursion (λ (b : Binding). IsType p b.type) scope → type_in_scope scope name ≡ Some t → IsType p t
+    pub in_scope : (scope : List Binding) (name : List ℕ) (t : Ty) → AllByRecursion (λ (b : Binding). IsType p b.type) scope → type_in_scope scope name ≡ Some t → IsType p t
     in_scope scope name t h e = by (bytes_eq name (codes "self")) e
       where
         by : (x : Bool) → (if x then Some SelfType else found scope name) ≡ Some t → IsType p t

@@ -1,8 +1,11 @@
 pub mod Conformance
 pub mod Fits
 pub mod Meant
+pub mod NodeScopes
+pub mod NodeTypes
 pub mod Rules
 pub mod Scopes
 pub mod StaticTypes
+pub mod TypedParts
 pub mod TypedTables
 pub mod Typing

@@ -18,6 +18,11 @@ abbrev pub left : List Binding → List Binding
 left [] = []
 left (b ∷ bs) = bs
 
+-- bindings entered one after the other into a scope
+abbrev pub entered : List Binding → List Binding → List Binding
+entered [] o = o
+entered (b ∷ bs) o = entered bs (b ∷ o)
+
 -- entries in the order in which they were made, seen with the latest first
 abbrev pub binding_of : Entry → Binding
 binding_of e = record { name = e.name.now; type = e.ty }

@@ -2,7 +2,7 @@
 -- (`IsTypeWhereTyped`). Where it gives none, some type is given.
 use Rattle.std.specs.Prelude.{◌≡◌, ◌<◌, List, length, Option, Some, None, unwrap_or}
 use Rattle.std.specs.List.{AllByRecursion}
-use Rattle.cool_syntax.specs.Tree.{Tree, Trees, MaybeTree, Cases, Last, More, Without, With, NoCase, CaseOf}
+use Rattle.cool_syntax.specs.Tree.{Tree, Trees, Cases, Last, More, NoCase, CaseOf}
 use Rattle.cool_syntax.specs.Tree as trees
 use Rattle.cool_classes.specs.declared.class_id.ClassId.{ClassId}
 use Rattle.cool_classes.specs.declared.class_id.Ty.{Ty}

@@ -1,10 +1,9 @@
 -- Over tables of the same signatures, features of the same tokens, places aside, are checked with the same result: both are typed, or both
 -- have a fault of one kind at the token of one position. So what is kept of the one is what is to be kept of the other.
-use Rattle.std.proofs.Common.{◌≡◌, ◌≢◌, ◌⊎◌, inl, inr, ℕ, zero, suc, ◌+◌, ◌<◌, List, [], ◌∷◌, map, length, get_or, drop, Option, Some, None, IfSome, Bool, true, false, if◌then◌else◌, Ok, Err, refl, sym, ap, ◌∙◌, subst, arith}
+use Rattle.std.proofs.Common.{◌≡◌, ◌⊎◌, inl, inr, ℕ, zero, suc, ◌+◌, ◌<◌, List, [], ◌∷◌, map, length, get_or, drop, Option, Some, None, IfSome, Bool, true, false, if◌then◌else◌, Ok, Err, refl, sym, ap, ◌∙◌, subst, arith}
 use Rattle.std.specs.Prelude.{nat_eq}
 use Rattle.std.specs.Option.{option_map}
 use Rattle.std.proofs.lemmas.Bool.{eq-eqb, ne_eqb}
-use Rattle.std.proofs.lemmas.Bool.Decides.{eqb_tells}
 use Rattle.std.proofs.lemmas.List.{length-map}
 use Rattle.cool_syntax.specs.declared.place.Place.{Place}
 use Rattle.cool_syntax.specs.declared.token.Token.{Token}
@@ -23,10 +22,10 @@ use Rattle.cool_classes.specs.declared.class_id.Ty.{Ty}
 use Rattle.cool_classes.specs.Chains.{Class as TableClass}
 use Rattle.cool_classes.specs.ClassFaults.{classes_meant}
 use Rattle.cool_rules.specs.Rules.{type_meant, formal_binding}
-use Rattle.cool_rules.specs.Scopes.{Binding}
+use Rattle.cool_rules.specs.Scopes.{Binding, entered}
 use Rattle.cool_check.specs.declared.fault.TypeFault.{TypeFault}
 use Rattle.cool_check.specs.declared.fault.TypeKind.TheVariants.{E17, E18}
-use Rattle.cool_check.specs.Contexts.{entered, formal_bindings}
+use Rattle.cool_check.specs.Contexts.{formal_bindings}
 use Rattle.cool_check.specs.FirstFaults.{Checked, checked, conform}
 use Rattle.cool_check.specs.TypingFaults.{class_context, initial_checked, feature_checked}
 use Rattle.cool_session.specs.Bases.{view}

@@ -22,8 +22,8 @@ use Rattle.cool_classes.specs.Names.{first_named, self_type}
 use Rattle.cool_classes.specs.Settled.{basic_names, names_in, or_object, parent_meant}
 use Rattle.cool_classes.specs.Tables.{basic_classes}
 use Rattle.cool_rules.specs.Rules.{is_among, first_among, do_conform, join_in, type_of_name, type_meant, method_of, attribute_binding}
-use Rattle.cool_rules.specs.Scopes.{Binding}
-use Rattle.cool_check.specs.Contexts.{entered, attribute_bindings}
+use Rattle.cool_rules.specs.Scopes.{Binding, entered}
+use Rattle.cool_check.specs.Contexts.{attribute_bindings}
 use Rattle.cool_check.specs.TypingFaults.{class_context}
 use Rattle.cool_session.specs.Signatures.{FeatureSignature, OfMethod, OfAttribute, ClassSignature, feature_signature, parent_name, signatures}
 use Rattle.cool_session.specs.Bases.{View, view}

@@ -1,12 +1,23 @@
--- A fault in a part stands where the part does.
-use Rattle.std.proofs.Common.{◌≡◌, ◌<◌, Err, sym, subst, rules, arith}
+-- A fault in a part stands where the part does. The type of an expression, its static type, comes after those of its parts; a variable has the
+-- type that its declared name means.
+use Rattle.std.proofs.Common.{◌≡◌, ◌+◌, ◌<◌, ◌++◌, ◌∙◌, Err, drop, map, ap, sym, subst, rules, arith, List}
 use Rattle.std.proofs.lemmas.Grind.{common_steps, elements, moves, pieces}
-use Rattle.std.specs.Prelude.{IfErr}
+use Rattle.std.specs.Prelude.{IfErr, OnOk}
 use Rattle.std.specs.List.{AllByRecursion}
-use Rattle.cool_syntax.specs.NodeLists.{all_trees, made, HasPartsBelow}
+use Rattle.cool_syntax.specs.declared.node.Node.{Node}
+use Rattle.cool_syntax.specs.declared.node.NodeBranch.{NodeBranch}
+use Rattle.cool_syntax.specs.Tree.{Tree, of_twigs}
+use Rattle.cool_syntax.specs.NodeLists.{all_trees, made, tree_at, twig_at, HasPartsBelow}
 use Rattle.cool_syntax.specs.TreesWithinLimits.{IsTreeWithin}
+use Rattle.cool_classes.specs.declared.class_id.Ty.TheVariants.{Class as IsClass}
+use Rattle.cool_rules.specs.NodeTypes.{types_of_cases}
+use Rattle.cool_check.specs.Checks.{maybe_tree_of, cases_of, nodes_typed, parts_typed}
+use Rattle.cool_check.specs.Contexts.{context}
 use Rattle.cool_check.specs.Faults.{IsPlacedError}
+use Rattle.cool_check.proofs.ColumnsOfParts.{on_ok, own_added, let_added, branch_added}
 use Rattle.cool_check.proofs.PlacesOfParts.{tree_within, branch_within, ids_below}
+use Rattle.cool_check.proofs.TypesGiven.{static_type_given, bound_meant, branch_meant}
+use Rattle.lists.proofs.ItemsLeft.{drop_one}
 use Rattle.cool_check.proofs.+typing.Goals as goal
 
 pub binding::type_of_branches-returns-in_err-class-clause-answer : goal.binding::type_of_branches-returns-in_err-class-clause-answer
@@ -76,3 +87,45 @@ expression::type_of_last-returns-in_err-last-clause-answer t c = record {
       let same : c.from_residual.result ≡ Err c.in_err-last.field-0.0 = search rules in
       subst (λ r. IfErr r (IsPlacedError n)) (sym same) (c.in_err-last.ensures.answer.places n (tree_within n c.args.setting.now.body.now c.args.items.now c.loop-item.item-index _ (omega arith) h));
 }
+
+pub expression::type_of-returns-clause-column : goal.expression::type_of-returns-clause-column
+expression::type_of-returns-clause-column t c =
+    let s = c.args.setting.now in
+    let o = c.args.locals.now in
+    let e = made (all_trees s.body.now) c.node.result.now in
+    let sound = c.requires.ready.sound in
+    let same = static_type_given (context s) sound.whole sound.class sound.types o c.requires.ready.locals e c.in_ok-found.found c.in_ok-found.ensures.answer.typed in
+    subst (λ (x : Tree). c.push.new.self ≡ c.args.types.now ++ nodes_typed s o x) (sym c.node.ensures.tree)
+    (own_added s.table.now s.class (o ++ s.attributes.now) e c.args.types.now c.type_of_node.new.types c.push.new.self c.in_ok-found.found c.in_ok-found.ensures.column c.in_ok-push.ensures same)
+
+pub binding::type_of_binding-returns-in_ok-bound-in-Let-clause-column : goal.binding::type_of_binding-returns-in_ok-bound-in-Let-clause-column
+binding::type_of_binding-returns-in_ok-bound-in-Let-clause-column t c =
+    let s = c.args.setting.now in
+    let o = c.args.locals.now in
+    let n = c.in-Let in
+    let meant = bound_meant (context s) n.at n.name n.declared c.in_ok-given-in-Let.given c.in_ok-bound-in-Let.bound c.in_ok-bound-in-Let.ensures.typed in
+    subst (λ (x : Node). OnOk c.type_within.result (c.type_within.new.types ≡ c.args.types.now ++ parts_typed s o (made (all_trees s.body.now) x))) (sym n.is)
+    (on_ok c.type_within.result
+    (let_added s.table.now s.class s.attributes.now o c.type_of_option.new.locals n.at n.name n.declared (maybe_tree_of s n.init) (tree_at s.body.now n.body) c.in_ok-bound-in-Let.bound
+    c.args.types.now c.type_of_option.new.types c.type_within.new.types meant c.in_ok-given-in-Let.ensures.scope c.in_ok-given-in-Let.ensures.column)
+    c.type_within.ensures.column)
+
+pub binding::type_of_branches-loop-branch-preserved : goal.binding::type_of_branches-loop-branch-preserved
+binding::type_of_branches-loop-branch-preserved t c =
+    let s = c.args.setting.now in
+    let o = c.args.locals.now in
+    let w = c.branch-item.result in
+    let left = drop (c.loop-branch.branch-index + 1) c.args.branches.now in
+    let class = c.in_ok-class.class in
+    let meant = branch_meant (context s) w.at w.name w.declared c.deref.result.now class c.in_ok-class.ensures.typed in
+    record {
+      scope = search rules;
+      joined = search rules;
+      walked = first_of (search rules, grind (arith, common_steps), grind (arith, elements), grind (arith, moves), grind (arith, pieces));
+      column = branch_added s.table.now s.class s.attributes.now o c.loop-branch.locals w.at w.name w.declared (tree_at s.body.now w.body) (cases_of s left) (IsClass class) c.loop-branch.types c.type_within.new.types
+          meant c.loop-branch.invariant.scope c.in_ok-found.ensures.column
+          ∙ sym (ap (λ (ws : List NodeBranch). c.loop-branch.types ++ types_of_cases s.table.now s.class (o ++ s.attributes.now) (of_twigs (map (twig_at (all_trees s.body.now)) ws)))
+          (drop_one c.args.branches.now c.loop-branch.branch-index w (omega arith) c.branch-item.is))
+          ∙ c.loop-branch.invariant.column;
+      below = first_of (search rules, grind (arith, common_steps), grind (arith, elements), grind (arith, moves), grind (arith, pieces));
+    }

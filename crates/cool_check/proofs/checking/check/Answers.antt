@@ -21,13 +21,17 @@ none_found (x ∷ xs) e = absurd (some (length xs) (sym e))
     some : (n : ℕ) → (suc n == 0) ≡ true → ⊥
     some n h = let same = equal (suc n) 0 h in omega arith
 
--- where no fault is found, the table is a typed one
+-- where no fault is found, the table is a typed one, and the types of its nodes were kept
 pub new-requires : goal.new-requires
-new-requires c = record {
-  fits = c.requires.fits;
-  typed = accepted_typed c.args.t c.in_ok-faults.ensures.whole c.in_ok-faults.ensures.lawful (sym c.in_ok-faults.ensures.faults ∙ none_found c.in_ok-faults.faults.items (c.if-is_empty.ensures ∙ ap (λ (n : ℕ). n == 0) c.in_ok-faults.faults.ok.0));
-}
+new-requires c =
+    let none = none_found c.in_ok-faults.field-0.faults.items (c.if-is_empty.ensures ∙ ap (λ (n : ℕ). n == 0) c.in_ok-faults.field-0.faults.ok.0) in
+    record {
+      fits = c.requires.fits;
+      typed = accepted_typed c.args.t c.in_ok-faults.ensures.whole c.in_ok-faults.ensures.lawful (sym c.in_ok-faults.ensures.faults ∙ none);
+      types = c.in_ok-faults.ensures.types none;
+    }
 
 pub returns-then-is_empty-clause-accepted : goal.returns-then-is_empty-clause-accepted
 returns-then-is_empty-clause-accepted c =
-    accepted_typed c.args.t c.in_ok-faults.ensures.whole c.in_ok-faults.ensures.lawful (sym c.in_ok-faults.ensures.faults ∙ none_found c.in_ok-faults.faults.items (c.if-is_empty.ensures ∙ ap (λ (n : ℕ). n == 0) c.in_ok-faults.faults.ok.0))
+    let none = none_found c.in_ok-faults.field-0.faults.items (c.if-is_empty.ensures ∙ ap (λ (n : ℕ). n == 0) c.in_ok-faults.field-0.faults.ok.0) in
+    accepted_typed c.args.t c.in_ok-faults.ensures.whole c.in_ok-faults.ensures.lawful (sym c.in_ok-faults.ensures.faults ∙ none)

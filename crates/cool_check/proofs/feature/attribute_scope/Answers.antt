@@ -5,7 +5,7 @@ use Rattle.cool_classes.specs.declared.method.AttributeRef.{AttributeRef}
 use Rattle.cool_classes.specs.Features.{HasAttribute, attribute_type}
 use Rattle.cool_classes.specs.ClimbedChains.{chain}
 use Rattle.cool_rules.specs.Rules.{attribute_binding, type_meant}
-use Rattle.cool_check.specs.Contexts.{entered}
+use Rattle.cool_rules.specs.Scopes.{entered}
 use Rattle.cool_classes.proofs.ChainsOfTables.{chain_is}
 use Rattle.cool_rules.proofs.RulesOfTables.{type_meant_is}
 use Rattle.cool_check.proofs.feature.attribute_scope.Goals as goal

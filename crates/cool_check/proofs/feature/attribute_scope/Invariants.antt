@@ -3,7 +3,8 @@ use Rattle.std.proofs.Common.{◌≡◌, map}
 use Rattle.std.specs.List.{AllByRecursion}
 use Rattle.cool_classes.specs.Features.{HasAttribute}
 use Rattle.cool_rules.specs.Rules.{attribute_binding}
-use Rattle.cool_check.specs.Contexts.{entered, attribute_bindings}
+use Rattle.cool_rules.specs.Scopes.{entered}
+use Rattle.cool_check.specs.Contexts.{attribute_bindings}
 use Rattle.cool_check.specs.Settings.{HaveTypes}
 use Rattle.cool_check.proofs.feature.attribute_scope.Given as goal
 

@@ -4,7 +4,7 @@ use Rattle.std.specs.List.{slice_get}
 use Rattle.cool_syntax.specs.declared.file_tree.Formal.{Formal}
 use Rattle.cool_classes.specs.Chains.{features_of}
 use Rattle.cool_rules.specs.Rules.{formal_binding, type_meant}
-use Rattle.cool_check.specs.Contexts.{entered}
+use Rattle.cool_rules.specs.Scopes.{entered}
 use Rattle.cool_check.proofs.PartsLeft.{formals_later, formal_declared}
 use Rattle.cool_check.proofs.feature.formal_scope.Goals as goal
 

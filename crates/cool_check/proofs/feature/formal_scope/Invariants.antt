@@ -1,7 +1,8 @@
 -- The formals that were entered have types of the table, and those that are left make the scope.
 use Rattle.std.proofs.Common.{◌≡◌, map, drop}
 use Rattle.cool_rules.specs.Rules.{formal_binding}
-use Rattle.cool_check.specs.Contexts.{entered, formal_bindings}
+use Rattle.cool_rules.specs.Scopes.{entered}
+use Rattle.cool_check.specs.Contexts.{formal_bindings}
 use Rattle.cool_check.specs.Settings.{HaveTypes}
 use Rattle.cool_check.proofs.feature.formal_scope.Given as goal
 

@@ -13,7 +13,7 @@ loop-attribute-init c =
     let p = c.args.setting.now.table.now in
     let k = c.args.setting.now.class in
     let sound = c.requires.sound in
-    let items = c.into_iter-attribute-iterator.ensures.into_iter_gives.0 ∙ c.in_ok-attribute-items.ensures.attributes (chain p k) (chain_is p k sound.table sound.class) in
+    let items = c.into_iter-attribute-iterator.ensures.into_iter_gives.0 ∙ c.in_ok-attribute-items.ensures.attributes (chain p k) (chain_is p k sound.whole.table sound.class) in
     let none = c.new-variables.ensures in
     let all = all_there (attributes p k) (attributes p k) (λ a h. h) in
     record {

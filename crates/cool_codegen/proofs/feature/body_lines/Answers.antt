@@ -2,16 +2,19 @@
 use Rattle.std.proofs.Common.{◌++◌, length, ap, sym, subst, ◌∙◌, arith}
 use Rattle.mips_isa.specs.Lines.{lines_of}
 use Rattle.cool_syntax.specs.TreesWithinLimits.{IsTreeWithin}
+use Rattle.cool_rules.specs.TypedParts.{IsPart}
 use Rattle.cool_consts.specs.Constants.{Constants}
 use Rattle.cool_codegen.specs.Asked.{Extends}
 use Rattle.cool_codegen.specs.Numbered.{asked_at, lines_at}
-use Rattle.cool_codegen.specs.Settings.{context}
-use Rattle.cool_codegen.proofs.WholeBodies.{whole_asked, whole_lines, whole_root, whole_size}
+use Rattle.cool_codegen.specs.Settings.{context, typed_body}
+use Rattle.cool_codegen.specs.Variables.{scope_of}
+use Rattle.cool_rules.proofs.PartsStand.{whole_is_part}
+use Rattle.cool_codegen.proofs.WholeBodies.{whole_asked, whole_lines, whole_size}
 use Rattle.cool_codegen.proofs.feature.body_lines.Goals as goal
 
 pub expression-made-requires-clause-expression : goal.expression-made-requires-clause-expression
 expression-made-requires-clause-expression c = record {
-  root = whole_root c.args.setting.now.body.now c.root-root.result c.root-root.ensures.last;
+  part = subst (IsPart (typed_body c.args.setting.now) (scope_of c.args.variables)) (sym c.root-root.ensures.last) (whole_is_part (typed_body c.args.setting.now) (scope_of c.args.variables) c.requires.types);
   places = subst (IsTreeWithin (length c.args.setting.now.names.now)) (sym c.root-root.ensures.tree) c.requires.places;
 }
 

@@ -6,13 +6,17 @@ use Rattle.cool_syntax.specs.declared.file_tree.Feature.{Feature}
 use Rattle.cool_syntax.specs.declared.file_tree.Formal.{Formal}
 use Rattle.cool_syntax.specs.Tree.{Tree}
 use Rattle.cool_classes.specs.Chains.{Class, features_of}
+use Rattle.cool_rules.specs.NodeTypes.{feature_types, initial_types, node_types}
+use Rattle.cool_rules.specs.TypedTables.{IsTypedTable}
 use Rattle.cool_consts.specs.Constants.{Constants}
 use Rattle.cool_codegen.specs.Asked.{with_integers, with_strings, Extends, Keeps}
 use Rattle.cool_codegen.specs.Code.{Context}
-use Rattle.cool_codegen.specs.Features.{feature_code, feature_integers, feature_strings, initial_integers, initial_strings, initial_value_code, method_code}
+use Rattle.cool_codegen.specs.Features.{attributes_in, feature_code, feature_integers, feature_strings, initial_integers, initial_strings, initial_value_code, method_code, with_formals}
+use Rattle.cool_codegen.specs.Variables.{scope_of}
 use Rattle.cool_codegen.proofs.AttributesOfClasses.{attribute_there}
 use Rattle.cool_codegen.proofs.ConstantsKept.{extended_kept, kept_same}
 use Rattle.cool_codegen.proofs.FeaturesThere.{one_there, small_value, stands}
+use Rattle.cool_codegen.proofs.ScopesOfFeatures.{method_types, value_types}
 use Rattle.cool_codegen.proofs.feature.feature_lines.Goals.{in-Method+in_ok-method_lines-in-Method, in-Attribute+in-Some+in_ok-attribute_lines-in-Attribute, in-Attribute+in_default}
 use Rattle.cool_codegen.proofs.feature.feature_lines.Goals as goal
 
@@ -31,6 +35,35 @@ attribute_lines-requires-clause-room c =
     let few_integers = c.requires.few_integers in
     let few_strings = c.requires.few_strings in
     record { deep = omega arith; integers = omega arith; strings = omega arith }
+
+pub method_lines-requires-clause-types : goal.method_lines-requires-clause-types
+method_lines-requires-clause-types c =
+    let p = c.args.p.now in
+    let k = c.args.c in
+    let m = c.in-Method.method in
+    let same = c.features.ensures.features ∙ ap (λ (q : List Class). features_of q k) c.table-table.ensures.table in
+    let here = stands (features_of p k) c.features.result.now c.args.feature c.index-features-feature.result same c.requires.feature c.index-features-feature.is in
+    let typed = subst IsTypedTable c.table-table.ensures.table c.table-table.ensures.typed in
+    let table = sym c.table-table.ensures.table in
+    let formals = sym c.as_slice.ensures in
+    c.types-types.ensures c.index-features-feature.result here
+    ∙ ap (feature_types p k) c.in-Method.is
+    ∙ method_types p typed k c.requires.class c.args.feature m (here ∙ ap Some c.in-Method.is)
+    ∙ (λ i. node_types (table i) k (scope_of (with_formals (table i) (formals i) (attributes_in (table i) k))) m.body)
+
+pub attribute_lines-requires-clause-types : goal.attribute_lines-requires-clause-types
+attribute_lines-requires-clause-types c =
+    let p = c.args.p.now in
+    let k = c.args.c in
+    let same = c.features.ensures.features ∙ ap (λ (q : List Class). features_of q k) c.table-table.ensures.table in
+    let here = stands (features_of p k) c.features.result.now c.args.feature c.index-features-feature.result same c.requires.feature c.index-features-feature.is in
+    let typed = subst IsTypedTable c.table-table.ensures.table c.table-table.ensures.typed in
+    let table = sym c.table-table.ensures.table in
+    c.types-types.ensures c.index-features-feature.result here
+    ∙ ap (feature_types p k) c.in-Attribute.is
+    ∙ ap (initial_types p k) c.in-Some.is
+    ∙ value_types p typed k c.requires.class c.in-Some.body
+    ∙ (λ i. node_types (table i) k (scope_of (attributes_in (table i) k)) c.in-Some.body)
 
 pub returns-clause-lines : goal.returns-clause-lines
 returns-clause-lines c x is g more =

@@ -1,59 +1,90 @@
--- What is folded is the expression of the feature, in the scope that the definition names.
-use Rattle.std.proofs.Common.{◌≡◌, ◌++◌, List, Some, ap, ◌∙◌, subst}
-use Rattle.cool_syntax.specs.declared.file_tree.Feature.TheVariants.{Attribute, Method}
-use Rattle.cool_classes.specs.Chains.{Class}
+-- What is folded is the expression of the feature, in the scope of its class and its formals.
+use Rattle.std.proofs.Common.{List, length, Some, ◌∙◌, ap, subst, arith}
+use Rattle.std.specs.Prelude.{option_map}
+use Rattle.std.specs.declared.alloc.AllocError.{AllocError}
+use Rattle.cool_syntax.specs.Tree.{tree_size}
+use Rattle.cool_classes.specs.Chains.{Class, features_of}
+use Rattle.cool_syntax.specs.declared.TheConstants.{MOST_FILES}
+use Rattle.cool_rules.specs.Fits.{Fits}
+use Rattle.cool_rules.specs.NodeScopes.{feature_scope}
 use Rattle.cool_rules.specs.TypedTables.{IsTypedTable}
-use Rattle.cool_rules.specs.Typing.{formals_in_scope}
-use Rattle.cool_opt.specs.Folding.{own_scope}
 use Rattle.cool_opt.specs.Shrinking.{shrunk}
-use Rattle.cool_opt.proofs.FoldedBodies.{feature_read, init_shrunk, method_shrunk, no_init}
+use Rattle.cool_opt.proofs.FoldedBodies.{body_folds, body_sound, body_there, few_nodes, whole_folded}
 use Rattle.cool_opt.proofs.feature.fold_body.Goals as goal
+use Rattle.lists.proofs.ItemsAt.{there_is}
 
-pub returns-in-Method : goal.returns-in-Method
-returns-in-Method c x asked =
+pub fold-requires-clause-sound : goal.fold-requires-clause-sound
+fold-requires-clause-sound c =
     let p = c.args.p.now in
-    let q = c.table-table.result.now in
     let k = c.args.c in
-    let m = c.in-Method.method in
     let table = c.table-table.ensures.table in
     let typed = subst IsTypedTable table c.table-table.ensures.typed in
-    let features = c.features.ensures.features in
-    let read = c.index-features-feature in
-    let there =
-    feature_read p q k c.args.feature c.features.result.now read.result (Method m) table features c.requires.feature read.is c.in-Method.is in
-    let scope : c.enter_formals.new.scope ≡ formals_in_scope p m.formals ++ own_scope p k =
-    c.in_ok-enter_formals-in-Method.ensures.formals
-    ∙ (λ i. formals_in_scope q (c.as_slice.ensures i) ++ c.in_ok-scope.ensures.attributes i)
-    ∙ ap (λ (r : List Class). formals_in_scope r m.formals ++ own_scope r k) table in
-    ap Some (c.in_ok-folded-in-Method.ensures ∙ (λ i. shrunk (table i) k (scope i) m.body))
-    ∙ method_shrunk p typed k c.requires.class c.args.feature m x there asked
+    let (x, there) = there_is (features_of p k) c.args.feature c.requires.feature in
+    let has = body_there p c.table-table.result.now k c.args.feature x _ c.in-Some.body.now table there c.expression_at.ensures
+    (ap (option_map (λ b. b.now)) c.in-Some.is) in
+    body_sound _ p table x (body_folds p typed k c.requires.class c.args.feature x c.in-Some.body.now there has) (c.types.ensures x there) typed
+    c.requires.definers c.requires.class
 
-pub returns-in-Some : goal.returns-in-Some
-returns-in-Some c x asked =
+pub fold-requires-clause-room : goal.fold-requires-clause-room
+fold-requires-clause-room c =
     let p = c.args.p.now in
-    let q = c.table-table.result.now in
     let k = c.args.c in
-    let a = c.in-Attribute.attribute in
+    let table = c.table-table.ensures.table in
+    let fits = c.table-table.ensures.fits in
+    let (x, there) = there_is (features_of p k) c.args.feature c.requires.feature in
+    let has = body_there p c.table-table.result.now k c.args.feature x _ c.in-Some.body.now table there c.expression_at.ensures
+    (ap (option_map (λ b. b.now)) c.in-Some.is) in
+    let few = few_nodes p MOST_FILES (subst (λ (q : List Class). Fits q MOST_FILES) table fits) k c.requires.class c.args.feature x c.in-Some.body.now there has in
+    omega (arith, few, ap tree_size c.root.ensures.tree, ap length c.new-2.ensures.items)
+
+pub from_nodes-requires-clause-few : goal.from_nodes-requires-clause-few
+from_nodes-requires-clause-few c =
+    let p = c.args.p.now in
+    let k = c.args.c in
+    let table = c.table-table.ensures.table in
+    let fits = c.table-table.ensures.fits in
+    let (x, there) = there_is (features_of p k) c.args.feature c.requires.feature in
+    let has = body_there p c.table-table.result.now k c.args.feature x _ c.in-Some.body.now table there c.expression_at.ensures
+    (ap (option_map (λ b. b.now)) c.in-Some.is) in
+    let few = few_nodes p MOST_FILES (subst (λ (q : List Class). Fits q MOST_FILES) table fits) k c.requires.class c.args.feature x c.in-Some.body.now there has in
+    omega (arith, few, ap tree_size c.root.ensures.tree, ap length c.new-2.ensures.items, c.in_ok-fold.ensures.few)
+
+pub from_nodes-requires-clause-postorder : goal.from_nodes-requires-clause-postorder
+from_nodes-requires-clause-postorder c =
+    let p = c.args.p.now in
+    let k = c.args.c in
     let table = c.table-table.ensures.table in
     let typed = subst IsTypedTable table c.table-table.ensures.typed in
-    let features = c.features.ensures.features in
-    let read = c.index-features-feature in
-    let there =
-    feature_read p q k c.args.feature c.features.result.now read.result (Attribute a) table features c.requires.feature read.is c.in-Attribute.is in
-    let scope : c.in_ok-scope.scope ≡ own_scope p k = c.in_ok-scope.ensures.attributes ∙ ap (λ (r : List Class). own_scope r k) table in
-    ap Some (c.in_ok-folded-in-Some.ensures ∙ (λ i. shrunk (table i) k (scope i) c.in-Some.body))
-    ∙ init_shrunk p typed k c.requires.class c.args.feature a c.in-Some.body x there c.in-Some.is asked
+    let (x, there) = there_is (features_of p k) c.args.feature c.requires.feature in
+    let has = body_there p c.table-table.result.now k c.args.feature x _ c.in-Some.body.now table there c.expression_at.ensures
+    (ap (option_map (λ b. b.now)) c.in-Some.is) in (
+      shrunk p k (feature_scope p k x) c.in-Some.body.now,
+      (whole_folded _ p table x (body_folds p typed k c.requires.class c.args.feature x c.in-Some.body.now there has) (c.types.ensures x there)
+          {E = AllocError} c.root.result _ c.fold.new.placed _ c.root.ensures.last c.root.ensures.tree c.new-2.ensures.items c.new-3.ensures
+          c.in_ok-fold.ensures.folded).0,
+    )
 
-pub returns : goal.returns
-returns c x asked =
+pub returns-clause-body : goal.returns-clause-body
+returns-clause-body c = λ x there.
     let p = c.args.p.now in
-    let q = c.table-table.result.now in
     let k = c.args.c in
-    let a = c.in-Attribute.attribute in
     let table = c.table-table.ensures.table in
     let typed = subst IsTypedTable table c.table-table.ensures.typed in
-    let features = c.features.ensures.features in
-    let read = c.index-features-feature in
-    let there =
-    feature_read p q k c.args.feature c.features.result.now read.result (Attribute a) table features c.requires.feature read.is c.in-Attribute.is in
-    no_init p typed k c.requires.class c.args.feature a x there c.in-None.is asked
+    let has = body_there p c.table-table.result.now k c.args.feature x _ c.in-Some.body.now table there c.expression_at.ensures
+    (ap (option_map (λ b. b.now)) c.in-Some.is) in
+    let folds = body_folds p typed k c.requires.class c.args.feature x c.in-Some.body.now there has in
+    let done = whole_folded _ p table x folds (c.types.ensures x there) {E = AllocError} c.root.result _ c.fold.new.placed _ c.root.ensures.last
+    c.root.ensures.tree c.new-2.ensures.items c.new-3.ensures c.in_ok-fold.ensures.folded in
+    ap Some (c.from_nodes.ensures.tree (shrunk p k (feature_scope p k x) c.in-Some.body.now) done.0) ∙ folds.body
+
+pub returns-clause-types : goal.returns-clause-types
+returns-clause-types c = λ x there.
+    let p = c.args.p.now in
+    let k = c.args.c in
+    let table = c.table-table.ensures.table in
+    let typed = subst IsTypedTable table c.table-table.ensures.typed in
+    let has = body_there p c.table-table.result.now k c.args.feature x _ c.in-Some.body.now table there c.expression_at.ensures
+    (ap (option_map (λ b. b.now)) c.in-Some.is) in
+    let folds = body_folds p typed k c.requires.class c.args.feature x c.in-Some.body.now there has in
+    (whole_folded _ p table x folds (c.types.ensures x there) {E = AllocError} c.root.result _ c.fold.new.placed _ c.root.ensures.last
+    c.root.ensures.tree c.new-2.ensures.items c.new-3.ensures c.in_ok-fold.ensures.folded).1

@@ -5,12 +5,13 @@ use Rattle.cool_opt.specs.Settings.{trees_of}
 use Rattle.cool_opt.proofs.FoldedWholes.{block_folds}
 use Rattle.cool_opt.proofs.place_form.place_block.Goals as goal
 
-pub returns : goal.returns
-returns c =
+pub returns-clause-placed : goal.returns-clause-placed
+returns-clause-placed c =
     let s = c.args.setting.now in
-    let nodes = c.args.nodes.now.items in
-    let after = c.place.new.nodes.items in
-    subst (λ m. PlacesBlock s m c.args.parts nodes after c.place.result) (sym c.in-Block.is)
-    (λ scope before folded.
-    block_folds s scope c.requires.sound before after c.in-Block.at _ (trees_of s c.in-Block.items) nodes c.args.parts c.place.result
+    let placed = c.args.placed.now in
+    let after = c.place.new.placed in
+    let block = c.in-Block in
+    subst (λ m. PlacesBlock s m c.args.ty c.args.items placed after c.place.result) (sym block.is)
+    (λ scope before of folded.
+    block_folds s scope c.requires.sound of.types before after block.at _ (trees_of s block.items) c.args.items c.args.ty placed c.place.result of.type
     c.new-items.ensures folded c.place.ensures.placed c.place.ensures.typed c.place.ensures.constant c.place.ensures.last)

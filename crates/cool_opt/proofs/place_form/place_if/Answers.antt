@@ -1,24 +1,19 @@
 -- What is placed of a conditional that stays is what the whole is folded to.
-use Rattle.std.proofs.Common.{◌≡◌, ◌++◌, [], ◌∷◌, refl, sym, subst}
-use Rattle.std.specs.Prelude.{OnOk}
-use Rattle.cool_syntax.specs.declared.node.Node.TheVariants as node
+use Rattle.std.proofs.Common.{refl, sym, subst}
 use Rattle.cool_syntax.specs.NodeLists.{tree_at}
 use Rattle.cool_opt.specs.PlacedForms.{PlacesConditional}
 use Rattle.cool_opt.proofs.FoldedWholes.{if_folds}
 use Rattle.cool_opt.proofs.place_form.place_if.Goals as goal
 
-pub returns : goal.returns
-returns c =
+pub returns-clause-placed : goal.returns-clause-placed
+returns-clause-placed c =
     let s = c.args.setting.now in
     let b = s.body.now in
-    let nodes = c.args.nodes.now.items in
-    let after = c.place.new.nodes.items in
-    let first = c.args.yes.now in
-    let second = c.args.no.now in
-    subst (λ m. PlacesConditional s m c.args.test first second nodes after c.place.result) (sym c.in-If.is)
-    (λ scope before mid mid2 f tested test one other undecided.
-    if_folds s scope c.requires.sound before after c.in-If.at (tree_at b c.in-If.test) (tree_at b c.in-If.yes) (tree_at b c.in-If.no) c.in-If.yes
-    c.in-If.no _ mid mid2 nodes scope scope f first second c.join_meant-whole.result c.place.result refl refl test one other refl undecided
-    c.join_meant-whole.ensures.is_type c.join_meant-whole.ensures.join
-    (subst (λ x. OnOk c.place.result (after ≡ nodes ++ node.If c.in-If.at x first.id second.id ∷ [])) (sym tested) c.place.ensures.placed)
-    c.place.ensures.typed c.place.ensures.constant c.place.ensures.last)
+    let placed = c.args.placed.now in
+    let after = c.place.new.placed in
+    let whole = c.in-If in
+    subst (λ m. PlacesConditional s m c.args.ty c.args.test c.args.yes c.args.no placed after c.place.result) (sym whole.is)
+    (λ scope before first second f g h of tested one_is other_is x y z undecided.
+    if_folds s scope c.requires.sound of.types before after whole.at (tree_at b whole.test) (tree_at b whole.yes) (tree_at b whole.no) whole.yes
+    whole.no _ c.args.test c.args.yes c.args.no c.args.ty first second placed f g h c.place.result of.type tested one_is other_is x y z refl undecided
+    c.place.ensures.placed c.place.ensures.typed c.place.ensures.constant c.place.ensures.last)

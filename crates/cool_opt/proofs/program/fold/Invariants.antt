@@ -5,7 +5,7 @@ use Rattle.cool_opt.proofs.ReplacedExpressions.{Becomes}
 use Rattle.cool_opt.proofs.program.fold.Given as goal
 
 abbrev pub invariant-loop-expression : goal.invariant-loop-expression
-invariant-loop-expression l = Becomes l.table l.expressions.items (fold_table l.fn.p)
+invariant-loop-expression l = Becomes l.table l.all.items (fold_table l.fn.p)
 
 abbrev pub decreases-loop-expression : goal.decreases-loop-expression
-decreases-loop-expression l = length l.expressions.items
+decreases-loop-expression l = length l.all.items

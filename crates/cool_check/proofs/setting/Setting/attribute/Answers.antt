@@ -3,4 +3,4 @@ use Rattle.cool_rules.proofs.RulesOfTables.{type_meant_is}
 use Rattle.cool_check.proofs.setting.Setting.attribute.Goals as goal
 
 pub returns-clause-attribute : goal.returns-clause-attribute
-returns-clause-attribute c = type_meant_is c.args.self.now.table.now _ _ c.requires.sound.table c.attribute_type.ensures
+returns-clause-attribute c = type_meant_is c.args.self.now.table.now _ _ c.requires.sound.whole.table c.attribute_type.ensures

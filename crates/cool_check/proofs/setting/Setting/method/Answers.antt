@@ -5,4 +5,4 @@ use Rattle.cool_check.proofs.setting.Setting.method.Goals as goal
 pub returns-clause-method : goal.returns-clause-method
 returns-clause-method c =
     let p = c.args.self.now.table.now in
-    method_of_is p c.args.class c.args.name.now _ c.requires.sound.table c.requires.class c.find_method.ensures.nearest
+    method_of_is p c.args.class c.args.name.now _ c.requires.sound.whole.table c.requires.class c.find_method.ensures.nearest

@@ -3,4 +3,4 @@ use Rattle.cool_rules.proofs.RulesOfTables.{type_meant_is}
 use Rattle.cool_check.proofs.setting.Setting.result.Goals as goal
 
 pub returns-clause-result : goal.returns-clause-result
-returns-clause-result c = type_meant_is c.args.self.now.table.now _ _ c.requires.sound.table c.result.ensures
+returns-clause-result c = type_meant_is c.args.self.now.table.now _ _ c.requires.sound.whole.table c.result.ensures

@@ -3,4 +3,4 @@ use Rattle.cool_rules.proofs.RulesOfTables.{type_of_name_is}
 use Rattle.cool_check.proofs.setting.Setting.type_named.Goals as goal
 
 pub returns-clause-named : goal.returns-clause-named
-returns-clause-named c = type_of_name_is c.args.self.now.table.now c.args.name.now _ c.requires.sound.table c.type_named.ensures.named
+returns-clause-named c = type_of_name_is c.args.self.now.table.now c.args.name.now _ c.requires.sound.whole.table c.type_named.ensures.named

@@ -1,6 +1,6 @@
 -- The lines of a branch are its test, its body, and the way to the end; a number with the other sign names its file by the table after it.
 -- The setting after a part is the one before it, so what comes next is added as if in that one.
-use Rattle.std.proofs.Common.{◌≡◌, ◌+◌, ◌<◌, ◌++◌, ◌∷◌, Some, length, map, drop, ap, sym, subst, ◌∙◌, append_assoc, rules, arith}
+use Rattle.std.proofs.Common.{◌≡◌, ◌+◌, ◌<◌, ◌++◌, ◌∷◌, length, map, drop, ap, sym, subst, ◌∙◌, append_assoc, rules, arith}
 use Rattle.std.specs.Prelude.{codes}
 use Rattle.std.specs.List.{AllByRecursion}
 use Rattle.std.proofs.lemmas.List.{drop_more}
@@ -9,22 +9,20 @@ use Rattle.mips_isa.specs.Lines.{lines_of}
 use Rattle.cool_syntax.specs.declared.node.NodeBranch.{NodeBranch}
 use Rattle.cool_classes.specs.ClimbedChains.{above}
 use Rattle.cool_classes.specs.declared.class_id.ClassId.{ClassId}
-use Rattle.cool_classes.specs.declared.class_id.Ty.TheVariants.{Class as IsClass}
-use Rattle.cool_codegen.specs.Arms.{arm_of, with_arm}
+use Rattle.cool_codegen.specs.Arms.{Arm, arm_of, with_arm}
 use Rattle.cool_codegen.specs.Code.{file_name, int_code, label_at, range_code}
 use Rattle.cool_runtime.specs.Routines.{push_lines}
-use Rattle.cool_codegen.specs.Numbered.{asked_at, branch_lines, branch_sizes_at, branches_arms, branches_asked, branches_type_at, class_of_branch, lines_at, node_asked, node_lines, node_size, size_at, branch_type_at, with_bytes, with_file, AreBodies}
+use Rattle.cool_codegen.specs.Numbered.{asked_at, branch_lines, branch_sizes_at, branches_arms, branches_asked, class_of_branch, lines_at, node_asked, node_lines, node_size, size_at, with_bytes, with_file}
 use Rattle.cool_codegen.specs.Pieces.{mark_lines, negate_lines, repeat_lines, test_lines, turn_lines}
-use Rattle.cool_codegen.specs.Settings.{context}
-use Rattle.cool_rules.specs.Meant.{joined}
-use Rattle.cool_rules.specs.Rules.{type_meant}
+use Rattle.cool_codegen.specs.Settings.{context, typed_body}
+use Rattle.cool_rules.specs.TypedParts.{AreBranches}
 use Rattle.cool_codegen.specs.Variables.{bind, scope_of}
 use Rattle.cool_codegen.proofs.NumbersAgree.{extends_same}
 use Rattle.cool_codegen.proofs.SameSettings.{added_in, branch_added_in}
 use Rattle.cool_codegen.proofs.code.Code.+coding.Goals as goal
 
-pub arm-returns-clause-made : goal.arm-returns-clause-made
-arm-returns-clause-made t c =
+pub arm-returns : goal.arm-returns
+arm-returns t c =
     let s = context c.args.self.now.setting in
     let b = c.args.self.now.setting.body.now in
     let body = c.args.branch.now.body in
@@ -35,26 +33,28 @@ arm-returns-clause-made t c =
     let turn = c.turn.ensures ∙ ap (turn_lines c.args.end.now) there in
     let code = lines_at s b c.args.self.now.consts (bind c.args.depth c.args.branch.now.name c.type_meant-bound.result c.args.self.now.variables) (c.args.depth + 1) body in
     record {
-      setting = search rules;
-      scope = search rules;
-      lines =
-          c.in_ok-write.ensures.written
-          ∙ (λ i. c.in_ok-found.ensures.made.lines i ++ turn i)
-          ∙ ap (λ xs. (xs ++ code) ++ turn_lines c.args.end.now next) (c.in_ok-try_class.ensures ∙ ap (λ n. before ++ range_code s c.args.class n) here)
-          ∙ append_assoc (before ++ range_code s c.args.class next) code (turn_lines c.args.end.now next)
-          ∙ append_assoc before (range_code s c.args.class next) (code ++ turn_lines c.args.end.now next)
-          ∙ (λ i. before
-          ++ (range_code s (c.requires.declared i) next
-          ++ (lines_at s b c.args.self.now.consts (bind c.args.depth c.args.branch.now.name (c.type_meant-bound.ensures.meant i) c.args.self.now.variables) (c.args.depth + 1) body
-          ++ turn_lines c.args.end.now next)));
-      asked = search rules;
-      more_integers = search rules;
-      more_strings = search rules;
-      kept = search rules;
+      made = record {
+        setting = search rules;
+        scope = search rules;
+        lines =
+            c.in_ok-write.ensures.written
+            ∙ (λ i. c.in_ok-within.ensures.made.lines i ++ turn i)
+            ∙ ap (λ xs. (xs ++ code) ++ turn_lines c.args.end.now next) (c.in_ok-try_class.ensures ∙ ap (λ n. before ++ range_code s c.args.class n) here)
+            ∙ append_assoc (before ++ range_code s c.args.class next) code (turn_lines c.args.end.now next)
+            ∙ append_assoc before (range_code s c.args.class next) (code ++ turn_lines c.args.end.now next)
+            ∙ (λ i. before
+            ++ (range_code s (c.requires.declared i) next
+            ++ (lines_at s b c.args.self.now.consts (bind c.args.depth c.args.branch.now.name (c.type_meant-bound.ensures.meant i) c.args.self.now.variables) (c.args.depth + 1) body
+            ++ turn_lines c.args.end.now next)));
+        asked = search rules;
+        more_integers = search rules;
+        more_strings = search rules;
+        kept = search rules;
+      };
     }
 
-pub unary-returns-in_ok-make_int-in-Neg-clause-made : goal.unary-returns-in_ok-make_int-in-Neg-clause-made
-unary-returns-in_ok-make_int-in-Neg-clause-made t c =
+pub unary-returns-in_ok-make_int-in-Neg : goal.unary-returns-in_ok-make_int-in-Neg
+unary-returns-in_ok-make_int-in-Neg t c =
     let s = context c.args.self.now.setting in
     let b = c.args.self.now.setting.body.now in
     let before = lines_of c.args.self.now.lines.items in
@@ -69,18 +69,20 @@ unary-returns-in_ok-make_int-in-Neg-clause-made t c =
     let made = int_code s (with_file s.files (asked_at s.files b old value) at) at c.args.id in
     let first = c.in_ok-write-in-Neg.ensures.written ∙ (λ i. c.in_ok-expression-in-Neg.ensures.made.lines i ++ c.negate.ensures i) in
     record {
-      setting = same;
-      scope = search rules;
-      lines =
-          c.in_ok-make_int-in-Neg.ensures.lines now (extends_same now)
-          ∙ (λ i. first i ++ int_code (context (same i)) (asked i) at c.args.id)
-          ∙ append_assoc (before ++ part) negate_lines made
-          ∙ append_assoc before part (negate_lines ++ made)
-          ∙ ap (λ n. before ++ node_lines s b old c.args.self.now.variables c.args.depth c.args.id n) (sym c.in-Neg.is);
-      asked = asked ∙ ap (node_asked s.files b old) (sym c.in-Neg.is);
-      more_integers = first_of (search rules, grind (arith, common_steps));
-      more_strings = first_of (search rules, grind (arith, common_steps));
-      kept = search rules;
+      made = record {
+        setting = same;
+        scope = search rules;
+        lines =
+            c.in_ok-make_int-in-Neg.ensures.lines now (extends_same now)
+            ∙ (λ i. first i ++ int_code (context (same i)) (asked i) at c.args.id)
+            ∙ append_assoc (before ++ part) negate_lines made
+            ∙ append_assoc before part (negate_lines ++ made)
+            ∙ ap (λ n. before ++ node_lines s b old c.args.self.now.variables c.args.depth c.args.id n) (sym c.in-Neg.is);
+        asked = asked ∙ ap (node_asked s.files b old) (sym c.in-Neg.is);
+        more_integers = first_of (search rules, grind (arith, common_steps));
+        more_strings = first_of (search rules, grind (arith, common_steps));
+        kept = search rules;
+      };
     }
 
 pub operands-returns : goal.operands-returns
@@ -105,8 +107,8 @@ operands-returns t c =
       };
     }
 
-pub control-returns-in_ok-write-in-If-3-clause-made : goal.control-returns-in_ok-write-in-If-3-clause-made
-control-returns-in_ok-write-in-If-3-clause-made t c =
+pub control-returns-in_ok-write-in-If-3 : goal.control-returns-in_ok-write-in-If-3
+control-returns-in_ok-write-in-If-3 t c =
     let s = context c.args.self.now.setting in
     let b = c.args.self.now.setting.body.now in
     let old = c.args.self.now.consts in
@@ -116,8 +118,8 @@ control-returns-in_ok-write-in-If-3-clause-made t c =
     let y = c.in-If.yes in
     let n = c.in-If.no in
     let one = c.in_ok-expression-in-If.ensures.made in
-    let two = added_in d y _ _ _ _ _ _ _ _ _ one.setting one.asked one.scope c.in_ok-first-in-If.ensures.made in
-    let three = added_in d n _ _ _ _ _ _ _ _ _ (two.setting ∙ one.setting) two.asked (two.scope ∙ one.scope) c.in_ok-second-in-If.ensures.made in
+    let two = added_in d y _ _ _ _ _ _ _ _ _ one.setting one.asked one.scope c.in_ok-expression-in-If-2.ensures.made in
+    let three = added_in d n _ _ _ _ _ _ _ _ _ (two.setting ∙ one.setting) two.asked (two.scope ∙ one.scope) c.in_ok-expression-in-If-3.ensures.made in
     let before = lines_of c.args.self.now.lines.items in
     let other = label_at s (codes "else") c.args.id in
     let end = label_at s (codes "end") c.args.id in
@@ -132,26 +134,28 @@ control-returns-in_ok-write-in-If-3-clause-made t c =
     let turned = c.in_ok-write-in-If-2.ensures.written ∙ (λ i. two.lines i ++ turns i) ∙ ap (λ xs. (xs ++ lines_y) ++ turn_lines end other) tested in
     let size : node_size b c.args.node.now ≡ size_at b p + size_at b y + size_at b n + 1 = ap (node_size b) c.in-If.is in
     record {
-      setting = three.setting ∙ (two.setting ∙ one.setting);
-      scope = three.scope ∙ (two.scope ∙ one.scope);
-      lines =
-          c.in_ok-write-in-If-3.ensures.written
-          ∙ (λ i. three.lines i ++ marks i)
-          ∙ ap (λ xs. (xs ++ lines_n) ++ mark_lines end) turned
-          ∙ append_assoc ((((before ++ lines_p) ++ test_lines other) ++ lines_y) ++ turn_lines end other) lines_n (mark_lines end)
-          ∙ append_assoc (((before ++ lines_p) ++ test_lines other) ++ lines_y) (turn_lines end other) (lines_n ++ mark_lines end)
-          ∙ append_assoc ((before ++ lines_p) ++ test_lines other) lines_y (turn_lines end other ++ (lines_n ++ mark_lines end))
-          ∙ append_assoc (before ++ lines_p) (test_lines other) (lines_y ++ (turn_lines end other ++ (lines_n ++ mark_lines end)))
-          ∙ append_assoc before lines_p (test_lines other ++ (lines_y ++ (turn_lines end other ++ (lines_n ++ mark_lines end))))
-          ∙ ap (λ k. before ++ node_lines s b old vs d c.args.id k) (sym c.in-If.is);
-      asked = three.asked ∙ ap (node_asked s.files b old) (sym c.in-If.is);
-      more_integers = omega arith;
-      more_strings = omega arith;
-      kept = search (rules, one, two, three);
+      made = record {
+        setting = three.setting ∙ (two.setting ∙ one.setting);
+        scope = three.scope ∙ (two.scope ∙ one.scope);
+        lines =
+            c.in_ok-write-in-If-3.ensures.written
+            ∙ (λ i. three.lines i ++ marks i)
+            ∙ ap (λ xs. (xs ++ lines_n) ++ mark_lines end) turned
+            ∙ append_assoc ((((before ++ lines_p) ++ test_lines other) ++ lines_y) ++ turn_lines end other) lines_n (mark_lines end)
+            ∙ append_assoc (((before ++ lines_p) ++ test_lines other) ++ lines_y) (turn_lines end other) (lines_n ++ mark_lines end)
+            ∙ append_assoc ((before ++ lines_p) ++ test_lines other) lines_y (turn_lines end other ++ (lines_n ++ mark_lines end))
+            ∙ append_assoc (before ++ lines_p) (test_lines other) (lines_y ++ (turn_lines end other ++ (lines_n ++ mark_lines end)))
+            ∙ append_assoc before lines_p (test_lines other ++ (lines_y ++ (turn_lines end other ++ (lines_n ++ mark_lines end))))
+            ∙ ap (λ k. before ++ node_lines s b old vs d c.args.id k) (sym c.in-If.is);
+        asked = three.asked ∙ ap (node_asked s.files b old) (sym c.in-If.is);
+        more_integers = omega arith;
+        more_strings = omega arith;
+        kept = search (rules, one, two, three);
+      };
     }
 
-pub control-returns-in_ok-write-in-While-3-clause-made : goal.control-returns-in_ok-write-in-While-3-clause-made
-control-returns-in_ok-write-in-While-3-clause-made t c =
+pub control-returns-in_ok-write-in-While-3 : goal.control-returns-in_ok-write-in-While-3
+control-returns-in_ok-write-in-While-3 t c =
     let s = context c.args.self.now.setting in
     let b = c.args.self.now.setting.body.now in
     let old = c.args.self.now.consts in
@@ -175,21 +179,23 @@ control-returns-in_ok-write-in-While-3-clause-made t c =
     let tested = c.in_ok-write-in-While-2.ensures.written ∙ (λ i. one.lines i ++ tests i) ∙ ap (λ xs. (xs ++ lines_p) ++ test_lines end) marked in
     let size : node_size b c.args.node.now ≡ size_at b p + size_at b a + 1 = ap (node_size b) c.in-While.is in
     record {
-      setting = two.setting ∙ one.setting;
-      scope = two.scope ∙ one.scope;
-      lines =
-          c.in_ok-write-in-While-3.ensures.written
-          ∙ (λ i. two.lines i ++ repeats i)
-          ∙ ap (λ xs. (xs ++ lines_a) ++ repeat_lines begin end) tested
-          ∙ append_assoc (((before ++ mark_lines begin) ++ lines_p) ++ test_lines end) lines_a (repeat_lines begin end)
-          ∙ append_assoc ((before ++ mark_lines begin) ++ lines_p) (test_lines end) (lines_a ++ repeat_lines begin end)
-          ∙ append_assoc (before ++ mark_lines begin) lines_p (test_lines end ++ (lines_a ++ repeat_lines begin end))
-          ∙ append_assoc before (mark_lines begin) (lines_p ++ (test_lines end ++ (lines_a ++ repeat_lines begin end)))
-          ∙ ap (λ k. before ++ node_lines s b old vs d c.args.id k) (sym c.in-While.is);
-      asked = two.asked ∙ ap (node_asked s.files b old) (sym c.in-While.is);
-      more_integers = omega arith;
-      more_strings = omega arith;
-      kept = search (rules, one, two);
+      made = record {
+        setting = two.setting ∙ one.setting;
+        scope = two.scope ∙ one.scope;
+        lines =
+            c.in_ok-write-in-While-3.ensures.written
+            ∙ (λ i. two.lines i ++ repeats i)
+            ∙ ap (λ xs. (xs ++ lines_a) ++ repeat_lines begin end) tested
+            ∙ append_assoc (((before ++ mark_lines begin) ++ lines_p) ++ test_lines end) lines_a (repeat_lines begin end)
+            ∙ append_assoc ((before ++ mark_lines begin) ++ lines_p) (test_lines end) (lines_a ++ repeat_lines begin end)
+            ∙ append_assoc (before ++ mark_lines begin) lines_p (test_lines end ++ (lines_a ++ repeat_lines begin end))
+            ∙ append_assoc before (mark_lines begin) (lines_p ++ (test_lines end ++ (lines_a ++ repeat_lines begin end)))
+            ∙ ap (λ k. before ++ node_lines s b old vs d c.args.id k) (sym c.in-While.is);
+        asked = two.asked ∙ ap (node_asked s.files b old) (sym c.in-While.is);
+        more_integers = omega arith;
+        more_strings = omega arith;
+        kept = search (rules, one, two);
+      };
     }
 
 pub arms-loop-branch-preserved : goal.arms-loop-branch-preserved
@@ -207,14 +213,13 @@ arms-loop-branch-preserved t c =
     let rest = drop (i + 1) ws in
     let same = c.loop-branch.invariant.setting in
     let scope = c.loop-branch.invariant.scope in
-    let made = branch_added_in d end w _ _ _ _ _ _ _ _ same scope c.in_ok-found.ensures.made in
+    let made = branch_added_in d end w _ _ _ _ _ _ _ _ same scope c.in_ok-arm.ensures.made in
     let cut : drop i ws ≡ w ∷ rest = drop_more ws i w c.loop-branch-test.true ∙ ap (λ (y : NodeBranch). y ∷ rest) (sym c.branch-item.is) in
-    let found = c.in_ok-found.ensures.typed.typed ∙ (λ k. branch_type_at (context (same k)) (same k).body.now (scope_of (scope k)) w) in
-    let join = c.joined_with.ensures.joined ∙ ap (joined s.table s.class c.loop-branch.joined) found in
     let class : c.class_of-class.result ≡ class_of_branch s w = search rules in
     let high = c.depth.ensures ∙ ap (λ (k : ClassId). length (above s.table k)) class in
     let own : lines_of c.replace-own.result.items ≡ branch_lines s b old vs d end w = search (rules, made) in
-    let put = c.in_ok-insert_arm.ensures ∙ (λ k. with_arm before (record { depth = high k; lines = own k })) in
+    let arm : Arm = record { depth = length (above s.table (class_of_branch s w)); lines = branch_lines s b old vs d end w } in
+    let put = ◌∙◌ {c = with_arm before arm} c.in_ok-insert_arm.ensures (λ k. with_arm before (record { depth = high k; lines = own k })) in
     let sizes : branch_sizes_at b (drop i ws) ≡ size_at b w.body + branch_sizes_at b rest = ap (branch_sizes_at b) cut in
     let deep = c.loop-branch.invariant.deep in
     let more_integers = c.loop-branch.invariant.more_integers in
@@ -224,14 +229,12 @@ arms-loop-branch-preserved t c =
       scope = made.scope ∙ scope;
       kept = search (rules, made);
       same = search rules;
-      joined = search rules;
-      typed = (λ k. branches_type_at s b (scope_of vs) (Some (join k)) rest) ∙ sym (ap (branches_type_at s b (scope_of vs) c.loop-branch.joined) cut) ∙ c.loop-branch.invariant.typed;
       lines = (λ k. branches_arms s b (made.asked k) vs d end (put k) rest) ∙ sym (ap (branches_arms s b old vs d end before) cut) ∙ c.loop-branch.invariant.lines;
       asked = (λ k. branches_asked s.files b (made.asked k) rest) ∙ sym (ap (branches_asked s.files b old) cut) ∙ c.loop-branch.invariant.asked;
       deep = omega arith;
       more_integers = omega arith;
       more_strings = omega arith;
-      roots = (subst (AreBodies b) cut c.loop-branch.invariant.roots).1;
+      parts = (subst (AreBranches (typed_body c.args.self.now.setting) (scope_of vs)) cut c.loop-branch.invariant.parts).1;
       places = first_of (search rules, grind (arith, common_steps));
       below = (subst (AllByRecursion (λ branch. branch.body.0 < c.args.id.0)) cut c.loop-branch.invariant.below).1;
     }

@@ -1,18 +1,16 @@
 -- Parts have smaller numbers. After the parts whose code was made the setting and the scope are as before, and what is left to make completes the whole.
-use Rattle.std.proofs.Common.{◌≡◌, ◌+◌, ◌*◌, ◌<◌, ◌≤◌, ◌++◌, [], None, length, map, drop}
-use Rattle.std.specs.Prelude.{IfSome}
+use Rattle.std.proofs.Common.{◌≡◌, ◌+◌, ◌*◌, ◌<◌, ◌≤◌, ◌++◌, [], length, map, drop}
 use Rattle.std.specs.List.{AllByRecursion}
 use Rattle.mips_isa.specs.Lines.{lines_of}
 use Rattle.cool_syntax.specs.Tree.{of_list, of_twigs}
 use Rattle.cool_syntax.specs.NodeLists.{all_trees, at_id, twig_at}
 use Rattle.cool_syntax.specs.TreesWithinLimits.{AreTreesWithin, AreCasesWithin}
-use Rattle.cool_rules.specs.Conformance.{IsType}
+use Rattle.cool_rules.specs.TypedParts.{AreBranches, AreParts}
 use Rattle.cool_codegen.specs.Arms.{arm_of}
 use Rattle.cool_codegen.specs.Asked.{Keeps}
-use Rattle.cool_codegen.specs.Numbered.{all_asked, arguments_lines, branch_sizes_at, branches_arms, branches_asked, branches_type_at, items_lines, last_type_at, sizes_at, AreBodies, AreRoots}
-use Rattle.cool_codegen.specs.Settings.{context}
+use Rattle.cool_codegen.specs.Numbered.{all_asked, arguments_lines, branch_sizes_at, branches_arms, branches_asked, items_lines, sizes_at}
+use Rattle.cool_codegen.specs.Settings.{context, typed_body}
 use Rattle.cool_codegen.specs.Variables.{scope_of}
-use Rattle.cool_rules.specs.Typing.{object_type}
 use Rattle.cool_codegen.proofs.code.Code.+coding.Given as goal
 
 abbrev pub decreases-expression : goal.decreases-expression
@@ -59,16 +57,13 @@ invariant-items-loop-item l = record {
   setting : l.self.setting ≡ l.fn.self.setting;
   scope : l.self.variables ≡ l.fn.self.variables;
   kept : Keeps l.fn.self.consts l.self.consts;
-  last : IsType l.fn.self.setting.table.now l.last;
-  typed : last_type_at (context l.fn.self.setting) l.fn.self.setting.body.now (scope_of l.fn.self.variables) l.last (drop l.item-index l.items)
-      ≡ last_type_at (context l.fn.self.setting) l.fn.self.setting.body.now (scope_of l.fn.self.variables) object_type l.items;
   lines : lines_of l.self.lines.items ++ items_lines (context l.fn.self.setting) l.fn.self.setting.body.now l.self.consts l.fn.self.variables l.depth (drop l.item-index l.items)
       ≡ lines_of l.fn.self.lines.items ++ items_lines (context l.fn.self.setting) l.fn.self.setting.body.now l.fn.self.consts l.fn.self.variables l.depth l.items;
   asked : all_asked (context l.fn.self.setting).files l.fn.self.setting.body.now l.self.consts (drop l.item-index l.items) ≡ all_asked (context l.fn.self.setting).files l.fn.self.setting.body.now l.fn.self.consts l.items;
   deep : sizes_at l.fn.self.setting.body.now (drop l.item-index l.items) ≤ sizes_at l.fn.self.setting.body.now l.items;
   more_integers : length l.self.consts.integers + sizes_at l.fn.self.setting.body.now (drop l.item-index l.items) ≤ length l.fn.self.consts.integers + sizes_at l.fn.self.setting.body.now l.items;
   more_strings : length l.self.consts.strings + 2 * sizes_at l.fn.self.setting.body.now (drop l.item-index l.items) ≤ length l.fn.self.consts.strings + 2 * sizes_at l.fn.self.setting.body.now l.items;
-  roots : AreRoots l.fn.self.setting.body.now (drop l.item-index l.items);
+  parts : AreParts (typed_body l.fn.self.setting) (scope_of l.fn.self.variables) (drop l.item-index l.items);
   places : AreTreesWithin (length l.fn.self.setting.names.now) (of_list (map (at_id (all_trees l.fn.self.setting.body.now)) (drop l.item-index l.items)));
   below : AllByRecursion (λ item. item.0 < l.fn.end.0) (drop l.item-index l.items);
 }
@@ -85,7 +80,7 @@ invariant-arguments-loop-arg l = record {
   deep : l.inner + sizes_at l.fn.self.setting.body.now (drop l.arg-index l.args) ≤ l.depth + sizes_at l.fn.self.setting.body.now l.args;
   more_integers : length l.self.consts.integers + sizes_at l.fn.self.setting.body.now (drop l.arg-index l.args) ≤ length l.fn.self.consts.integers + sizes_at l.fn.self.setting.body.now l.args;
   more_strings : length l.self.consts.strings + 2 * sizes_at l.fn.self.setting.body.now (drop l.arg-index l.args) ≤ length l.fn.self.consts.strings + 2 * sizes_at l.fn.self.setting.body.now l.args;
-  roots : AreRoots l.fn.self.setting.body.now (drop l.arg-index l.args);
+  parts : AreParts (typed_body l.fn.self.setting) (scope_of l.fn.self.variables) (drop l.arg-index l.args);
   places : AreTreesWithin (length l.fn.self.setting.names.now) (of_list (map (at_id (all_trees l.fn.self.setting.body.now)) (drop l.arg-index l.args)));
   below : AllByRecursion (λ arg. arg.0 < l.fn.end.0) (drop l.arg-index l.args);
 }
@@ -96,16 +91,13 @@ invariant-arms-loop-branch l = record {
   scope : l.self.variables ≡ l.fn.self.variables;
   kept : Keeps l.fn.self.consts l.self.consts;
   same : l.self.lines ≡ l.fn.self.lines;
-  joined : IfSome l.joined (IsType l.fn.self.setting.table.now);
-  typed : branches_type_at (context l.fn.self.setting) l.fn.self.setting.body.now (scope_of l.fn.self.variables) l.joined (drop l.branch-index l.branches)
-      ≡ branches_type_at (context l.fn.self.setting) l.fn.self.setting.body.now (scope_of l.fn.self.variables) None l.branches;
   lines : branches_arms (context l.fn.self.setting) l.fn.self.setting.body.now l.self.consts l.fn.self.variables l.depth l.end (map arm_of l.sorted.items) (drop l.branch-index l.branches)
       ≡ branches_arms (context l.fn.self.setting) l.fn.self.setting.body.now l.fn.self.consts l.fn.self.variables l.depth l.end [] l.branches;
   asked : branches_asked (context l.fn.self.setting).files l.fn.self.setting.body.now l.self.consts (drop l.branch-index l.branches) ≡ branches_asked (context l.fn.self.setting).files l.fn.self.setting.body.now l.fn.self.consts l.branches;
   deep : branch_sizes_at l.fn.self.setting.body.now (drop l.branch-index l.branches) ≤ branch_sizes_at l.fn.self.setting.body.now l.branches;
   more_integers : length l.self.consts.integers + branch_sizes_at l.fn.self.setting.body.now (drop l.branch-index l.branches) ≤ length l.fn.self.consts.integers + branch_sizes_at l.fn.self.setting.body.now l.branches;
   more_strings : length l.self.consts.strings + 2 * branch_sizes_at l.fn.self.setting.body.now (drop l.branch-index l.branches) ≤ length l.fn.self.consts.strings + 2 * branch_sizes_at l.fn.self.setting.body.now l.branches;
-  roots : AreBodies l.fn.self.setting.body.now (drop l.branch-index l.branches);
+  parts : AreBranches (typed_body l.fn.self.setting) (scope_of l.fn.self.variables) (drop l.branch-index l.branches);
   places : AreCasesWithin (length l.fn.self.setting.names.now) (of_twigs (map (twig_at (all_trees l.fn.self.setting.body.now)) (drop l.branch-index l.branches)));
   below : AllByRecursion (λ branch. branch.body.0 < l.fn.id.0) (drop l.branch-index l.branches);
 }

@@ -8,5 +8,5 @@ pub returns : goal.returns
 unfolding chain
 returns c =
     let p = c.args.self.now.table.now in
-    let all : length (chain p c.args.class) ≡ c.depth.result + 1 = c.depth.ensures (chain p c.args.class) (chain_is p c.args.class c.requires.sound.table c.requires.class) in
+    let all : length (chain p c.args.class) ≡ c.depth.result + 1 = c.depth.ensures (chain p c.args.class) (chain_is p c.args.class c.requires.sound.whole.table c.requires.class) in
     omega arith

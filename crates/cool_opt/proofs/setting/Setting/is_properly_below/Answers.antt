@@ -11,7 +11,7 @@ returns-in-Some c =
     let p = c.args.self.now.table.now in
     let d = c.args.below in
     let up : parent_of p d ≡ Some c.in-Some.parent = sym c.parent.ensures.parent ∙ c.in-Some.is in
-    is_above p d c.in-Some.parent c.args.class c.is_below.result c.requires.sound.table c.in-Some.ensures.above up c.is_below.ensures
+    is_above p d c.in-Some.parent c.args.class c.is_below.result c.requires.sound.table.table c.in-Some.ensures.above up c.is_below.ensures
 
 pub returns-in-None : goal.returns-in-None
 unfolding is_among
