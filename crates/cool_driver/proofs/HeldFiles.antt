@@ -1,7 +1,7 @@
 -- Which bytes the files of a told shelf have: names have one list of bytes each.
 use Rattle.std.proofs.Common.{◌≡◌, ℕ, zero, suc, ◌+◌, ◌≤◌, List, [], ◌∷◌, ◌++◌, length, Some, None, refl, sym, ◌∙◌, ap, arith}
 use Rattle.std.specs.Prelude.{Option, Contains}
-use Rattle.cool_ports.specs.ShelfFiles.{FileMap, MayHold, AreHeld}
+use Rattle.cool_ports.specs.ShelfFiles.{FileMap, AreHeld}
 use Rattle.cool_faults.specs.Files.{total}
 
 -- there are as many files as names

@@ -1,5 +1,5 @@
 -- A call of `cool`: what it was asked, which files were read for it, what came of its output, its notes and its input.
-use Rattle.std.specs.Prelude.{◌≡◌, ◌≢◌, ℕ, ◌<◌, ◌≤◌, List, [], ◌∷◌, Option, Some}
+use Rattle.std.specs.Prelude.{◌≡◌, ◌≢◌, ℕ, ◌<◌, ◌≤◌, List, [], Option, Some}
 use Rattle.cool_ports.specs.{Counts.{last_count, Rose}, ShelfFiles.{FileMap, MayHold}, SinkBytes.{appended, GotPrefix}}
 use Rattle.cool_driver.specs.Statuses.{WRITE_FAULT, OUT_OF_MEMORY}
 

@@ -1,4 +1,4 @@
--- The texts that are written: the end of a run, and the notes.
+-- The texts of the notes.
 use Rattle.std.specs.{Prelude.{◌≡◌, refl, ℕ, List, [], ◌++◌, map, codes, decimal}, List.{concat}}
 use Rattle.std.specs.Fmt as decimals
 use Rattle.cool_faults.specs.{declared.fault.Fault.{Fault}, Texts.{fault_line}}
@@ -8,10 +8,6 @@ use Rattle.mips_isa.specs.{declared.asm_fault.AsmKind.TheVariants.{A1, A2, A3, A
 use Rattle.spim_debug.specs.{declared.script.ScriptKind.{ScriptKind}, declared.script.ScriptKind.TheVariants.{B1, B2}, declared.script.ScriptFault.{ScriptFault}, Notes.{digits}}
 use Rattle.cool_session.specs.{declared.ending.Ending.{Ending}, declared.ending.Ending.TheVariants.{Over, BadCommand, EndsInFile, TooLarge}}
 use Rattle.mips_image.specs.{declared.image_error.ImageError.{ImageError}, declared.image_error.ImageError.TheVariants.{Memory, I1, I2, I3, I4, I5}}
-
--- what is written at the end of a run that ended well
-abbrev pub end_text : List ℕ
-end_text = codes "COOL program successfully executed\n"
 
 -- a line for each fault of the files of these names
 abbrev pub refused_note : List (List ℕ) → List Fault → List ℕ

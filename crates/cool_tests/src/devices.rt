@@ -1,5 +1,5 @@
-//! Calls over objects in memory of which one call fails: what is written then, in how many puts, is told by no clause of `cool`. What
-//! else a command does is shown by the cases of `conformance/`.
+//! Calls over objects in memory of which one call fails: what is written then, and in how many puts, which clauses of `cool` tell for
+//! notes and images alone. What else a command does is shown by the cases of `conformance/`.
 
 use cool_driver::cool;
 use cool_ports::{MemShelf, MemSink, MemSource};

@@ -42,7 +42,7 @@ pub record BuildEnds (form : Form) (names : List (List ℕ)) (c : Call) (status 
   pub built_exactly : (files : FileMap) (contents : List (List ℕ)) (p : List Class) → HasTold (shelf_of c.request) files
       → AreRead (shelf_of c.request) MOST_SOURCE_BYTES names contents → IsAccepted contents p
       → UnlessCutShort status ((status ≡ DONE) × Got c.out (built_bytes form p names))
-  -- it is put in pieces: all of them, or where a write failed those in front of one and that one
+  -- what is put of it are its pieces from the first on, in order (all of them where `built_exactly` holds)
   pub built_pieces : (files : FileMap) (contents : List (List ℕ)) (p : List Class) → HasTold (shelf_of c.request) files
       → AreRead (shelf_of c.request) MOST_SOURCE_BYTES names contents → IsAccepted contents p
       → PutFront c.out.puts_before (pieces_of MOST_PIECE_BYTES (built_bytes form p names)) c.out.puts_after
