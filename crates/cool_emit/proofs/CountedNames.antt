@@ -4,7 +4,6 @@ use Rattle.std.proofs.Common.{true, false, not, ◌&&◌, ◌||◌, true≢false
 use Rattle.std.specs.Prelude.{nat_eq, nat_le, nat_lt, bytes_eq}
 use Rattle.std.specs.List.{AllByRecursion, list_all, list_any}
 use Rattle.std.proofs.lemmas.Bool.{not-true}
-use Rattle.std.proofs.lemmas.Slice.Eq.{bytes_eq-Decides}
 use Rattle.cool_layout.proofs.Counting.{one}
 use Rattle.lists.specs.Different.{AreDifferent}
 use Rattle.lists.proofs.EqualBytes.{bytes_eq-same, bytes_equal}

@@ -1,7 +1,6 @@
 -- What a name means in a table is there: a type of the table, and a method that a class has.
 use Rattle.std.proofs.Common.{◌≡◌, ℕ, ◌+◌, ◌<◌, ◌≤◌, List, [], ◌∷◌, map, length, Option, Some, None, Bool, true, false, arith}
 use Rattle.std.specs.Prelude.{bytes_eq, codes, if◌then◌else◌, option_map, unwrap_or, IfSome}
-use Rattle.std.specs.List.{AllByRecursion}
 use Rattle.std.proofs.lemmas.List.{length-map}
 use Rattle.cool_classes.specs.declared.class_id.ClassId.{ClassId}
 use Rattle.cool_classes.specs.declared.class_id.Ty.TheVariants.{Class as IsClass, SelfType}
@@ -10,9 +9,8 @@ use Rattle.cool_classes.specs.declared.method.MethodRef.{MethodRef}
 use Rattle.cool_classes.specs.declared.method.MethodRef.TheVariants.{Basic}
 use Rattle.cool_classes.specs.Chains.{Class, class_number}
 use Rattle.cool_classes.specs.ClimbedChains.{chain}
-use Rattle.cool_classes.specs.Features.{own_method, first_of, implementation, HasMethod}
+use Rattle.cool_classes.specs.Features.{implementation, HasMethod}
 use Rattle.cool_classes.specs.Names.{first_named}
-use Rattle.cool_classes.proofs.Methods.{own_has}
 use Rattle.cool_rules.specs.Conformance.{IsType}
 use Rattle.cool_rules.specs.Rules.{class_named, type_of_name, type_meant, method_of}
 use Rattle.cool_layout.specs.Roots.{IsRooted}

@@ -7,10 +7,10 @@ use Rattle.std.proofs.lemmas.List.Sums.{position_or_len_is}
 use Rattle.cool_syntax.specs.declared.token.TokenKind.{TokenKind}
 use Rattle.cool_syntax.specs.declared.token.TokenKind.TheVariants as kind
 use Rattle.cool_syntax.specs.declared.token.Key.{Key}
-use Rattle.cool_syntax.specs.Lexemes.{Form, Lexeme, Space, Comment, form, form_of, class_of, lexeme_if}
+use Rattle.cool_syntax.specs.Lexemes.{Form, Lexeme, Space, Comment, form_of, class_of, lexeme_if}
 use Rattle.cool_syntax.specs.Lexemes.{comment_if, string_of, dash, open_sign, angle, equals, alone, word}
-use Rattle.cool_syntax.specs.Lexemes.{named, key_among, keywords, lower, is_truth, is_capital, is_small}
-use Rattle.cool_syntax.specs.Lexemes.{is_in_word, is_digit, is_whole, comment_size, constant, value}
+use Rattle.cool_syntax.specs.Lexemes.{named, key_among, keywords, lower, is_capital}
+use Rattle.cool_syntax.specs.Lexemes.{is_in_word}
 use Rattle.cool_syntax.specs.Lexemes as classes
 use Rattle.cool_syntax.specs.TreesWithinLimits.{IsTypeName}
 use Rattle.cool_classes.specs.declared.class_id.ClassId.{ClassId}

@@ -1,6 +1,5 @@
 -- How many constants a part of a program may add: no more than it weighs.
-use Rattle.std.proofs.Common.{◌≡◌, ◌∙◌, ℕ, zero, suc, ◌+◌, ◌-◌, ◌*◌, ◌≤◌, List, [], ◌∷◌, ◌++◌, length, flat_map, take, get_or, ap, arith}
-use Rattle.std.proofs.lemmas.Grind.{flat_map-append}
+use Rattle.std.proofs.Common.{◌≡◌, ◌∙◌, ℕ, zero, suc, ◌+◌, ◌*◌, ◌≤◌, List, [], ◌∷◌, ◌++◌, length, take, get_or, ap, arith}
 use Rattle.mips_isa.specs.Lines.{Line}
 use Rattle.cool_syntax.specs.declared.file_tree.Feature.{Feature}
 use Rattle.cool_syntax.specs.Weights.{features_weight}
@@ -12,11 +11,11 @@ use Rattle.cool_consts.specs.Constants.{Constants}
 use Rattle.cool_emit.specs.Additions.{Adds, integers_asked, strings_asked}
 use Rattle.cool_emit.specs.declared.emission.Part.{Part}
 use Rattle.cool_emit.specs.declared.emission.Part.TheVariants.{Attributes, Methods}
-use Rattle.cool_emit.specs.Programs.{Placed, all_features, attributes_in, class_features, IsBuildable}
+use Rattle.cool_emit.specs.Programs.{Placed, IsBuildable}
 use Rattle.cool_emit.proofs.AddingParts.{part_from}
-use Rattle.cool_emit.proofs.ClassesInTurn.{features_weigh, placed_weight, parts_weigh, table_weight}
+use Rattle.cool_emit.proofs.ClassesInTurn.{placed_weight, parts_weigh, table_weight}
 use Rattle.cool_emit.proofs.ConstantsAsked.{few_with_integers, few_with_strings, few_integers_asked, few_strings_asked}
-use Rattle.cool_emit.proofs.Totals.{total, total-append}
+use Rattle.cool_emit.proofs.Totals.{total}
 
 -- a part weighs no more than the features among which it is
 part_weight : (part : Part) (fs : List Feature) → total placed_weight (part_from part 0 fs) ≤ features_weight fs

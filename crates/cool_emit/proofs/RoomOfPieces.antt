@@ -1,5 +1,5 @@
 -- How much room the pieces of code take: a word for each instruction, two for an address or a number, and one for a label.
-use Rattle.std.proofs.Common.{◌≡◌, ℕ, ℤ, ◌+◌, ◌≤◌, List, [], ◌∷◌, ◌++◌, flat_map, Option}
+use Rattle.std.proofs.Common.{◌≡◌, ℕ, ℤ, ◌+◌, ◌≤◌, List, [], ◌∷◌, ◌++◌, Option}
 use Rattle.std.proofs.Common.{Some, None, Bool as Truth, true, false, refl, arith}
 use Rattle.std.specs.Prelude.{if◌then◌else◌, nat_eq, nat_lt, codes}
 use Rattle.cool_syntax.specs.declared.place.Place.{Place}
@@ -33,7 +33,6 @@ use Rattle.cool_codegen.specs.Code.{Context, label_at, file_label, divisor_code,
 use Rattle.cool_codegen.specs.Code.{name_code, store_of, assign_code, new_code, default_code}
 use Rattle.cool_codegen.specs.Code.{bool_code, int_code, operation_code, arith_code, compare_code}
 use Rattle.cool_emit.specs.SoundLines.{text_room}
-use Rattle.cool_emit.proofs.Totals.{total}
 
 -- the room of lines, one after the other, and of lines that are joined
 pub text_room-append : (xs ys : List Line) → text_room (xs ++ ys) ≡ text_room xs + text_room ys

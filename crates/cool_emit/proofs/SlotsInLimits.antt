@@ -1,19 +1,12 @@
 -- The limits of a table, as the layout sees them: no class has more than 2,000 slots, or more than 2,000 attributes.
-use Rattle.std.proofs.Common.{◌≡◌, ◌≢◌, ℕ, ◌≤◌, ◌<◌, List, [], ◌∷◌, ◌++◌, length, Bool, true, false}
-use Rattle.std.proofs.Common.{◌||◌, is_some, refl, sym, ap, ◌∙◌, subst, true≢false, append_assoc}
-use Rattle.std.specs.Prelude.{bytes_eq, if◌then◌else◌}
-use Rattle.std.specs.List.{AllByRecursion}
-use Rattle.std.proofs.lemmas.List.Folds.{list_any-append}
+use Rattle.std.proofs.Common.{◌≤◌, ◌<◌, List, length}
 use Rattle.cool_classes.specs.declared.class_id.ClassId.{ClassId}
 use Rattle.cool_classes.specs.Chains.{Class}
 use Rattle.cool_classes.specs.ClimbedChains.{chain}
-use Rattle.cool_classes.specs.Limits.{IsImplemented, KeepsLimits}
-use Rattle.cool_layout.specs.Members.{own_names, with_new, slots_of, slots, attributes}
+use Rattle.cool_classes.specs.Limits.{KeepsLimits}
+use Rattle.cool_layout.specs.Members.{slots, attributes}
 use Rattle.cool_layout.specs.Roots.{IsRooted}
 use Rattle.cool_layout.proofs.ShortChains.{chain_is}
-use Rattle.cool_layout.proofs.SlotNames.{has, slots_any}
-use Rattle.lists.specs.Different.{AreDifferent}
-use Rattle.lists.proofs.EqualBytes.{bytes_eq-same}
 use Rattle.cool_layout.proofs.KeptSlots.{different, implemented}
 
 pub few_slots : (p : List Class) → IsRooted p → KeepsLimits p → (c : ClassId) → c.0 < length p → length (slots p c) ≤ 2000

@@ -32,7 +32,7 @@ use Rattle.cool_codegen.specs.Features.{feature_strings, initial_integers, initi
 use Rattle.cool_codegen.proofs.AttributesOfClasses.{place_low}
 use Rattle.cool_emit.specs.SoundLines.{AreText}
 use Rattle.cool_emit.specs.Programs.{Placed, attributes_from, methods_from, placed_code, parent_code}
-use Rattle.cool_emit.specs.Programs.{initializer_code, class_code, class_features, classes_code}
+use Rattle.cool_emit.specs.Programs.{initializer_code, class_code, class_features}
 use Rattle.cool_emit.specs.Programs as programs
 use Rattle.cool_emit.proofs.TextOfPieces.{AreTargets, text_of_enter}
 use Rattle.cool_emit.proofs.TextOfPieces.{text_of_leave, text_of_mark, text_of_store, text_of_take_self}

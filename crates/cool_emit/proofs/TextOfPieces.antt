@@ -1,6 +1,6 @@
 -- The pieces of code are lines of text: each register is one of 32, each immediate has 16 bits, and each jump and each address names what
 -- may be named.
-use Rattle.std.proofs.Common.{ℕ, ◌<◌, List, [], ◌∷◌, ◌++◌, arith}
+use Rattle.std.proofs.Common.{ℕ, ◌<◌, List, arith}
 use Rattle.std.specs.Prelude.{ℤ}
 use Rattle.std.specs.List.{AllByRecursion}
 use Rattle.mips_isa.specs.Lines.{Name, Line}

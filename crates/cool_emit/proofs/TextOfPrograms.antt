@@ -1,12 +1,11 @@
 -- The text of a program is lines of text: each jump goes to a label of the text, and each address is that of a label of the program.
-use Rattle.std.proofs.Common.{◌≡◌, ℕ, zero, suc, ◌+◌, ◌<◌, ◌≤◌, List, [], ◌∷◌, ◌++◌}
+use Rattle.std.proofs.Common.{◌≡◌, ℕ, ◌+◌, List, [], ◌∷◌, ◌++◌}
 use Rattle.std.proofs.Common.{length, flat_map, Bool, true, false, refl, arith, Contains}
 use Rattle.std.specs.Prelude.{nat_eq, bytes_eq, if◌then◌else◌}
 use Rattle.std.specs.List.{AllByRecursion, list_any}
 use Rattle.std.proofs.lemmas.Map.Views.{Contains-from_any}
 use Rattle.std.proofs.lemmas.Slice.Eq.{bytes_eq-Decides}
 use Rattle.mips_isa.specs.Lines.{Name, Line}
-use Rattle.cool_classes.specs.declared.class_id.ClassId.{ClassId}
 use Rattle.cool_classes.specs.Chains.{Class}
 use Rattle.cool_runtime.specs.Labels.{case_abort, concat_end, concat_first, concat_second, concat_third, copy}
 use Rattle.cool_runtime.specs.Labels.{copy_end, copy_words, dispatch_abort, div_abort, equal_bytes, equal_false}

@@ -2,7 +2,6 @@
 use Rattle.std.proofs.Common.{ℕ, List, Err, ap}
 use Rattle.cool_classes.specs.Chains.{Class}
 use Rattle.cool_meaning.specs.Values as values
-use Rattle.cool_meaning.specs.Values.{State, Environment, location_of}
 use Rattle.cool_meaning.specs.Meters.{Outcome, Computation}
 use Rattle.cool_eval.specs.declared.ending.Ending.{Ending}
 use Rattle.cool_eval.specs.declared.ending.Ending.TheVariants as ending

@@ -2,7 +2,6 @@
 use Rattle.std.proofs.Common.{◌≡◌, ℕ, ◌+◌, Bool, List, Option, Some, Result, Ok, Err, inl, inr, refl, sym, ap, subst, arith}
 use Rattle.std.specs.Prelude.{◌⊎◌, IfErr}
 use Rattle.cool_ports.specs.Answers.{Past}
-use Rattle.cool_ports.specs.Taking.{Took}
 use Rattle.cool_ports.specs.SinkBytes.{appended}
 use Rattle.cool_syntax.specs.declared.place.Place.{Place}
 use Rattle.cool_classes.specs.declared.method.BasicMethod.{BasicMethod}
@@ -24,7 +23,7 @@ use Rattle.cool_eval.specs.Configurations.{Comes, frames_of}
 use Rattle.cool_eval.specs.Counts.{Counted, FaultsInCalls, IsInner}
 use Rattle.cool_eval.specs.Devices.{OnDevices, Reaches, Acts, HasLeft, HasPut, ToValue, ToStep, state_at}
 use Rattle.cool_eval.specs.Machine.{Frame, Return, Next, after, begin_call}
-use Rattle.cool_ports.proofs.InputsInParts.{leaves_same, took_nothing}
+use Rattle.cool_ports.proofs.InputsInParts.{leaves_same}
 
 -- what came, with the sink as it was
 pub comes_reach : (p : List Class) (r : Result Focus Ending) (m : Machine) (first : Option (List ℕ)) (output input : List ℕ)

@@ -8,7 +8,7 @@ use Rattle.cool_meaning.specs.Values as values
 use Rattle.cool_meaning.specs.Values.{State}
 use Rattle.cool_meaning.specs.Meters.{Outcome, Val, Stop, On, Stuck}
 use Rattle.cool_meaning.specs.SourceRun as runs
-use Rattle.cool_meaning.specs.SourceRun.{Run, End, run_of, run, done_text, error_text}
+use Rattle.cool_meaning.specs.SourceRun.{End, run_of, run, done_text, error_text}
 use Rattle.cool_meaning.proofs.SoundRuns.{never_stuck}
 use Rattle.cool_eval.specs.declared.ending.Ending.TheVariants as ending
 use Rattle.cool_eval.specs.declared.ending.RunError.{RunError}

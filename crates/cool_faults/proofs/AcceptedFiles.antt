@@ -1,6 +1,5 @@
 -- Files that are accepted have no fault: no phase finds one.
-use Rattle.std.proofs.Common.{◌≡◌, ℕ, zero, suc, ◌<◌, List, [], ◌∷◌, length, Some, sym, refl, subst, arith}
-use Rattle.std.specs.Prelude.{slice_get}
+use Rattle.std.proofs.Common.{◌≡◌, ℕ, List, [], ◌∷◌, sym, refl, subst, arith}
 use Rattle.cool_syntax.specs.declared.file_tree.ClassDef.{ClassDef}
 use Rattle.cool_syntax.specs.declared.place.Place.{Place}
 use Rattle.cool_classes.specs.declared.fault.ClassFault.{ClassFault}

@@ -3,7 +3,6 @@ use Rattle.std.proofs.Common.{◌≡◌, ℕ, zero, suc, ◌<◌, List, [], ◌�
 use Rattle.std.specs.Prelude.{Ok, Err, IfErr, IfSome, slice_get, nat_eq, if◌then◌else◌, not, ◌&&◌, ◌||◌}
 use Rattle.std.specs.List.{AllByRecursion}
 use Rattle.std.specs.Option.{option_or}
-use Rattle.std.proofs.lemmas.Option.{none-some, same_Some}
 use Rattle.cool_syntax.specs.declared.file_tree.AttributeDef.{AttributeDef}
 use Rattle.cool_syntax.specs.declared.file_tree.ClassDef.{ClassDef}
 use Rattle.cool_syntax.specs.declared.file_tree.Feature.{Feature}

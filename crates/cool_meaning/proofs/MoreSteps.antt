@@ -2,7 +2,7 @@
 use Rattle.std.proofs.Common.{◌≡◌, ℕ, zero, suc, ◌+◌, ◌≤◌, max, Bool, true, false, List, [], ◌∷◌, ◌++◌, length, ap, sym, refl, subst, arith, append-nil}
 use Rattle.std.specs.Prelude.{Option, Some, None, if◌then◌else◌, ◌==◌}
 use Rattle.cool_meaning.specs.Values.{Value, State}
-use Rattle.cool_meaning.specs.Meters.{Outcome, Val, Stop, On, Stuck, Error, Metered, Computation, free, join, seq_of, seq, ◌>>=◌, ◌>>◌, give, stop, stuck, spend, working, giving, holding, rule, reading, changing, given, locate, load, store}
+use Rattle.cool_meaning.specs.Meters.{Outcome, Val, Stop, On, Stuck, Error, Metered, Computation, free, join, seq_of, seq, ◌>>=◌, ◌>>◌, give, stop, stuck, spend, working, giving, holding, reading, changing, given, locate, load, store}
 use Rattle.cool_meaning.specs.BasicMethods.{draw, print, line_of, take_line}
 use Rattle.cool_meaning.proofs.Later.{Later, later_same, After, seq_after}
 

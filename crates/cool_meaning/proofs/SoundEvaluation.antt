@@ -1,5 +1,5 @@
 -- A typed expression is never stuck, and its value fits its type.
-use Rattle.std.proofs.Common.{◌≡◌, ◌≢◌, ℕ, ◌<◌, pos, neg_ℤ, List, [], ◌∷◌, map, length, Option, Some, Bool, true, false, not, ap, sym, ◌∙◌, refl, subst, arith}
+use Rattle.std.proofs.Common.{◌≡◌, ◌≢◌, ℕ, ◌<◌, neg_ℤ, List, [], ◌∷◌, map, length, Option, Some, Bool, true, false, not, ap, sym, ◌∙◌, refl, subst, arith}
 use Rattle.std.specs.Prelude.{if◌then◌else◌, bytes_eq, codes, slice_get}
 use Rattle.std.specs.List.{AllByRecursion}
 use Rattle.std.proofs.lemmas.Slice.Eq.{bytes_eq-Decides}

@@ -29,7 +29,7 @@ use Rattle.cool_classes.specs.LawfulTables.{MayInherit}
 use Rattle.cool_rules.specs.TypedTables.{IsTypedTable}
 use Rattle.cool_meaning.specs.Values.{Value, Void, Int, Bool as Truth, Str, Obj, class_of, default_of}
 use Rattle.cool_meaning.specs.Meters
-use Rattle.cool_meaning.specs.Meters.{Error, Overflow, DivisionByZero, NoBranch, Computation, ◌>>=◌, ◌>>◌, give, stop, stuck, spend, rule, working, giving, holding, given, locate, load, store}
+use Rattle.cool_meaning.specs.Meters.{Error, Overflow, DivisionByZero, NoBranch, Computation, ◌>>=◌, ◌>>◌, give, spend, rule, working, holding, given, store}
 use Rattle.cool_meaning.specs.Numbers.{fits, is_zero}
 use Rattle.cool_classes.specs.ClimbedChains.{chain as chain_of}
 use Rattle.cool_meaning.specs.Lookups.{attributes, default_values}

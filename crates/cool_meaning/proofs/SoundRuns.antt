@@ -22,7 +22,7 @@ use Rattle.cool_classes.specs.LawfulTables.{MayInherit}
 use Rattle.cool_rules.specs.TypedTables.{IsTypedTable}
 use Rattle.cool_meaning.specs.Values.{Value, Void, Int, Bool as Truth, Str, Obj, Environment, class_of, start}
 use Rattle.cool_meaning.specs.Meters
-use Rattle.cool_meaning.specs.Meters.{DispatchVoid, Outcome, Metered, Computation, ◌>>=◌, ◌>>◌, give, working}
+use Rattle.cool_meaning.specs.Meters.{DispatchVoid, Outcome, Metered, ◌>>=◌, ◌>>◌}
 use Rattle.cool_classes.specs.ClimbedChains.{chain as chain_of}
 use Rattle.cool_meaning.specs.Lookups.{method_in, attributes, init_in, init_of, located, attribute_names, formal_names, locations_of, environment_of, attributes_at}
 use Rattle.cool_meaning.specs.Evaluation.{Body, Initials, Calls, eval, run_method, run_initial, run_initials, run_call, calls_within, make}

@@ -1,6 +1,6 @@
 -- Of tables that differ in bodies, initial values and places alone, the features of the one have no fault where those of the other have
 -- none.
-use Rattle.std.proofs.Common.{◌≡◌, ℕ, zero, suc, ◌+◌, List, [], ◌∷◌, ◌++◌, map, length, Option, Some, None, Bool, not, ◌&&◌, ◌||◌, refl, sym, ap, ◌∙◌, subst, arith}
+use Rattle.std.proofs.Common.{◌≡◌, ℕ, zero, suc, ◌+◌, List, [], ◌∷◌, ◌++◌, length, Option, Some, None, Bool, not, ◌&&◌, ◌||◌, refl, sym, ap, ◌∙◌, subst, arith}
 use Rattle.std.specs.Prelude.{bytes_eq, codes, is_some, is_none, nat_lt, if◌then◌else◌}
 use Rattle.cool_syntax.specs.declared.place.Place.{Place}
 use Rattle.cool_syntax.specs.declared.type_ref.TypeRef.{TypeRef}
@@ -22,7 +22,7 @@ use Rattle.cool_classes.specs.ClimbedChains.{climbed, above}
 use Rattle.cool_classes.specs.Declarations.{DeclareSame, AllDeclareSame, AreAllAlike, formal_types, formal_names}
 use Rattle.cool_classes.specs.FeatureFaults.{noted, is_class, type_faults, formal_faults, formals_faults, same_types, redefines_otherwise, have_attribute, is_doubled, method_faults, attribute_faults, one_feature_faults, features_faults, has_formals, lacks_main_at, lacks_main, is_over_limit, class_faults}
 use Rattle.cool_classes.specs.Features.{basic_methods, first_method, implementation}
-use Rattle.cool_classes.specs.FirstNames.{first_index, is_index, attribute_name}
+use Rattle.cool_classes.specs.FirstNames.{first_index, is_index}
 use Rattle.cool_classes.specs.MethodNames.{is_new, new_name, new_among, method_names, methods_of}
 use Rattle.cool_classes.specs.Names.{self_type}
 use Rattle.cool_classes.proofs.AlikeTables.{FindSame, features_alike, find_same, first_alike}

@@ -1,27 +1,23 @@
 -- An input has one session: its replies, its end, and what it leaves.
-use Rattle.std.proofs.Common.{◌≡◌, ◌≢◌, ◌⊎◌, inl, inr, ℕ, suc, ◌+◌, ◌<◌, ◌≤◌, Bool, true, false, List, [], ◌∷◌, ◌++◌, length, map, take, drop, replicate, length-append, append-nil, append_assoc, refl, sym, ◌∙◌, ap, subst, arith}
+use Rattle.std.proofs.Common.{◌≡◌, ◌≢◌, ◌⊎◌, inl, inr, ℕ, suc, ◌+◌, ◌<◌, ◌≤◌, true, false, List, [], ◌∷◌, ◌++◌, length, take, drop, replicate, length-append, append-nil, append_assoc, refl, sym, ◌∙◌, ap, subst, arith}
 use Rattle.std.specs.Prelude.{nat_lt, if◌then◌else◌, Option, Some, None, Result, Ok, Err}
 use Rattle.std.proofs.Math.Seq.{drop-append_seam}
 use Rattle.std.proofs.Math.Seq.{take-append_seam}
-use Rattle.cool_syntax.specs.declared.token.Token.{Token}
 use Rattle.cool_syntax.specs.declared.token.TokenKind.{TokenKind}
-use Rattle.cool_syntax.specs.declared.file_tree.FileTree.{FileTree}
-use Rattle.cool_lexer.proofs.OneReading.{one_cutting}
-use Rattle.cool_classes.specs.Definitions.{definitions}
 use Rattle.cool_faults.specs.declared.fault.Fault.{Fault}
 use Rattle.cool_faults.specs.Verdicts.{IsFaultList}
-use Rattle.cool_faults.proofs.OneVerdict.{one_list, one_trees}
+use Rattle.cool_faults.proofs.OneVerdict.{one_list}
 use Rattle.cool_session.specs.declared.ending.Ending.{Ending}
 use Rattle.cool_session.specs.declared.ending.Ending.TheVariants.{Over, BadCommand, EndsInFile, TooLarge}
 use Rattle.cool_session.specs.declared.error.SetError.{SetError}
 use Rattle.cool_session.specs.Commands.{Command, command, File, Drop, Check, Quit}
 use Rattle.cool_session.specs.Exchanges.{Head, Line, NoLine, head, Asks, Does, sets, drops, checks, EndsAt, over, quits, no_line, no_command, no_file, cut, large, Did, none, more, Exchange, Part}
 use Rattle.cool_session.specs.Files.{set_room}
-use Rattle.cool_session.specs.Fresh.{Base, HaveFeatures, AreTyped, Differ, IsFresh, Types}
+use Rattle.cool_session.specs.Fresh.{Base, Differ, IsFresh, Types}
 use Rattle.cool_session.specs.Fresh as fresh
 use Rattle.cool_session.specs.Held.{Held, with_file, without_file, with_base}
 use Rattle.cool_session.specs.Replies.{reply_lines}
-use Rattle.cool_session.specs.Signatures.{ClassSignature, features_in, signatures}
+use Rattle.cool_session.specs.Signatures.{ClassSignature, signatures}
 use Rattle.cool_session.proofs.ChecksOfFiles.{one_base}
 use Rattle.std.proofs.lemmas.Bool.{cases_lt}
 

@@ -3,13 +3,11 @@
 use Rattle.std.proofs.Common.{◌≡◌, ℕ, List, [], ◌∷◌, map, drop, Option, Some, None, refl, sym, ap, ◌∙◌, subst, codes}
 use Rattle.cool_syntax.specs.declared.type_ref.TypeRef.{TypeRef}
 use Rattle.cool_syntax.specs.declared.file_tree.ClassDef.{ClassDef}
-use Rattle.cool_syntax.specs.declared.file_tree.Feature.{Feature}
-use Rattle.cool_syntax.specs.declared.file_tree.Feature.TheVariants.{Method, Attribute}
 use Rattle.cool_lexer.specs.declared.lexer.Lexed.{Lexed}
 use Rattle.cool_classes.specs.declared.class_id.ClassId.{ClassId}
 use Rattle.cool_classes.specs.Chains.{Class, name_of}
 use Rattle.cool_classes.specs.ClassFaults.{classes_meant}
-use Rattle.cool_classes.specs.Declarations.{DeclareSame, AllDeclareSame, AreAllAlike}
+use Rattle.cool_classes.specs.Declarations.{AreAllAlike}
 use Rattle.cool_classes.specs.Definitions.{definitions, InheritsAs, AreDefinedBy}
 use Rattle.cool_faults.specs.declared.fault.Untyped.{Untyped}
 use Rattle.cool_faults.specs.Untyped.{IsUntyped}
@@ -21,7 +19,7 @@ use Rattle.cool_session.specs.FeatureTokens.{AreFeatures}
 use Rattle.cool_session.specs.KeptChecks.{IsRead, results_of, AreKept, IsBaseOf}
 use Rattle.cool_session.specs.KeptFaults.{members, results, AreKeptOf}
 use Rattle.cool_session.specs.NewFeatures.{runs_seen}
-use Rattle.cool_session.specs.Signatures.{OfMethod, OfAttribute, feature_signature, parent_name, signatures}
+use Rattle.cool_session.specs.Signatures.{feature_signature, parent_name, signatures}
 use Rattle.cool_session.proofs.ChecksAfterEdits.{member_features}
 use Rattle.cool_session.proofs.TypedFiles.{are_features}
 use Rattle.cool_classes.proofs.SwappedBodies.{all_alike_self}

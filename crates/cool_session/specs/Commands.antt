@@ -1,6 +1,6 @@
 -- What a line of a session's input asks. Words are parted by one space.
-use Rattle.std.specs.Prelude.{◌≡◌, refl, ℕ, ◌==◌, ◌&&◌, nat_le, if◌then◌else◌, List, [], ◌∷◌, length, codes, bytes_eq, Bool, Option, Some, None}
-use Rattle.std.specs.List.{list_all, slice_split}
+use Rattle.std.specs.Prelude.{◌≡◌, refl, ℕ, ◌&&◌, nat_le, if◌then◌else◌, List, [], ◌∷◌, length, codes, bytes_eq, Bool, Option, Some, None}
+use Rattle.std.specs.List.{list_all}
 use Rattle.cool_syntax.specs.Lexemes.{is_digit, value}
 use Rattle.lists.specs.Words.{words_in}
 

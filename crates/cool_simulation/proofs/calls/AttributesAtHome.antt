@@ -1,6 +1,6 @@
 -- The attributes of a class are at home in the words of self, and with formals in front of them all names of a body are.
 use Rattle.std.proofs.Common.{◌≡◌, ◌≢◌, ℕ, suc, ◌+◌, ◌-◌, ◌*◌, ◌<◌, ◌≤◌, inr, List, [], ◌∷◌, ◌++◌, map as each, length, get_or, Bool as Truth, true, false, cond, not, refl, sym, ap, ◌∙◌, subst, arith, append_assoc}
-use Rattle.std.specs.Prelude.{nat_eq, slice_get}
+use Rattle.std.specs.Prelude.{slice_get}
 use Rattle.std.specs.List.{AllByRecursion, position_or_len}
 use Rattle.cool_syntax.specs.declared.file_tree.Formal.{Formal}
 use Rattle.cool_classes.specs.declared.class_id.ClassId.{ClassId}

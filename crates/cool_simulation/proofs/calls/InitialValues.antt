@@ -32,7 +32,7 @@ use Rattle.cool_meaning.specs.Values.{Value, State, class_of}
 use Rattle.cool_meaning.specs.Meters.{seq, store}
 use Rattle.cool_meaning.specs.Lookups.{attributes, environment_of}
 use Rattle.cool_meaning.specs.Evaluation.{Calls, eval, run_initial}
-use Rattle.cool_meaning.proofs.FittingValues.{AllFit, Fits, meant, still_fits, still_made, fits_conforming}
+use Rattle.cool_meaning.proofs.FittingValues.{Fits, meant, still_made, fits_conforming}
 use Rattle.cool_meaning.proofs.FittingValues as fitting
 use Rattle.cool_meaning.proofs.Later.{later_same}
 use Rattle.cool_meaning.proofs.SoundMethods.{Any}

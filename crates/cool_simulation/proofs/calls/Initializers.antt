@@ -1,5 +1,5 @@
 -- The code of an initializer does what the initial values of its class mean: those of the class above first, and then its own.
-use Rattle.std.proofs.Common.{◌≡◌, ◌⊎◌, inl, inr, ℕ, zero, suc, ◌+◌, ◌-◌, ◌*◌, ◌<◌, ◌≤◌, List, [], ◌∷◌, ◌++◌, flat_map, length, Option, Some, None, Bool as Truth, true, false, ap, sym, ◌∙◌, refl, subst, arith, append_assoc, append-nil}
+use Rattle.std.proofs.Common.{◌≡◌, ◌⊎◌, inl, inr, ℕ, zero, suc, ◌+◌, ◌-◌, ◌*◌, ◌<◌, ◌≤◌, List, [], ◌∷◌, ◌++◌, flat_map, length, Option, Some, None, Bool as Truth, true, ap, sym, ◌∙◌, refl, subst, arith, append_assoc, append-nil}
 use Rattle.std.specs.Prelude.{pos, drop, slice_get, nat_lt, if◌then◌else◌}
 use Rattle.std.proofs.lemmas.List.{get_or-drop}
 use Rattle.std.proofs.lemmas.Bool.{le-ltb}
@@ -35,7 +35,7 @@ use Rattle.cool_meaning.specs.Values.{Value, State}
 use Rattle.cool_meaning.specs.Meters.{Outcome, Val, Metered, seq}
 use Rattle.cool_meaning.specs.Lookups.{attributes, locations_of}
 use Rattle.cool_meaning.specs.Evaluation.{Calls, Initials, run_initials, run_call}
-use Rattle.cool_meaning.proofs.FittingValues.{AreMade, Fits, attribute_classes, meant, still_fits}
+use Rattle.cool_meaning.proofs.FittingValues.{AreMade, attribute_classes, still_fits}
 use Rattle.cool_meaning.proofs.FittingValues as fitting
 use Rattle.cool_meaning.proofs.SoundMethods.{Any}
 use Rattle.cool_meaning.proofs.SoundComputations.{NotStuck, IsFine}

@@ -1,5 +1,5 @@
 -- The code of a method does what its call means, where the code of its body does what that means.
-use Rattle.std.proofs.Common.{◌≡◌, ℕ, suc, ◌+◌, ◌-◌, ◌*◌, ◌<◌, ◌≤◌, List, [], ◌∷◌, ◌++◌, map as each, length, Option, Some, ap, sym, ◌∙◌, refl, subst, arith}
+use Rattle.std.proofs.Common.{◌≡◌, ℕ, ◌+◌, ◌-◌, ◌*◌, ◌<◌, ◌≤◌, List, ◌++◌, map as each, length, Option, Some, ap, sym, ◌∙◌, refl, subst, arith}
 use Rattle.std.specs.Prelude.{pos, slice_get}
 use Rattle.mips_isa.specs.Bytes.{Bytes}
 use Rattle.mips_isa.specs.Calls.{State as Machine}
@@ -32,7 +32,7 @@ use Rattle.cool_meaning.specs.Values.{Value, State}
 use Rattle.cool_meaning.specs.Meters.{Stuck, Metered, join, seq}
 use Rattle.cool_meaning.specs.Lookups.{method_in, located, formal_names, environment_of}
 use Rattle.cool_meaning.specs.Evaluation.{Calls, Body, eval, run_method, run_call}
-use Rattle.cool_meaning.proofs.FittingValues.{AllFit, Fits, AreMade, meant, still_fits, fit_length}
+use Rattle.cool_meaning.proofs.FittingValues.{AllFit, AreMade, meant, still_fits, fit_length}
 use Rattle.cool_meaning.proofs.FittingValues as fitting
 use Rattle.cool_meaning.proofs.MethodsOfTables.{defined}
 use Rattle.cool_meaning.proofs.SoundComputations.{NotStuck, IsFine, locate_all_sound}

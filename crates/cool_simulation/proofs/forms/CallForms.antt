@@ -28,7 +28,7 @@ use Rattle.cool_codegen.specs.Code.{code, arguments_code}
 use Rattle.cool_meaning.specs.Values.{Value, Void, Int, Bool, Str, Obj, State, Environment, class_of}
 use Rattle.cool_meaning.specs.Meters.{Error, DispatchVoid, Outcome, Stop, Computation, ◌>>=◌, seq_of, rule, holding}
 use Rattle.cool_meaning.specs.Evaluation.{Calls, class_or, eval, eval_all}
-use Rattle.cool_meaning.proofs.FittingValues.{AllFit, Fits, fit_length, class_fits, still_fits, still_all_fit}
+use Rattle.cool_meaning.proofs.FittingValues.{AllFit, fit_length, class_fits, still_all_fit}
 use Rattle.cool_meaning.proofs.FittingValues as fitting
 use Rattle.cool_meaning.proofs.SoundParts.{AllCallsSound}
 use Rattle.cool_meaning.proofs.SoundEvaluation.{Scene, scene_later, eval_sound, all_sound}

@@ -6,7 +6,7 @@ use Rattle.mips_isa.specs.Bytes.{Bytes}
 use Rattle.mips_isa.specs.Calls.{State as Machine}
 use Rattle.mips_isa.specs.Lines.{Name, Line}
 use Rattle.cool_syntax.specs.declared.place.Place.{Place}
-use Rattle.cool_syntax.specs.Tree.{Tree, Cases, tree_size, cases_size}
+use Rattle.cool_syntax.specs.Tree.{Tree, Cases, tree_size}
 use Rattle.cool_syntax.specs.Tree as trees
 use Rattle.cool_syntax.specs.NodeLists.{root}
 use Rattle.cool_classes.specs.declared.class_id.ClassId.{ClassId}

@@ -1,5 +1,5 @@
 -- The code of the two orders of numbers does what they mean.
-use Rattle.std.proofs.Common.{◌≡◌, ℕ, ◌+◌, ◌-◌, ◌<◌, ◌≤◌, ℤ, pos, negsuc, List, ◌++◌, refl, sym, ap, ◌∙◌, subst, arith, not}
+use Rattle.std.proofs.Common.{◌≡◌, ℕ, ◌+◌, ◌-◌, ◌≤◌, ℤ, pos, negsuc, List, ◌++◌, refl, sym, ap, ◌∙◌, subst, arith, not}
 use Rattle.std.specs.Prelude.{Bool as Truth, true, false, nat_lt, int_lt, int_le}
 use Rattle.mips_isa.specs.Bytes.{Bytes, word}
 use Rattle.mips_isa.specs.Machine.{flag, lifted}

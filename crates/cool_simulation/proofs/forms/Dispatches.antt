@@ -5,7 +5,7 @@ use Rattle.std.proofs.lemmas.List.Elements.{Contains-append_left, Contains-appen
 use Rattle.mips_isa.specs.declared.address_map.TheConstants.{HEAP_START}
 use Rattle.mips_isa.specs.Lines.{Name, Line}
 use Rattle.cool_syntax.specs.declared.place.Place.{Place}
-use Rattle.cool_syntax.specs.Tree.{Tree, Trees, Last, More, tree_size, trees_size}
+use Rattle.cool_syntax.specs.Tree.{Tree, Trees, tree_size}
 use Rattle.cool_syntax.specs.Tree as trees
 use Rattle.cool_classes.specs.declared.class_id.ClassId.{ClassId}
 use Rattle.cool_classes.specs.declared.class_id.Ty.{Ty}
@@ -39,7 +39,7 @@ use Rattle.cool_codegen.specs.Asked.{integers_in, integers_in_all, strings_in, s
 use Rattle.cool_codegen.specs.Asked as asked
 use Rattle.cool_meaning.specs.Values.{Value, Environment}
 use Rattle.cool_meaning.specs.Evaluation.{Calls, dispatch}
-use Rattle.cool_meaning.proofs.FittingValues.{AllFit, meant, below_conforming}
+use Rattle.cool_meaning.proofs.FittingValues.{AllFit, meant}
 use Rattle.cool_meaning.proofs.FittingValues as fitting
 use Rattle.cool_meaning.proofs.MethodsOfTables.{implementation_own, formals_are_classes}
 use Rattle.cool_meaning.proofs.SoundParts.{AllCallsSound, arguments_fit}
@@ -53,7 +53,7 @@ use Rattle.cool_simulation.proofs.forms.ReceiverHeads.{has_head}
 use Rattle.cool_simulation.proofs.ground.DataHere.{string_pic, slot_here}
 use Rattle.cool_simulation.proofs.ground.EvaluationLater.{CallsLater}
 use Rattle.cool_simulation.proofs.ground.CallsLater.{dispatch_later}
-use Rattle.cool_simulation.proofs.ground.ScenesLater.{types_in_scope, tree_some}
+use Rattle.cool_simulation.proofs.ground.ScenesLater.{types_in_scope}
 use Rattle.cool_simulation.proofs.forms.Received.{BasicCorrect}
 use Rattle.cool_simulation.proofs.forms.Invoking.{dispatched}
 use Rattle.cool_simulation.proofs.forms.CallForms.{file_of, CallRuns, form_runs}

@@ -1,7 +1,7 @@
 -- The code of every expression without an empty block does what it means, where calls with fewer steps do.
 use Rattle.std.proofs.Common.{ℕ}
 use Rattle.cool_syntax.specs.declared.operator.CompareOp.TheVariants.{Less, LessEqual, Equal}
-use Rattle.cool_syntax.specs.Tree.{Tree, Trees, MaybeTree, Cases, Last, More, Without, With, NoCase, CaseOf}
+use Rattle.cool_syntax.specs.Tree.{Tree, Trees, Cases, Last, More, Without, With, NoCase, CaseOf}
 use Rattle.cool_syntax.specs.Tree as trees
 use Rattle.cool_syntax.specs.WrittenTrees.{IsWritable, AreWritable, AreCasesWritable}
 use Rattle.cool_meaning.specs.Evaluation.{Calls}

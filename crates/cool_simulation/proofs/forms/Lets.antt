@@ -5,7 +5,7 @@ use Rattle.mips_isa.specs.Calls.{State as Machine}
 use Rattle.mips_isa.specs.Lines.{Line}
 use Rattle.cool_syntax.specs.declared.place.Place.{Place}
 use Rattle.cool_syntax.specs.declared.type_ref.TypeRef.{TypeRef}
-use Rattle.cool_syntax.specs.Tree.{Tree, MaybeTree, Without, With, tree_size, maybe_size}
+use Rattle.cool_syntax.specs.Tree.{Tree, Without, With, tree_size}
 use Rattle.cool_syntax.specs.Tree as trees
 use Rattle.cool_classes.specs.declared.class_id.ClassId.{ClassId}
 use Rattle.cool_classes.specs.declared.class_id.Ty.{Ty}

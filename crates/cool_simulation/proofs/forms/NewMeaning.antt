@@ -24,7 +24,7 @@ use Rattle.cool_meaning.specs.Meters.{Outcome, Val, Stop, On, Stuck, Metered, Co
 use Rattle.cool_meaning.specs.Lookups.{attributes, default_values}
 use Rattle.cool_meaning.specs.BasicMethods.{locate_all, draw, new_number, new_truth, new_string}
 use Rattle.cool_meaning.specs.Evaluation.{Calls, Initials, new_object, make}
-use Rattle.cool_meaning.proofs.FittingValues.{AllFit, Fits, AreMade, attribute_classes, still_all_made, IsObject}
+use Rattle.cool_meaning.proofs.FittingValues.{AllFit, Fits, AreMade, attribute_classes}
 use Rattle.cool_meaning.proofs.FittingValues as fitting
 use Rattle.cool_meaning.proofs.MethodsOfTables.{defined_attribute}
 use Rattle.cool_meaning.proofs.SoundComputations.{NotStuck, locate_all_sound}

@@ -6,7 +6,7 @@ use Rattle.mips_isa.specs.declared.address_map.TheConstants.{HEAP_START}
 use Rattle.mips_isa.specs.Lines.{Name, Line}
 use Rattle.cool_syntax.specs.declared.place.Place.{Place}
 use Rattle.cool_syntax.specs.declared.type_ref.TypeRef.{TypeRef}
-use Rattle.cool_syntax.specs.Tree.{Tree, Trees, Last, More, tree_size, trees_size}
+use Rattle.cool_syntax.specs.Tree.{Tree, Trees, tree_size}
 use Rattle.cool_syntax.specs.Tree as trees
 use Rattle.cool_classes.specs.declared.class_id.ClassId.{ClassId}
 use Rattle.cool_classes.specs.declared.class_id.Ty.{Ty}

@@ -10,7 +10,6 @@ use Rattle.cool_classes.specs.Tables.{IsWholeTable}
 use Rattle.cool_classes.proofs.ChainsOfTables.{chain_is}
 use Rattle.cool_classes.proofs.Climbs.{chain_unique}
 use Rattle.cool_layout.specs.Preorder.{tag, last_tag, family, preorder}
-use Rattle.cool_layout.specs.Roots.{IsRooted}
 use Rattle.cool_layout.specs.Tags.{AreTags}
 use Rattle.cool_layout.proofs.ShortChains.{chain_in}
 use Rattle.cool_layout.proofs.TagRanges.{are_tags, tag_cut, preorder_long, head_first}

@@ -1,5 +1,5 @@
 -- The code of `not` and of `isvoid` does what they mean.
-use Rattle.std.proofs.Common.{◌≡◌, ℕ, ◌+◌, ◌*◌, ◌<◌, ◌≤◌, List, ◌++◌, refl, ap, subst, arith, not}
+use Rattle.std.proofs.Common.{◌≡◌, ℕ, ◌+◌, ◌*◌, ◌≤◌, List, ◌++◌, refl, ap, subst, arith, not}
 use Rattle.std.specs.Prelude.{Bool as Truth, true, false, nat_lt}
 use Rattle.mips_isa.specs.Bytes.{Bytes}
 use Rattle.mips_isa.specs.Machine.{flag}

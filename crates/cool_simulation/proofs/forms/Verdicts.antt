@@ -1,6 +1,6 @@
 -- The verdict of the comparison of two words is that of the values that they picture.
-use Rattle.std.proofs.Common.{◌≡◌, ◌≢◌, ℕ, zero, suc, ◌+◌, ◌-◌, ◌<◌, ◌≤◌, ◌⊎◌, inl, inr, ℤ, pos, negsuc, List, [], ◌∷◌, length, get_or, refl, sym, ap, ◌∙◌, arith, not}
-use Rattle.std.specs.Prelude.{Bool as Truth, true, false, ◌==◌, nat_eq, bytes_eq, nat_lt, if◌then◌else◌}
+use Rattle.std.proofs.Common.{◌≡◌, ◌≢◌, ℕ, zero, suc, ◌+◌, ◌-◌, ◌<◌, ◌≤◌, ◌⊎◌, inl, inr, ℤ, pos, negsuc, List, length, refl, sym, ap, ◌∙◌, arith, not}
+use Rattle.std.specs.Prelude.{Bool as Truth, true, false, ◌==◌, nat_eq, bytes_eq, if◌then◌else◌}
 use Rattle.std.proofs.lemmas.Slice.Eq.{bytes_eq-Decides}
 use Rattle.mips_isa.specs.declared.address_map.TheConstants.{HEAP_START}
 use Rattle.mips_isa.specs.Bytes.{Bytes, word}

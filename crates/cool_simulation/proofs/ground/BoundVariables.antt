@@ -17,7 +17,7 @@ use Rattle.cool_codegen.specs.declared.variables.Variable.{Variable}
 use Rattle.cool_codegen.specs.Variables.{Named, bind, pushed}
 use Rattle.cool_codegen.specs.Variables as variables
 use Rattle.cool_meaning.specs.Values.{Value, State, Environment, location_of}
-use Rattle.cool_meaning.proofs.FittingValues.{AllFit, Fits, fit_length, fit_more, made_last, still_fits, still_all_fit}
+use Rattle.cool_meaning.proofs.FittingValues.{Fits, fit_length, fit_more, made_last, still_fits, still_all_fit}
 use Rattle.cool_meaning.proofs.FittingValues as fitting
 use Rattle.cool_meaning.proofs.SoundEvaluation.{scene_later, scene_with}
 use Rattle.cool_simulation.specs.Loadings.{Loading}

@@ -9,7 +9,7 @@ use Rattle.cool_classes.specs.Chains.{Class}
 use Rattle.cool_classes.specs.ClimbedChains.{chain}
 use Rattle.cool_classes.specs.Features.{implementation}
 use Rattle.cool_meaning.specs.Values.{Value, Void, Int, Bool, Str, Obj, Environment}
-use Rattle.cool_meaning.specs.Meters.{Error, Computation, holding, given}
+use Rattle.cool_meaning.specs.Meters.{Error, Computation, holding}
 use Rattle.cool_meaning.specs.Evaluation.{Calls, Body, eval_all, class_or, invoke, dispatch}
 use Rattle.cool_meaning.proofs.Later.{later_same}
 use Rattle.cool_meaning.proofs.RelatedEvaluation.{basic_kept}

@@ -6,7 +6,7 @@ use Rattle.mips_isa.specs.Bytes.{Bytes}
 use Rattle.cool_classes.specs.declared.class_id.ClassId.{ClassId}
 use Rattle.cool_classes.specs.Chains.{Class, class_number}
 use Rattle.cool_runtime.specs.Reaches.{World}
-use Rattle.cool_runtime.specs.Contents.{Lies, Tagged, Prototypes}
+use Rattle.cool_runtime.specs.Contents.{Tagged, Prototypes}
 use Rattle.cool_runtime.specs.Comparison.{ValueAt}
 use Rattle.cool_layout.specs.Preorder.{tag}
 use Rattle.cool_layout.proofs.TagRanges.{are_tags}

@@ -1,6 +1,6 @@
 -- A map and a state with an object more: what they say of each number.
 use Rattle.std.proofs.Common.{◌≡◌, ℕ, zero, suc, ◌+◌, ◌-◌, ◌*◌, ◌<◌, ◌≤◌, List, [], ◌∷◌, ◌++◌, length, get_or, Bool as Truth, true, false, refl, sym, ap, ◌∙◌, subst, arith}
-use Rattle.std.specs.Prelude.{slice_get, Some, if◌then◌else◌, nat_eq}
+use Rattle.std.specs.Prelude.{slice_get, if◌then◌else◌, nat_eq}
 use Rattle.mips_isa.specs.Bytes.{Bytes}
 use Rattle.cool_classes.specs.declared.class_id.ClassId.{ClassId}
 use Rattle.cool_runtime.specs.Contents.{HeadAt}

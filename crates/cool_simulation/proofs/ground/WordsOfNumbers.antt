@@ -1,8 +1,6 @@
 -- Numbers and their words: what the machine reads and prints is what the source means.
 use Rattle.std.proofs.Common.{◌≡◌, ℕ, ◌+◌, ◌-◌, ◌*◌, ◌%◌, ◌<◌, ℤ, Bool, true, false, List, [], ◌∷◌, ◌++◌, refl, sym, ◌∙◌, ap, arith}
 use Rattle.std.specs.Prelude.{pos, negsuc, nat_lt, nat_le, ◌==◌, if◌then◌else◌}
-use Rattle.std.proofs.Math.Nat.{mod-add-mod}
-use Rattle.std.proofs.lemmas.Nat.{mul-mod_second}
 use Rattle.mips_isa.specs.Calls as machine
 use Rattle.cool_meaning.specs.Numbers.{fits, signed, digits_from, is_digit, is_blank, skip_blanks, negated, number_after_blanks, number_of}
 use Rattle.cool_simulation.specs.Pictures.{word_of}

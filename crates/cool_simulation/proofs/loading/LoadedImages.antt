@@ -1,28 +1,21 @@
 -- The machine of sound lines: their image has segments within the limits, and it is an image of these lines.
-use Rattle.std.proofs.Common.{◌≡◌, ℕ, ◌+◌, ◌*◌, ◌/◌, ◌≤◌, List, [], ◌∷◌, ◌++◌, length, map, replicate, refl, sym, ap, ◌∙◌, subst, arith, Bool, true, not, ◌&&◌, Some, None, length-append}
-use Rattle.std.specs.Prelude.{if◌then◌else◌, Contains, is_some}
-use Rattle.std.proofs.lemmas.List.{length-map, length-replicate}
-use Rattle.mips_isa.specs.declared.place.Segment.{Segment}
+use Rattle.std.proofs.Common.{◌≡◌, ℕ, ◌+◌, ◌*◌, ◌/◌, ◌≤◌, List, [], ◌∷◌, ◌++◌, length, refl, sym, ap, ◌∙◌, subst, arith, None}
+use Rattle.std.specs.Prelude.{Contains, is_some}
 use Rattle.mips_isa.specs.declared.place.Segment.TheVariants.{Text, Data}
 use Rattle.mips_isa.specs.declared.address_map.TheConstants.{TEXT_START, DATA_START}
-use Rattle.mips_isa.specs.Words.{word_of}
 use Rattle.mips_isa.specs.Bytes.{segments_of}
 use Rattle.mips_isa.specs.Lines.{Name, Line, ToData}
-use Rattle.mips_isa.specs.Assembly.{Need, Nothing, Words, Item, Switch, Padding, need, Position, start_position, padded, padding, padding_to, after_need, after_line, place_of, address_or_zero, in_text, start_name, main_name, directive_line, added_lines, completed, fault_of_all, instructions, text_from, bytes_from, item_bytes, image_of, image_of_all}
-use Rattle.mips_asm.proofs.Assembled.{length_of_instructions, length_of_item, bytes_needed, HasUnit, unit_of, up_from}
+use Rattle.mips_isa.specs.Assembly.{need, Position, start_position, after_line, place_of, address_or_zero, directive_line, completed, fault_of_all, image_of, image_of_all}
 use Rattle.cool_runtime.specs.Reaches.{World, AreLaid}
 use Rattle.cool_runtime.specs.Images.{IsImageOf}
-use Rattle.cool_runtime.specs.Instructions.{label, la}
 use Rattle.cool_emit.specs.SoundLines.{AreText, AreData, labels_of, text_room, data_room, joined_lines, AreSound}
 use Rattle.cool_emit.proofs.RoomOfLines.{HasRoom, needs_text, needs_data, after_text, after_data, in_data}
 use Rattle.cool_emit.proofs.SoundLinesAssemble.{no_fault, in_range, start_found, complete}
 use Rattle.cool_simulation.specs.Accord.{Limits, AreLimits}
-use Rattle.mips_asm.specs.TextWords.{words_needed}
 use Rattle.mips_asm.specs.Passes.{after_lines}
 use Rattle.mips_asm.proofs.FirstPasses.{after_both}
 use Rattle.cool_runtime.proofs.LinesOfImages.{text_length}
 use Rattle.cool_runtime.proofs.DataOfImages.{bytes_length}
-use Rattle.mips_asm.proofs.WordsOfText.{words_after}
 
 -- where text and data end
 

@@ -8,7 +8,7 @@ use Rattle.mips_isa.specs.declared.place.Segment.TheVariants.{Text, Data}
 use Rattle.mips_isa.specs.declared.address_map.TheConstants.{DATA_START, HEAP_START}
 use Rattle.mips_isa.specs.Bytes.{Bytes, word}
 use Rattle.mips_isa.specs.Lines.{Name, Line, WordItem, Number, Address, Asciiz, Align}
-use Rattle.mips_isa.specs.Assembly.{need, Position, start_position, up, padded, padding, padding_to, after_line, data_line, directive_line, item_bytes, bytes_from, image_of_all}
+use Rattle.mips_isa.specs.Assembly.{Position, start_position, up, padded, padding_to, after_line, data_line, directive_line, bytes_from, image_of_all}
 use Rattle.cool_runtime.specs.Reaches.{World}
 use Rattle.cool_runtime.specs.Instructions.{label}
 use Rattle.cool_runtime.specs.Labels.{int_table, bool_table, string_table}

@@ -1,8 +1,6 @@
 -- The class Main of a program and its method main: their labels, and what the source finds under their names.
-use Rattle.std.proofs.Common.{◌≡◌, ℕ, zero, suc, ◌+◌, ◌≤◌, List, [], ◌∷◌, ◌++◌, Option, Some, None, Bool, true, false, cond, refl, sym, ap, ◌∙◌, subst, arith}
-use Rattle.std.specs.Prelude.{bytes_eq, codes, nat_lt, option_map, slice_get}
-use Rattle.cool_syntax.specs.declared.file_tree.Feature.{Feature}
-use Rattle.cool_syntax.specs.declared.file_tree.Feature.TheVariants.{Method, Attribute}
+use Rattle.std.proofs.Common.{◌≡◌, ℕ, ◌+◌, ◌≤◌, List, [], ◌∷◌, ◌++◌, Option, Some, None, Bool, true, false, cond, refl, sym, ap, ◌∙◌, subst, arith}
+use Rattle.std.specs.Prelude.{codes, nat_lt, option_map, slice_get}
 use Rattle.cool_classes.specs.declared.class_id.ClassId.{ClassId}
 use Rattle.cool_classes.specs.declared.method.BasicMethod.{BasicMethod}
 use Rattle.cool_classes.specs.declared.method.MethodRef.{MethodRef}
@@ -21,7 +19,6 @@ use Rattle.cool_runtime.specs.Labels.{main_prototype, main_init, main_main}
 use Rattle.cool_meaning.specs.Values.{Void}
 use Rattle.cool_meaning.specs.Lookups.{class_made}
 use Rattle.cool_meaning.proofs.BasicClasses.{high_inherits}
-use Rattle.lists.proofs.EqualBytes.{bytes_equal}
 use Rattle.cool_emit.proofs.FixedNamesThere.{first_is_named, no_basic_main}
 
 -- a method main of a class's own is one of the program's, under the label of that name

@@ -1,7 +1,7 @@
 -- The strings of a program are texts: those of the source, of which no byte is 0, and the names of its files.
-use Rattle.std.proofs.Common.{◌≡◌, ℕ, zero, suc, ◌+◌, ◌<◌, ◌≤◌, List, [], ◌∷◌, ◌++◌, length, get_or, flat_map, Option, Some, None, Bool, true, false, refl, arith}
-use Rattle.std.specs.Prelude.{bytes_eq, slice_get, if◌then◌else◌, IfSome}
-use Rattle.std.specs.List.{AllByRecursion, list_any}
+use Rattle.std.proofs.Common.{◌≡◌, ℕ, zero, suc, ◌+◌, ◌<◌, ◌≤◌, List, [], ◌∷◌, ◌++◌, length, get_or, flat_map, Option, Some, None, Bool, refl, arith}
+use Rattle.std.specs.Prelude.{slice_get, IfSome}
+use Rattle.std.specs.List.{AllByRecursion}
 use Rattle.cool_syntax.specs.declared.place.Place.{Place}
 use Rattle.cool_syntax.specs.declared.operator.ArithOp.{ArithOp}
 use Rattle.cool_syntax.specs.declared.operator.ArithOp.TheVariants as arith_op
@@ -12,10 +12,8 @@ use Rattle.cool_syntax.specs.Tree as trees
 use Rattle.cool_syntax.specs.TreesWithinLimits.{IsTreeWithin, AreTreesWithin, IsMaybeWithin, AreCasesWithin, IsFeatureWithin}
 use Rattle.cool_classes.specs.declared.class_id.ClassId.{ClassId}
 use Rattle.cool_classes.specs.Chains.{Class, features_of}
-use Rattle.cool_classes.proofs.AllOfLists.{all_with}
 use Rattle.cool_layout.specs.Preorder.{numbers_from}
-use Rattle.cool_consts.specs.Constants.{with_string}
-use Rattle.cool_codegen.specs.Asked.{with_strings, file_of, files_of, strings_in, strings_in_all, strings_in_maybe, strings_in_cases}
+use Rattle.cool_codegen.specs.Asked.{file_of, files_of, strings_in, strings_in_all, strings_in_maybe, strings_in_cases}
 use Rattle.cool_codegen.specs.Features.{feature_strings, initial_strings}
 use Rattle.cool_emit.specs.Programs.{Placed, attributes_from, methods_from, class_features, all_features, program_constants, IsBuildable}
 use Rattle.cool_emit.proofs.ConstantsInRange.{all_flat, all_with_strings, numbers_low}

@@ -1,5 +1,5 @@
 -- The feature stands in the table where it is typed, and where that fails, the table is as it was.
-use Rattle.std.proofs.Common.{◌≡◌, ◌<◌, List, Option, Some, Result, Ok, Err, false, true≢false, length, slice_set, IfOk, OnErr, sym, ap, ◌∙◌, subst, arith}
+use Rattle.std.proofs.Common.{◌≡◌, ◌<◌, List, Option, Some, Result, Ok, Err, false, true≢false, length, slice_set, OnErr, sym, ap, ◌∙◌, subst, arith}
 use Rattle.std.specs.List.{slice_get}
 use Rattle.std.specs.Result.{is_err}
 use Rattle.std.proofs.lemmas.Option.{slice_get_within}

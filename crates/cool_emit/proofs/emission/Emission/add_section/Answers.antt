@@ -1,5 +1,5 @@
 -- The section of a method has the code of the feature at its place.
-use Rattle.std.proofs.Common.{◌≡◌, ◌∙◌, ℕ, zero, suc, ◌<◌, List, [], ◌∷◌, length, flat_map, slice_get, Some, ap, sym, refl, subst, arith, append-nil}
+use Rattle.std.proofs.Common.{◌≡◌, ◌∙◌, ℕ, List, [], ◌∷◌, flat_map, slice_get, Some, ap, sym, subst, append-nil}
 use Rattle.std.specs.Prelude.{Result, OnOk}
 use Rattle.mips_isa.specs.Lines.{Line, lines_of}
 use Rattle.cool_syntax.specs.declared.file_tree.Feature.{Feature}
