@@ -1,7 +1,8 @@
 //! The types of `let` and `case`.
 
-ghost use Rattle.std.specs.Prelude.{◌≡◌, ◌++◌, ◌<◌, [], None, length, IfSome, OnOk};
+ghost use Rattle.std.specs.Prelude.{◌≡◌, ◌≤◌, ◌+◌, ◌++◌, ◌<◌, [], None, length, IfSome, OnOk};
 ghost use Rattle.std.specs.List.{AllByRecursion};
+ghost use Rattle.cool_syntax.specs.Tree.{tree_size, maybe_size, cases_size};
 ghost use Rattle.cool_syntax.specs.NodeGroups.{IsBinding};
 ghost use Rattle.cool_syntax.specs.NodeLists.{tree_at, HasPartsBelow};
 ghost use Rattle.cool_syntax.specs.TokenFacts.{IsPlaced};
@@ -17,7 +18,8 @@ use crate::expression::{is_self, type_of};
 use crate::fault::{CheckError, TypeKind};
 use crate::setting::Setting;
 use cool_classes::{ClassId, OBJECT, Ty};
-use cool_rules::{NodeTypes, Scope};
+use cool_pool::Column;
+use cool_rules::Scope;
 use cool_syntax::{Name, Node, NodeBranch, NodeId, Place, TypeRef};
 
 /// The type of a `let` or a `case`, whose parts have numbers below this one.
@@ -25,15 +27,17 @@ use cool_syntax::{Name, Node, NodeBranch, NodeId, Place, TypeRef};
 pub(crate) fn type_of_binding<'a>(
     setting: &Setting<'a, '_>,
     locals: &mut Scope<'a>,
-    types: &mut NodeTypes,
+    types: &mut Column<Ty>,
     id: NodeId,
     node: &'a Node,
 ) -> Result<Ty, CheckError>
     requires group { IsBinding node.now }
     requires parts { HasPartsBelow id.0 node.now }
     requires ready { IsReady setting.now locals.old id.0 }
+    requires room { length types.old.held + tree_size (tree_of_node setting.now node.now) ≤ types.old.room }
     ensures scope { OnOk result (locals.new ≡ locals.old) }
-    ensures column { OnOk result (types.new ≡ types.old ++ parts_typed setting.now locals.old (tree_of_node setting.now node.now)) }
+    ensures column { OnOk result (types.new.held ≡ types.old.held ++ parts_typed setting.now locals.old (tree_of_node setting.now node.now)) }
+    ensures room { OnOk result (length types.new.held + 1 + types.old.room ≤ length types.old.held + tree_size (tree_of_node setting.now node.now) + types.new.room) }
     ensures answer { IsTypeOf setting.now locals.old (tree_of_node setting.now node.now) result }
 {
     match node {
@@ -65,14 +69,16 @@ pub(crate) fn type_of_binding<'a>(
 fn type_of_option<'a>(
     setting: &Setting<'a, '_>,
     locals: &mut Scope<'a>,
-    types: &mut NodeTypes,
+    types: &mut Column<Ty>,
     end: NodeId,
     init: Option<NodeId>,
 ) -> Result<Option<Ty>, CheckError>
     requires init { IfSome init (λ value. value.0 < end.0) }
     requires ready { IsReady setting.now locals.old end.0 }
+    requires room { length types.old.held + maybe_size (maybe_tree_of setting.now init) ≤ types.old.room }
     ensures scope { OnOk result (locals.new ≡ locals.old) }
-    ensures column { OnOk result (types.new ≡ types.old ++ maybe_typed setting.now locals.old (maybe_tree_of setting.now init)) }
+    ensures column { OnOk result (types.new.held ≡ types.old.held ++ maybe_typed setting.now locals.old (maybe_tree_of setting.now init)) }
+    ensures room { OnOk result (length types.new.held + types.old.room ≤ length types.old.held + maybe_size (maybe_tree_of setting.now init) + types.new.room) }
     ensures answer { IsAnswer (maybe_checked (context setting.now) locals.old (maybe_tree_of setting.now init)) (λ given. IfSome given (IsType setting.now.table.now)) (λ n. IsMaybeWithin n (maybe_tree_of setting.now init)) result }
 {
     match init {
@@ -110,15 +116,17 @@ fn bound_type(
 fn type_within<'a>(
     setting: &Setting<'a, '_>,
     locals: &mut Scope<'a>,
-    types: &mut NodeTypes,
+    types: &mut Column<Ty>,
     name: &'a Name,
     bound: Ty,
     body: NodeId,
 ) -> Result<Ty, CheckError>
     requires bound { IsType setting.now.table.now bound }
     requires ready { IsReady setting.now locals.old body.0 }
+    requires room { length types.old.held + tree_size (tree_at setting.now.body.now body) ≤ types.old.room }
     ensures scope { OnOk result (locals.new ≡ locals.old) }
-    ensures column { OnOk result (types.new ≡ types.old ++ nodes_typed setting.now (bind name.now bound locals.old) (tree_at setting.now.body.now body)) }
+    ensures column { OnOk result (types.new.held ≡ types.old.held ++ nodes_typed setting.now (bind name.now bound locals.old) (tree_at setting.now.body.now body)) }
+    ensures room { OnOk result (length types.new.held + types.old.room ≤ length types.old.held + tree_size (tree_at setting.now.body.now body) + types.new.room) }
     ensures answer { IsTypeOf setting.now (bind name.now bound locals.old) (tree_at setting.now.body.now body) result }
 {
     locals.enter(name, bound)?;
@@ -132,14 +140,16 @@ fn type_within<'a>(
 fn type_of_branches<'a>(
     setting: &Setting<'a, '_>,
     locals: &mut Scope<'a>,
-    types: &mut NodeTypes,
+    types: &mut Column<Ty>,
     end: NodeId,
     branches: &'a [NodeBranch],
 ) -> Result<Ty, CheckError>
     requires branches { AllByRecursion (λ branch. branch.body.0 < end.0) branches.now }
     requires ready { IsReady setting.now locals.old end.0 }
+    requires room { length types.old.held + cases_size (cases_of setting.now branches.now) ≤ types.old.room }
     ensures scope { OnOk result (locals.new ≡ locals.old) }
-    ensures column { OnOk result (types.new ≡ types.old ++ cases_typed setting.now locals.old (cases_of setting.now branches.now)) }
+    ensures column { OnOk result (types.new.held ≡ types.old.held ++ cases_typed setting.now locals.old (cases_of setting.now branches.now)) }
+    ensures room { OnOk result (length types.new.held + types.old.room ≤ length types.old.held + cases_size (cases_of setting.now branches.now) + types.new.room) }
     ensures answer { IsAnswer (cases_checked (context setting.now) locals.old [] None (cases_of setting.now branches.now)) (IsType setting.now.table.now) (λ n. AreCasesWithin n (cases_of setting.now branches.now)) result }
 {
     let mut classes = Vec::new(setting.alloc);

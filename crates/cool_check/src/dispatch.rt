@@ -1,6 +1,7 @@
 //! The types of dispatches.
 
-ghost use Rattle.std.specs.Prelude.{◌≡◌, ◌++◌, ◌<◌, ℕ, length, IfSome, OnOk};
+ghost use Rattle.std.specs.Prelude.{◌≡◌, ◌≤◌, ◌+◌, ◌++◌, ◌<◌, ℕ, length, IfSome, OnOk};
+ghost use Rattle.cool_syntax.specs.Tree.{tree_size};
 ghost use Rattle.cool_syntax.specs.NodeGroups.{IsCall};
 ghost use Rattle.cool_syntax.specs.NodeLists.{HasPartsBelow};
 ghost use Rattle.cool_syntax.specs.TokenFacts.{IsPlaced};
@@ -16,7 +17,8 @@ use crate::expression::{type_of, types_of};
 use crate::fault::{CheckError, TypeKind};
 use crate::setting::Setting;
 use cool_classes::{ClassId, MethodRef, Ty};
-use cool_rules::{NodeTypes, Scope, class_of};
+use cool_pool::Column;
+use cool_rules::{Scope, class_of};
 use cool_syntax::{Name, Node, NodeId, Place, TypeRef};
 
 /// The type of a dispatch, whose parts have numbers below this one.
@@ -24,15 +26,17 @@ use cool_syntax::{Name, Node, NodeId, Place, TypeRef};
 pub(crate) fn type_of_call<'a>(
     setting: &Setting<'a, '_>,
     locals: &mut Scope<'a>,
-    types: &mut NodeTypes,
+    types: &mut Column<Ty>,
     id: NodeId,
     node: &'a Node,
 ) -> Result<Ty, CheckError>
     requires group { IsCall node.now }
     requires parts { HasPartsBelow id.0 node.now }
     requires ready { IsReady setting.now locals.old id.0 }
+    requires room { length types.old.held + tree_size (tree_of_node setting.now node.now) ≤ types.old.room }
     ensures scope { OnOk result (locals.new ≡ locals.old) }
-    ensures column { OnOk result (types.new ≡ types.old ++ parts_typed setting.now locals.old (tree_of_node setting.now node.now)) }
+    ensures column { OnOk result (types.new.held ≡ types.old.held ++ parts_typed setting.now locals.old (tree_of_node setting.now node.now)) }
+    ensures room { OnOk result (length types.new.held + 1 + types.old.room ≤ length types.old.held + tree_size (tree_of_node setting.now node.now) + types.new.room) }
     ensures answer { IsTypeOf setting.now locals.old (tree_of_node setting.now node.now) result }
 {
     match node {

@@ -1,8 +1,8 @@
 //! The types of expressions: names, constants, conditionals, loops and blocks.
 
-ghost use Rattle.std.specs.Prelude.{◌≡◌, ◌<◌, ◌++◌, ℕ, [], Ok, true, false, length, IfOk, IfErr, OnOk};
+ghost use Rattle.std.specs.Prelude.{◌≡◌, ◌≤◌, ◌+◌, ◌<◌, ◌++◌, ℕ, [], Ok, true, false, length, IfOk, IfErr, OnOk};
 ghost use Rattle.std.specs.List.{AllByRecursion};
-ghost use Rattle.cool_syntax.specs.Tree.{place_of, tree_size};
+ghost use Rattle.cool_syntax.specs.Tree.{place_of, tree_size, trees_size};
 ghost use Rattle.cool_syntax.specs.NodeGroups.{IsControl, IsLeaf};
 ghost use Rattle.cool_syntax.specs.NodeLists.{tree_at, HasPartsBelow};
 ghost use Rattle.cool_syntax.specs.TokenFacts.{IsPlaced};
@@ -25,7 +25,8 @@ use crate::fault::{CheckError, TypeKind};
 use crate::operator::{type_of_binary, type_of_unary};
 use crate::setting::Setting;
 use cool_classes::{BOOL, ClassId, INT, OBJECT, STRING, Ty};
-use cool_rules::{NodeTypes, Scope};
+use cool_pool::Column;
+use cool_rules::Scope;
 use cool_syntax::{Name, Node, NodeId, Place};
 
 /// The type of the expression at this number. It is added to the types of the nodes, after those of the parts.
@@ -33,16 +34,18 @@ use cool_syntax::{Name, Node, NodeId, Place};
 pub(crate) fn type_of<'a>(
     setting: &Setting<'a, '_>,
     locals: &mut Scope<'a>,
-    types: &mut NodeTypes,
+    types: &mut Column<Ty>,
     id: NodeId,
 ) -> Result<Ty, CheckError>
     requires ready { IsReady setting.now locals.old id.0 }
+    requires room { length types.old.held + tree_size (tree_at setting.now.body.now id) ≤ types.old.room }
     ensures scope { OnOk result (locals.new ≡ locals.old) }
-    ensures column { OnOk result (types.new ≡ types.old ++ nodes_typed setting.now locals.old (tree_at setting.now.body.now id)) }
+    ensures column { OnOk result (types.new.held ≡ types.old.held ++ nodes_typed setting.now locals.old (tree_at setting.now.body.now id)) }
+    ensures room { OnOk result (length types.new.held + types.old.room ≤ length types.old.held + tree_size (tree_at setting.now.body.now id) + types.new.room) }
     ensures answer { IsTypeOf setting.now locals.old (tree_at setting.now.body.now id) result }
 {
     let found = type_of_node(setting, locals, types, id, setting.body.node(id))?;
-    types.push(found)?;
+    types.push(found);
     Ok(found)
 }
 
@@ -51,14 +54,16 @@ pub(crate) fn type_of<'a>(
 fn type_of_node<'a>(
     setting: &Setting<'a, '_>,
     locals: &mut Scope<'a>,
-    types: &mut NodeTypes,
+    types: &mut Column<Ty>,
     id: NodeId,
     node: &'a Node,
 ) -> Result<Ty, CheckError>
     requires parts { HasPartsBelow id.0 node.now }
     requires ready { IsReady setting.now locals.old id.0 }
+    requires room { length types.old.held + tree_size (tree_of_node setting.now node.now) ≤ types.old.room }
     ensures scope { OnOk result (locals.new ≡ locals.old) }
-    ensures column { OnOk result (types.new ≡ types.old ++ parts_typed setting.now locals.old (tree_of_node setting.now node.now)) }
+    ensures column { OnOk result (types.new.held ≡ types.old.held ++ parts_typed setting.now locals.old (tree_of_node setting.now node.now)) }
+    ensures room { OnOk result (length types.new.held + 1 + types.old.room ≤ length types.old.held + tree_size (tree_of_node setting.now node.now) + types.new.room) }
     ensures answer { IsTypeOf setting.now locals.old (tree_of_node setting.now node.now) result }
 {
     match node {
@@ -140,15 +145,17 @@ pub(crate) fn is_self(name: &Name) -> bool
 fn type_of_control<'a>(
     setting: &Setting<'a, '_>,
     locals: &mut Scope<'a>,
-    types: &mut NodeTypes,
+    types: &mut Column<Ty>,
     id: NodeId,
     node: &'a Node,
 ) -> Result<Ty, CheckError>
     requires group { IsControl node.now }
     requires parts { HasPartsBelow id.0 node.now }
     requires ready { IsReady setting.now locals.old id.0 }
+    requires room { length types.old.held + tree_size (tree_of_node setting.now node.now) ≤ types.old.room }
     ensures scope { OnOk result (locals.new ≡ locals.old) }
-    ensures column { OnOk result (types.new ≡ types.old ++ parts_typed setting.now locals.old (tree_of_node setting.now node.now)) }
+    ensures column { OnOk result (types.new.held ≡ types.old.held ++ parts_typed setting.now locals.old (tree_of_node setting.now node.now)) }
+    ensures room { OnOk result (length types.new.held + 1 + types.old.room ≤ length types.old.held + tree_size (tree_of_node setting.now node.now) + types.new.room) }
     ensures answer { IsTypeOf setting.now locals.old (tree_of_node setting.now node.now) result }
 {
     match node {
@@ -198,14 +205,16 @@ pub(crate) fn is_class(a: Ty, class: ClassId) -> bool
 fn type_of_last<'a>(
     setting: &Setting<'a, '_>,
     locals: &mut Scope<'a>,
-    types: &mut NodeTypes,
+    types: &mut Column<Ty>,
     end: NodeId,
     items: &[NodeId],
 ) -> Result<Ty, CheckError>
     requires items { AllByRecursion (λ item. item.0 < end.0) items.now }
     requires ready { IsReady setting.now locals.old end.0 }
+    requires room { length types.old.held + trees_size (trees_of setting.now items.now) ≤ types.old.room }
     ensures scope { OnOk result (locals.new ≡ locals.old) }
-    ensures column { OnOk result (types.new ≡ types.old ++ all_typed setting.now locals.old (trees_of setting.now items.now)) }
+    ensures column { OnOk result (types.new.held ≡ types.old.held ++ all_typed setting.now locals.old (trees_of setting.now items.now)) }
+    ensures room { OnOk result (length types.new.held + types.old.room ≤ length types.old.held + trees_size (trees_of setting.now items.now) + types.new.room) }
     ensures answer { IsAnswer (last_checked (context setting.now) locals.old object_type (trees_of setting.now items.now)) (IsType setting.now.table.now) (λ n. AreTreesWithin n (trees_of setting.now items.now)) result }
 {
     let mut last = Ty::Class(OBJECT);
@@ -220,18 +229,20 @@ fn type_of_last<'a>(
 pub(crate) fn types_of<'a>(
     setting: &Setting<'a, '_>,
     locals: &mut Scope<'a>,
-    types: &mut NodeTypes,
+    types: &mut Column<Ty>,
     end: NodeId,
     items: &[NodeId],
 ) -> Result<Vec<Ty>, CheckError>
     requires items { AllByRecursion (λ item. item.0 < end.0) items.now }
     requires ready { IsReady setting.now locals.old end.0 }
+    requires room { length types.old.held + trees_size (trees_of setting.now items.now) ≤ types.old.room }
     ensures types { IfOk result (λ found. AllByRecursion (IsType setting.now.table.now) found.items) }
     ensures each { IfOk result (λ found. length found.items ≡ length items.now) }
     ensures typed { IfOk result (λ found. all_checked (context setting.now) locals.old [] (trees_of setting.now items.now) ≡ Ok found.items) }
     ensures first { IfErr result (IsFirst (all_checked (context setting.now) locals.old [] (trees_of setting.now items.now))) }
     ensures scope { OnOk result (locals.new ≡ locals.old) }
-    ensures column { OnOk result (types.new ≡ types.old ++ all_typed setting.now locals.old (trees_of setting.now items.now)) }
+    ensures column { OnOk result (types.new.held ≡ types.old.held ++ all_typed setting.now locals.old (trees_of setting.now items.now)) }
+    ensures room { OnOk result (length types.new.held + types.old.room ≤ length types.old.held + trees_size (trees_of setting.now items.now) + types.new.room) }
     ensures places { (n : ℕ) → AreTreesWithin n (trees_of setting.now items.now) → IfErr result (IsPlacedError n) }
 {
     let mut found = Vec::new(setting.alloc);

@@ -19,6 +19,7 @@ use crate::expression::type_of;
 use crate::fault::{CheckError, TypeKind};
 use crate::setting::Setting;
 use cool_classes::{AttributeRef, ClassId, ClassTable, MethodRef};
+use cool_pool::Column;
 use cool_rules::{NodeTypes, Scope};
 use cool_syntax::{AttributeDef, Feature, MethodDef};
 use std::alloc::{AllocError, Global};
@@ -118,10 +119,10 @@ fn check_method<'a>(
     };
     let called = MethodRef::User { owner: c, index };
     let mut locals = formal_scope(&setting, index, method)?;
-    let mut types = NodeTypes::new(alloc);
+    let mut types = Column::new(alloc, method.body.len())?;
     let found = type_of(&setting, &mut locals, &mut types, method.body.root())?;
     if setting.conforms(found, setting.result(called)) {
-        Ok(types)
+        Ok(NodeTypes::of(types.into_values()))
     } else {
         Err(CheckError::at(TypeKind::E18, method.at))
     }
@@ -165,9 +166,8 @@ fn check_attribute<'a>(
     requires attribute { slice_get (features_of t.now c) index ≡ Some (Attribute attribute.now) }
     ensures { IsFeatureAnswer t.now c (Attribute attribute.now) result }
 {
-    let mut types = NodeTypes::new(alloc);
     let Some(body) = &attribute.init else {
-        return Ok(types);
+        return Ok(NodeTypes::new(alloc));
     };
     let setting = Setting {
         alloc,
@@ -176,10 +176,11 @@ fn check_attribute<'a>(
         attributes,
         body,
     };
+    let mut types = Column::new(alloc, body.len())?;
     let found = type_of(&setting, &mut Scope::new(alloc), &mut types, body.root())?;
     let declared = setting.attribute(AttributeRef { owner: c, index });
     if setting.conforms(found, declared) {
-        Ok(types)
+        Ok(NodeTypes::of(types.into_values()))
     } else {
         Err(CheckError::at(TypeKind::E17, attribute.at))
     }

@@ -1,6 +1,7 @@
 //! The types of assignments and operators.
 
-ghost use Rattle.std.specs.Prelude.{◌≡◌, ◌++◌, true, false, IfOk, IfErr, OnOk};
+ghost use Rattle.std.specs.Prelude.{◌≡◌, length, ◌≤◌, ◌+◌, ◌++◌, true, false, IfOk, IfErr, OnOk};
+ghost use Rattle.cool_syntax.specs.Tree.{tree_size};
 ghost use Rattle.cool_syntax.specs.NodeGroups.{IsBinary, IsUnary};
 ghost use Rattle.cool_syntax.specs.NodeLists.{HasPartsBelow};
 ghost use Rattle.cool_syntax.specs.TokenFacts.{IsPlaced};
@@ -19,7 +20,8 @@ use crate::expression::{is_class, is_self, type_of, type_of_name};
 use crate::fault::{CheckError, TypeKind};
 use crate::setting::Setting;
 use cool_classes::{BOOL, ClassId, INT, STRING, Ty};
-use cool_rules::{NodeTypes, Scope};
+use cool_pool::Column;
+use cool_rules::Scope;
 use cool_syntax::{CompareOp, Name, Node, NodeId, Place};
 
 /// The type of an assignment or of an operator with one operand, which has a number below this one.
@@ -27,15 +29,17 @@ use cool_syntax::{CompareOp, Name, Node, NodeId, Place};
 pub(crate) fn type_of_unary<'a>(
     setting: &Setting<'a, '_>,
     locals: &mut Scope<'a>,
-    types: &mut NodeTypes,
+    types: &mut Column<Ty>,
     id: NodeId,
     node: &'a Node,
 ) -> Result<Ty, CheckError>
     requires group { IsUnary node.now }
     requires parts { HasPartsBelow id.0 node.now }
     requires ready { IsReady setting.now locals.old id.0 }
+    requires room { length types.old.held + tree_size (tree_of_node setting.now node.now) ≤ types.old.room }
     ensures scope { OnOk result (locals.new ≡ locals.old) }
-    ensures column { OnOk result (types.new ≡ types.old ++ parts_typed setting.now locals.old (tree_of_node setting.now node.now)) }
+    ensures column { OnOk result (types.new.held ≡ types.old.held ++ parts_typed setting.now locals.old (tree_of_node setting.now node.now)) }
+    ensures room { OnOk result (length types.new.held + 1 + types.old.room ≤ length types.old.held + tree_size (tree_of_node setting.now node.now) + types.new.room) }
     ensures answer { IsTypeOf setting.now locals.old (tree_of_node setting.now node.now) result }
 {
     match node {
@@ -103,15 +107,17 @@ fn expect(found: Ty, class: ClassId, kind: TypeKind, at: Place) -> Result<(), Ch
 pub(crate) fn type_of_binary<'a>(
     setting: &Setting<'a, '_>,
     locals: &mut Scope<'a>,
-    types: &mut NodeTypes,
+    types: &mut Column<Ty>,
     id: NodeId,
     node: &'a Node,
 ) -> Result<Ty, CheckError>
     requires group { IsBinary node.now }
     requires parts { HasPartsBelow id.0 node.now }
     requires ready { IsReady setting.now locals.old id.0 }
+    requires room { length types.old.held + tree_size (tree_of_node setting.now node.now) ≤ types.old.room }
     ensures scope { OnOk result (locals.new ≡ locals.old) }
-    ensures column { OnOk result (types.new ≡ types.old ++ parts_typed setting.now locals.old (tree_of_node setting.now node.now)) }
+    ensures column { OnOk result (types.new.held ≡ types.old.held ++ parts_typed setting.now locals.old (tree_of_node setting.now node.now)) }
+    ensures room { OnOk result (length types.new.held + 1 + types.old.room ≤ length types.old.held + tree_size (tree_of_node setting.now node.now) + types.new.room) }
     ensures answer { IsTypeOf setting.now locals.old (tree_of_node setting.now node.now) result }
 {
     match node {

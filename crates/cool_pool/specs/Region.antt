@@ -1,4 +1,4 @@
--- What a contract sees of a pool.
+-- What a contract sees of a pool and of a column.
 use Rattle.std.specs.Prelude.{ℕ, List}
 use Rattle.cool_syntax.specs.declared.node.Node.{Node}
 
@@ -6,3 +6,8 @@ use Rattle.cool_syntax.specs.declared.node.Node.{Node}
 pub record Region : Type 0 where
   pub nodes : List Node
   pub spare : ℕ
+
+-- the values of the first nodes, in the order of their numbers, and how many there is room for in all
+pub record Filled (T : Type 0) : Type 0 where
+  pub held : List T
+  pub room : ℕ

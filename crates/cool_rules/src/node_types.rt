@@ -33,6 +33,13 @@ impl NodeTypes {
         }
     }
 
+    /// These types, in the order of the nodes' numbers. It takes no memory.
+    pub fn of(types: Vec<Ty>) -> NodeTypes
+        ensures { result ≡ types.items }
+    {
+        NodeTypes { types }
+    }
+
     /// Adds the type of the next node. `Err` comes only for want of memory, and leaves the types as they are.
     pub fn push(&mut self, ty: Ty) -> Result<(), AllocError>
         ensures { self.new ≡ (if is_ok result then self.old ++ ty ∷ [] else self.old) }

@@ -1,11 +1,11 @@
-//! Calls that no command makes, once each: trees that are taken out of a pool, copied, compared and written as tokens; and the lines of one
-//! routine.
+//! Calls that no command makes, once each: trees that are taken out of a pool, copied, compared and written as tokens; values for the
+//! nodes of trees; and the lines of one routine.
 
 ghost use Rattle.std.specs.Prelude.{◌≡◌, ◌<◌, [], length};
 
 use cool_lexer::lex;
 use cool_parser::parse;
-use cool_pool::Pool;
+use cool_pool::{Column, Pool};
 use cool_runtime::{Routine, routine};
 use cool_syntax::{Expr, Node, NodeId, Place, copy_expr, same_expr, tokens_of};
 use std::alloc::{AllocError, Global};
@@ -52,6 +52,17 @@ fn a_pool_gives_the_tree_at_a_number(rt: HostRuntime) -> Result<(), Fail> {
     let one = place_one(&mut pool)?;
     assert!(rt; one.0 < pool.len());
     assert!(rt; is_copied_at(rt.alloc(), &pool, one)?);
+    Ok(())
+}
+
+#[test]
+fn a_column_is_filled_again(rt: HostRuntime) -> Result<(), Fail> {
+    let mut column = Column::new(rt.alloc(), 1)?;
+    column.push(7);
+    assert_eq!(rt; *column.get(NodeId(0)), 7);
+    column.clear();
+    column.push(8);
+    assert_eq!(rt; *column.get(NodeId(0)), 8);
     Ok(())
 }
 

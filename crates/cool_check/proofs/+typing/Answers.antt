@@ -6,7 +6,7 @@ use Rattle.std.specs.Prelude.{IfErr, OnOk}
 use Rattle.std.specs.List.{AllByRecursion}
 use Rattle.cool_syntax.specs.declared.node.Node.{Node}
 use Rattle.cool_syntax.specs.declared.node.NodeBranch.{NodeBranch}
-use Rattle.cool_syntax.specs.Tree.{Tree, of_twigs}
+use Rattle.cool_syntax.specs.Tree.{Tree, cases_size, of_twigs}
 use Rattle.cool_syntax.specs.NodeLists.{all_trees, made, tree_at, twig_at, HasPartsBelow}
 use Rattle.cool_syntax.specs.TreesWithinLimits.{IsTreeWithin}
 use Rattle.cool_classes.specs.declared.class_id.Ty.TheVariants.{Class as IsClass}
@@ -95,8 +95,8 @@ expression::type_of-returns-clause-column t c =
     let e = made (all_trees s.body.now) c.node.result.now in
     let sound = c.requires.ready.sound in
     let same = static_type_given (context s) sound.whole sound.class sound.types o c.requires.ready.locals e c.in_ok-found.found c.in_ok-found.ensures.answer.typed in
-    subst (λ (x : Tree). c.push.new.self ≡ c.args.types.now ++ nodes_typed s o x) (sym c.node.ensures.tree)
-    (own_added s.table.now s.class (o ++ s.attributes.now) e c.args.types.now c.type_of_node.new.types c.push.new.self c.in_ok-found.found c.in_ok-found.ensures.column c.in_ok-push.ensures same)
+    subst (λ (x : Tree). c.push.new.self.held ≡ c.args.types.now.held ++ nodes_typed s o x) (sym c.node.ensures.tree)
+    (own_added s.table.now s.class (o ++ s.attributes.now) e c.args.types.now.held c.type_of_node.new.types.held c.push.new.self.held c.in_ok-found.found c.in_ok-found.ensures.column c.push.ensures.held same)
 
 pub binding::type_of_binding-returns-in_ok-bound-in-Let-clause-column : goal.binding::type_of_binding-returns-in_ok-bound-in-Let-clause-column
 binding::type_of_binding-returns-in_ok-bound-in-Let-clause-column t c =
@@ -104,10 +104,10 @@ binding::type_of_binding-returns-in_ok-bound-in-Let-clause-column t c =
     let o = c.args.locals.now in
     let n = c.in-Let in
     let meant = bound_meant (context s) n.at n.name n.declared c.in_ok-given-in-Let.given c.in_ok-bound-in-Let.bound c.in_ok-bound-in-Let.ensures.typed in
-    subst (λ (x : Node). OnOk c.type_within.result (c.type_within.new.types ≡ c.args.types.now ++ parts_typed s o (made (all_trees s.body.now) x))) (sym n.is)
+    subst (λ (x : Node). OnOk c.type_within.result (c.type_within.new.types.held ≡ c.args.types.now.held ++ parts_typed s o (made (all_trees s.body.now) x))) (sym n.is)
     (on_ok c.type_within.result
     (let_added s.table.now s.class s.attributes.now o c.type_of_option.new.locals n.at n.name n.declared (maybe_tree_of s n.init) (tree_at s.body.now n.body) c.in_ok-bound-in-Let.bound
-    c.args.types.now c.type_of_option.new.types c.type_within.new.types meant c.in_ok-given-in-Let.ensures.scope c.in_ok-given-in-Let.ensures.column)
+    c.args.types.now.held c.type_of_option.new.types.held c.type_within.new.types.held meant c.in_ok-given-in-Let.ensures.scope c.in_ok-given-in-Let.ensures.column)
     c.type_within.ensures.column)
 
 pub binding::type_of_branches-loop-branch-preserved : goal.binding::type_of_branches-loop-branch-preserved
@@ -122,10 +122,11 @@ binding::type_of_branches-loop-branch-preserved t c =
       scope = search rules;
       joined = search rules;
       walked = first_of (search rules, grind (arith, common_steps), grind (arith, elements), grind (arith, moves), grind (arith, pieces));
-      column = branch_added s.table.now s.class s.attributes.now o c.loop-branch.locals w.at w.name w.declared (tree_at s.body.now w.body) (cases_of s left) (IsClass class) c.loop-branch.types c.type_within.new.types
+      column = branch_added s.table.now s.class s.attributes.now o c.loop-branch.locals w.at w.name w.declared (tree_at s.body.now w.body) (cases_of s left) (IsClass class) c.loop-branch.types.held c.type_within.new.types.held
           meant c.loop-branch.invariant.scope c.in_ok-found.ensures.column
-          ∙ sym (ap (λ (ws : List NodeBranch). c.loop-branch.types ++ types_of_cases s.table.now s.class (o ++ s.attributes.now) (of_twigs (map (twig_at (all_trees s.body.now)) ws)))
+          ∙ sym (ap (λ (ws : List NodeBranch). c.loop-branch.types.held ++ types_of_cases s.table.now s.class (o ++ s.attributes.now) (of_twigs (map (twig_at (all_trees s.body.now)) ws)))
           (drop_one c.args.branches.now c.loop-branch.branch-index w (omega arith) c.branch-item.is))
           ∙ c.loop-branch.invariant.column;
+      room = omega (arith, c.in_ok-found.ensures.room, ap (λ (ws : List NodeBranch). cases_size (cases_of s ws)) (drop_one c.args.branches.now c.loop-branch.branch-index w (omega arith) c.branch-item.is), c.loop-branch.invariant.room);
       below = first_of (search rules, grind (arith, common_steps), grind (arith, elements), grind (arith, moves), grind (arith, pieces));
     }

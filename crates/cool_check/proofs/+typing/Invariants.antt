@@ -1,9 +1,9 @@
 -- Parts have smaller numbers. After the parts that were checked the scope is as before, the types are types of the table, and those of the
 -- nodes were added.
-use Rattle.std.proofs.Common.{◌≡◌, ◌+◌, ◌*◌, ◌<◌, [], ◌++◌, None, length, map, drop}
+use Rattle.std.proofs.Common.{◌≡◌, ◌+◌, ◌*◌, ◌<◌, ◌≤◌, [], ◌++◌, None, length, map, drop}
 use Rattle.std.specs.Prelude.{IfSome}
 use Rattle.std.specs.List.{AllByRecursion}
-use Rattle.cool_syntax.specs.Tree.{of_list, of_twigs}
+use Rattle.cool_syntax.specs.Tree.{cases_size, trees_size, of_list, of_twigs}
 use Rattle.cool_syntax.specs.NodeLists.{all_trees, at_id, twig_at}
 use Rattle.cool_rules.specs.Conformance.{IsType}
 use Rattle.cool_rules.specs.NodeTypes.{types_of_all, types_of_cases}
@@ -54,8 +54,10 @@ invariant-binding::type_of_branches-loop-branch l = record {
   joined : IfSome l.joined (IsType l.setting.table.now);
   walked : cases_checked (context l.setting) l.fn.locals l.classes.items l.joined (of_twigs (map (twig_at (all_trees l.setting.body.now)) (drop l.branch-index l.branches)))
       ≡ cases_checked (context l.setting) l.fn.locals [] None (of_twigs (map (twig_at (all_trees l.setting.body.now)) l.branches));
-  column : l.types ++ types_of_cases l.setting.table.now l.setting.class (l.fn.locals ++ l.setting.attributes.now) (of_twigs (map (twig_at (all_trees l.setting.body.now)) (drop l.branch-index l.branches)))
-      ≡ l.fn.types ++ types_of_cases l.setting.table.now l.setting.class (l.fn.locals ++ l.setting.attributes.now) (of_twigs (map (twig_at (all_trees l.setting.body.now)) l.branches));
+  column : l.types.held ++ types_of_cases l.setting.table.now l.setting.class (l.fn.locals ++ l.setting.attributes.now) (of_twigs (map (twig_at (all_trees l.setting.body.now)) (drop l.branch-index l.branches)))
+      ≡ l.fn.types.held ++ types_of_cases l.setting.table.now l.setting.class (l.fn.locals ++ l.setting.attributes.now) (of_twigs (map (twig_at (all_trees l.setting.body.now)) l.branches));
+  room : length l.types.held + cases_size (of_twigs (map (twig_at (all_trees l.setting.body.now)) (drop l.branch-index l.branches))) + l.fn.types.room
+      ≤ length l.fn.types.held + cases_size (of_twigs (map (twig_at (all_trees l.setting.body.now)) l.branches)) + l.types.room;
   below : AllByRecursion (λ branch. branch.body.0 < l.fn.end.0) (drop l.branch-index l.branches);
 }
 
@@ -65,8 +67,10 @@ invariant-expression::type_of_last-loop-item l = record {
   last : IsType l.setting.table.now l.last;
   walked : last_checked (context l.setting) l.fn.locals l.last (of_list (map (at_id (all_trees l.setting.body.now)) (drop l.item-index l.items)))
       ≡ last_checked (context l.setting) l.fn.locals object_type (of_list (map (at_id (all_trees l.setting.body.now)) l.items));
-  column : l.types ++ types_of_all l.setting.table.now l.setting.class (l.fn.locals ++ l.setting.attributes.now) (of_list (map (at_id (all_trees l.setting.body.now)) (drop l.item-index l.items)))
-      ≡ l.fn.types ++ types_of_all l.setting.table.now l.setting.class (l.fn.locals ++ l.setting.attributes.now) (of_list (map (at_id (all_trees l.setting.body.now)) l.items));
+  column : l.types.held ++ types_of_all l.setting.table.now l.setting.class (l.fn.locals ++ l.setting.attributes.now) (of_list (map (at_id (all_trees l.setting.body.now)) (drop l.item-index l.items)))
+      ≡ l.fn.types.held ++ types_of_all l.setting.table.now l.setting.class (l.fn.locals ++ l.setting.attributes.now) (of_list (map (at_id (all_trees l.setting.body.now)) l.items));
+  room : length l.types.held + trees_size (of_list (map (at_id (all_trees l.setting.body.now)) (drop l.item-index l.items))) + l.fn.types.room
+      ≤ length l.fn.types.held + trees_size (of_list (map (at_id (all_trees l.setting.body.now)) l.items)) + l.types.room;
   below : AllByRecursion (λ item. item.0 < l.fn.end.0) (drop l.item-index l.items);
 }
 
@@ -77,7 +81,9 @@ invariant-expression::types_of-loop-item l = record {
   each : length l.found.items ≡ l.item-index;
   walked : all_checked (context l.setting) l.fn.locals l.found.items (of_list (map (at_id (all_trees l.setting.body.now)) (drop l.item-index l.items)))
       ≡ all_checked (context l.setting) l.fn.locals [] (of_list (map (at_id (all_trees l.setting.body.now)) l.items));
-  column : l.types ++ types_of_all l.setting.table.now l.setting.class (l.fn.locals ++ l.setting.attributes.now) (of_list (map (at_id (all_trees l.setting.body.now)) (drop l.item-index l.items)))
-      ≡ l.fn.types ++ types_of_all l.setting.table.now l.setting.class (l.fn.locals ++ l.setting.attributes.now) (of_list (map (at_id (all_trees l.setting.body.now)) l.items));
+  column : l.types.held ++ types_of_all l.setting.table.now l.setting.class (l.fn.locals ++ l.setting.attributes.now) (of_list (map (at_id (all_trees l.setting.body.now)) (drop l.item-index l.items)))
+      ≡ l.fn.types.held ++ types_of_all l.setting.table.now l.setting.class (l.fn.locals ++ l.setting.attributes.now) (of_list (map (at_id (all_trees l.setting.body.now)) l.items));
+  room : length l.types.held + trees_size (of_list (map (at_id (all_trees l.setting.body.now)) (drop l.item-index l.items))) + l.fn.types.room
+      ≤ length l.fn.types.held + trees_size (of_list (map (at_id (all_trees l.setting.body.now)) l.items)) + l.types.room;
   below : AllByRecursion (λ item. item.0 < l.fn.end.0) (drop l.item-index l.items);
 }

@@ -16,10 +16,12 @@ returns-then-conforms c =
     let body = node_types p c.args.c in
     record {
       typed = search rules;
-      column = c.in_ok-found.ensures.column
-          ∙ ap (λ (ts : List Ty). ts ++ body (c.new.result ++ attributes) (tree_at c.in-Some.body c.root.result)) c.new-types.ensures
-          ∙ ap (λ (t : Tree). body (c.new.result ++ attributes) t) c.root.ensures.tree
-          ∙ ap (λ (bs : List Binding). body (bs ++ attributes) c.in-Some.body) c.new.ensures
+      column = c.of.ensures
+          ∙ c.into_values.ensures
+          ∙ c.in_ok-found.ensures.column
+          ∙ ap (λ (ts : List Ty). ts ++ body (c.new-3.result ++ attributes) (tree_at c.in-Some.body c.root.result)) c.in_ok-types.ensures.held
+          ∙ ap (λ (t : Tree). body (c.new-3.result ++ attributes) t) c.root.ensures.tree
+          ∙ ap (λ (bs : List Binding). body (bs ++ attributes) c.in-Some.body) c.new-3.ensures
           ∙ ap (λ (bs : List Binding). body bs c.in-Some.body) c.requires.attributes
           ∙ first_types p c.requires.class.whole.table c.requires.lawful c.args.c c.requires.class.class c.in-Some.body
           ∙ sym (ap (λ (o : Option Tree). initial_types p c.args.c o) c.in-Some.is);

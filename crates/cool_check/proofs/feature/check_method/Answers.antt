@@ -17,8 +17,10 @@ returns-then-conforms c =
     let body = node_types p c.args.c in
     record {
       typed = search rules;
-      column = c.in_ok-found.ensures.column
-          ∙ ap (λ (ts : List Ty). ts ++ body (c.in_ok-locals.locals ++ attributes) (tree_at m.body c.root.result)) c.new-types.ensures
+      column = c.of.ensures
+          ∙ c.into_values.ensures
+          ∙ c.in_ok-found.ensures.column
+          ∙ ap (λ (ts : List Ty). ts ++ body (c.in_ok-locals.locals ++ attributes) (tree_at m.body c.root.result)) c.in_ok-types.ensures.held
           ∙ ap (λ (t : Tree). body (c.in_ok-locals.locals ++ attributes) t) c.root.ensures.tree
           ∙ ap (λ (bs : List Binding). body (bs ++ attributes) m.body) c.in_ok-locals.ensures.formals
           ∙ ap (λ (bs : List Binding). body (formal_bindings p m.formals ++ bs) m.body) c.requires.attributes
