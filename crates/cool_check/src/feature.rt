@@ -167,7 +167,7 @@ fn check_attribute<'a>(
     ensures { IsFeatureAnswer t.now c (Attribute attribute.now) result }
 {
     let Some(body) = &attribute.init else {
-        return Ok(NodeTypes::new(alloc));
+        return Ok(NodeTypes::of(Vec::new(alloc)));
     };
     let setting = Setting {
         alloc,

@@ -102,8 +102,8 @@ module _ (s : Setting) (p : List Class) (same : s.table.now ≡ p) (x : Feature)
       (its_types ∙ ap (λ (q : List Class). node_types q s.class (feature_scope p s.class x) s.body.now) (sym same))
 
   pub whole_folded : {E : Type 0} (id : NodeId) (before after : Placed) (f : Found) → id ≡ root 0 s.body.now → tree_at s.body.now id ≡ s.body.now
-      → before.nodes.items ≡ [] → before.types ≡ [] → FoldsPart {E = E} s id before after (Ok f)
-      → (after.nodes.items ≡ nodes 0 (shrunk p s.class (feature_scope p s.class x) s.body.now)) × (after.types ≡ feature_types p s.class (fold_feature p s.class x))
+      → before.nodes.items ≡ [] → before.types.held ≡ [] → FoldsPart {E = E} s id before after (Ok f)
+      → (after.nodes.items ≡ nodes 0 (shrunk p s.class (feature_scope p s.class x) s.body.now)) × (after.types.held ≡ feature_types p s.class (fold_feature p s.class x))
   whole_folded id before after f last tree none no_types part =
       let scope = feature_scope p s.class x in
       let types : HaveTypes s.table.now scope = subst (λ (q : List Class). HaveTypes q scope) (sym same) folds.types in

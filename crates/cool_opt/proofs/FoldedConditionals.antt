@@ -1,5 +1,5 @@
 -- A conditional whose test is decided is folded as the part that is taken, where that has the type of the whole.
-use Rattle.std.proofs.Common.{◌≡◌, ℕ, ◌<◌, ◌≤◌, ◌⊎◌, inl, inr, List, ◌++◌, length, take, Option, Some, None, Bool as Truth, true, false, Ok, Err, refl, sym, ap, ◌∙◌, subst, length-take, arith}
+use Rattle.std.proofs.Common.{◌≡◌, ℕ, ◌+◌, ◌<◌, ◌≤◌, ◌⊎◌, inl, inr, List, ◌++◌, length, take, Option, Some, None, Bool as Truth, true, false, Ok, Err, refl, sym, ap, ◌∙◌, subst, length-take, arith}
 use Rattle.std.proofs.Math.Seq.{take-append_seam}
 use Rattle.std.specs.Prelude.{OnOk, Result, if◌then◌else◌, slice_get, unwrap_or}
 use Rattle.cool_syntax.specs.declared.node.NodeId.{NodeId}
@@ -36,14 +36,14 @@ taken_is (Some false) v w whole yes_id no_id part e = by (same_type w whole) e
     by true e = inr cc
     by false e = absurd cc
 
--- it has a number below that of the conditional, and no more nodes
+-- it has a number below that of the conditional, and no more nodes, beside those of the predicate
 pub part_within : (b : Tree) (at : Place) (e : Tree) (yes_id no_id k : NodeId) (n : ℕ) → (k ≡ yes_id) ⊎ (k ≡ no_id) → yes_id.0 < n → no_id.0 < n
-    → (k.0 < n) × (tree_size (tree_at b k) ≤ tree_size (trees.If at e (tree_at b yes_id) (tree_at b no_id)))
+    → (k.0 < n) × (tree_size (tree_at b k) + tree_size e ≤ tree_size (trees.If at e (tree_at b yes_id) (tree_at b no_id)))
 part_within b at e yes_id no_id k n (inl is) first second =
-    subst (λ (i : NodeId). (i.0 < n) × (tree_size (tree_at b i) ≤ tree_size (trees.If at e (tree_at b yes_id) (tree_at b no_id)))) (sym is)
+    subst (λ (i : NodeId). (i.0 < n) × (tree_size (tree_at b i) + tree_size e ≤ tree_size (trees.If at e (tree_at b yes_id) (tree_at b no_id)))) (sym is)
     (first, omega arith)
 part_within b at e yes_id no_id k n (inr is) first second =
-    subst (λ (i : NodeId). (i.0 < n) × (tree_size (tree_at b i) ≤ tree_size (trees.If at e (tree_at b yes_id) (tree_at b no_id)))) (sym is)
+    subst (λ (i : NodeId). (i.0 < n) × (tree_size (tree_at b i) + tree_size e ≤ tree_size (trees.If at e (tree_at b yes_id) (tree_at b no_id)))) (sym is)
     (second, omega arith)
 
 -- where the types at the numbers say what is taken
@@ -65,6 +65,9 @@ cut_back before rest mid cut start e f g = g ∙ (λ i. take (f i) (e i)) ∙ ta
 pub cut_short : {A : Type 0} (mid : List A) (start : ℕ) → length (take start mid) ≤ start
 cut_short mid start = omega (arith, length-take start mid)
 
+pub cut_shorter : {A : Type 0} (mid : List A) (start : ℕ) → length (take start mid) ≤ length mid
+cut_shorter mid start = omega (arith, length-take start mid)
+
 -- what is taken stands where the parts do
 pub taken_stands : (b : TypedBody) (scope : List Binding) (yes_id no_id k : NodeId) → (k ≡ yes_id) ⊎ (k ≡ no_id) → IsPart b scope yes_id
     → IsPart b scope no_id → IsPart b scope k
@@ -76,10 +79,16 @@ pub fewer : {A E : Type 0} (r : Result A E) (n k m : ℕ) → k ≤ m → OnOk r
 fewer (Ok a) n k m more few = omega arith
 fewer (Err e) n k m more few = tt
 
+-- and no less room is left
+pub left : {A E : Type 0} (r : Result A E) (n room held part after before start whole : ℕ) → held + before + part ≤ start + whole + room
+    → OnOk r (n + room ≤ held + part + after) → OnOk r (n + before ≤ start + whole + after)
+left (Ok a) n room held part after before start whole less there = omega arith
+left (Err e) n room held part after before start whole less there = tt
+
 module _ (s : Setting) (scope : List Binding) (before after : Placed) where
   -- a tree that is folded to the same, after the same nodes and types
   folds_as : {E : Type 0} (cut : Placed) (t u : Tree) (result : Result Found E) → cut.nodes.items ≡ before.nodes.items
-      → (HasTypes before → cut.types ≡ before.types) → shrunk s.table.now s.class scope t ≡ shrunk s.table.now s.class scope u
+      → (HasTypes before → cut.types.held ≡ before.types.held) → shrunk s.table.now s.class scope t ≡ shrunk s.table.now s.class scope u
       → Folds s scope t cut after result → Folds s scope u before after result
   folds_as cut t u (Ok f) kept types is h = record {
     constant = h.constant ∙ ap constant_in is;
@@ -135,7 +144,7 @@ module _ (s : Setting) (scope : List Binding) (before after : Placed) where
       refl h
 
   pub taken_folds : {E : Type 0} (cut : Placed) (b : Tree) (at : Place) (e : Tree) (o : Option Truth) (yes_id no_id k : NodeId)
-      (result : Result Found E) → cut.nodes.items ≡ before.nodes.items → (HasTypes before → cut.types ≡ before.types)
+      (result : Result Found E) → cut.nodes.items ≡ before.nodes.items → (HasTypes before → cut.types.held ≡ before.types.held)
       → truth_in (constant_in (shrunk s.table.now s.class scope e)) ≡ o
       → taken o (part_type b yes_id) (part_type b no_id) (whole_type b yes_id no_id) yes_id no_id ≡ Some k
       → Folds s scope (tree_at b k) cut after result → Folds s scope (trees.If at e (tree_at b yes_id) (tree_at b no_id)) before after result

@@ -78,9 +78,9 @@ module _ (s : Setting) (scope : List Binding) where
 
   -- the types of two parts, one after the other
   pub two_typed : {E : Type 0} (a b : Tree) (before first second : Placed) (f g : Found) → Folds {E = E} s scope a before first (Ok f)
-      → Folds {E = E} s scope b first second (Ok g) → HasTypes before → second.types ≡ before.types ++ (small_types a ++ small_types b)
+      → Folds {E = E} s scope b first second (Ok g) → HasTypes before → second.types.held ≡ before.types.held ++ (small_types a ++ small_types b)
   two_typed {E} a b before first second f g h k even =
-      types_later before.types first.types second.types (small_types a) (small_types b) (h.typed even)
+      types_later before.types.held first.types.held second.types.held (small_types a) (small_types b) (h.typed even)
       (k.typed (still_typed s scope {E = E} before first a f h even))
 
   module _ {E : Type 0} (before after : Placed) where
@@ -90,9 +90,9 @@ module _ (s : Setting) (scope : List Binding) where
         → type_of s.table.now s.class scope whole ≡ int_type → small t ≡ number_or whole at there → constant_in whole ≡ None
         → ((v : ℤ) → there ≡ Some v → fits v ≡ true)
         → mid.nodes.items ≡ before.nodes.items ++ rest → nodes (length before.nodes.items) whole ≡ rest ++ last_node ∷ []
-        → (HasTypes before → mid.types ≡ before.types ++ part_types s.table.now s.class scope whole)
+        → (HasTypes before → mid.types.held ≡ before.types.held ++ part_types s.table.now s.class scope whole)
         → start ≡ length before.nodes.items → o ≡ there → n ≡ last_node
-        → OnOk answer (after.nodes.items ≡ with_number mid.nodes.items start n at o) → OnOk answer (after.types ≡ with_type mid.types start int_type o)
+        → OnOk answer (after.nodes.items ≡ with_number mid.nodes.items start n at o) → OnOk answer (after.types.held ≡ with_type mid.types.held start int_type o)
         → IfOk answer (λ f. f.constant ≡ number_constant o)
         → IfOk answer (λ f. f.id.0 + 1 ≡ length after.nodes.items) → Folds s scope t before after answer
     number_of t whole at start o there mid rest n last_node answer type is none fit mid_is nodes_are parts from same made placed typed constant last =
@@ -100,17 +100,17 @@ module _ (s : Setting) (scope : List Binding) where
         (subst (λ (k : ℕ). OnOk answer (after.nodes.items ≡ with_number mid.nodes.items k last_node at there)) from
         (subst (λ (q : Option ℤ). OnOk answer (after.nodes.items ≡ with_number mid.nodes.items start last_node at q)) same
         (subst (λ (m : Node). OnOk answer (after.nodes.items ≡ with_number mid.nodes.items start m at o)) made placed)))
-        (subst (λ (k : ℕ). OnOk answer (after.types ≡ with_type mid.types k int_type there)) from
-        (subst (λ (q : Option ℤ). OnOk answer (after.types ≡ with_type mid.types start int_type q)) same typed))
+        (subst (λ (k : ℕ). OnOk answer (after.types.held ≡ with_type mid.types.held k int_type there)) from
+        (subst (λ (q : Option ℤ). OnOk answer (after.types.held ≡ with_type mid.types.held start int_type q)) same typed))
         (subst (λ (q : Option ℤ). IfOk answer (λ f. f.constant ≡ number_constant q)) same constant) last
 
     truth_of : (t whole : Tree) (at : Place) (start : ℕ) (o there : Option Truth) (mid : Placed) (rest : List Node) (n last_node : Node)
         (answer : Result Found E)
         → type_of s.table.now s.class scope whole ≡ bool_type → small t ≡ truth_or whole at there → constant_in whole ≡ None
         → mid.nodes.items ≡ before.nodes.items ++ rest → nodes (length before.nodes.items) whole ≡ rest ++ last_node ∷ []
-        → (HasTypes before → mid.types ≡ before.types ++ part_types s.table.now s.class scope whole)
+        → (HasTypes before → mid.types.held ≡ before.types.held ++ part_types s.table.now s.class scope whole)
         → start ≡ length before.nodes.items → o ≡ there → n ≡ last_node
-        → OnOk answer (after.nodes.items ≡ with_truth mid.nodes.items start n at o) → OnOk answer (after.types ≡ with_type mid.types start bool_type o)
+        → OnOk answer (after.nodes.items ≡ with_truth mid.nodes.items start n at o) → OnOk answer (after.types.held ≡ with_type mid.types.held start bool_type o)
         → IfOk answer (λ f. f.constant ≡ truth_constant o)
         → IfOk answer (λ f. f.id.0 + 1 ≡ length after.nodes.items) → Folds s scope t before after answer
     truth_of t whole at start o there mid rest n last_node answer type is none mid_is nodes_are parts from same made placed typed constant last =
@@ -118,14 +118,14 @@ module _ (s : Setting) (scope : List Binding) where
         (subst (λ (k : ℕ). OnOk answer (after.nodes.items ≡ with_truth mid.nodes.items k last_node at there)) from
         (subst (λ (q : Option Truth). OnOk answer (after.nodes.items ≡ with_truth mid.nodes.items start last_node at q)) same
         (subst (λ (m : Node). OnOk answer (after.nodes.items ≡ with_truth mid.nodes.items start m at o)) made placed)))
-        (subst (λ (k : ℕ). OnOk answer (after.types ≡ with_type mid.types k bool_type there)) from
-        (subst (λ (q : Option Truth). OnOk answer (after.types ≡ with_type mid.types start bool_type q)) same typed))
+        (subst (λ (k : ℕ). OnOk answer (after.types.held ≡ with_type mid.types.held k bool_type there)) from
+        (subst (λ (q : Option Truth). OnOk answer (after.types.held ≡ with_type mid.types.held start bool_type q)) same typed))
         (subst (λ (q : Option Truth). IfOk answer (λ f. f.constant ≡ truth_constant q)) same constant) last
 
     pub assign_folds : IsSound s → HaveTypes s.table.now scope → (at : Place) (name copy : List ℕ) (a : Tree) (type : Ty)
         (mid : Placed) (f : Found) (answer : Result Found E) → type ≡ type_of s.table.now s.class scope (trees.Assign at name a) → copy ≡ name
         → Folds {E = E} s scope a before mid (Ok f)
-        → OnOk answer (after.nodes.items ≡ mid.nodes.items ++ node.Assign at copy f.id ∷ []) → OnOk answer (after.types ≡ mid.types ++ type ∷ [])
+        → OnOk answer (after.nodes.items ≡ mid.nodes.items ++ node.Assign at copy f.id ∷ []) → OnOk answer (after.types.held ≡ mid.types.held ++ type ∷ [])
         → IfOk answer (λ g. g.constant ≡ None) → IfOk answer (λ g. g.id.0 ≡ length mid.nodes.items)
         → Folds s scope (trees.Assign at name a) before after answer
     assign_folds sound types at name copy a type mid f answer is_type copied h =
@@ -140,7 +140,7 @@ module _ (s : Setting) (scope : List Binding) where
         → start ≡ length before.nodes.items
         → Folds {E = E} s scope a before mid (Ok f) → o ≡ option_map is_void (value_of f.constant)
         → OnOk answer (after.nodes.items ≡ with_truth mid.nodes.items start (node.IsVoid at f.id) at o)
-        → OnOk answer (after.types ≡ with_type mid.types start bool_type o) → IfOk answer (λ g. g.constant ≡ truth_constant o)
+        → OnOk answer (after.types.held ≡ with_type mid.types.held start bool_type o) → IfOk answer (λ g. g.constant ≡ truth_constant o)
         → IfOk answer (λ g. g.id.0 + 1 ≡ length after.nodes.items) → Folds s scope (trees.IsVoid at a) before after answer
     is_void_folds at a start o mid f answer from h is =
         let k = length before.nodes.items in
@@ -152,7 +152,7 @@ module _ (s : Setting) (scope : List Binding) where
         → start ≡ length before.nodes.items
         → Folds {E = E} s scope a before mid (Ok f) → o ≡ option_map not (truth_in (value_of f.constant))
         → OnOk answer (after.nodes.items ≡ with_truth mid.nodes.items start (node.Not at f.id) at o)
-        → OnOk answer (after.types ≡ with_type mid.types start bool_type o) → IfOk answer (λ g. g.constant ≡ truth_constant o)
+        → OnOk answer (after.types.held ≡ with_type mid.types.held start bool_type o) → IfOk answer (λ g. g.constant ≡ truth_constant o)
         → IfOk answer (λ g. g.id.0 + 1 ≡ length after.nodes.items) → Folds s scope (trees.Not at a) before after answer
     not_folds at a start o mid f answer from h is =
         let k = length before.nodes.items in
@@ -164,7 +164,7 @@ module _ (s : Setting) (scope : List Binding) where
         → start ≡ length before.nodes.items
         → Folds {E = E} s scope a before mid (Ok f) → o ≡ negated (number_in (value_of f.constant))
         → OnOk answer (after.nodes.items ≡ with_number mid.nodes.items start (node.Neg at f.id) at o)
-        → OnOk answer (after.types ≡ with_type mid.types start int_type o) → IfOk answer (λ g. g.constant ≡ number_constant o)
+        → OnOk answer (after.types.held ≡ with_type mid.types.held start int_type o) → IfOk answer (λ g. g.constant ≡ number_constant o)
         → IfOk answer (λ g. g.id.0 + 1 ≡ length after.nodes.items) → Folds s scope (trees.Neg at a) before after answer
     neg_folds at a start o mid f answer from h is =
         let k = length before.nodes.items in
@@ -177,7 +177,7 @@ module _ (s : Setting) (scope : List Binding) where
         → start ≡ length before.nodes.items → Folds {E = E} s scope a before first (Ok f) → Folds {E = E} s scope b first second (Ok g)
         → o ≡ computed op (number_in (value_of f.constant)) (number_in (value_of g.constant))
         → OnOk answer (after.nodes.items ≡ with_number second.nodes.items start (node.Arith at op f.id g.id) at o)
-        → OnOk answer (after.types ≡ with_type second.types start int_type o) → IfOk answer (λ r. r.constant ≡ number_constant o)
+        → OnOk answer (after.types.held ≡ with_type second.types.held start int_type o) → IfOk answer (λ r. r.constant ≡ number_constant o)
         → IfOk answer (λ r. r.id.0 + 1 ≡ length after.nodes.items) → Folds s scope (trees.Arith at op a b) before after answer
     arith_folds at op a b start o first second f g answer from h k is =
         let n = length before.nodes.items in
@@ -196,7 +196,7 @@ module _ (s : Setting) (scope : List Binding) where
         → start ≡ length before.nodes.items → Folds {E = E} s scope a before first (Ok f) → Folds {E = E} s scope b first second (Ok g)
         → o ≡ compared op (value_of f.constant) (value_of g.constant)
         → OnOk answer (after.nodes.items ≡ with_truth second.nodes.items start (node.Compare at op f.id g.id) at o)
-        → OnOk answer (after.types ≡ with_type second.types start bool_type o) → IfOk answer (λ r. r.constant ≡ truth_constant o)
+        → OnOk answer (after.types.held ≡ with_type second.types.held start bool_type o) → IfOk answer (λ r. r.constant ≡ truth_constant o)
         → IfOk answer (λ r. r.id.0 + 1 ≡ length after.nodes.items) → Folds s scope (trees.Compare at op a b) before after answer
     compare_folds at op a b start o first second f g answer from h k is =
         let n = length before.nodes.items in

@@ -67,7 +67,7 @@ module _ (s : Setting) (scope : List Binding) (t : Tree) (before after : Placed)
   -- what was placed is what the tree is folded to
   answered : {E : Type 0} (f : Found) → value_of f.constant ≡ constant_in (shrunk s.table.now s.class scope t)
       → after.nodes.items ≡ before.nodes.items ++ nodes (length before.nodes.items) (shrunk s.table.now s.class scope t)
-      → (HasTypes before → after.types ≡ before.types ++ node_types s.table.now s.class scope (shrunk s.table.now s.class scope t))
+      → (HasTypes before → after.types.held ≡ before.types.held ++ node_types s.table.now s.class scope (shrunk s.table.now s.class scope t))
       → f.id.0 + 1 ≡ length after.nodes.items → Folds {E = E} s scope t before after (Ok f)
   answered f constant placed typed last = record {
     constant = constant;
@@ -84,8 +84,8 @@ module _ (s : Setting) (scope : List Binding) (t : Tree) (before after : Placed)
       → (whole : Tree) (o : Option Constant) → shrunk s.table.now s.class scope t ≡ whole → value_of o ≡ constant_in whole
       → (mid : Placed) (n : Node) (result : Result Found E)
       → mid.nodes.items ++ n ∷ [] ≡ before.nodes.items ++ nodes (length before.nodes.items) whole
-      → (HasTypes before → mid.types ≡ before.types ++ part_types s.table.now s.class scope whole)
-      → OnOk result (after.nodes.items ≡ mid.nodes.items ++ n ∷ []) → OnOk result (after.types ≡ mid.types ++ type ∷ [])
+      → (HasTypes before → mid.types.held ≡ before.types.held ++ part_types s.table.now s.class scope whole)
+      → OnOk result (after.nodes.items ≡ mid.nodes.items ++ n ∷ []) → OnOk result (after.types.held ≡ mid.types.held ++ type ∷ [])
       → IfOk result (λ f. f.constant ≡ o) → IfOk result (λ f. f.id.0 ≡ length mid.nodes.items)
       → Folds s scope t before after result
   stays_folds sound types type is_type whole o is value mid n (Ok f) whole_is parts placed typed constant last =
@@ -95,8 +95,8 @@ module _ (s : Setting) (scope : List Binding) (t : Tree) (before after : Placed)
       answered f (ap value_of constant ∙ value ∙ ap constant_in (sym is))
       (placed ∙ whole_is ∙ ap (λ (x : Tree). before.nodes.items ++ nodes (length before.nodes.items) x) (sym is))
       (λ even. typed ∙ (λ i. parts even i ++ same i ∷ [])
-      ∙ append_assoc before.types (part_types p c scope whole) (type_of p c scope whole ∷ [])
-      ∙ ap (λ (x : Tree). before.types ++ node_types p c scope x) (sym is))
+      ∙ append_assoc before.types.held (part_types p c scope whole) (type_of p c scope whole ∷ [])
+      ∙ ap (λ (x : Tree). before.types.held ++ node_types p c scope x) (sym is))
       (one_more mid.nodes.items after.nodes.items n f.id.0 placed last)
   stays_folds sound types type is_type whole o is value mid n (Err e) whole_is parts placed typed constant last = failed e
 
@@ -105,9 +105,9 @@ module _ (s : Setting) (scope : List Binding) (t : Tree) (before after : Placed)
       → type_of s.table.now s.class scope whole ≡ int_type → shrunk s.table.now s.class scope t ≡ number_or whole at o
       → constant_in whole ≡ None → ((v : ℤ) → o ≡ Some v → fits v ≡ true)
       → mid.nodes.items ≡ before.nodes.items ++ rest → nodes (length before.nodes.items) whole ≡ rest ++ n ∷ []
-      → (HasTypes before → mid.types ≡ before.types ++ part_types s.table.now s.class scope whole)
+      → (HasTypes before → mid.types.held ≡ before.types.held ++ part_types s.table.now s.class scope whole)
       → OnOk result (after.nodes.items ≡ with_number mid.nodes.items (length before.nodes.items) n at o)
-      → OnOk result (after.types ≡ with_type mid.types (length before.nodes.items) int_type o)
+      → OnOk result (after.types.held ≡ with_type mid.types.held (length before.nodes.items) int_type o)
       → IfOk result (λ f. f.constant ≡ number_constant o)
       → IfOk result (λ f. f.id.0 + 1 ≡ length after.nodes.items) → Folds s scope t before after result
   number_folds whole at o mid rest n (Ok f) type is none fit mid_is nodes_are parts placed typed constant last =
@@ -116,17 +116,17 @@ module _ (s : Setting) (scope : List Binding) (t : Tree) (before after : Placed)
       (placed ∙ ap (λ (m : List Node). with_number m k n at o) mid_is ∙ number_placed before.nodes.items rest n whole at o nodes_are
       ∙ ap (λ (x : Tree). before.nodes.items ++ nodes k x) (sym is))
       (λ even. typed ∙ ap (λ (types : List Ty). with_type types k int_type o) (parts even)
-      ∙ number_types s.table.now s.class scope before.types k even whole at o type
-      ∙ ap (λ (x : Tree). before.types ++ node_types s.table.now s.class scope x) (sym is)) last
+      ∙ number_types s.table.now s.class scope before.types.held k even whole at o type
+      ∙ ap (λ (x : Tree). before.types.held ++ node_types s.table.now s.class scope x) (sym is)) last
   number_folds whole at o mid rest n (Err e) type is none fit mid_is nodes_are parts placed typed constant last = failed e
 
   -- a truth in place of a Bool
   pub truth_folds : {E : Type 0} (whole : Tree) (at : Place) (o : Option Truth) (mid : Placed) (rest : List Node) (n : Node) (result : Result Found E)
       → type_of s.table.now s.class scope whole ≡ bool_type → shrunk s.table.now s.class scope t ≡ truth_or whole at o
       → constant_in whole ≡ None → mid.nodes.items ≡ before.nodes.items ++ rest → nodes (length before.nodes.items) whole ≡ rest ++ n ∷ []
-      → (HasTypes before → mid.types ≡ before.types ++ part_types s.table.now s.class scope whole)
+      → (HasTypes before → mid.types.held ≡ before.types.held ++ part_types s.table.now s.class scope whole)
       → OnOk result (after.nodes.items ≡ with_truth mid.nodes.items (length before.nodes.items) n at o)
-      → OnOk result (after.types ≡ with_type mid.types (length before.nodes.items) bool_type o)
+      → OnOk result (after.types.held ≡ with_type mid.types.held (length before.nodes.items) bool_type o)
       → IfOk result (λ f. f.constant ≡ truth_constant o)
       → IfOk result (λ f. f.id.0 + 1 ≡ length after.nodes.items) → Folds s scope t before after result
   truth_folds whole at o mid rest n (Ok f) type is none mid_is nodes_are parts placed typed constant last =
@@ -135,6 +135,6 @@ module _ (s : Setting) (scope : List Binding) (t : Tree) (before after : Placed)
       (placed ∙ ap (λ (m : List Node). with_truth m k n at o) mid_is ∙ truth_placed before.nodes.items rest n whole at o nodes_are
       ∙ ap (λ (x : Tree). before.nodes.items ++ nodes k x) (sym is))
       (λ even. typed ∙ ap (λ (types : List Ty). with_type types k bool_type o) (parts even)
-      ∙ truth_types s.table.now s.class scope before.types k even whole at o type
-      ∙ ap (λ (x : Tree). before.types ++ node_types s.table.now s.class scope x) (sym is)) last
+      ∙ truth_types s.table.now s.class scope before.types.held k even whole at o type
+      ∙ ap (λ (x : Tree). before.types.held ++ node_types s.table.now s.class scope x) (sym is)) last
   truth_folds whole at o mid rest n (Err e) type is none mid_is nodes_are parts placed typed constant last = failed e

@@ -56,7 +56,7 @@ module _ (s : Setting) (scope : List Binding) where
     pub while_folds : (at : Place) (a b : Tree) (test body : NodeId) (type : Ty) (first second : Placed) (f g : Found) (answer : Result Found E)
         → type ≡ type_of s.table.now s.class scope (trees.While at a b) → test ≡ f.id → body ≡ g.id
         → Folds {E = E} s scope a before first (Ok f) → Folds {E = E} s scope b first second (Ok g)
-        → OnOk answer (after.nodes.items ≡ second.nodes.items ++ node.While at test body ∷ []) → OnOk answer (after.types ≡ second.types ++ type ∷ [])
+        → OnOk answer (after.nodes.items ≡ second.nodes.items ++ node.While at test body ∷ []) → OnOk answer (after.types.held ≡ second.types.held ++ type ∷ [])
         → IfOk answer (λ r. r.constant ≡ None) → IfOk answer (λ r. r.id.0 ≡ length second.nodes.items)
         → Folds s scope (trees.While at a b) before after answer
     while_folds at a b test body type first second f g answer is_type tested looped h k =
@@ -75,7 +75,7 @@ module _ (s : Setting) (scope : List Binding) where
     pub block_folds : (at : Place) (ids : List NodeId) (es : Trees) (items : Vec NodeId) (type : Ty) (mid : Placed) (answer : Result Found E)
         → type ≡ type_of s.table.now s.class scope (trees.Block at es) → ids ≡ items.items
         → FoldsAll {E = E} s scope es before mid (Ok items)
-        → OnOk answer (after.nodes.items ≡ mid.nodes.items ++ node.Block at ids ∷ []) → OnOk answer (after.types ≡ mid.types ++ type ∷ [])
+        → OnOk answer (after.nodes.items ≡ mid.nodes.items ++ node.Block at ids ∷ []) → OnOk answer (after.types.held ≡ mid.types.held ++ type ∷ [])
         → IfOk answer (λ r. r.constant ≡ None) → IfOk answer (λ r. r.id.0 ≡ length mid.nodes.items)
         → Folds s scope (trees.Block at es) before after answer
     block_folds at ids es items type mid answer is_type are h =
@@ -91,7 +91,7 @@ module _ (s : Setting) (scope : List Binding) where
         (first second : Placed) (f : Found) (answer : Result Found E)
         → type ≡ type_of s.table.now s.class scope (trees.Case at a cs) → value ≡ f.id → made_branches ≡ branches.items
         → Folds {E = E} s scope a before first (Ok f) → FoldsCases {E = E} s scope cs first second (Ok branches)
-        → OnOk answer (after.nodes.items ≡ second.nodes.items ++ node.Case at value made_branches ∷ []) → OnOk answer (after.types ≡ second.types ++ type ∷ [])
+        → OnOk answer (after.nodes.items ≡ second.nodes.items ++ node.Case at value made_branches ∷ []) → OnOk answer (after.types.held ≡ second.types.held ++ type ∷ [])
         → IfOk answer (λ r. r.constant ≡ None) → IfOk answer (λ r. r.id.0 ≡ length second.nodes.items)
         → Folds s scope (trees.Case at a cs) before after answer
     case_folds at a cs value made_branches branches type first second f answer is_type valued are h k =
@@ -107,7 +107,7 @@ module _ (s : Setting) (scope : List Binding) where
         (node.Case at value made_branches) answer
         ((λ i. two i ++ node.Case at (i1 i) (all i) ∷ []) ∙ append_assoc before.nodes.items
         (nodes n (small a) ++ nodes_of_cases (n + tree_size (small a)) few) (made ∷ []))
-        (λ even. types_later before.types first.types second.types (small_types s scope a) (types_of_cases s.table.now s.class scope few)
+        (λ even. types_later before.types.held first.types.held second.types.held (small_types s scope a) (types_of_cases s.table.now s.class scope few)
         (h.typed even) (k.typed (still_typed s scope {E = E} before first a f h even)))
 
     -- the nodes of a receiver and of arguments, and their types
@@ -123,9 +123,9 @@ module _ (s : Setting) (scope : List Binding) where
 
     call_typed : (a : Tree) (es : Trees) (first second : Placed) (f : Found) (args : Vec NodeId) → Folds {E = E} s scope a before first (Ok f)
         → FoldsAll {E = E} s scope es first second (Ok args) → HasTypes before
-        → second.types ≡ before.types ++ (small_types s scope a ++ types_of_all s.table.now s.class scope (small_all es))
+        → second.types.held ≡ before.types.held ++ (small_types s scope a ++ types_of_all s.table.now s.class scope (small_all es))
     call_typed a es first second f args h k even =
-        types_later before.types first.types second.types (small_types s scope a) (types_of_all s.table.now s.class scope (small_all es))
+        types_later before.types.held first.types.held second.types.held (small_types s scope a) (types_of_all s.table.now s.class scope (small_all es))
         (h.typed even) (k.typed (still_typed s scope {E = E} before first a f h even))
 
     pub dispatch_folds : (at : Place) (a : Tree) (name copy : List ℕ) (es : Trees) (object : NodeId) (ids : List NodeId) (args : Vec NodeId)
@@ -134,7 +134,7 @@ module _ (s : Setting) (scope : List Binding) where
         → object ≡ f.id → copy ≡ name → ids ≡ args.items
         → Folds {E = E} s scope a before first (Ok f) → FoldsAll {E = E} s scope es first second (Ok args)
         → is_redefined s.table.now k name ≡ true
-        → OnOk answer (after.nodes.items ≡ second.nodes.items ++ node.Dispatch at object copy ids ∷ []) → OnOk answer (after.types ≡ second.types ++ type ∷ [])
+        → OnOk answer (after.nodes.items ≡ second.nodes.items ++ node.Dispatch at object copy ids ∷ []) → OnOk answer (after.types.held ≡ second.types.held ++ type ∷ [])
         → IfOk answer (λ r. r.constant ≡ None) → IfOk answer (λ r. r.id.0 ≡ length second.nodes.items)
         → Folds s scope (trees.Dispatch at a name es) before after answer
     dispatch_folds at a name copy es object ids args k type first second f answer is_type class_is object_is copied are h m redefined =
@@ -162,7 +162,7 @@ module _ (s : Setting) (scope : List Binding) where
         → object ≡ f.id → copy ≡ name → ids ≡ args.items
         → Folds {E = E} s scope a before first (Ok f) → FoldsAll {E = E} s scope es first second (Ok args)
         → is_redefined s.table.now k name ≡ false → named ≡ name_of s.table.now k
-        → OnOk answer (after.nodes.items ≡ second.nodes.items ++ node.StaticDispatch at object (record { name = named; at = at }) copy ids ∷ []) → OnOk answer (after.types ≡ second.types ++ type ∷ [])
+        → OnOk answer (after.nodes.items ≡ second.nodes.items ++ node.StaticDispatch at object (record { name = named; at = at }) copy ids ∷ []) → OnOk answer (after.types.held ≡ second.types.held ++ type ∷ [])
         → IfOk answer (λ r. r.constant ≡ None) → IfOk answer (λ r. r.id.0 ≡ length second.nodes.items)
         → Folds s scope (trees.Dispatch at a name es) before after answer
     direct_folds at a name copy named es object ids args k type first second f answer is_type class_is object_is copied are h m redefined naming =
@@ -191,7 +191,7 @@ module _ (s : Setting) (scope : List Binding) where
         → type ≡ type_of s.table.now s.class scope (trees.StaticDispatch at a class name es)
         → object ≡ f.id → class_copy ≡ class → copy ≡ name → ids ≡ args.items
         → Folds {E = E} s scope a before first (Ok f) → FoldsAll {E = E} s scope es first second (Ok args)
-        → OnOk answer (after.nodes.items ≡ second.nodes.items ++ node.StaticDispatch at object class_copy copy ids ∷ []) → OnOk answer (after.types ≡ second.types ++ type ∷ [])
+        → OnOk answer (after.nodes.items ≡ second.nodes.items ++ node.StaticDispatch at object class_copy copy ids ∷ []) → OnOk answer (after.types.held ≡ second.types.held ++ type ∷ [])
         → IfOk answer (λ r. r.constant ≡ None) → IfOk answer (λ r. r.id.0 ≡ length second.nodes.items)
         → Folds s scope (trees.StaticDispatch at a class name es) before after answer
     static_folds at a class class_copy name copy es object ids args type first second f answer is_type object_is class_copied copied are h m =
@@ -212,7 +212,7 @@ module _ (s : Setting) (scope : List Binding) where
         → type ≡ type_of s.table.now s.class scope (trees.Let at name declared o a) → bound ≡ f.id → copy ≡ name → declared_copy ≡ declared
         → FoldsMaybe {E = E} s scope o before first (Ok id)
         → Folds {E = E} s (with_name name (type_meant s.table.now declared.name) scope) a first second (Ok f)
-        → OnOk answer (after.nodes.items ≡ second.nodes.items ++ node.Let at copy declared_copy id bound ∷ []) → OnOk answer (after.types ≡ second.types ++ type ∷ [])
+        → OnOk answer (after.nodes.items ≡ second.nodes.items ++ node.Let at copy declared_copy id bound ∷ []) → OnOk answer (after.types.held ≡ second.types.held ++ type ∷ [])
         → IfOk answer (λ r. r.constant ≡ None) → IfOk answer (λ r. r.id.0 ≡ length second.nodes.items)
         → Folds s scope (trees.Let at name declared o a) before after answer
     let_folds at name copy declared declared_copy o a id bound type first second f answer is_type bound_is copied declared_same h k =
@@ -231,7 +231,7 @@ module _ (s : Setting) (scope : List Binding) where
         second (node.Let at copy declared_copy id bound) answer
         ((λ i. two i ++ node.Let at (copied i) (declared_same i) (h.id i) (j i) ∷ [])
         ∙ append_assoc before.nodes.items (nodes_of_maybe n value ++ nodes (n + maybe_size value) body) (made ∷ []))
-        (λ even. types_later before.types first.types second.types (types_of_maybe s.table.now s.class scope value) (small_types s inner a)
+        (λ even. types_later before.types.held first.types.held second.types.held (types_of_maybe s.table.now s.class scope value) (small_types s inner a)
         (h.typed even) (k.typed (still_typed_maybe s scope {E = E} before first o id h even)))
 
     pub if_folds : (at : Place) (a b c : Tree) (yes_id no_id : NodeId) (o : Option Truth) (test one other : NodeId) (type : Ty)
@@ -241,7 +241,7 @@ module _ (s : Setting) (scope : List Binding) where
         → truth_in (constant_in (small a)) ≡ o
         → taken o (type_of s.table.now s.class scope b) (type_of s.table.now s.class scope c)
         (join_in s.table.now s.class (type_of s.table.now s.class scope b) (type_of s.table.now s.class scope c)) yes_id no_id ≡ None
-        → OnOk answer (after.nodes.items ≡ third.nodes.items ++ node.If at test one other ∷ []) → OnOk answer (after.types ≡ third.types ++ type ∷ [])
+        → OnOk answer (after.nodes.items ≡ third.nodes.items ++ node.If at test one other ∷ []) → OnOk answer (after.types.held ≡ third.types.held ++ type ∷ [])
         → IfOk answer (λ r. r.constant ≡ None) → IfOk answer (λ r. r.id.0 ≡ length third.nodes.items)
         → Folds s scope (trees.If at a b c) before after answer
     if_folds at a b c yes_id no_id o test one other type first second third f g h answer is_type tested first_is second_is x y z decided none =
@@ -268,6 +268,6 @@ module _ (s : Setting) (scope : List Binding) where
         (root (n + tree_size (small a) + tree_size (small b)) (small c)) in
         stays_folds s scope (trees.If at a b c) before after sound types type is_type kept None is refl third (node.If at test one other) answer
         ((λ i. three i ++ node.If at (i1 i) (j i) (k i) ∷ []) ∙ append_assoc before.nodes.items (na ++ nb ++ nc) (made ∷ []))
-        (λ even. types_later before.types second.types third.types (small_types s scope a ++ small_types s scope b) (small_types s scope c)
+        (λ even. types_later before.types.held second.types.held third.types.held (small_types s scope a ++ small_types s scope b) (small_types s scope c)
         (two_typed s scope {E = E} a b before first second f g x y even)
         (z.typed (still_typed s scope {E = E} first second b g y (still_typed s scope {E = E} before first a f x even))))

@@ -26,8 +26,8 @@ pub record SomeFolded (s : Setting) (scope : List Binding) (all left : List Node
   pub placed : now.nodes.items ++ nodes_of_all (length now.nodes.items) (shrunk_all s.table.now s.class scope (trees_of s left))
       ≡ before.nodes.items ++ nodes_of_all (length before.nodes.items) (shrunk_all s.table.now s.class scope (trees_of s all))
   pub even : HasTypes before → HasTypes now
-  pub typed : HasTypes before → now.types ++ types_of_all s.table.now s.class scope (shrunk_all s.table.now s.class scope (trees_of s left))
-      ≡ before.types ++ types_of_all s.table.now s.class scope (shrunk_all s.table.now s.class scope (trees_of s all))
+  pub typed : HasTypes before → now.types.held ++ types_of_all s.table.now s.class scope (shrunk_all s.table.now s.class scope (trees_of s left))
+      ≡ before.types.held ++ types_of_all s.table.now s.class scope (shrunk_all s.table.now s.class scope (trees_of s all))
 
 pub record SomeBranchesFolded (s : Setting) (scope : List Binding) (all left : List NodeBranch) (before now : Placed) (found : List NodeBranch) : Type 0 where
   pub parts : AreBranches (typed_body s) scope left
@@ -36,8 +36,8 @@ pub record SomeBranchesFolded (s : Setting) (scope : List Binding) (all left : L
   pub placed : now.nodes.items ++ nodes_of_cases (length now.nodes.items) (shrunk_cases s.table.now s.class scope (cases_of s left))
       ≡ before.nodes.items ++ nodes_of_cases (length before.nodes.items) (shrunk_cases s.table.now s.class scope (cases_of s all))
   pub even : HasTypes before → HasTypes now
-  pub typed : HasTypes before → now.types ++ types_of_cases s.table.now s.class scope (shrunk_cases s.table.now s.class scope (cases_of s left))
-      ≡ before.types ++ types_of_cases s.table.now s.class scope (shrunk_cases s.table.now s.class scope (cases_of s all))
+  pub typed : HasTypes before → now.types.held ++ types_of_cases s.table.now s.class scope (shrunk_cases s.table.now s.class scope (cases_of s left))
+      ≡ before.types.held ++ types_of_cases s.table.now s.class scope (shrunk_cases s.table.now s.class scope (cases_of s all))
 
 module _ (s : Setting) (scope : List Binding) where
   -- with one part more
@@ -54,7 +54,7 @@ module _ (s : Setting) (scope : List Binding) where
         placed = nodes_later now.nodes.items next.nodes.items t rest k.placed ∙ h.placed;
         even = λ even. still_typed s scope {E = E} now next (tree_at s.body.now id) f k (h.even even);
         typed = λ even.
-            types_later now.types next.types (next.types ++ types_of_all s.table.now s.class scope rest) (node_types s.table.now s.class scope t)
+            types_later now.types.held next.types.held (next.types.held ++ types_of_all s.table.now s.class scope rest) (node_types s.table.now s.class scope t)
             (types_of_all s.table.now s.class scope rest) (k.typed (h.even even)) refl
             ∙ h.typed even;
       }
@@ -74,7 +74,7 @@ module _ (s : Setting) (scope : List Binding) where
         placed = cases_later now.nodes.items next.nodes.items w.at w.name w.declared t rest k.placed ∙ h.placed;
         even = λ even. still_typed s inner {E = E} now next (tree_at s.body.now w.body) f k (h.even even);
         typed = λ even.
-            types_later now.types next.types (next.types ++ types_of_cases s.table.now s.class scope rest) (node_types s.table.now s.class inner t)
+            types_later now.types.held next.types.held (next.types.held ++ types_of_cases s.table.now s.class scope rest) (node_types s.table.now s.class inner t)
             (types_of_cases s.table.now s.class scope rest) (k.typed (h.even even)) refl
             ∙ h.typed even;
       }

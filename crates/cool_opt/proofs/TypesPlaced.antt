@@ -32,7 +32,7 @@ module _ (s : Setting) (scope : List Binding) {E : Type 0} (before after : Place
       let k = length before.nodes.items in
       let small = shrunk p c scope t in
       ap length (h.typed even)
-      ∙ as_many before.nodes.items (nodes k small) before.types (node_types p c scope small) even (length-node_types p c scope small ∙ sym (length-nodes small k))
+      ∙ as_many before.nodes.items (nodes k small) before.types.held (node_types p c scope small) even (length-node_types p c scope small ∙ sym (length-nodes small k))
       ∙ ap length (sym h.placed)
 
   pub still_typed_maybe : (o : MaybeTree) (id : Option NodeId) → FoldsMaybe {E = E} s scope o before after (Ok id) → HasTypes before → HasTypes after
@@ -42,6 +42,6 @@ module _ (s : Setting) (scope : List Binding) {E : Type 0} (before after : Place
       let k = length before.nodes.items in
       let small = shrunk_maybe p c scope o in
       ap length (h.typed even)
-      ∙ as_many before.nodes.items (nodes_of_maybe k small) before.types (types_of_maybe p c scope small) even
+      ∙ as_many before.nodes.items (nodes_of_maybe k small) before.types.held (types_of_maybe p c scope small) even
       (length-types_of_maybe p c scope small ∙ sym (length-nodes_of_maybe small k))
       ∙ ap length (sym h.placed)

@@ -53,29 +53,29 @@ with_type types start type (Some v) = take start types ++ type ∷ []
 
 -- each node has a type
 abbrev pub HasTypes : Placed → Type 0
-HasTypes placed = length placed.types ≡ length placed.nodes.items
+HasTypes placed = length placed.types.held ≡ length placed.nodes.items
 
 -- The nodes of the folded tree came after those before, with their types, and this was found of it.
 pub record Folds {E : Type 0} (s : Setting) (scope : List Binding) (t : Tree) (before after : Placed) (result : Result Found E) : Type 0 where
   pub constant : IfOk result (λ f. value_of f.constant ≡ constant_in (shrunk s.table.now s.class scope t))
   pub id : IfOk result (λ f. f.id ≡ root (length before.nodes.items) (shrunk s.table.now s.class scope t))
   pub placed : OnOk result (after.nodes.items ≡ before.nodes.items ++ nodes (length before.nodes.items) (shrunk s.table.now s.class scope t))
-  pub typed : HasTypes before → OnOk result (after.types ≡ before.types ++ node_types s.table.now s.class scope (shrunk s.table.now s.class scope t))
+  pub typed : HasTypes before → OnOk result (after.types.held ≡ before.types.held ++ node_types s.table.now s.class scope (shrunk s.table.now s.class scope t))
 
 pub record FoldsAll {E : Type 0} (s : Setting) (scope : List Binding) (ts : Trees) (before after : Placed) (result : Result (Vec NodeId) E) : Type 0 where
   pub ids : IfOk result (λ f. f.items ≡ roots (length before.nodes.items) (shrunk_all s.table.now s.class scope ts))
   pub placed : OnOk result (after.nodes.items ≡ before.nodes.items ++ nodes_of_all (length before.nodes.items) (shrunk_all s.table.now s.class scope ts))
-  pub typed : HasTypes before → OnOk result (after.types ≡ before.types ++ types_of_all s.table.now s.class scope (shrunk_all s.table.now s.class scope ts))
+  pub typed : HasTypes before → OnOk result (after.types.held ≡ before.types.held ++ types_of_all s.table.now s.class scope (shrunk_all s.table.now s.class scope ts))
 
 pub record FoldsMaybe {E : Type 0} (s : Setting) (scope : List Binding) (o : MaybeTree) (before after : Placed) (result : Result (Option NodeId) E) : Type 0 where
   pub id : IfOk result (λ id. id ≡ root_of_maybe (length before.nodes.items) (shrunk_maybe s.table.now s.class scope o))
   pub placed : OnOk result (after.nodes.items ≡ before.nodes.items ++ nodes_of_maybe (length before.nodes.items) (shrunk_maybe s.table.now s.class scope o))
-  pub typed : HasTypes before → OnOk result (after.types ≡ before.types ++ types_of_maybe s.table.now s.class scope (shrunk_maybe s.table.now s.class scope o))
+  pub typed : HasTypes before → OnOk result (after.types.held ≡ before.types.held ++ types_of_maybe s.table.now s.class scope (shrunk_maybe s.table.now s.class scope o))
 
 pub record FoldsCases {E : Type 0} (s : Setting) (scope : List Binding) (cs : Cases) (before after : Placed) (result : Result (Vec NodeBranch) E) : Type 0 where
   pub branches : IfOk result (λ f. f.items ≡ branch_roots (length before.nodes.items) (shrunk_cases s.table.now s.class scope cs))
   pub placed : OnOk result (after.nodes.items ≡ before.nodes.items ++ nodes_of_cases (length before.nodes.items) (shrunk_cases s.table.now s.class scope cs))
-  pub typed : HasTypes before → OnOk result (after.types ≡ before.types ++ types_of_cases s.table.now s.class scope (shrunk_cases s.table.now s.class scope cs))
+  pub typed : HasTypes before → OnOk result (after.types.held ≡ before.types.held ++ types_of_cases s.table.now s.class scope (shrunk_cases s.table.now s.class scope cs))
 
 -- so it is with all names in scope with which these parts, or this node, stand in the body
 abbrev pub FoldsPart : {E : Type 0} → Setting → NodeId → Placed → Placed → Result Found E → Type 0

@@ -32,7 +32,9 @@ pub(crate) fn fold<'a>(
     requires sound { IsSound setting.now }
     requires below { id.0 < tree_size setting.now.body.now }
     requires room { length placed.old.nodes.items + tree_size (tree_at setting.now.body.now id) < 2 ^ 32 - 1 }
+    requires types { length placed.old.types.held + tree_size (tree_at setting.now.body.now id) ≤ placed.old.types.room }
     ensures few { OnOk result (length placed.new.nodes.items ≤ length placed.old.nodes.items + tree_size (tree_at setting.now.body.now id)) }
+    ensures types { OnOk result (length placed.new.types.held + placed.old.types.room ≤ length placed.old.types.held + tree_size (tree_at setting.now.body.now id) + placed.new.types.room) }
     ensures folded { FoldsPart setting.now id placed.old placed.new result }
 {
     let node = setting.body.node(id);
@@ -68,7 +70,9 @@ fn fold_leaf<'a>(
     requires sound { IsSound setting.now }
     requires below { id.0 < tree_size setting.now.body.now }
     requires room { length placed.old.nodes.items + 1 < 2 ^ 32 - 1 }
+    requires types { length placed.old.types.held + 1 ≤ placed.old.types.room }
     ensures few { OnOk result (length placed.new.nodes.items ≤ length placed.old.nodes.items + 1) }
+    ensures types { OnOk result (length placed.new.types.held + placed.old.types.room ≤ length placed.old.types.held + 1 + placed.new.types.room) }
     ensures folded { FoldsNode setting.now id node.now placed.old placed.new result }
 {
     let alloc = setting.alloc;
@@ -117,7 +121,9 @@ pub(crate) fn fold_all<'a>(
     requires sound { IsSound setting.now }
     requires below { end.0 < tree_size setting.now.body.now }
     requires room { length placed.old.nodes.items + trees_size (trees_of setting.now items.now) < 2 ^ 32 - 1 }
+    requires types { length placed.old.types.held + trees_size (trees_of setting.now items.now) ≤ placed.old.types.room }
     ensures few { OnOk result (length placed.new.nodes.items ≤ length placed.old.nodes.items + trees_size (trees_of setting.now items.now)) }
+    ensures types { OnOk result (length placed.new.types.held + placed.old.types.room ≤ length placed.old.types.held + trees_size (trees_of setting.now items.now) + placed.new.types.room) }
     ensures folded { FoldsParts setting.now items.now placed.old placed.new result }
 {
     let mut ids = Vec::new(setting.alloc);

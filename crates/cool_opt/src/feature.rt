@@ -16,6 +16,7 @@ use crate::expression::fold;
 use crate::place::Placed;
 use crate::setting::Setting;
 use cool_classes::{ClassId, ClassTable};
+use cool_pool::Column;
 use cool_rules::{NodeTypes, TypedProgram};
 use cool_syntax::{Body, Feature};
 use std::alloc::{AllocError, Global};
@@ -48,7 +49,7 @@ pub(crate) fn fold_body<'a>(
     let Some(body) = expression_at(table, c, feature) else {
         return Ok(FoldedFeature {
             body: None,
-            types: NodeTypes::new(alloc),
+            types: NodeTypes::of(Vec::new(alloc)),
         });
     };
     let setting = Setting {
@@ -59,15 +60,18 @@ pub(crate) fn fold_body<'a>(
         body,
         types: p.types(c, feature),
     };
+    let nodes = Vec::new(alloc);
+    let column = Column::new(alloc, body.len())?;
     let mut placed = Placed {
-        nodes: Vec::new(alloc),
-        types: NodeTypes::new(alloc),
+        nodes,
+        types: column,
     };
     fold(&setting, &mut placed, body.root())?;
     let Placed { nodes, types } = placed;
+    let folded = NodeTypes::of(types.into_values());
     Ok(FoldedFeature {
         body: Some(Body::from_nodes(nodes)),
-        types,
+        types: folded,
     })
 }
 

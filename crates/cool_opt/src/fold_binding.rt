@@ -29,7 +29,9 @@ pub(crate) fn fold_let<'a>(
     requires sound { IsSound setting.now }
     requires below { id.0 < tree_size setting.now.body.now }
     requires room { length placed.old.nodes.items + tree_size (tree_of_node setting.now node.now) < 2 ^ 32 - 1 }
+    requires types { length placed.old.types.held + tree_size (tree_of_node setting.now node.now) ≤ placed.old.types.room }
     ensures few { OnOk result (length placed.new.nodes.items ≤ length placed.old.nodes.items + tree_size (tree_of_node setting.now node.now)) }
+    ensures types { OnOk result (length placed.new.types.held + placed.old.types.room ≤ length placed.old.types.held + tree_size (tree_of_node setting.now node.now) + placed.new.types.room) }
     ensures folded { FoldsNode setting.now id node.now placed.old placed.new result }
 {
     match node {
@@ -54,7 +56,9 @@ fn fold_option<'a>(
     requires sound { IsSound setting.now }
     requires below { end.0 < tree_size setting.now.body.now }
     requires room { length placed.old.nodes.items + maybe_size (maybe_tree_of setting.now init) < 2 ^ 32 - 1 }
+    requires types { length placed.old.types.held + maybe_size (maybe_tree_of setting.now init) ≤ placed.old.types.room }
     ensures few { OnOk result (length placed.new.nodes.items ≤ length placed.old.nodes.items + maybe_size (maybe_tree_of setting.now init)) }
+    ensures types { OnOk result (length placed.new.types.held + placed.old.types.room ≤ length placed.old.types.held + maybe_size (maybe_tree_of setting.now init) + placed.new.types.room) }
     ensures folded { MayFoldPart setting.now init placed.old placed.new result }
 {
     match init {
@@ -77,7 +81,9 @@ pub(crate) fn fold_case<'a>(
     requires sound { IsSound setting.now }
     requires below { id.0 < tree_size setting.now.body.now }
     requires room { length placed.old.nodes.items + tree_size (tree_of_node setting.now node.now) < 2 ^ 32 - 1 }
+    requires types { length placed.old.types.held + tree_size (tree_of_node setting.now node.now) ≤ placed.old.types.room }
     ensures few { OnOk result (length placed.new.nodes.items ≤ length placed.old.nodes.items + tree_size (tree_of_node setting.now node.now)) }
+    ensures types { OnOk result (length placed.new.types.held + placed.old.types.room ≤ length placed.old.types.held + tree_size (tree_of_node setting.now node.now) + placed.new.types.room) }
     ensures folded { FoldsNode setting.now id node.now placed.old placed.new result }
 {
     match node {
@@ -107,7 +113,9 @@ fn fold_branches<'a>(
     requires sound { IsSound setting.now }
     requires below { end.0 < tree_size setting.now.body.now }
     requires room { length placed.old.nodes.items + cases_size (cases_of setting.now branches.now) < 2 ^ 32 - 1 }
+    requires types { length placed.old.types.held + cases_size (cases_of setting.now branches.now) ≤ placed.old.types.room }
     ensures few { OnOk result (length placed.new.nodes.items ≤ length placed.old.nodes.items + cases_size (cases_of setting.now branches.now)) }
+    ensures types { OnOk result (length placed.new.types.held + placed.old.types.room ≤ length placed.old.types.held + cases_size (cases_of setting.now branches.now) + placed.new.types.room) }
     ensures folded { FoldsBranches setting.now branches.now placed.old placed.new result }
 {
     let mut folded = Vec::new(setting.alloc);

@@ -31,7 +31,9 @@ pub(crate) fn fold_dispatch<'a>(
     requires sound { IsSound setting.now }
     requires below { id.0 < tree_size setting.now.body.now }
     requires room { length placed.old.nodes.items + tree_size (tree_of_node setting.now node.now) < 2 ^ 32 - 1 }
+    requires types { length placed.old.types.held + tree_size (tree_of_node setting.now node.now) ≤ placed.old.types.room }
     ensures few { OnOk result (length placed.new.nodes.items ≤ length placed.old.nodes.items + tree_size (tree_of_node setting.now node.now)) }
+    ensures types { OnOk result (length placed.new.types.held + placed.old.types.room ≤ length placed.old.types.held + tree_size (tree_of_node setting.now node.now) + placed.new.types.room) }
     ensures folded { FoldsNode setting.now id node.now placed.old placed.new result }
 {
     match node {
@@ -67,7 +69,9 @@ pub(crate) fn fold_static<'a>(
     requires sound { IsSound setting.now }
     requires below { id.0 < tree_size setting.now.body.now }
     requires room { length placed.old.nodes.items + tree_size (tree_of_node setting.now node.now) < 2 ^ 32 - 1 }
+    requires types { length placed.old.types.held + tree_size (tree_of_node setting.now node.now) ≤ placed.old.types.room }
     ensures few { OnOk result (length placed.new.nodes.items ≤ length placed.old.nodes.items + tree_size (tree_of_node setting.now node.now)) }
+    ensures types { OnOk result (length placed.new.types.held + placed.old.types.room ≤ length placed.old.types.held + tree_size (tree_of_node setting.now node.now) + placed.new.types.room) }
     ensures folded { FoldsNode setting.now id node.now placed.old placed.new result }
 {
     match node {
@@ -94,7 +98,9 @@ fn fold_args<'a>(
     requires sound { IsSound setting.now }
     requires below { end.0 < tree_size setting.now.body.now }
     requires room { length placed.old.nodes.items + trees_size (trees_of setting.now args.now) < 2 ^ 32 - 1 }
+    requires types { length placed.old.types.held + trees_size (trees_of setting.now args.now) ≤ placed.old.types.room }
     ensures few { OnOk result (length placed.new.nodes.items ≤ length placed.old.nodes.items + trees_size (trees_of setting.now args.now)) }
+    ensures types { OnOk result (length placed.new.types.held + placed.old.types.room ≤ length placed.old.types.held + trees_size (trees_of setting.now args.now) + placed.new.types.room) }
     ensures folded { FoldsParts setting.now args.now placed.old placed.new result }
 {
     fold_all(setting, placed, end, args)

@@ -29,7 +29,9 @@ pub(crate) fn fold_unary<'a>(
     requires sound { IsSound setting.now }
     requires below { id.0 < tree_size setting.now.body.now }
     requires room { length placed.old.nodes.items + tree_size (tree_of_node setting.now node.now) < 2 ^ 32 - 1 }
+    requires types { length placed.old.types.held + tree_size (tree_of_node setting.now node.now) ≤ placed.old.types.room }
     ensures few { OnOk result (length placed.new.nodes.items ≤ length placed.old.nodes.items + tree_size (tree_of_node setting.now node.now)) }
+    ensures types { OnOk result (length placed.new.types.held + placed.old.types.room ≤ length placed.old.types.held + tree_size (tree_of_node setting.now node.now) + placed.new.types.room) }
     ensures folded { FoldsNode setting.now id node.now placed.old placed.new result }
 {
     let start = placed.nodes.len();
@@ -51,7 +53,9 @@ pub(crate) fn fold_binary<'a>(
     requires sound { IsSound setting.now }
     requires below { id.0 < tree_size setting.now.body.now }
     requires room { length placed.old.nodes.items + tree_size (tree_of_node setting.now node.now) < 2 ^ 32 - 1 }
+    requires types { length placed.old.types.held + tree_size (tree_of_node setting.now node.now) ≤ placed.old.types.room }
     ensures few { OnOk result (length placed.new.nodes.items ≤ length placed.old.nodes.items + tree_size (tree_of_node setting.now node.now)) }
+    ensures types { OnOk result (length placed.new.types.held + placed.old.types.room ≤ length placed.old.types.held + tree_size (tree_of_node setting.now node.now) + placed.new.types.room) }
     ensures folded { FoldsNode setting.now id node.now placed.old placed.new result }
 {
     let start = placed.nodes.len();

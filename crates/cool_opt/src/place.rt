@@ -6,7 +6,7 @@ ghost use Rattle.cool_opt.specs.FoldedNodes.{number_constant, truth_constant, wi
 
 use crate::constant::Constant;
 use cool_classes::{BOOL, INT, Ty};
-use cool_rules::NodeTypes;
+use cool_pool::Column;
 use cool_syntax::{Node, NodeId, Place};
 use std::alloc::AllocError;
 
@@ -14,7 +14,7 @@ use std::alloc::AllocError;
 #[derive(Drop)]
 pub(crate) struct Placed {
     pub(crate) nodes: Vec<Node>,
-    pub(crate) types: NodeTypes,
+    pub(crate) types: Column<Ty>,
 }
 
 /// What is known of an expression whose folded nodes were placed: the constant that it is, and the number of its last node.
@@ -28,7 +28,8 @@ pub(crate) struct Found<'a> {
 #[inline(never)]
 pub(crate) fn cut(placed: &mut Placed, start: usize)
     ensures nodes { placed.new.nodes.items ≡ take start placed.old.nodes.items }
-    ensures types { placed.new.types ≡ take start placed.old.types }
+    ensures types { placed.new.types.held ≡ take start placed.old.types.held }
+    ensures room { placed.new.types.room ≡ placed.old.types.room }
 {
     placed.nodes.truncate(start);
     placed.types.cut(start);
@@ -37,11 +38,13 @@ pub(crate) fn cut(placed: &mut Placed, start: usize)
 /// Places the node of an expression of this type after its parts. `Err` comes only for want of memory.
 pub(crate) fn place<'a>(placed: &mut Placed, node: Node, ty: Ty) -> Result<Found<'a>, AllocError>
     requires few { length placed.old.nodes.items < 2 ^ 32 - 1 }
+    requires types { length placed.old.types.held + 1 ≤ placed.old.types.room }
     ensures placed { OnOk result (placed.new.nodes.items ≡ placed.old.nodes.items ++ node ∷ []) }
-    ensures typed { OnOk result (placed.new.types ≡ placed.old.types ++ ty ∷ []) }
+    ensures typed { OnOk result (placed.new.types.held ≡ placed.old.types.held ++ ty ∷ []) }
     ensures constant { IfOk result (λ f. f.constant ≡ None) }
     ensures last { IfOk result (λ f. f.id.0 ≡ length placed.old.nodes.items) }
     ensures few { OnOk result (length placed.new.nodes.items ≤ length placed.old.nodes.items + 1) }
+    ensures types { OnOk result (length placed.new.types.held + placed.old.types.room ≤ length placed.old.types.held + 1 + placed.new.types.room) }
 {
     place_constant(placed, node, ty, None)
 }
@@ -54,15 +57,17 @@ pub(crate) fn place_constant<'a>(
     constant: Option<Constant<'a>>,
 ) -> Result<Found<'a>, AllocError>
     requires few { length placed.old.nodes.items < 2 ^ 32 - 1 }
+    requires types { length placed.old.types.held + 1 ≤ placed.old.types.room }
     ensures placed { OnOk result (placed.new.nodes.items ≡ placed.old.nodes.items ++ node ∷ []) }
-    ensures typed { OnOk result (placed.new.types ≡ placed.old.types ++ ty ∷ []) }
+    ensures typed { OnOk result (placed.new.types.held ≡ placed.old.types.held ++ ty ∷ []) }
     ensures constant { IfOk result (λ f. f.constant ≡ constant.entry) }
     ensures last { IfOk result (λ f. f.id.0 ≡ length placed.old.nodes.items) }
     ensures few { OnOk result (length placed.new.nodes.items ≤ length placed.old.nodes.items + 1) }
+    ensures types { OnOk result (length placed.new.types.held + placed.old.types.room ≤ length placed.old.types.held + 1 + placed.new.types.room) }
 {
     let id = NodeId(placed.nodes.len() as u32);
     placed.nodes.push(node)?;
-    placed.types.push(ty)?;
+    placed.types.push(ty);
     Ok(Found { constant, id })
 }
 
@@ -75,11 +80,13 @@ pub(crate) fn place_number<'a>(
     found: Option<i32>,
 ) -> Result<Found<'a>, AllocError>
     requires few { length placed.old.nodes.items < 2 ^ 32 - 1 }
+    requires types { length placed.old.types.held + 1 ≤ placed.old.types.room }
     ensures placed { OnOk result (placed.new.nodes.items ≡ with_number placed.old.nodes.items start node at found) }
-    ensures typed { OnOk result (placed.new.types ≡ with_type placed.old.types start int_type found) }
+    ensures typed { OnOk result (placed.new.types.held ≡ with_type placed.old.types.held start int_type found) }
     ensures constant { IfOk result (λ f. f.constant ≡ number_constant found) }
     ensures last { IfOk result (λ f. f.id.0 + 1 ≡ length placed.new.nodes.items) }
     ensures few { OnOk result (length placed.new.nodes.items ≤ length placed.old.nodes.items + 1) }
+    ensures types { OnOk result (length placed.new.types.held + placed.old.types.room ≤ length placed.old.types.held + 1 + placed.new.types.room) }
 {
     match found {
         None => place(placed, node, Ty::Class(INT)),
@@ -105,11 +112,13 @@ pub(crate) fn place_truth<'a>(
     found: Option<bool>,
 ) -> Result<Found<'a>, AllocError>
     requires few { length placed.old.nodes.items < 2 ^ 32 - 1 }
+    requires types { length placed.old.types.held + 1 ≤ placed.old.types.room }
     ensures placed { OnOk result (placed.new.nodes.items ≡ with_truth placed.old.nodes.items start node at found) }
-    ensures typed { OnOk result (placed.new.types ≡ with_type placed.old.types start bool_type found) }
+    ensures typed { OnOk result (placed.new.types.held ≡ with_type placed.old.types.held start bool_type found) }
     ensures constant { IfOk result (λ f. f.constant ≡ truth_constant found) }
     ensures last { IfOk result (λ f. f.id.0 + 1 ≡ length placed.new.nodes.items) }
     ensures few { OnOk result (length placed.new.nodes.items ≤ length placed.old.nodes.items + 1) }
+    ensures types { OnOk result (length placed.new.types.held + placed.old.types.room ≤ length placed.old.types.held + 1 + placed.new.types.room) }
 {
     match found {
         None => place(placed, node, Ty::Class(BOOL)),

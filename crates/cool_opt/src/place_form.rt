@@ -24,7 +24,9 @@ pub(crate) fn place_while<'a>(
     requires form { IsLoop node.now }
     requires sound { IsSound setting.now }
     requires few { length placed.old.nodes.items < 2 ^ 32 - 1 }
+    requires types { length placed.old.types.held + 1 ≤ placed.old.types.room }
     ensures few { OnOk result (length placed.new.nodes.items ≤ length placed.old.nodes.items + 1) }
+    ensures types { OnOk result (length placed.new.types.held + placed.old.types.room ≤ length placed.old.types.held + 1 + placed.new.types.room) }
     ensures placed { PlacesLoop setting.now node.now ty test body placed.old placed.new result }
 {
     match node {
@@ -48,7 +50,9 @@ pub(crate) fn place_block<'a>(
     requires form { IsBlock node.now }
     requires sound { IsSound setting.now }
     requires few { length placed.old.nodes.items < 2 ^ 32 - 1 }
+    requires types { length placed.old.types.held + 1 ≤ placed.old.types.room }
     ensures few { OnOk result (length placed.new.nodes.items ≤ length placed.old.nodes.items + 1) }
+    ensures types { OnOk result (length placed.new.types.held + placed.old.types.room ≤ length placed.old.types.held + 1 + placed.new.types.room) }
     ensures placed { PlacesBlock setting.now node.now ty items placed.old placed.new result }
 {
     match node {
@@ -74,7 +78,9 @@ pub(crate) fn place_if<'a>(
     requires form { IsConditional node.now }
     requires sound { IsSound setting.now }
     requires few { length placed.old.nodes.items < 2 ^ 32 - 1 }
+    requires types { length placed.old.types.held + 1 ≤ placed.old.types.room }
     ensures few { OnOk result (length placed.new.nodes.items ≤ length placed.old.nodes.items + 1) }
+    ensures types { OnOk result (length placed.new.types.held + placed.old.types.room ≤ length placed.old.types.held + 1 + placed.new.types.room) }
     ensures placed { PlacesConditional setting.now node.now ty test yes no placed.old placed.new result }
 {
     match node {
@@ -100,7 +106,9 @@ pub(crate) fn place_let<'a>(
     requires form { IsLet node.now }
     requires sound { IsSound setting.now }
     requires few { length placed.old.nodes.items < 2 ^ 32 - 1 }
+    requires types { length placed.old.types.held + 1 ≤ placed.old.types.room }
     ensures few { OnOk result (length placed.new.nodes.items ≤ length placed.old.nodes.items + 1) }
+    ensures types { OnOk result (length placed.new.types.held + placed.old.types.room ≤ length placed.old.types.held + 1 + placed.new.types.room) }
     ensures placed { PlacesLet setting.now node.now ty init body placed.old placed.new result }
 {
     match node {
@@ -138,7 +146,9 @@ pub(crate) fn place_case<'a>(
     requires form { IsCase node.now }
     requires sound { IsSound setting.now }
     requires few { length placed.old.nodes.items < 2 ^ 32 - 1 }
+    requires types { length placed.old.types.held + 1 ≤ placed.old.types.room }
     ensures few { OnOk result (length placed.new.nodes.items ≤ length placed.old.nodes.items + 1) }
+    ensures types { OnOk result (length placed.new.types.held + placed.old.types.room ≤ length placed.old.types.held + 1 + placed.new.types.room) }
     ensures placed { PlacesCase setting.now node.now ty value branches placed.old placed.new result }
 {
     match node {
@@ -191,7 +201,9 @@ pub(crate) fn place_dispatch<'a>(
     requires sound { IsSound setting.now }
     requires class { class.0 < length setting.now.table.now }
     requires few { length placed.old.nodes.items < 2 ^ 32 - 1 }
+    requires types { length placed.old.types.held + 1 ≤ placed.old.types.room }
     ensures few { OnOk result (length placed.new.nodes.items ≤ length placed.old.nodes.items + 1) }
+    ensures types { OnOk result (length placed.new.types.held + placed.old.types.room ≤ length placed.old.types.held + 1 + placed.new.types.room) }
     ensures placed { PlacesDispatch setting.now node.now ty class object args placed.old placed.new result }
 {
     match node {
@@ -237,7 +249,9 @@ pub(crate) fn place_static<'a>(
     requires form { IsStaticDispatch node.now }
     requires sound { IsSound setting.now }
     requires few { length placed.old.nodes.items < 2 ^ 32 - 1 }
+    requires types { length placed.old.types.held + 1 ≤ placed.old.types.room }
     ensures few { OnOk result (length placed.new.nodes.items ≤ length placed.old.nodes.items + 1) }
+    ensures types { OnOk result (length placed.new.types.held + placed.old.types.room ≤ length placed.old.types.held + 1 + placed.new.types.room) }
     ensures placed { PlacesStaticDispatch setting.now node.now ty object args placed.old placed.new result }
 {
     match node {

@@ -26,7 +26,9 @@ pub(crate) fn place_unary<'a>(
     requires group { IsUnary node.now }
     requires sound { IsSound setting.now }
     requires few { length placed.old.nodes.items < 2 ^ 32 - 1 }
+    requires types { length placed.old.types.held + 1 ≤ placed.old.types.room }
     ensures few { OnOk result (length placed.new.nodes.items ≤ length placed.old.nodes.items + 1) }
+    ensures types { OnOk result (length placed.new.types.held + placed.old.types.room ≤ length placed.old.types.held + 1 + placed.new.types.room) }
     ensures placed { PlacesUnary setting.now start node.now ty part.now placed.old placed.new result }
 {
     match node {
@@ -78,7 +80,9 @@ pub(crate) fn place_binary<'a>(
     requires group { IsBinary node.now }
     requires sound { IsSound setting.now }
     requires few { length placed.old.nodes.items < 2 ^ 32 - 1 }
+    requires types { length placed.old.types.held + 1 ≤ placed.old.types.room }
     ensures few { OnOk result (length placed.new.nodes.items ≤ length placed.old.nodes.items + 1) }
+    ensures types { OnOk result (length placed.new.types.held + placed.old.types.room ≤ length placed.old.types.held + 1 + placed.new.types.room) }
     ensures placed { PlacesBinary setting.now start node.now first.now second.now placed.old placed.new result }
 {
     match node {

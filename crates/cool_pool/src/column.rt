@@ -1,6 +1,6 @@
 //! One value for each node, filled in the order of the nodes' numbers.
 
-ghost use Rattle.std.specs.Prelude.{◌≡◌, ◌<◌, [], ◌∷◌, ◌++◌, Some, length, IfOk};
+ghost use Rattle.std.specs.Prelude.{◌≡◌, ◌<◌, [], ◌∷◌, ◌++◌, Some, length, take, IfOk};
 ghost use Rattle.std.specs.List.{slice_get};
 
 use cool_syntax::NodeId;
@@ -56,6 +56,14 @@ impl<T: Drop> Column<T> {
         ensures { result.items ≡ self.held }
     {
         self.values
+    }
+
+    /// Takes the values of the nodes from this number on away, and keeps their room.
+    pub fn cut(&mut self, start: usize)
+        ensures held { self.new.held ≡ take start self.old.held }
+        ensures room { self.new.room ≡ self.old.room }
+    {
+        self.values.truncate(start);
     }
 
     /// Gives the values up, and keeps their room.

@@ -1,5 +1,5 @@
 -- Each form, put together from its parts, is what it is folded to.
-use Rattle.std.proofs.Common.{◌≡◌, ◌+◌, ◌-◌, ◌^◌, ◌<◌, List, ◌∷◌, length, drop, get_or, Ok, None, refl, sym, subst, ◌∙◌, ap, arith}
+use Rattle.std.proofs.Common.{◌≡◌, ◌+◌, ◌-◌, ◌^◌, ◌<◌, ◌≤◌, List, ◌∷◌, length, drop, get_or, Ok, None, refl, sym, subst, ◌∙◌, ap, arith}
 use Rattle.std.proofs.lemmas.List.{drop_more}
 use Rattle.std.specs.List.{AllByRecursion}
 use Rattle.std.specs.declared.alloc.AllocError.{AllocError}
@@ -18,7 +18,7 @@ use Rattle.cool_opt.specs.FoldedNodes.{Folds, FoldsBranches, FoldsPart, FoldsPar
 use Rattle.cool_opt.specs.PlacedForms.{IsFolded, PlacesBlock, PlacesCase, PlacesConditional, PlacesDispatch, PlacesLet, PlacesLoop, PlacesStaticDispatch}
 use Rattle.cool_opt.specs.Settings.{cases_of, trees_of, typed_body, HaveTypes, IsStanding}
 use Rattle.cool_opt.specs.Shrinking.{taken}
-use Rattle.cool_opt.proofs.FoldedConditionals.{cut_back, cut_short, fewer, part_within, taken_folds, taken_is, taken_part_is, taken_stands}
+use Rattle.cool_opt.proofs.FoldedConditionals.{cut_back, cut_short, cut_shorter, fewer, left, part_within, taken_folds, taken_is, taken_part_is, taken_stands}
 use Rattle.cool_opt.proofs.PartsFolded.{one_branch_folded, one_folded, SomeBranchesFolded, SomeFolded}
 use Rattle.cool_opt.proofs.PartsOfForms.{has_operand, has_operands, operand_within, operands_within}
 use Rattle.cool_opt.proofs.StandingNodes.{node_folds, part_got, type_got}
@@ -79,7 +79,7 @@ fold_operator::fold_unary-fold-requires t c =
     let s = c.args.setting.now in
     let part = c.operand.result in
     let within = operand_within c.args.id.0 (all_trees s.body.now) c.args.node.now part c.operand.ensures c.requires.group c.requires.parts in
-    (omega (arith, within), (c.requires.sound, (omega (arith, within, c.requires.below), omega (arith, within, c.requires.room))))
+    (omega (arith, within), (c.requires.sound, (omega (arith, within, c.requires.below), (omega (arith, within, c.requires.room), omega (arith, within, c.requires.types)))))
 
 pub fold_operator::fold_unary-place_unary-requires : goal.fold_operator::fold_unary-place_unary-requires
 fold_operator::fold_unary-place_unary-requires t c =
@@ -90,6 +90,7 @@ fold_operator::fold_unary-place_unary-requires t c =
       group = c.requires.group;
       sound = c.requires.sound;
       few = omega (arith, within, c.in_ok-part.ensures.few, c.requires.room);
+      types = omega (arith, within, c.in_ok-part.ensures.types, c.requires.types);
     }
 
 pub fold_operator::fold_unary-returns-clause-folded : goal.fold_operator::fold_unary-returns-clause-folded
@@ -108,7 +109,7 @@ fold_operator::fold_binary-fold-requires t c =
     let left = c.left_operand.result in
     let within = operands_within c.args.id.0 (all_trees s.body.now) c.args.node.now left _ c.left_operand.ensures refl c.requires.group
     c.requires.parts in
-    (omega (arith, within), (c.requires.sound, (omega (arith, within, c.requires.below), omega (arith, within, c.requires.room))))
+    (omega (arith, within), (c.requires.sound, (omega (arith, within, c.requires.below), (omega (arith, within, c.requires.room), omega (arith, within, c.requires.types)))))
 
 pub fold_operator::fold_binary-fold-requires-2 : goal.fold_operator::fold_binary-fold-requires-2
 fold_operator::fold_binary-fold-requires-2 t c =
@@ -116,7 +117,7 @@ fold_operator::fold_binary-fold-requires-2 t c =
     let right = c.right_operand.result in
     let within = operands_within c.args.id.0 (all_trees s.body.now) c.args.node.now c.left_operand.result right c.left_operand.ensures
     c.right_operand.ensures c.requires.group c.requires.parts in
-    (omega (arith, within), (c.requires.sound, (omega (arith, within, c.requires.below), omega (arith, within, c.in_ok-left.ensures.few, c.requires.room))))
+    (omega (arith, within), (c.requires.sound, (omega (arith, within, c.requires.below), (omega (arith, within, c.in_ok-left.ensures.few, c.requires.room), omega (arith, within, c.in_ok-left.ensures.types, c.requires.types)))))
 
 pub fold_operator::fold_binary-place_binary-requires : goal.fold_operator::fold_binary-place_binary-requires
 fold_operator::fold_binary-place_binary-requires t c =
@@ -127,6 +128,7 @@ fold_operator::fold_binary-place_binary-requires t c =
       group = c.requires.group;
       sound = c.requires.sound;
       few = omega (arith, within, c.in_ok-left.ensures.few, c.in_ok-right.ensures.few, c.requires.room);
+      types = omega (arith, within, c.in_ok-left.ensures.types, c.in_ok-right.ensures.types, c.requires.types);
     }
 
 pub fold_operator::fold_binary-returns-clause-folded : goal.fold_operator::fold_binary-returns-clause-folded
@@ -275,19 +277,32 @@ fold_control::fold_if-fold-requires-in-Some t c =
     let one = taken_part_is s.types.now c.truth_in-truth.result c.args.id whole.yes whole.no c.in-Some.part (omega arith)
     (omega (arith, parts.1)) (omega (arith, parts.2)) (λ v w u x y z. sym c.in-Some.is ∙ c.taken_part.ensures v w u x y z) in
     let within = part_within b whole.at (tree_at b whole.test) whole.yes whole.no c.in-Some.part c.args.id.0 one parts.1 parts.2 in
-    let short = cut_short c.fold.new.placed.nodes.items c.len-start.result in (
+    let types = subst (λ m. length c.args.placed.now.types.held + tree_size (made (all_trees b) m) ≤ c.args.placed.now.types.room) whole.is c.requires.types in
+    let short = cut_short c.fold.new.placed.nodes.items c.len-start.result in
+    let shorter = cut_shorter c.fold.new.placed.types.held c.len-start.result in (
       omega (arith, within),
       (
         c.requires.sound,
         (
           omega (arith, within),
-          omega (
-            arith,
-            within,
-            ap length c.cut.ensures.nodes,
-            short,
-            c.len-start.ensures ∙ c.args.placed.now.nodes.ok.0,
-            room,
+          (
+            omega (
+              arith,
+              within,
+              ap length c.cut.ensures.nodes,
+              short,
+              c.len-start.ensures ∙ c.args.placed.now.nodes.ok.0,
+              room,
+            ),
+            omega (
+              arith,
+              within,
+              ap length c.cut.ensures.types,
+              c.cut.ensures.room,
+              shorter,
+              c.in_ok-decided-in-If.ensures.types,
+              types,
+            ),
           ),
         ),
       ),
@@ -315,6 +330,29 @@ fold_control::fold_if-returns-in-Some-clause-few t c =
       ap (λ m. tree_size (made (all_trees b) m)) whole.is,
     )) c.fold-in-Some.ensures.few
 
+pub fold_control::fold_if-returns-in-Some-clause-types : goal.fold_control::fold_if-returns-in-Some-clause-types
+fold_control::fold_if-returns-in-Some-clause-types t c =
+    let s = c.args.setting.now in
+    let b = s.body.now in
+    let before = c.args.placed.now.nodes.items in
+    let whole = c.in-If in
+    let parts = subst (HasPartsBelow c.args.id.0) whole.is c.requires.parts in
+    let each = c.requires.sound.each in
+    let below = c.requires.below in
+    let one = taken_part_is s.types.now c.truth_in-truth.result c.args.id whole.yes whole.no c.in-Some.part (omega arith)
+    (omega (arith, parts.1)) (omega (arith, parts.2)) (λ v w u x y z. sym c.in-Some.is ∙ c.taken_part.ensures v w u x y z) in
+    let within = part_within b whole.at (tree_at b whole.test) whole.yes whole.no c.in-Some.part c.args.id.0 one parts.1 parts.2 in
+    let shorter = cut_shorter c.fold.new.placed.types.held c.len-start.result in
+    left c.fold-in-Some.result _ _ _ _ _ _ _ _ (omega (
+      arith,
+      within,
+      ap length c.cut.ensures.types,
+      c.cut.ensures.room,
+      shorter,
+      c.in_ok-decided-in-If.ensures.types,
+      ap (λ m. tree_size (made (all_trees b) m)) whole.is,
+    )) c.fold-in-Some.ensures.types
+
 pub fold_control::fold_if-returns-in-Some-clause-folded : goal.fold_control::fold_if-returns-in-Some-clause-folded
 fold_control::fold_if-returns-in-Some-clause-folded t c = λ scope standing.
     let s = c.args.setting.now in
@@ -337,7 +375,7 @@ fold_control::fold_if-returns-in-Some-clause-folded t c = λ scope standing.
     subst (λ m. Folds s scope (made (all_trees b) m) before after answer) (sym whole.is)
     (taken_folds s scope before after cut b whole.at (tree_at b whole.test) c.truth_in-truth.result whole.yes whole.no part answer
     (cut_back before.nodes.items _ mid.nodes.items cut.nodes.items start decided.placed from c.cut.ensures.nodes)
-    (λ even. cut_back before.types _ mid.types cut.types start (decided.typed even) (from ∙ sym even) c.cut.ensures.types)
+    (λ even. cut_back before.types.held _ mid.types.held cut.types.held start (decided.typed even) (from ∙ sym even) c.cut.ensures.types)
     (sym (c.truth_in-truth.ensures ∙ ap truth_in decided.constant)) taking
     (c.fold-in-Some.ensures.folded scope here.types (taken_stands (typed_body s) scope whole.yes whole.no part one here.parts.1 here.parts.2)))
 
@@ -383,6 +421,7 @@ expression::fold_all-loop-item-preserved t c =
     let step = drop_more items k at_item.0 within in
     record {
       few = omega (arith, c.in_ok-found.ensures.few, ap (λ (xs : List NodeId). trees_size (trees_of s xs)) step, l.invariant.few);
+      types = omega (arith, c.in_ok-found.ensures.types, ap (λ (xs : List NodeId). trees_size (trees_of s xs)) step, l.invariant.types);
       below = (subst (AllByRecursion (λ item. item.0 < c.args.end.0)) step l.invariant.below).1;
       folded = λ scope types parts.
           let some = subst (λ xs. SomeFolded s scope items xs c.args.placed.now l.placed l.ids.items) step (l.invariant.folded scope types parts) in
@@ -406,6 +445,7 @@ fold_binding::fold_branches-loop-branch-preserved t c =
     let step = drop_more branches k branch within ∙ ap (λ (x : NodeBranch). x ∷ rest) (sym c.branch-item.is) in
     record {
       few = omega (arith, c.in_ok-body.ensures.few, ap (λ (xs : List NodeBranch). cases_size (cases_of s xs)) step, l.invariant.few);
+      types = omega (arith, c.in_ok-body.ensures.types, ap (λ (xs : List NodeBranch). cases_size (cases_of s xs)) step, l.invariant.types);
       below = (subst (AllByRecursion (λ b. b.body.0 < c.args.end.0)) step l.invariant.below).1;
       folded = λ scope types parts.
           let some = subst (λ xs. SomeBranchesFolded s scope branches xs c.args.placed.now l.placed l.folded.items) step

@@ -54,6 +54,8 @@ abbrev pub invariant-expression::fold_all-loop-item : goal.invariant-expression:
 invariant-expression::fold_all-loop-item l = record {
   few : length l.placed.nodes.items + trees_size (trees_of l.setting (drop l.item-index l.items))
       ≤ length l.fn.placed.nodes.items + trees_size (trees_of l.setting l.items);
+  types : length l.placed.types.held + trees_size (trees_of l.setting (drop l.item-index l.items)) + l.fn.placed.types.room
+      ≤ length l.fn.placed.types.held + trees_size (trees_of l.setting l.items) + l.placed.types.room;
   below : AllByRecursion (λ item. item.0 < l.fn.end.0) (drop l.item-index l.items);
   folded : (scope : List Binding) → HaveTypes l.setting.table.now scope → AreParts (typed_body l.setting) scope l.items
       → SomeFolded l.setting scope l.items (drop l.item-index l.items) l.fn.placed l.placed l.ids.items;
@@ -63,6 +65,8 @@ abbrev pub invariant-fold_binding::fold_branches-loop-branch : goal.invariant-fo
 invariant-fold_binding::fold_branches-loop-branch l = record {
   few : length l.placed.nodes.items + cases_size (cases_of l.setting (drop l.branch-index l.branches))
       ≤ length l.fn.placed.nodes.items + cases_size (cases_of l.setting l.branches);
+  types : length l.placed.types.held + cases_size (cases_of l.setting (drop l.branch-index l.branches)) + l.fn.placed.types.room
+      ≤ length l.fn.placed.types.held + cases_size (cases_of l.setting l.branches) + l.placed.types.room;
   below : AllByRecursion (λ branch. branch.body.0 < l.fn.end.0) (drop l.branch-index l.branches);
   folded : (scope : List Binding) → HaveTypes l.setting.table.now scope → AreBranches (typed_body l.setting) scope l.branches
       → SomeBranchesFolded l.setting scope l.branches (drop l.branch-index l.branches) l.fn.placed l.placed l.folded.items;

@@ -16,7 +16,7 @@ returns-then-conforms c =
     let body = node_types p c.args.c in
     record {
       typed = search rules;
-      column = c.of.ensures
+      column = c.of-then-conforms.ensures
           ∙ c.into_values.ensures
           ∙ c.in_ok-found.ensures.column
           ∙ ap (λ (ts : List Ty). ts ++ body (c.new-3.result ++ attributes) (tree_at c.in-Some.body c.root.result)) c.in_ok-types.ensures.held

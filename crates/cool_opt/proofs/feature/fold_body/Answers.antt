@@ -35,7 +35,7 @@ fold-requires-clause-room c =
     let has = body_there p c.table-table.result.now k c.args.feature x _ c.in-Some.body.now table there c.expression_at.ensures
     (ap (option_map (λ b. b.now)) c.in-Some.is) in
     let few = few_nodes p MOST_FILES (subst (λ (q : List Class). Fits q MOST_FILES) table fits) k c.requires.class c.args.feature x c.in-Some.body.now there has in
-    omega (arith, few, ap tree_size c.root.ensures.tree, ap length c.new-2.ensures.items)
+    omega (arith, few, ap tree_size c.root.ensures.tree, ap length c.new-nodes.ensures.items)
 
 pub from_nodes-requires-clause-few : goal.from_nodes-requires-clause-few
 from_nodes-requires-clause-few c =
@@ -47,7 +47,7 @@ from_nodes-requires-clause-few c =
     let has = body_there p c.table-table.result.now k c.args.feature x _ c.in-Some.body.now table there c.expression_at.ensures
     (ap (option_map (λ b. b.now)) c.in-Some.is) in
     let few = few_nodes p MOST_FILES (subst (λ (q : List Class). Fits q MOST_FILES) table fits) k c.requires.class c.args.feature x c.in-Some.body.now there has in
-    omega (arith, few, ap tree_size c.root.ensures.tree, ap length c.new-2.ensures.items, c.in_ok-fold.ensures.few)
+    omega (arith, few, ap tree_size c.root.ensures.tree, ap length c.new-nodes.ensures.items, c.in_ok-fold.ensures.few)
 
 pub from_nodes-requires-clause-postorder : goal.from_nodes-requires-clause-postorder
 from_nodes-requires-clause-postorder c =
@@ -60,7 +60,7 @@ from_nodes-requires-clause-postorder c =
     (ap (option_map (λ b. b.now)) c.in-Some.is) in (
       shrunk p k (feature_scope p k x) c.in-Some.body.now,
       (whole_folded _ p table x (body_folds p typed k c.requires.class c.args.feature x c.in-Some.body.now there has) (c.types.ensures x there)
-          {E = AllocError} c.root.result _ c.fold.new.placed _ c.root.ensures.last c.root.ensures.tree c.new-2.ensures.items c.new-3.ensures
+          {E = AllocError} c.root.result _ c.fold.new.placed _ c.root.ensures.last c.root.ensures.tree c.new-nodes.ensures.items c.in_ok-column.ensures.held
           c.in_ok-fold.ensures.folded).0,
     )
 
@@ -74,7 +74,7 @@ returns-clause-body c = λ x there.
     (ap (option_map (λ b. b.now)) c.in-Some.is) in
     let folds = body_folds p typed k c.requires.class c.args.feature x c.in-Some.body.now there has in
     let done = whole_folded _ p table x folds (c.types.ensures x there) {E = AllocError} c.root.result _ c.fold.new.placed _ c.root.ensures.last
-    c.root.ensures.tree c.new-2.ensures.items c.new-3.ensures c.in_ok-fold.ensures.folded in
+    c.root.ensures.tree c.new-nodes.ensures.items c.in_ok-column.ensures.held c.in_ok-fold.ensures.folded in
     ap Some (c.from_nodes.ensures.tree (shrunk p k (feature_scope p k x) c.in-Some.body.now) done.0) ∙ folds.body
 
 pub returns-clause-types : goal.returns-clause-types
@@ -86,5 +86,7 @@ returns-clause-types c = λ x there.
     let has = body_there p c.table-table.result.now k c.args.feature x _ c.in-Some.body.now table there c.expression_at.ensures
     (ap (option_map (λ b. b.now)) c.in-Some.is) in
     let folds = body_folds p typed k c.requires.class c.args.feature x c.in-Some.body.now there has in
-    (whole_folded _ p table x folds (c.types.ensures x there) {E = AllocError} c.root.result _ c.fold.new.placed _ c.root.ensures.last
-    c.root.ensures.tree c.new-2.ensures.items c.new-3.ensures c.in_ok-fold.ensures.folded).1
+    c.of-folded.ensures
+    ∙ c.into_values.ensures
+    ∙ (whole_folded _ p table x folds (c.types.ensures x there) {E = AllocError} c.root.result _ c.fold.new.placed _ c.root.ensures.last
+    c.root.ensures.tree c.new-nodes.ensures.items c.in_ok-column.ensures.held c.in_ok-fold.ensures.folded).1
