@@ -109,7 +109,11 @@ pub record Part (input : List ℕ) (replies : List (List ℕ)) (left : List ℕ)
   pub held : Held
   pub did : Did input count replies held left
 
--- an input has one session
+-- an input has a session
+abbrev pub HasExchange : List ℕ → Type 0
+HasExchange input = (replies : List (List ℕ)) × (end : Ending) × (left : List ℕ) × Exchange input replies end left
+
+-- it has no other
 abbrev pub HasOneExchange : List ℕ → Type 0
 HasOneExchange input =
     (replies replies' : List (List ℕ)) (end end' : Ending) (left left' : List ℕ) → Exchange input replies end left

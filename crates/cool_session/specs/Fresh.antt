@@ -1,11 +1,13 @@
 -- How many features a check types: those that are not kept of the last check that typed. And what is kept of it for the next one.
-use Rattle.std.specs.Prelude.{◌≡◌, ◌≢◌, refl, ℕ, suc, List, [], ◌∷◌, ◌++◌, map, length, Option, Some, None}
+use Rattle.std.specs.Prelude.{◌≡◌, ◌≢◌, refl, ℕ, suc, ◌≤◌, List, [], ◌∷◌, ◌++◌, map, length, Option, Some, None}
+use Rattle.cool_syntax.specs.declared.TheConstants.{MOST_FILES, MOST_SOURCE_BYTES}
 use Rattle.cool_syntax.specs.declared.token.Token.{Token}
 use Rattle.cool_syntax.specs.declared.token.TokenKind.{TokenKind}
 use Rattle.cool_syntax.specs.declared.file_tree.FileTree.{FileTree}
 use Rattle.cool_syntax.specs.LexicalStructure.{Lexes}
 use Rattle.cool_classes.specs.ClassFaults.{feature_phase, HasClassPhase}
 use Rattle.cool_classes.specs.Definitions.{definitions}
+use Rattle.cool_faults.specs.Files.{total}
 use Rattle.cool_faults.specs.Verdicts.{AreTrees}
 use Rattle.cool_session.specs.Signatures.{ClassSignature, features_in, signatures}
 
@@ -47,6 +49,21 @@ pub data IsFresh (now : Base) : Option Base → ℕ → Type 0 where
 pub data Types (files : List (List ℕ)) (base : Option Base) : ℕ → Option Base → Type 0 where
   typed : (now : Base) (n : ℕ) → AreTyped files now → IsFresh now base n → Types files base n (Some now)
   untyped : ((now : Base) → AreTyped files now → ⊥) → Types files base 0 base
+
+-- The base is one of files that came to be typed, where there is any.
+abbrev pub IsOfFiles : Option Base → Type 0
+IsOfFiles None = Unit {0}
+IsOfFiles (Some base) = (files : List (List ℕ)) × AreTyped files base
+
+-- A check of the files over this base types some number of features, and leaves some base.
+abbrev pub HasCount : List (List ℕ) → Option Base → Type 0
+HasCount files base = (n : ℕ) × (after : Option Base) × Types files base n after
+
+-- so it is of all files within the limits on their number and their bytes, over all bases of files
+abbrev pub HaveCounts : Type 0
+HaveCounts =
+    (files : List (List ℕ)) (base : Option Base) → length files ≤ MOST_FILES → total files ≤ MOST_SOURCE_BYTES → IsOfFiles base
+    → HasCount files base
 
 -- Worked examples
 abbrev empty : Base

@@ -33,6 +33,8 @@ mod typed;
 pub use conversation::converse;
 pub use ending::{Ending, Interruption};
 pub use error::SetError;
-pub use laws::{law_cut_short, law_one_exchange, law_part};
+pub use laws::{
+    law_cut_short, law_one_count_at_least, law_one_exchange, law_one_exchange_at_least, law_part,
+};
 pub use reply::Reply;
 pub use session::Session;

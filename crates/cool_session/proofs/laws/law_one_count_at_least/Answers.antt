@@ -1,0 +1,5 @@
+use Rattle.cool_session.proofs.CountsOfChecks.{types_at_least}
+use Rattle.cool_session.proofs.laws.law_one_count_at_least.Goals as goal
+
+pub returns : goal.returns
+returns c = types_at_least c.law_one_verdict_at_least.ensures
