@@ -1,22 +1,19 @@
 //! Laws on typing: the type that a function of the expression gives is the one that the rules give, and so is each in a column of types.
 
+ghost use Rattle.std.specs.Prelude.{List};
+ghost use Rattle.cool_classes.specs.Chains.{Class};
+ghost use Rattle.cool_classes.specs.Tables.{IsWholeTable};
 ghost use Rattle.cool_rules.specs.NodeScopes.{AreTypedColumns};
 ghost use Rattle.cool_rules.specs.StaticTypes.{IsTypeWhereTyped};
+ghost use Rattle.cool_rules.specs.TypedTables.{IsTypedTable};
 
-use crate::typed_program::TypedProgram;
-use cool_classes::ClassTable;
+/// Where the rules give an expression a type, it is its static type. So it is in each whole table, typed or not.
+pub fn law_static_type()
+    ensures { (p : List Class) → IsWholeTable p → IsTypeWhereTyped p }
+{}
 
-/// Where the rules give an expression a type, it is its static type.
-pub fn law_static_type(t: &ClassTable)
-    ensures { IsTypeWhereTyped t.now }
-{
-    let _count = t.count();
-}
-
-/// In a program that the checker has accepted, each type that is kept for a node of a feature's expression is the one that the rules give the
-/// expression of that node, with the names that are in scope there.
-pub fn law_node_types(p: &TypedProgram)
-    ensures { AreTypedColumns p.now }
-{
-    let _table = p.table();
-}
+/// In a typed program, each type that is kept for a node of a feature's expression is the one that the rules give the expression of that
+/// node, with the names that are in scope there.
+pub fn law_node_types()
+    ensures { (p : List Class) → IsTypedTable p → AreTypedColumns p }
+{}

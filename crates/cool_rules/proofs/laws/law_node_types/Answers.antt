@@ -1,8 +1,6 @@
 -- The columns of a typed table are typed.
-use Rattle.std.proofs.Common.{subst}
-use Rattle.cool_rules.specs.TypedTables.{IsTypedTable}
 use Rattle.cool_rules.proofs.ColumnsAreTyped.{columns_typed}
 use Rattle.cool_rules.proofs.laws.law_node_types.Goals as goal
 
 pub returns : goal.returns
-returns c = columns_typed c.args.p.now (subst IsTypedTable c.table-table.ensures.table c.table-table.ensures.typed)
+returns c = columns_typed
