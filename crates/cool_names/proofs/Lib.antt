@@ -1,3 +1,4 @@
 mod PartsLeft
 mod ScopesInOrder
 mod SeenTypes
+mod UsesTold

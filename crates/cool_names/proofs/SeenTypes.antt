@@ -33,7 +33,7 @@ class_within p c (IsClass a) less is = is
 class_within p c SelfType less is = less
 
 -- the method that the rules find is the function's
-method_is : (p : List Class) → IsWholeTable p → (k : ClassId) (name : List ℕ) (m : MethodRef) → k.0 < length p → IsImplementation p k name m → method_of p k name ≡ Some m
+pub method_is : (p : List Class) → IsWholeTable p → (k : ClassId) (name : List ℕ) (m : MethodRef) → k.0 < length p → IsImplementation p k name m → method_of p k name ≡ Some m
 unfolding method_of
 method_is p whole k name m less (ds, is_chain, is) =
     ap (λ (es : List ClassId). implementation p es name) (chain_unique p (Some k) (chain p k) ds (chain_is p k whole.table less) is_chain) ∙ is
@@ -72,7 +72,7 @@ module _ (p : List Class) (whole : IsWholeTable p) (ds : List ClassDef) (c : Cla
   given_typed n t five e = let same : IsClass (class_number n) ≡ t = cc in subst (IsType p) same (basic_there p whole n five)
 
   -- a type that is seen is one of the table
-  seen_typed : (locals : List Variable) (e : Tree) (t : Ty) → seen_type (within p ds c attributes) locals e ≡ Some t → IsType p t
+  pub seen_typed : (locals : List Variable) (e : Tree) (t : Ty) → seen_type (within p ds c attributes) locals e ≡ Some t → IsType p t
   seen_typed locals (trees.Id at name) t e = by (bytes_eq name (codes "self")) e
     where
       by : (b : Bool) → (if b then Some SelfType else type_declared p (option_or (bound_in locals name) (bound_in attributes name))) ≡ Some t → IsType p t

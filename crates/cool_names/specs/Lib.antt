@@ -4,3 +4,4 @@ pub mod Meanings
 pub mod Marks
 pub mod Programs
 pub mod Settings
+pub mod Uses

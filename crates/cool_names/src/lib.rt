@@ -15,6 +15,6 @@ mod program;
 mod scope;
 mod setting;
 
-pub use laws::{law_declared_type, law_seen_type};
+pub use laws::{law_declared_type, law_seen_type, law_uses_told};
 pub use mark::{Mark, Meaning, Role, Target};
 pub use program::program_marks;
