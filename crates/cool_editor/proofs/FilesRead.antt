@@ -1,5 +1,5 @@
 -- The files of names are read one after another, until one is refused.
-use Rattle.std.proofs.Common.{◌≡◌, ◌≢◌, ℕ, ◌+◌, ◌-◌, ◌<◌, inl, inr, List, [], ◌∷◌, ◌++◌, length, map, get_or, take, drop, refl, sym, ◌∙◌, ap, subst, take-append-drop, arith}
+use Rattle.std.proofs.Common.{◌≡◌, ◌≢◌, ℕ, ◌+◌, ◌-◌, ◌<◌, inl, inr, List, [], ◌∷◌, ◌++◌, length, map, get_or, take, drop, refl, sym, ◌∙◌, ap, subst, append_assoc, append-nil, take-append-drop, arith}
 use Rattle.std.specs.Prelude.{Option, string_bytes, String}
 use Rattle.cool_syntax.specs.declared.TheConstants.{MOST_SOURCE_BYTES}
 use Rattle.cool_ports.specs.Counts.{Rose}
@@ -9,7 +9,7 @@ use Rattle.std.specs.Global.{Global, Vec}
 use Rattle.std.proofs.lemmas.List.{at_drop_more, map_more, map_push, map-append}
 use Rattle.cool_ports.specs.ShelfFiles.{FileMap, MayHold, IsMissing, IsLonger, AreHeld}
 use Rattle.cool_faults.specs.Files.{bytes_of, total}
-use Rattle.cool_editor.specs.Ends.{IsCause, IsStop}
+use Rattle.cool_editor.specs.Ends.{AskedFront, IsCause, IsStop}
 use Rattle.cool_faults.proofs.FileSizes.{total-push}
 use Rattle.cool_ports.proofs.FilesHeld.{held_more}
 
@@ -64,3 +64,29 @@ stop_at told now before now_before after names i name given contents left same c
           (subst (λ (b : ℕ). IsCause now b after given (MOST_SOURCE_BYTES - total (bytes_of contents))) calm
           (subst (λ (m : ℕ). IsCause now now_before after given m) most_left cause));
     }
+
+-- the shelf was asked for one more name
+pub asked_turn : (names : List (String Global)) (i : ℕ) (name : String Global) (given : List ℕ) (before middle after : List (List ℕ)) → i < length names → name ≡ get_or names i name → given ≡ string_bytes name
+    → middle ≡ before ++ map string_bytes (take i names) → after ≡ middle ++ given ∷ [] → after ≡ before ++ map string_bytes (take (i + 1) names)
+asked_turn names i name given before middle after h is called so_far asked =
+    let names_more : map string_bytes (take (i + 1) names) ≡ map string_bytes (take i names) ++ string_bytes name ∷ [] =
+    map_more string_bytes names i name h ∙ ap (λ (n : String Global). map string_bytes (take i names) ++ string_bytes n ∷ []) (sym is) in
+    asked ∙ ap (λ (xs : List (List ℕ)). xs ++ given ∷ []) so_far ∙ append_assoc before (map string_bytes (take i names)) (given ∷ [])
+    ∙ ap (λ (n : List ℕ). before ++ (map string_bytes (take i names) ++ n ∷ [])) called ∙ ap (λ (ns : List (List ℕ)). before ++ ns) (sym names_more)
+
+-- so it was asked for some of the names
+pub asked_part : (names : List (String Global)) (i : ℕ) (name : String Global) (given : List ℕ) (before middle after : List (List ℕ)) → i < length names → name ≡ get_or names i name → given ≡ string_bytes name
+    → middle ≡ before ++ map string_bytes (take i names) → after ≡ middle ++ given ∷ [] → AskedFront (map string_bytes names) before after
+asked_part names i name given before middle after h is called so_far asked = record {
+  front = map string_bytes (take (i + 1) names);
+  rest = map string_bytes (drop (i + 1) names);
+  stands = ap (map string_bytes) (sym (take-append-drop (i + 1) names)) ∙ map-append string_bytes (take (i + 1) names) (drop (i + 1) names);
+  asked = asked_turn names i name given before middle after h is called so_far asked;
+}
+
+-- it was asked for none of them, or for all
+pub asked_none : (names before : List (List ℕ)) → AskedFront names before before
+asked_none names before = record { front = []; rest = names; stands = refl; asked = sym (append-nil before) }
+
+pub asked_whole : (names before after : List (List ℕ)) → after ≡ before ++ names → AskedFront names before after
+asked_whole names before after is = record { front = names; rest = []; stands = sym (append-nil names); asked = is }

@@ -15,6 +15,7 @@ use Rattle.cool_names.specs.Programs.{program_marks}
 use Rattle.cool_ports.specs.Counts.{Rose}
 use Rattle.cool_ports.specs.ShelfFiles.{FileMap, IsMissing, IsLonger, AreHeld}
 use Rattle.cool_ports.specs.SinkBytes.{appended, GotPrefix}
+use Rattle.cool_ports.specs.SinkPuts.{PutFront, pieces_of}
 use Rattle.cool_editor.specs.Lines.{mark_lines}
 use Rattle.cool_editor.specs.declared.status.Status.{Status}
 use Rattle.cool_editor.specs.declared.status.Status.TheVariants.{Done, Refused, Usage, WriteFault, Memory, FileFault}
@@ -49,13 +50,21 @@ IsTextOf contents None = AreNoTable contents
 abbrev pub IsText : Option FileMap → List (List ℕ) → Option (Vec ℕ) → Type 0
 IsText files names text = (contents : List (List ℕ)) × AreHeld files names contents × IsTextOf contents text
 
--- a sink got the lines of the marks of the files of these names
-pub record IsListed (files : Option FileMap) (names : List (List ℕ)) (before after : Option (List ℕ)) : Type 0 where
+-- Where a shelf had been asked for `before`, it was then asked for some of the names, from the first on, each once, in order.
+pub record AskedFront (names before after : List (List ℕ)) : Type 0 where
+  pub front : List (List ℕ)
+  pub rest : List (List ℕ)
+  pub stands : names ≡ front ++ rest
+  pub asked : after ≡ before ++ front
+
+-- a sink got the lines of the marks of the files of these names, in pieces of 4,096 bytes
+pub record IsListed (files : Option FileMap) (names : List (List ℕ)) (before after : Option (List ℕ)) (puts_before puts_after : List (List ℕ)) : Type 0 where
   pub contents : List (List ℕ)
   pub held : AreHeld files names contents
   pub marks : List Mark
   pub are : AreMarks contents marks
   pub written : after ≡ appended before (mark_lines marks)
+  pub put : puts_after ≡ puts_before ++ pieces_of 4096 (mark_lines marks)
 
 -- the files of these names are no class table
 pub record IsRefused (files : Option FileMap) (names : List (List ℕ)) : Type 0 where
@@ -78,7 +87,7 @@ pub record IsStop (files : Option FileMap) (before after : ℕ) (names : List (L
   pub within : total contents ≤ MOST_SOURCE_BYTES
   pub cause : IsCause files before after name (MOST_SOURCE_BYTES - total contents)
 
--- the files of these names are too many, and none was asked for, or one of them was refused
+-- the files of these names are too many, and no read of one failed, or one of them was refused
 abbrev pub AreUnread : Option FileMap → ℕ → ℕ → List (List ℕ) → Type 0
 AreUnread files before after names = ((MOST_FILES < length names) × (after ≡ before)) ⊎ ((length names ≤ MOST_FILES) × IsStop files before after names)
 
@@ -100,10 +109,45 @@ note_of Done = []
 note_of WriteFault = []
 note_of Memory = []
 
--- a sink got a prefix of the lines of the marks of the files of these names
-pub record IsCutShort (files : Option FileMap) (names : List (List ℕ)) (before after : Option (List ℕ)) : Type 0 where
+-- what is put to the notes of a call that ends so: its note, at once, where it has one
+abbrev pub puts_of : Status → List (List ℕ)
+puts_of Usage = note_of Usage ∷ []
+puts_of Refused = note_of Refused ∷ []
+puts_of FileFault = note_of FileFault ∷ []
+puts_of Done = []
+puts_of WriteFault = []
+puts_of Memory = []
+
+-- why a note of this status is written
+abbrev pub IsDue : Option FileMap → ℕ → ℕ → List (List ℕ) → Status → Type 0
+IsDue files before after names Usage = (names ≡ []) × (after ≡ before)
+IsDue files before after names Refused = IsRefused files names
+IsDue files before after names FileFault = AreUnread files before after names
+IsDue files before after names Done = ⊥
+IsDue files before after names WriteFault = ⊥
+IsDue files before after names Memory = ⊥
+
+-- the note that was due was put at once, and a sink got a prefix of it
+pub record IsNoteCut (files : Option FileMap) (faults_before faults_after : ℕ) (names : List (List ℕ)) (before after : Option (List ℕ)) (puts_before puts_after : List (List ℕ)) : Type 0 where
+  pub due : Status
+  pub is : IsDue files faults_before faults_after names due
+  pub got : GotPrefix before (note_of due) after
+  pub put : puts_after ≡ puts_before ++ note_of due ∷ []
+
+-- a sink got a prefix of the lines of the marks of the files of these names, and some of their pieces were put
+pub record IsCutShort (files : Option FileMap) (names : List (List ℕ)) (before after : Option (List ℕ)) (puts_before puts_after : List (List ℕ)) : Type 0 where
   pub contents : List (List ℕ)
   pub held : AreHeld files names contents
   pub marks : List Mark
   pub are : AreMarks contents marks
   pub got : GotPrefix before (mark_lines marks) after
+  pub put : PutFront puts_before (pieces_of 4096 (mark_lines marks)) puts_after
+
+-- the exit status of a call that ends so
+abbrev pub code_of : Status → ℕ
+code_of Done = 0
+code_of Refused = 1
+code_of Usage = 2
+code_of WriteFault = 8
+code_of Memory = 9
+code_of FileFault = 10

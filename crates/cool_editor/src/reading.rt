@@ -1,9 +1,9 @@
 //! Reading the files.
 
-ghost use Rattle.std.specs.Prelude.{◌≡◌, ◌≤◌, ◌⊎◌, length, map, string_bytes, IfOk, IfErr, OnOk};
+ghost use Rattle.std.specs.Prelude.{◌≡◌, ◌≤◌, ◌⊎◌, ◌++◌, length, map, string_bytes, IfOk, IfErr, OnOk, OnErr};
 ghost use Rattle.cool_syntax.specs.declared.TheConstants.{MOST_SOURCE_BYTES};
 ghost use Rattle.cool_faults.specs.Files.{bytes_of, total};
-ghost use Rattle.cool_editor.specs.Ends.{IsStop};
+ghost use Rattle.cool_editor.specs.Ends.{AskedFront, IsStop};
 ghost use Rattle.cool_ports.specs.ShelfFiles.{AreHeld};
 
 use crate::status::Status;
@@ -25,6 +25,8 @@ pub fn read_files<F: Shelf>(
     ensures stop { IfErr result (λ status. (status ≡ Status.Memory) ⊎ ((status ≡ Status.FileFault) × IsStop (F.files files.old) (F.faults files.old) (F.faults files.new) (map string_bytes names.now))) }
     ensures kept { F.files files.new ≡ F.files files.old }
     ensures no_less { F.faults files.old ≤ F.faults files.new }
+    ensures asked { OnOk result (F.asked files.new ≡ F.asked files.old ++ map string_bytes names.now) }
+    ensures asked_for { OnErr result (AskedFront (map string_bytes names.now) (F.asked files.old) (F.asked files.new)) }
 {
     let mut contents = Vec::new(alloc);
     let mut left = MOST_SOURCE_BYTES;

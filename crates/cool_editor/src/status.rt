@@ -1,9 +1,9 @@
 //! How a call ends, and the notes.
 
-ghost use Rattle.std.specs.Prelude.{◌≡◌, ◌≢◌, ◌<◌, ◌≤◌, ◌⊎◌, length};
+ghost use Rattle.std.specs.Prelude.{◌≡◌, ◌≢◌, ◌<◌, ◌≤◌, ◌⊎◌, [], ◌∷◌, ◌++◌, length};
 ghost use Rattle.cool_ports.specs.Counts.{Rose};
 ghost use Rattle.cool_ports.specs.SinkBytes.{appended, GotPrefix};
-ghost use Rattle.cool_editor.specs.Ends.{note_of};
+ghost use Rattle.cool_editor.specs.Ends.{code_of, note_of};
 
 use cool_ports::{Failed, Sink};
 use std::alloc::{AllocError, AllocFailed};
@@ -49,7 +49,9 @@ impl<T: Drop> From<AllocFailed<T>> for Status {
 
 impl Status {
     /// The program's exit status.
-    pub fn code(self) -> u8 {
+    pub fn code(self) -> u8
+        ensures { result ≡ code_of self }
+    {
         self as u8
     }
 }
@@ -63,7 +65,7 @@ pub const NO_CLASS_TABLE: &[u8] = b"cool_editor: no class table\n";
 /// Of files that are too many, or of which one was not read.
 pub const FILES_NOT_READ: &[u8] = b"cool_editor: files not read\n";
 
-/// Writes the note of a status and answers it, or that the write failed.
+/// Writes the note of a status at once and answers it, or that the write failed.
 pub fn tell<E: Sink>(notes: &mut E, status: Status, note: &[u8]) -> Status
     requires some { 0 < length note.now }
     requires of_status { note.now ≡ note_of status }
@@ -72,8 +74,9 @@ pub fn tell<E: Sink>(notes: &mut E, status: Status, note: &[u8]) -> Status
     ensures note { result ≢ Status.WriteFault → E.held notes.new ≡ appended (E.held notes.old) (note_of result) }
     ensures no_fault { result ≢ Status.WriteFault → E.faults notes.new ≡ E.faults notes.old }
     ensures write_fault { result ≡ Status.WriteFault → Rose (E.faults notes.old) (E.faults notes.new) }
-    ensures prefix { result ≡ Status.WriteFault → GotPrefix (E.held notes.old) note.now (E.held notes.new) }
+    ensures prefix { E.faults notes.old < E.faults notes.new → GotPrefix (E.held notes.old) note.now (E.held notes.new) }
     ensures no_less { E.faults notes.old ≤ E.faults notes.new }
+    ensures put { E.puts notes.new ≡ E.puts notes.old ++ note.now ∷ [] }
 {
     match notes.put(note) {
         Ok(()) => status,

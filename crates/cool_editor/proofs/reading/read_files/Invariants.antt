@@ -1,5 +1,5 @@
 -- The files so far were read, `left` is the rest of the bytes, and no fault came.
-use Rattle.std.proofs.Common.{◌≡◌, ◌+◌, length, map, take}
+use Rattle.std.proofs.Common.{◌≡◌, ◌+◌, ◌++◌, length, map, take}
 use Rattle.std.specs.Prelude.{string_bytes}
 use Rattle.cool_syntax.specs.declared.TheConstants.{MOST_SOURCE_BYTES}
 use Rattle.cool_faults.specs.Files.{bytes_of, total}
@@ -12,5 +12,6 @@ invariant-loop-index g l = record {
   rest : total (bytes_of l.contents.items) + l.left ≡ MOST_SOURCE_BYTES;
   each : length l.contents.items ≡ l.index;
   calm : g.F.Shelf.faults l.files ≡ g.F.Shelf.faults l.fn.files;
+  asked : g.F.Shelf.asked l.files ≡ g.F.Shelf.asked l.fn.files ++ map string_bytes (take l.index l.names);
   kept : g.F.Shelf.files l.files ≡ g.F.Shelf.files l.fn.files;
 }
