@@ -1,10 +1,14 @@
 -- The limits of a call, each by its value: the bytes of a file for `exec`, those of a script for `debug`, the bytes of output that `big` counts,
--- and the bytes of a file's name, which are those that a program may be built with.
-use Rattle.std.specs.Prelude.{◌≡◌}
+-- the bytes of a file's name, which are those that a program may be built with, the bytes of a piece of what `build` writes, the bytes of a
+-- label for which no memory is taken, and the number for which each larger one stands in a text of assembly.
+use Rattle.std.specs.Prelude.{◌≡◌, ◌^◌}
+use Rattle.mips_isa.specs.declared.label.TheConstants.{MOST_SHORT_NAME}
+use Rattle.mips_text.specs.declared.numbers.TheConstants.{LARGEST}
 use Rattle.spim_debug.specs.declared.script.TheConstants.{MOST_SCRIPT_BYTES}
 use Rattle.cool_emit.specs.declared.TheConstants.{MOST_FILE_NAME}
 use Rattle.cool_words.specs.declared.names.TheConstants.{MOST_NAME_BYTES}
 use Rattle.cool_driver.specs.declared.TheConstants.{MOST_BIG_OUTPUT, MOST_IMAGE_BYTES}
+use Rattle.cool_driver.specs.declared.writing.TheConstants.{MOST_PIECE_BYTES}
 
 pub record AreLimits : Type 0 where
   pub image_bytes : MOST_IMAGE_BYTES ≡ 532676628
@@ -12,3 +16,6 @@ pub record AreLimits : Type 0 where
   pub big_output : MOST_BIG_OUTPUT ≡ 65536
   pub name_bytes : MOST_NAME_BYTES ≡ 4096
   pub built_names : MOST_NAME_BYTES ≡ MOST_FILE_NAME
+  pub piece_bytes : MOST_PIECE_BYTES ≡ 4096
+  pub short_name : MOST_SHORT_NAME ≡ 14
+  pub largest_number : LARGEST ≡ 2 ^ 40
