@@ -1,6 +1,8 @@
 -- What a sink holds, over several puts.
-use Rattle.std.proofs.Common.{◌≡◌, ℕ, List, [], ◌++◌, refl, sym, ◌∙◌, ap, append_assoc, append-nil}
+use Rattle.std.proofs.Common.{◌≡◌, ℕ, List, [], ◌∷◌, ◌++◌, refl, sym, ◌∙◌, ap, append_assoc, append-nil}
 use Rattle.std.specs.Prelude.{Option, Some, None}
+use Rattle.std.specs.List.{concat}
+use Rattle.std.proofs.lemmas.List.Folds.{concat-append}
 use Rattle.cool_ports.specs.SinkBytes.{appended, GotUpTo, GotPrefix}
 
 -- no bytes change nothing
@@ -14,6 +16,11 @@ pub appended-appended : (held : Option (List ℕ)) (a b : List ℕ) → appended
 unfolding appended
 appended-appended None a b = refl
 appended-appended (Some held) a b = ap Some (append_assoc held a b)
+
+-- one more text is its bytes more
+pub taken_more : (texts : List (List ℕ)) (text : List ℕ) → Some (concat (texts ++ text ∷ [])) ≡ appended (Some (concat texts)) text
+unfolding appended
+taken_more texts text = ap Some (concat-append texts (text ∷ []) ∙ ap (λ bytes. concat texts ++ bytes) (append-nil text))
 
 -- at the start all bytes are still to come
 pub got_none : (held : Option (List ℕ)) (bytes : List ℕ) → GotUpTo held bytes bytes held

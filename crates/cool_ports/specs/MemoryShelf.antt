@@ -12,6 +12,10 @@ file_of shelf name = option_map (λ file. file.items) (get_by_text shelf.content
 abbrev pub asked_of : MemShelf → List (List ℕ)
 asked_of shelf = shelf.asked.entries
 
+-- the bytes of each file that it gave
+abbrev pub gave_of : MemShelf → List (List ℕ)
+gave_of shelf = shelf.gave.entries
+
 -- which calls are to fail, and what came so far
 abbrev pub schedule_of : MemShelf → Schedule
 schedule_of shelf = shelf.schedule

@@ -9,12 +9,13 @@ use std::io;
 use std::io::{ErrorKind, Read};
 use std::rt::Files;
 
-/// A shelf over the files of the system. It tells nothing of what they hold, and counts each `Err` as a fault.
+/// A shelf over the files of the system. It tells nothing of what they hold but what it gave, and counts each `Err` as a fault.
 #[derive(Drop)]
 pub struct FileShelf<R> {
     files: R,
     faults: u64,
     asked: Log,
+    gave: Log,
 }
 
 impl<R: Files> FileShelf<R> {
@@ -22,11 +23,13 @@ impl<R: Files> FileShelf<R> {
     pub fn new(files: R) -> FileShelf<R>
         ensures faults { ⟦<FileShelf<R> as Shelf>⟧.faults result ≡ 0 }
         ensures asked { ⟦<FileShelf<R> as Shelf>⟧.asked result ≡ [] }
+        ensures gave { ⟦<FileShelf<R> as Shelf>⟧.gave result ≡ [] }
     {
         FileShelf {
             files,
             faults: 0,
             asked: Log::new(),
+            gave: Log::new(),
         }
     }
 }
@@ -38,14 +41,21 @@ impl<R: Files> Shelf for FileShelf<R> {
 
     ghost asked = { λ shelf. shelf.asked.entries };
 
+    ghost gave = { λ shelf. shelf.gave.entries };
+
     fn read(&mut self, alloc: Global, name: &str, most: u64) -> Result<Vec<u8>, ShelfFault> {
         let faults = self.faults;
         self.asked = self.asked.with(name.as_bytes());
-        let read = read_file(&self.files, alloc, name, most);
-        if read.is_err() {
-            self.faults = faults.saturating_add(1);
+        match read_file(&self.files, alloc, name, most) {
+            Ok(bytes) => {
+                self.gave = self.gave.with(&bytes);
+                Ok(bytes)
+            }
+            Err(fault) => {
+                self.faults = faults.saturating_add(1);
+                Err(fault)
+            }
         }
-        read
     }
 }
 

@@ -16,22 +16,25 @@ pub struct MemShelf {
     alloc: Global,
     contents: BTreeMap<String, Vec<u8>>,
     asked: Log,
+    gave: Log,
     schedule: FaultSchedule,
 }
 
 impl MemShelf {
-    ghost use Rattle.cool_ports.specs.MemoryShelf.{file_of, asked_of, schedule_of};
+    ghost use Rattle.cool_ports.specs.MemoryShelf.{file_of, asked_of, gave_of, schedule_of};
 
     /// A shelf without files, of which no call is to fail.
     pub fn new(alloc: Global) -> MemShelf
         ensures empty { (name : List ℕ) → file_of result name ≡ None }
         ensures asked { asked_of result ≡ [] }
+        ensures gave { gave_of result ≡ [] }
         ensures schedule { schedule_of result ≡ no_faults }
     {
         MemShelf {
             alloc,
             contents: BTreeMap::new(alloc),
             asked: Log::new(),
+            gave: Log::new(),
             schedule: FaultSchedule::new(alloc),
         }
     }
@@ -41,6 +44,7 @@ impl MemShelf {
         ensures ok { OnOk result ((q : List ℕ) → file_of self.new q ≡ (if bytes_eq name.now q then Some bytes.now else file_of self.old q)) }
         ensures err { OnErr result ((q : List ℕ) → file_of self.new q ≡ file_of self.old q) }
         ensures asked { asked_of self.new ≡ asked_of self.old }
+        ensures gave { gave_of self.new ≡ gave_of self.old }
         ensures schedule { schedule_of self.new ≡ schedule_of self.old }
     {
         let key = String::from_str(self.alloc, name)?;
@@ -55,6 +59,7 @@ impl MemShelf {
         ensures ok { OnOk result (schedule_of self.new ≡ failing_at (schedule_of self.old) number) }
         ensures err { OnErr result (schedule_of self.new ≡ schedule_of self.old) }
         ensures asked { asked_of self.new ≡ asked_of self.old }
+        ensures gave { gave_of self.new ≡ gave_of self.old }
         ensures files { (q : List ℕ) → file_of self.new q ≡ file_of self.old q }
     {
         self.schedule.fail_call(number)
@@ -62,13 +67,15 @@ impl MemShelf {
 }
 
 impl Shelf for MemShelf {
-    ghost use Rattle.cool_ports.specs.MemoryShelf.{file_of, asked_of, schedule_of};
+    ghost use Rattle.cool_ports.specs.MemoryShelf.{file_of, asked_of, gave_of, schedule_of};
 
     ghost faults = { λ shelf. (schedule_of shelf).faults };
 
     ghost files = { λ shelf. Some (file_of shelf) };
 
     ghost asked = { λ shelf. asked_of shelf };
+
+    ghost gave = { λ shelf. gave_of shelf };
 
     /// `Failed` comes exactly where the number of this call was given to `fail_call`.
     fn read(&mut self, alloc: Global, name: &str, most: u64) -> Result<Vec<u8>, ShelfFault>
@@ -81,6 +88,8 @@ impl Shelf for MemShelf {
         ensures failed { IsErrOf result ShelfFault.Failed → Rose (schedule_of self.old).faults (schedule_of self.new).faults }
         ensures memory { IsErrOf result ShelfFault.Memory → IsWanting (Some (file_of self.old)) (schedule_of self.old).faults (schedule_of self.new).faults }
         ensures asked { asked_of self.new ≡ asked_of self.old ++ name.now ∷ [] }
+        ensures gave { IfOk result (λ bytes. gave_of self.new ≡ gave_of self.old ++ bytes.items ∷ []) }
+        ensures nothing_given { OnErr result (gave_of self.new ≡ gave_of self.old) }
         ensures kept { Some (file_of self.new) ≡ Some (file_of self.old) }
         ensures count { GoesOn (schedule_of self.old).faults (schedule_of self.new).faults }
         ensures counted { IsErrOf result ShelfFault.Failed ⊎ (schedule_of self.new ≡ called (schedule_of self.old)) }
@@ -98,6 +107,12 @@ impl Shelf for MemShelf {
         if bytes.len() as u64 > most {
             return Err(ShelfFault::TooLarge);
         }
-        Vec::from_slice(alloc, bytes).map_err(|_| ShelfFault::Memory)
+        match Vec::from_slice(alloc, bytes) {
+            Ok(copy) => {
+                self.gave = self.gave.with(&copy);
+                Ok(copy)
+            }
+            Err(_) => Err(ShelfFault::Memory),
+        }
     }
 }

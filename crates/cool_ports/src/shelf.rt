@@ -1,6 +1,6 @@
 //! What gives files.
 
-ghost use Rattle.std.specs.Prelude.{◌≡◌, ℕ, ◌<◌, ◌≤◌, ◌^◌, List, [], ◌∷◌, ◌++◌, vec_len, IfOk, OnOk, IsErrOf, Option};
+ghost use Rattle.std.specs.Prelude.{◌≡◌, ℕ, ◌<◌, ◌≤◌, ◌^◌, List, [], ◌∷◌, ◌++◌, vec_len, IfOk, OnOk, OnErr, IsErrOf, Option};
 ghost use Rattle.cool_ports.specs.Counts.{GoesOn, Rose};
 ghost use Rattle.cool_ports.specs.ShelfFiles.{FileMap, MayHold, IsMissing, IsLonger, IsWanting};
 
@@ -30,6 +30,9 @@ pub trait Shelf {
     /// The names that it was asked for, one for each read, those that failed among them.
     ghost asked: { Self → List (List ℕ) };
 
+    /// The bytes of each file that it gave, in order: a list for each read that was Ok.
+    ghost gave: { Self → List (List ℕ) };
+
     /// All bytes of the file of this name; they are at most `most`.
     ///
     /// `Missing` comes exactly where the told map lacks the name and the call did not fail, `TooLarge` exactly where
@@ -46,6 +49,8 @@ pub trait Shelf {
         ensures failed { IsErrOf result ShelfFault.Failed → Rose (faults self.old) (faults self.new) }
         ensures memory { IsErrOf result ShelfFault.Memory → IsWanting (files self.old) (faults self.old) (faults self.new) }
         ensures asked { asked self.new ≡ asked self.old ++ name.now ∷ [] }
+        ensures gave { IfOk result (λ bytes. gave self.new ≡ gave self.old ++ bytes.items ∷ []) }
+        ensures nothing_given { OnErr result (gave self.new ≡ gave self.old) }
         ensures kept { files self.new ≡ files self.old }
         ensures count { GoesOn (faults self.old) (faults self.new) };
 }

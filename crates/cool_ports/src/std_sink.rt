@@ -1,6 +1,7 @@
 //! A sink over a writer of std.
 
-ghost use Rattle.std.specs.Prelude.{◌≡◌, ◌<◌, [], ◌∷◌, ◌++◌, length, OnOk, OnErr, None};
+ghost use Rattle.std.specs.Prelude.{◌≡◌, ◌<◌, [], ◌∷◌, ◌++◌, length, OnOk, OnErr, Some};
+ghost use Rattle.std.specs.List.{concat};
 ghost use Rattle.std.specs.Io.KnownBytes.{Appends};
 ghost use Rattle.cool_ports.specs.Counts.{GoesOn, Rose};
 ghost use Rattle.cool_ports.specs.SinkBytes.{appended, GotPrefix};
@@ -9,12 +10,14 @@ use crate::{Failed, Log, Sink};
 use std::io;
 use std::io::Write;
 
-/// A sink over a writer, as standard output. It tells nothing of what it holds, and counts each `Err` as a fault.
+/// A sink over a writer, as standard output. It tells the bytes that the writer took: those of each put that went well, in order. Of a put
+/// that failed the writer may have taken a part, of which it tells nothing. It counts each `Err` as a fault.
 #[derive(Drop)]
 pub struct StdSink<W> {
     writer: W,
     faults: u64,
     puts: Log,
+    taken: Log,
 }
 
 impl<W: Write> StdSink<W> {
@@ -22,12 +25,14 @@ impl<W: Write> StdSink<W> {
     pub fn new(writer: W) -> StdSink<W>
         ensures writer { result.writer ≡ writer }
         ensures faults { ⟦<StdSink<W> as Sink>⟧.faults result ≡ 0 }
+        ensures held { ⟦<StdSink<W> as Sink>⟧.held result ≡ Some [] }
         ensures puts { ⟦<StdSink<W> as Sink>⟧.puts result ≡ [] }
     {
         StdSink {
             writer,
             faults: 0,
             puts: Log::new(),
+            taken: Log::new(),
         }
     }
 }
@@ -35,20 +40,21 @@ impl<W: Write> StdSink<W> {
 impl<W: Write> Sink for StdSink<W> {
     ghost faults = { λ sink. sink.faults };
 
-    ghost held = { λ _. None };
+    ghost held = { λ sink. Some (concat sink.taken.entries) };
 
     ghost puts = { λ sink. sink.puts.entries };
 
     /// All bytes are handed on before it returns: after those of the writer, where it tells them.
-    #[tactic(auto, unfolding(crate::specs::SinkBytes::appended))]
+    #[tactic(auto, using(crate::proofs::GettingBytes::taken_more), unfolding(crate::specs::SinkBytes::appended))]
     fn put(&mut self, bytes: &[u8]) -> Result<(), Failed>
         requires { 0 < length bytes.now }
         ensures writes { OnOk result (Appends (W.contents self.old.writer) (W.contents self.new.writer) bytes.now) }
-        ensures put { OnOk result (None ≡ appended None bytes.now) }
+        ensures put { OnOk result (Some (concat self.new.taken.entries) ≡ appended (Some (concat self.old.taken.entries)) bytes.now) }
         ensures puts { self.new.puts.entries ≡ self.old.puts.entries ++ bytes.now ∷ [] }
         ensures no_fault { OnOk result (self.new.faults ≡ self.old.faults) }
         ensures failed { OnErr result (Rose self.old.faults self.new.faults) }
-        ensures prefix { OnErr result (GotPrefix None bytes.now None) }
+        ensures prefix { OnErr result (GotPrefix (Some (concat self.old.taken.entries)) bytes.now (Some (concat self.new.taken.entries))) }
+        ensures not_taken { OnErr result (self.new.taken.entries ≡ self.old.taken.entries) }
         ensures count { GoesOn self.old.faults self.new.faults }
     {
         let faults = self.faults;
@@ -57,6 +63,7 @@ impl<W: Write> Sink for StdSink<W> {
             self.faults = faults.saturating_add(1);
             return Err(Failed);
         }
+        self.taken = self.taken.with(bytes);
         Ok(())
     }
 }

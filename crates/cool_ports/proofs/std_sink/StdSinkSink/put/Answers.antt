@@ -1,8 +1,7 @@
-use Rattle.std.proofs.Common.{[], refl}
-use Rattle.cool_ports.specs.SinkBytes.{appended}
+use Rattle.std.proofs.Common.{[], refl, sym}
+use Rattle.cool_ports.proofs.GettingBytes.{appended-nil}
 use Rattle.cool_ports.proofs.std_sink.StdSinkSink.put.Goals as goal
 
--- it does not tell what came
+-- nothing is told to have come
 pub returns-then-is_err-clause-prefix : goal.returns-then-is_err-clause-prefix
-unfolding appended
-returns-then-is_err-clause-prefix g c = (c.args.bytes.now, record { front = []; cut = refl; got = refl })
+returns-then-is_err-clause-prefix g c = (c.args.bytes.now, record { front = []; cut = refl; got = sym (appended-nil _) })
