@@ -1,7 +1,7 @@
 //! The program: `cool` over the words of the command line, the system's files and the standard streams.
 #![tactic(auto)]
 
-use cool_driver::{Status, cool, refuse_words};
+use cool_driver::{Status, cool_over_system, refuse_words};
 use cool_ports::{FileShelf, StdSink, StdSource};
 use std::alloc::Global;
 use std::io::ErrorKind;
@@ -15,7 +15,7 @@ fn main(rt: HostRuntime) -> ExitCode {
             let mut files = FileShelf::new(&rt);
             let mut input = StdSource::new(rt.stdin());
             let mut out = StdSink::new(rt.stdout());
-            cool(
+            cool_over_system(
                 rt.alloc(),
                 &words,
                 &mut files,

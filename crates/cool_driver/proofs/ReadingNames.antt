@@ -34,6 +34,13 @@ bytes_turn contents more file pushed so_far are = rw (texts_more contents more f
 pub total_turn : (contents more : List (Vec ℕ)) (file : Vec ℕ) → more ≡ contents ++ file ∷ [] → total (texts more) ≡ total (texts contents) + length file.items
 total_turn contents more file pushed = ap total (texts_more contents more file pushed) ∙ total-push (texts contents) file.items
 
+-- the shelf gave them
+pub gave_turn : (before middle after : List (List ℕ)) (contents more : List (Vec ℕ)) (file : Vec ℕ) → more ≡ contents ++ file ∷ [] → middle ≡ before ++ texts contents
+    → after ≡ middle ++ file.items ∷ [] → after ≡ before ++ texts more
+gave_turn before middle after contents more file pushed so_far gave =
+    rw (texts_more contents more file pushed)
+    (gave ∙ ap (λ (xs : List (List ℕ)). xs ++ file.items ∷ []) so_far ∙ append_assoc before (texts contents) (file.items ∷ []))
+
 -- the cause of a refusal
 pub cause_of : (files : Option FileMap) (before after : ℕ) (name : List ℕ) (most : ℕ) (fault : ShelfFault) → (fault ≡ faults.Missing → IsMissing files name before after) → (fault ≡ faults.TooLarge → IsLonger files name most before after)
     → (fault ≡ faults.Failed → Rose before after) → fault ≢ faults.Memory → IsCause files before after name most fault

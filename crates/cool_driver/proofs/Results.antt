@@ -1,5 +1,10 @@
 -- What follows of a result.
-use Rattle.std.specs.Prelude.{Result, Ok, Err, IfErr}
+use Rattle.std.specs.Prelude.{Result, Ok, Err, IfErr, OnOk}
+
+-- what holds, holds where it went well
+pub on_ok : {T E : Type 0} {P : Type 0} (result : Result T E) → P → OnOk result P
+on_ok (Ok made) p = p
+on_ok (Err e) p = tt
 
 -- and what follows for each error follows for one that came
 pub for_err : {T E : Type 0} (P Q : E → Type 0) (result : Result T E) → ((error : E) → P error → Q error) → IfErr result P → IfErr result Q

@@ -1,5 +1,5 @@
 -- The files of a call: they are read once, and either they are one program, or there is one reason why not.
-use Rattle.std.proofs.Common.{Err, IfErr, IfOk, List, None, Ok, Result, Some, String, [], ap, arith, inl, inr, length, refl, string_bytes, sym, true, ℕ, ◌+◌, ◌<◌, ◌∙◌, ◌≡◌, ◌≢◌, ◌≤◌, ◌⊎◌}
+use Rattle.std.proofs.Common.{Err, IfErr, IfOk, List, Ok, Result, Some, String, [], ap, arith, inl, inr, length, refl, string_bytes, sym, true, ℕ, ◌<◌, ◌∙◌, ◌≡◌, ◌≢◌, ◌≤◌, ◌⊎◌}
 use Rattle.std.proofs.lemmas.List.{length-map}
 use Rattle.std.specs.{Global.{Global, Vec}, List.{AllByRecursion, list_all}}
 use Rattle.cool_classes.specs.Chains.{Class}
@@ -9,9 +9,9 @@ use Rattle.cool_ports.specs.ShelfFiles.{FileMap, AreHeld}
 use Rattle.cool_syntax.specs.declared.TheConstants.{MOST_FILES, MOST_SOURCE_BYTES}
 use Rattle.cool_words.specs.Plans.{is_file_name, words_of}
 use Rattle.cool_driver.specs.{Calls.{Call, HasTold, Request, ShelfUse, UnlessCutShort, shelf_of}, Comes.{Comes, Dues, Pieces}, Contents.{texts}, Notes.{refused_note}}
-use Rattle.cool_driver.specs.{Refusals.{IsDueToFaults, IsTold}, Sources.{AreRead, AreReadUpTo, AreSources, AreUnread, FilesExactly, IsNoProgram, IsProgram, SourcesExactly}}
+use Rattle.cool_driver.specs.{Refusals.{IsDueToFaults, IsTold}, Sources.{AreKnown, AreRead, AreSources, AreUnread, EndsWith, FilesExactly, IsNoProgram, IsProgram, SourcesExactly}}
 use Rattle.cool_driver.specs.{Statuses.{FILE_FAULT, REFUSED}, declared.refusal.Refusal.{Refusal}}
-use Rattle.cool_driver.proofs.{ComesOfRefusals.{refused_status}, DevicesOfCalls.{IsStatus, came}, HeldFiles.{held_later, held_same, none_missing}, RefusalsTold.{told_so}}
+use Rattle.cool_driver.proofs.{ComesOfRefusals.{refused_status}, DevicesOfCalls.{IsStatus, came}, HeldFiles.{ends_same, held_length, held_same, none_missing, not_longer, not_missing}, RefusalsTold.{told_so}}
 use Rattle.cool_driver.proofs.StatusesOfRuns.{IsOneOf, good_status}
 use Rattle.lists.specs.Bytes.{AreBytes}
 
@@ -38,59 +38,54 @@ faulty_of (Ok p) same read is = tt
 faulty_of {shelf = shelf} {names = names} {again = again} (Err refusal) same read is =
     told_so (IsDueToFaults names (texts again)) (IsNoProgram shelf names) refusal (λ status note why. rw (why.2, why.3) (IsNoProgram.faulty _ why.0 read (rw same at why.1))) is
 
--- What a shelf holds that tells its files
+-- What is known of files
 
-module _ {shelf : ShelfUse} {files : FileMap} {most : ℕ} {names contents : List (List ℕ)} (told : HasTold shelf files) (read : AreRead shelf most names contents) where
-  -- the files that were read are held
-  are_held : AreHeld (Some files) names contents
-  are_held = rw told.0 at read.held
+-- the files that a told shelf gave are held
+are_held : {shelf : ShelfUse} {files : FileMap} {most : ℕ} {names contents : List (List ℕ)} → HasTold shelf files → AreRead shelf most names contents
+    → AreHeld (Some files) names contents
+are_held told read = rw told.0 at read.held
 
+module _ {shelf : ShelfUse} {most : ℕ} {names contents : List (List ℕ)} (known : AreKnown shelf most names contents) where
   -- they are read once
   pub same_contents : {other : List (List ℕ)} → AreRead shelf most names other → other ≡ contents
-  same_contents again = sym (held_same files names contents _ are_held (rw told.0 at again.held))
-
-  -- a file of them is there, within the bytes that are left
-  file_there : {name : List ℕ} {some : List (List ℕ)} → AreReadUpTo shelf most names name some
-      → (bytes : List ℕ) × (files name ≡ Some bytes) × (total some + length bytes ≤ total contents)
-  file_there u = held_later files u.front u.rest _ _ contents (rw u.stands at are_held) (rw told.0 at u.held)
+  same_contents {other} again = by known.known
+    where
+      by : ((files : FileMap) × (shelf.files ≡ Some files)) ⊎ EndsWith contents shelf.gave_after → other ≡ contents
+      by (inl (files, told)) = sym (held_same files names contents other (rw told at known.held) (rw told at again.held))
+      by (inr gave) =
+          ends_same shelf.gave_after other contents again.gave gave
+          (sym (held_length shelf.files names other again.held) ∙ held_length shelf.files names contents known.held)
 
   -- so there is no reason why they were not read
   pub no_unread : {note : List ℕ} → AreUnread shelf most names note → ⊥
-  no_unread (AreUnread.too_many many calm) = let few = read.few in omega arith
+  no_unread (AreUnread.too_many many calm) = let few = known.few in omega arith
   no_unread (AreUnread.missing name some u gone) =
-      let there = file_there u in
-      let both : None ≡ Some there.0 = sym (rw told.0 at gone).0 ∙ there.1 in
-      cc
-  no_unread (AreUnread.unread name some u rose) = omega (arith, rose.more told.1, told.2)
+      not_missing shelf.files u.front u.rest name some contents _ _ (rw u.stands at known.held) u.held known.below known.calm gone
+  no_unread (AreUnread.unread name some u rose) = omega (arith, rose.more known.below, known.calm)
   no_unread (AreUnread.too_large name some u long) =
-      let longer = rw told.0 at long in
-      let there = file_there u in
-      let same : there.0 ≡ longer.0 = cc in
-      let within = read.within in
-      omega (arith, there.2, longer.2, ap length same)
+      not_longer shelf.files u.front u.rest name some contents most _ _ (rw u.stands at known.held) u.held known.within known.below known.calm long
 
-module _ {shelf : ShelfUse} {files : FileMap} {names contents : List (List ℕ)} (told : HasTold shelf files)
-    (read : AreRead shelf MOST_SOURCE_BYTES names contents) where
+module _ {shelf : ShelfUse} {names contents : List (List ℕ)} (known : AreKnown shelf MOST_SOURCE_BYTES names contents) where
   -- files that are accepted are this program
   pub same_program : {p q : List Class} → IsAccepted contents p → IsProgram shelf names q → q ≡ p
-  same_program is other = one_program contents _ _ (rw (same_contents told read other.read) at other.accepted) is
+  same_program is other = one_program contents _ _ (rw (same_contents known other.read) at other.accepted) is
 
   -- and there is no reason why they are none
   pub no_refusal : {p : List Class} {status : ℕ} {note : List ℕ} → IsAccepted contents p → IsNoProgram shelf names status note → ⊥
-  no_refusal is (IsNoProgram.not_read note why) = no_unread told read why
-  no_refusal is (IsNoProgram.faulty other faults again refused) = never_both_verdicts contents _ faults is (rw (same_contents told read again) at refused)
+  no_refusal is (IsNoProgram.not_read note why) = no_unread known why
+  no_refusal is (IsNoProgram.faulty other faults again refused) = never_both_verdicts contents _ faults is (rw (same_contents known again) at refused)
 
   -- a program has no faults
   pub program_faultless : {p : List Class} {faults : List Fault} → IsProgram shelf names p → IsFaultList contents faults → faults ≡ []
   program_faultless is list =
-      one_list contents _ [] list (rw (same_contents told read is.read) at (accepted_list is.contents _ is.accepted))
+      one_list contents _ [] list (rw (same_contents known is.read) at (accepted_list is.contents _ is.accepted))
 
   -- and what is none has just its fault list
   pub refused_with : {faults : List Fault} {status : ℕ} {note : List ℕ} → IsNoProgram shelf names status note → IsFaultList contents faults
       → (faults ≢ []) × (status ≡ REFUSED) × (note ≡ refused_note names faults)
-  refused_with (IsNoProgram.not_read note why) list = absurd (no_unread told read why)
+  refused_with (IsNoProgram.not_read note why) list = absurd (no_unread known why)
   refused_with (IsNoProgram.faulty other found again refused) list =
-      let one = one_list contents found _ (rw (same_contents told read again) at refused.list) list in
+      let one = one_list contents found _ (rw (same_contents known again) at refused.list) list in
       (λ none. refused.some (one ∙ none), refl, ap (refused_note names) one)
 
 -- What comes of what is due
@@ -117,11 +112,11 @@ read_for (inr (IsNoProgram.not_read note why)) = inr refl
 read_for (inr (IsNoProgram.faulty contents faults read refused)) = inl (contents, read)
 
 -- the fault list says the status and the note
-pub faults_so : {shelf : ShelfUse} {files : FileMap} {names contents : List (List ℕ)} {faults : List Fault} {status : ℕ} {note : List ℕ}
-    → HasTold shelf files → AreRead shelf MOST_SOURCE_BYTES names contents → IsFaultList contents faults → faults ≢ []
+pub faults_so : {shelf : ShelfUse} {names contents : List (List ℕ)} {faults : List Fault} {status : ℕ} {note : List ℕ}
+    → AreKnown shelf MOST_SOURCE_BYTES names contents → IsFaultList contents faults → faults ≢ []
     → IsVerdictOn shelf names status note → (status ≡ REFUSED) × (note ≡ refused_note names faults)
-faults_so told read list some (inl (p, is, known)) = absurd (some (program_faultless told read is list))
-faults_so told read list some (inr refused) = let so = refused_with told read refused list in (so.1, so.2)
+faults_so files list some (inl (p, is, known)) = absurd (some (program_faultless files is list))
+faults_so files list some (inr refused) = let so = refused_with files refused list in (so.1, so.2)
 
 -- So a call is exact about its files where they were read, or status 10 comes.
 pub files_told : {names : List (List ℕ)} {most : ℕ} {c : Call} {status : ℕ} → UnlessCutShort status (WereRead (shelf_of c.request) most names status)
@@ -149,8 +144,8 @@ pub sources_exactly : {due : Dues} {pieces : Pieces} {names : List (List ℕ)} {
     → Comes due pieces c status → SourcesExactly names c status
 sources_exactly verdict comes = record {
   files = files_told (λ eight nine. let (output, note, is, out, notes) = came comes eight nine in read_for (verdict _ _ _ _ is));
-  refused_exactly = λ files contents faults told read list some eight nine.
+  refused_exactly = λ contents faults known list some eight nine.
       let (output, note, is, out, notes) = came comes eight nine in
-      let so = faults_so told read list some (verdict _ _ _ _ is) in
+      let so = faults_so known list some (verdict _ _ _ _ is) in
       (so.0, rw so.1 at notes);
 }

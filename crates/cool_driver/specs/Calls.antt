@@ -4,34 +4,44 @@ use Rattle.cool_ports.specs.{Counts.{last_count, Rose}, ShelfFiles.{FileMap, May
 use Rattle.cool_driver.specs.Statuses.{WRITE_FAULT, OUT_OF_MEMORY}
 
 -- What a call was asked: its words, the files that the shelf tells, the shelf's count of faults before and after, the names that it was asked for
--- up to the end, and an input that the source may have had left at first.
+-- and the bytes of each file that it gave up to the end, and an input that the source may have had left at first.
 pub record Request : Type 0 where
   pub words : List (List ℕ)
   pub files : Option FileMap
   pub faults_before : ℕ
   pub faults_after : ℕ
   pub asked_after : List (List ℕ)
+  pub gave_after : List (List ℕ)
   pub input : List ℕ
 
--- What a shelf tells, its count of faults before a call and after it, and the names that it was asked for up to its end.
+-- What a shelf tells, its count of faults before a call and after it, and what it was asked for and gave up to its end: names, and the bytes of
+-- each file.
 pub record ShelfUse : Type 0 where
   pub files : Option FileMap
   pub faults_before : ℕ
   pub faults_after : ℕ
   pub asked_after : List (List ℕ)
+  pub gave_after : List (List ℕ)
 
--- how a shelf fared from one state to another, by what it tells, its count of faults and what it was asked for
-abbrev pub shelf_use : {S : Type 0} → (S → Option FileMap) → (S → ℕ) → (S → List (List ℕ)) → S → S → ShelfUse
-shelf_use files faults asked before after = record {
+-- how a shelf fared from one state to another, by what it tells, its count of faults, what it was asked for and what it gave
+abbrev pub shelf_use : {S : Type 0} → (S → Option FileMap) → (S → ℕ) → (S → List (List ℕ)) → (S → List (List ℕ)) → S → S → ShelfUse
+shelf_use files faults asked gave before after = record {
   files = files before;
   faults_before = faults before;
   faults_after = faults after;
   asked_after = asked after;
+  gave_after = gave after;
 }
 
 -- how the shelf of a request fared
 abbrev pub shelf_of : Request → ShelfUse
-shelf_of r = record { files = r.files; faults_before = r.faults_before; faults_after = r.faults_after; asked_after = r.asked_after }
+shelf_of r = record {
+  files = r.files;
+  faults_before = r.faults_before;
+  faults_after = r.faults_after;
+  asked_after = r.asked_after;
+  gave_after = r.gave_after;
+}
 
 -- What a sink held, its count of faults, and what it was given to put, a list for each put, before a call and after it.
 pub record SinkUse : Type 0 where
@@ -90,6 +100,7 @@ request_of words shelf input = record {
   faults_before = shelf.faults_before;
   faults_after = shelf.faults_after;
   asked_after = shelf.asked_after;
+  gave_after = shelf.gave_after;
   input = input;
 }
 

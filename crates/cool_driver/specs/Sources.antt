@@ -1,10 +1,10 @@
 -- The files of a command: that they were read, that they are a program, or why not.
-use Rattle.std.specs.{Prelude.{◌≡◌, ◌≢◌, ℕ, ◌-◌, ◌<◌, ◌≤◌, true, List, [], ◌∷◌, ◌++◌, length, Contains, Option, Some, None, String}, List.{list_all, AllByRecursion}}
+use Rattle.std.specs.{Prelude.{◌≡◌, ◌≢◌, ℕ, ◌-◌, ◌<◌, ◌≤◌, ◌⊎◌, true, List, [], ◌∷◌, ◌++◌, length, Contains, Option, Some, None, String}, List.{list_all, AllByRecursion}}
 use Rattle.std.specs.Global.{Global, Vec}
 use Rattle.cool_syntax.specs.declared.TheConstants.{MOST_FILES, MOST_SOURCE_BYTES}
 use Rattle.cool_classes.specs.Chains.{Class}
 use Rattle.cool_faults.specs.{declared.fault.Fault.{Fault}, Files.{total}, Verdicts.{IsAccepted, IsFaultList, IsRefused}}
-use Rattle.cool_ports.specs.{Counts.{Rose}, ShelfFiles.{FileMap, IsMissing, IsLonger, AreHeld}, declared.shelf.ShelfFault.{ShelfFault}}
+use Rattle.cool_ports.specs.{Counts.{last_count, Rose}, ShelfFiles.{FileMap, IsMissing, IsLonger, AreHeld}, declared.shelf.ShelfFault.{ShelfFault}}
 use Rattle.cool_ports.specs.declared.shelf.ShelfFault.TheVariants as shelf_faults
 use Rattle.cool_words.specs.Plans.{is_file_name, words_of}
 use Rattle.cool_driver.specs.{Contents.{texts}, Calls.{Call, Got, ShelfUse, shelf_of, HasTold, UnlessCutShort}}
@@ -35,17 +35,33 @@ pub record AskedFront (names before after : List (List ℕ)) : Type 0 where
   pub stands : names ≡ front ++ rest
   pub asked : after ≡ before ++ front
 
--- The files of these names have these bytes, as far as the shelf tells, and are not too many, and have not more bytes than this; and no fault of
--- the shelf came.
+-- what these texts end with
+abbrev pub EndsWith : List (List ℕ) → List (List ℕ) → Type 0
+EndsWith last all = (before : List (List ℕ)) × (all ≡ before ++ last)
+
+-- so many texts came behind others
+abbrev pub GrewBy : ℕ → List (List ℕ) → List (List ℕ) → Type 0
+GrewBy count before after = (more : List (List ℕ)) × (length more ≡ count) × (after ≡ before ++ more)
+
+-- The files of these names were read, and have these bytes: so the shelf tells, if it tells its files, and these it gave last, one for each name that
+-- it was last asked for. They are not too many, and have not more bytes than this; and no fault of the shelf came.
 pub record AreRead (shelf : ShelfUse) (most : ℕ) (names contents : List (List ℕ)) : Type 0 where
   pub few : length names ≤ MOST_FILES
   pub held : AreHeld shelf.files names contents
   pub within : total contents ≤ most
   pub calm : shelf.faults_after ≡ shelf.faults_before
+  pub asked : EndsWith names shelf.asked_after
+  pub gave : EndsWith contents shelf.gave_after
 
--- what these texts end with
-abbrev pub EndsWith : List (List ℕ) → List (List ℕ) → Type 0
-EndsWith last all = (before : List (List ℕ)) × (all ≡ before ++ last)
+-- The same as a premise, by what the shelf tells or by what it gave: the files of these names have these bytes where it tells its files, and where
+-- it does not, these are the last that it gave. They are neither too many nor too large, and no fault of the shelf can have come.
+pub record AreKnown (shelf : ShelfUse) (most : ℕ) (names contents : List (List ℕ)) : Type 0 where
+  pub few : length names ≤ MOST_FILES
+  pub held : AreHeld shelf.files names contents
+  pub within : total contents ≤ most
+  pub below : shelf.faults_before < last_count
+  pub calm : shelf.faults_after ≡ shelf.faults_before
+  pub known : ((files : FileMap) × (shelf.files ≡ Some files)) ⊎ EndsWith contents shelf.gave_after
 
 -- The files before the one of this name have these bytes, as far as the shelf tells, and not more than this; the shelf was last asked for them and
 -- for that one, each once, in order.
@@ -105,9 +121,9 @@ pub record FilesExactly (names : List (List ℕ)) (most : ℕ) (c : Call) (statu
   pub too_large_exactly : (files : FileMap) (contents : List (List ℕ)) → HasTold (shelf_of c.request) files → AreHeld (Some files) names contents
       → most < total contents → UnlessCutShort status (status ≡ FILE_FAULT)
 
--- And status 1 where they were read and their fault list is not empty, with a line for each fault of it.
+-- And status 1 where they are known and their fault list is not empty, with a line for each fault of it.
 pub record SourcesExactly (names : List (List ℕ)) (c : Call) (status : ℕ) : Type 0 where
   pub files : FilesExactly names MOST_SOURCE_BYTES c status
-  pub refused_exactly : (files : FileMap) (contents : List (List ℕ)) (faults : List Fault) → HasTold (shelf_of c.request) files
-      → AreRead (shelf_of c.request) MOST_SOURCE_BYTES names contents → IsFaultList contents faults → faults ≢ []
+  pub refused_exactly : (contents : List (List ℕ)) (faults : List Fault) → AreKnown (shelf_of c.request) MOST_SOURCE_BYTES names contents
+      → IsFaultList contents faults → faults ≢ []
       → UnlessCutShort status ((status ≡ REFUSED) × Got c.notes (refused_note names faults))

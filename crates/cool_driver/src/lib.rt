@@ -27,6 +27,7 @@ mod reading;
 mod refusal;
 mod sources;
 mod status;
+mod system;
 mod writing;
 
 use commands::big::sum_up;
@@ -42,6 +43,7 @@ use cool_words::{Plan, WordsError, read_words};
 use notes::{BAD_COMMAND_LINE, tell};
 pub use status::Status;
 use std::alloc::Global;
+pub use system::cool_over_system;
 
 /// The most bytes of a file for `exec`: those of the greatest image.
 pub const MOST_IMAGE_BYTES: u64 = 532_676_628;
@@ -73,7 +75,7 @@ pub fn cool<F: Shelf, I: Source, O: Sink, E: Sink>(
 
     // Where source files are refused for their faults, it puts a line for each fault.
     ensures refused { result ≡ REFUSED → IfSources (asked_for (words_of words.now))
-        (λ names. PutsFaults names (shelf_use F.files F.faults F.asked files.old files.new) (E.puts notes.old) (E.puts notes.new)) }
+        (λ names. PutsFaults names (shelf_use F.files F.faults F.asked F.gave files.old files.new) (E.puts notes.old) (E.puts notes.new)) }
 
     // Only `run`, `exec`, `debug`, `eval` and `session` take of the input.
     ensures input { TakesNoInput (words_of words.now) → input.new ≡ input.old }
@@ -93,6 +95,7 @@ pub fn cool<F: Shelf, I: Source, O: Sink, E: Sink>(
         faults_before = F.faults files.old;
         faults_after = F.faults files.new;
         asked_after = F.asked files.new;
+        gave_after = F.gave files.new;
         input = given;
       };
       out = sink_use O.held O.faults O.puts out.old out.new;

@@ -61,8 +61,9 @@ pub fn read_files<'a, F: Shelf>(
     ensures kept { F.files files.new ≡ F.files files.old }
     ensures count { F.faults files.old ≤ F.faults files.new }
     ensures asked { OnOk result (F.asked files.new ≡ F.asked files.old ++ words_of names.now) }
+    ensures gave { IfOk result (λ contents. F.gave files.new ≡ F.gave files.old ++ texts contents.items) }
     ensures asked_for { OnErr result (AskedFront (words_of names.now) (F.asked files.old) (F.asked files.new)) }
-    ensures stop { IfErr result (IsStop (shelf_use F.files F.faults F.asked files.old files.new) (words_of names.now) most) }
+    ensures stop { IfErr result (IsStop (shelf_use F.files F.faults F.asked F.gave files.old files.new) (words_of names.now) most) }
 {
     let mut contents = Vec::new(alloc);
     let mut left = most;

@@ -1,6 +1,6 @@
 //! Sources: the files of a command, read, and accepted as a program, or why not.
 
-ghost use Rattle.std.specs.Prelude.{◌≡◌, ◌<◌, ◌≤◌, ◌^◌, length, IfErr, IfOk, true};
+ghost use Rattle.std.specs.Prelude.{◌≡◌, ◌<◌, ◌≤◌, ◌^◌, ◌++◌, length, IfErr, IfOk, OnOk, true};
 ghost use Rattle.std.specs.List.{list_all, AllByRecursion};
 ghost use Rattle.cool_faults.specs.Verdicts.{IsAccepted};
 ghost use Rattle.lists.specs.Bytes.{AreBytes};
@@ -9,7 +9,7 @@ ghost use Rattle.cool_words.specs.Plans.{is_file_name, words_of};
 ghost use Rattle.cool_driver.specs.Calls.{ShelfUse, shelf_use};
 ghost use Rattle.cool_driver.specs.Contents.{texts};
 ghost use Rattle.cool_driver.specs.Refusals.{AreFaultLines, IsDueToFaults, IsTold};
-ghost use Rattle.cool_driver.specs.Sources.{AskedFront, AreRead, IsDueUnread, IsNoProgram, IsProgram, AreSources};
+ghost use Rattle.cool_driver.specs.Sources.{AskedFront, AreRead, GrewBy, IsDueUnread, IsNoProgram, IsProgram, AreSources};
 
 use crate::notes::TOO_MANY_FILES;
 use crate::reading::{ReadError, read_files};
@@ -32,9 +32,10 @@ pub fn read_program<F: Shelf>(
     ensures kept { F.files files.new ≡ F.files files.old }
     ensures asked { AskedFront (words_of names.now) (F.asked files.old) (F.asked files.new) }
     ensures count { F.faults files.old ≤ F.faults files.new }
-    ensures program { IfOk result (IsProgram (shelf_use F.files F.faults F.asked files.old files.new) (words_of names.now)) }
-    ensures refused { IfErr result (IsTold (IsNoProgram (shelf_use F.files F.faults F.asked files.old files.new) (words_of names.now))) }
-    ensures lined { IfErr result (AreFaultLines (words_of names.now) (shelf_use F.files F.faults F.asked files.old files.new)) }
+    ensures grew { OnOk result (GrewBy (length (words_of names.now)) (F.gave files.old) (F.gave files.new)) }
+    ensures program { IfOk result (IsProgram (shelf_use F.files F.faults F.asked F.gave files.old files.new) (words_of names.now)) }
+    ensures refused { IfErr result (IsTold (IsNoProgram (shelf_use F.files F.faults F.asked F.gave files.old files.new) (words_of names.now))) }
+    ensures lined { IfErr result (AreFaultLines (words_of names.now) (shelf_use F.files F.faults F.asked F.gave files.old files.new)) }
 {
     match read_sources(alloc, names, MOST_SOURCE_BYTES, files) {
         Ok(contents) => accept_sources(alloc, names, &contents),
@@ -53,9 +54,10 @@ pub fn read_sources<F: Shelf>(
     ensures kept { F.files files.new ≡ F.files files.old }
     ensures asked { AskedFront (words_of names.now) (F.asked files.old) (F.asked files.new) }
     ensures count { F.faults files.old ≤ F.faults files.new }
-    ensures read { IfOk result (λ contents. AreRead (shelf_use F.files F.faults F.asked files.old files.new) most (words_of names.now) (texts contents.items)) }
+    ensures read { IfOk result (λ contents. AreRead (shelf_use F.files F.faults F.asked F.gave files.old files.new) most (words_of names.now) (texts contents.items)) }
+    ensures gave { IfOk result (λ contents. F.gave files.new ≡ F.gave files.old ++ texts contents.items) }
     ensures bytes { IfOk result (λ contents. AllByRecursion AreBytes (texts contents.items)) }
-    ensures refused { IfErr result (IsTold (IsDueUnread (shelf_use F.files F.faults F.asked files.old files.new) most (words_of names.now))) }
+    ensures refused { IfErr result (IsTold (IsDueUnread (shelf_use F.files F.faults F.asked F.gave files.old files.new) most (words_of names.now))) }
 {
     if names.len() > MOST_FILES {
         return Err(refuse_by_line(alloc, Status::FileFault, TOO_MANY_FILES));

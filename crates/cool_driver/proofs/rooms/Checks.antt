@@ -1,9 +1,8 @@
 -- How a call of `check` ends.
 use Rattle.std.proofs.Common.{List, [], inl, inr, refl, ℕ, ◌≡◌, ◌≢◌}
 use Rattle.cool_faults.specs.{Verdicts.{IsFaultList}, declared.fault.Fault.{Fault}}
-use Rattle.cool_ports.specs.ShelfFiles.{FileMap}
 use Rattle.cool_syntax.specs.declared.TheConstants.{MOST_SOURCE_BYTES}
-use Rattle.cool_driver.specs.{Calls.{Call, HasTold, Request, shelf_of}, Comes.{Comes, NoPieces}, Sources.{AreRead}, commands.Check.{CheckEnds, DueToCheck}}
+use Rattle.cool_driver.specs.{Calls.{Call, Request, shelf_of}, Comes.{Comes, NoPieces}, Sources.{AreKnown}, commands.Check.{CheckEnds, DueToCheck}}
 use Rattle.cool_driver.proofs.{DevicesOfCalls.{came}, SourcesOfCalls.{IsVerdictOn, program_faultless, refused_with, sources_exactly}}
 
 -- what is due comes of a verdict on the files, and takes nothing of the input
@@ -13,18 +12,18 @@ verdict_of (DueToCheck.accepted p is) = inl (p, is, inl refl)
 verdict_of (DueToCheck.refused status note why) = inr why
 
 -- the fault list says the status
-checked : {names : List (List ℕ)} {r : Request} {files : FileMap} {contents : List (List ℕ)} {faults : List Fault} {status : ℕ} {output note left : List ℕ}
-    → HasTold (shelf_of r) files → AreRead (shelf_of r) MOST_SOURCE_BYTES names contents → IsFaultList contents faults
+checked : {names : List (List ℕ)} {r : Request} {contents : List (List ℕ)} {faults : List Fault} {status : ℕ} {output note left : List ℕ}
+    → AreKnown (shelf_of r) MOST_SOURCE_BYTES names contents → IsFaultList contents faults
     → DueToCheck names r status output note left → (faults ≡ [] → status ≡ 0) × (faults ≢ [] → status ≡ 1)
-checked told read list (DueToCheck.accepted p is) = (λ _. refl, λ some. absurd (some (program_faultless told read is list)))
-checked told read list (DueToCheck.refused status note why) =
-    let so = refused_with told read why list in (λ none. absurd (so.0 none), λ _. so.1)
+checked known list (DueToCheck.accepted p is) = (λ _. refl, λ some. absurd (some (program_faultless known is list)))
+checked known list (DueToCheck.refused status note why) =
+    let so = refused_with known why list in (λ none. absurd (so.0 none), λ _. so.1)
 
 -- so it ends as it should
 pub check_ends : {names : List (List ℕ)} {c : Call} {status : ℕ} → Comes (DueToCheck names c.request) NoPieces c status → CheckEnds names c status
 check_ends comes = record {
   comes = comes;
-  checked_exactly = λ files contents faults told read list eight nine.
-      let (output, note, is, out, notes) = came comes eight nine in checked told read list is;
+  checked_exactly = λ contents faults known list eight nine.
+      let (output, note, is, out, notes) = came comes eight nine in checked known list is;
   sources = sources_exactly (λ s o n l. verdict_of) comes;
 }

@@ -1,18 +1,19 @@
 -- How a call of `debug` ends.
 use Rattle.std.specs.Prelude.{◌∷◌, codes}
-use Rattle.cool_driver.specs.Sources.{EndsWith, AreRead, FilesExactly, IsCause, IsNoProgram, IsProgram}
-use Rattle.cool_driver.specs.{Calls.{Call, DidNothing, Got, HasTold, Request, ShelfUse, SinkUse, UnlessCutShort, shelf_of}, Comes.{Comes, NoPieces}}
+use Rattle.cool_driver.specs.Sources.{EndsWith, AreKnown, FilesExactly, IsCause, IsNoProgram, IsProgram}
+use Rattle.cool_driver.specs.{Calls.{Call, DidNothing, Got, Request, ShelfUse, SinkUse, UnlessCutShort, shelf_of}, Comes.{Comes, NoPieces}}
 use Rattle.cool_driver.specs.{Debugging.{commands_for, debug_notes, debuggee_within}, Ends.{Goes}}
 use Rattle.cool_driver.specs.Execution.{heap_of, note_of, note_of_halt, run_of, segments_within, stack_of, status_of, status_of_halt}
 use Rattle.cool_driver.specs.{Headline.{EndsAsImage, Headline, IsPartOfSource, StopsReading}, Notes.{missing_note, refused_note, script_note, too_large_note, unread_note}}
 use Rattle.cool_driver.specs.{Refusals.{IsLine, IsTold}, Statuses.{FILE_FAULT, code_of}, Telling.{HaltNoted, fault_note}}
-use Rattle.cool_driver.specs.commands.Debug.{DebugComes, DebugEnds, Debugs, DueToUndebugged, Finished, IsDebuggee, IsDueToScript, IsDueUnscripted, IsNoDebuggee, ScriptIsRead, ScriptIsUnread, Stopped, StopsShort}
+use Rattle.cool_driver.specs.commands.Debug.{DebugComes, DebugEnds, Debugs, DueToUndebugged, Finished, IsDebuggee, IsDueToScript, IsDueUnscripted, IsNoDebuggee, ScriptIsKnown, ScriptIsRead, ScriptIsUnread, Stopped, StopsShort}
 use Rattle.cool_driver.specs.{declared.commands.debug.Scripted.{Scripted}, declared.refusal.Refusal.{Refusal}, declared.status.Status.{Status}}
 use Rattle.cool_driver.proofs.{LinesOfNotes.{ends_after, feed, file_line}, ComesOfRefusals.{IsRefusalStatus, refused_status}, ComesOfRuns.{fails_alone, some_same}}
 use Rattle.cool_driver.proofs.DevicesOfCalls.{IsFinished, IsNoted, came, cut_goes, finished_goes, short_goes}
 use Rattle.cool_driver.proofs.HeadlineOfRuns.{headline_ended, headline_unread, headline_unwritten, noteless_ended, noteless_unread, part_of_source}
 use Rattle.cool_driver.proofs.{RefusalsTold.{line_told, told_so}, RunsWithinLimits.{run_of-is}}
 use Rattle.cool_driver.proofs.SourcesOfCalls.{WereRead, files_told, no_refusal, program_faultless, read_for, refused_with, same_program}
+use Rattle.cool_driver.proofs.HeldFiles.{ends_same, held_length, not_gone, not_large}
 use Rattle.cool_driver.proofs.StatusesOfRuns.{IsOneOf, end_status, good_status}
 use Rattle.std.proofs.Common.{Err, IfErr, IfOk, List, Ok, Option, Result, Some, [], ap, arith, inl, inr, length, refl, subst, sym, ℕ, ◌∙◌, ◌≡◌, ◌≢◌, ◌⊎◌}
 use Rattle.cool_classes.specs.Chains.{Class}
@@ -56,20 +57,20 @@ script_told shelf script ShelfFault.Memory refusal asked cause line = absurd cau
 
 -- the image of a program, and what the script says for it
 pub debuggee_if : {script bytes : List ℕ} {names : List (List ℕ)} {shelf : ShelfUse} {p : List Class} (result : Result Scripted Refusal)
-    → ScriptIsRead shelf script bytes → IsProgram shelf names p → Means (image_of (program_lines p names)) p names
+    → ScriptIsRead shelf script bytes → (is : IsProgram shelf names p) → EndsWith (bytes ∷ is.contents) shelf.gave_after → Means (image_of (program_lines p names)) p names
     → IfOk result (λ x. x.image ≡ image_of (program_lines p names)) → IfOk result (λ x. commands_for p names bytes ≡ Ok x.commands.items)
     → IfOk result (λ x. IsDebuggee script names shelf x.image x.commands.items)
-debuggee_if (Ok x) read is means made says =
-    record { bytes = _; read = read; p = _; is = is; says = says; image_is = made; means = rw made means }
-debuggee_if (Err refusal) read is means made says = tt
+debuggee_if (Ok x) read is gave means made says =
+    record { bytes = _; read = read; p = _; is = is; gave = gave; says = says; image_is = made; means = rw made means }
+debuggee_if (Err refusal) read is gave means made says = tt
 
 -- the script has a fault
 pub misscripted_if : {script bytes : List ℕ} {names : List (List ℕ)} {shelf : ShelfUse} {p : List Class} (result : Result Scripted Refusal)
-    → ScriptIsRead shelf script bytes → IsProgram shelf names p → IfErr result (IsTold (IsDueToScript script bytes names p))
+    → ScriptIsRead shelf script bytes → (is : IsProgram shelf names p) → EndsWith (bytes ∷ is.contents) shelf.gave_after → IfErr result (IsTold (IsDueToScript script bytes names p))
     → IfErr result (IsTold (IsNoDebuggee script names shelf))
-misscripted_if (Ok x) read is h = tt
-misscripted_if {script} {bytes} {names} {shelf} {p} (Err refusal) read is h =
-    told_so (IsDueToScript script bytes names p) (IsNoDebuggee script names shelf) refusal (λ status note why. rw (why.2, why.3) (IsNoDebuggee.misscripted _ _ why.0 read is why.1)) h
+misscripted_if (Ok x) read is gave h = tt
+misscripted_if {script} {bytes} {names} {shelf} {p} (Err refusal) read is gave h =
+    told_so (IsDueToScript script bytes names p) (IsNoDebuggee script names shelf) refusal (λ status note why. rw (why.2, why.3) (IsNoDebuggee.misscripted _ _ why.0 read is gave why.1)) h
 
 -- the status where nothing is debugged
 pub undebugged_status : {script : List ℕ} {names : List (List ℕ)} {r : Request} {status : ℕ} {note : List ℕ}
@@ -77,7 +78,7 @@ pub undebugged_status : {script : List ℕ} {names : List (List ℕ)} {r : Reque
 undebugged_status (IsNoDebuggee.too_many many calm) = grind arith
 undebugged_status (IsNoDebuggee.unscripted note few why) = grind arith
 undebugged_status (IsNoDebuggee.refused bytes status note read why) = refused_status why
-undebugged_status (IsNoDebuggee.misscripted bytes p fault read is says) = let calm = is.read.calm in grind arith
+undebugged_status (IsNoDebuggee.misscripted bytes p fault read is gave says) = let calm = is.read.calm in grind arith
 
 -- The run under the debugger
 
@@ -205,7 +206,7 @@ files_for : {script : List ℕ} {names : List (List ℕ)} {shelf : ShelfUse} {st
 files_for (IsNoDebuggee.too_many many calm) = inr refl
 files_for (IsNoDebuggee.unscripted note few why) = inr refl
 files_for (IsNoDebuggee.refused bytes status note read why) = read_for (inr why)
-files_for (IsNoDebuggee.misscripted bytes p fault read is says) = inl (is.contents, is.read)
+files_for (IsNoDebuggee.misscripted bytes p fault read is gave says) = inl (is.contents, is.read)
 
 -- where the script cannot be read, nothing is debugged for that
 script_fault : {script : List ℕ} {names : List (List ℕ)} {shelf : ShelfUse} {status : ℕ} {note : List ℕ}
@@ -213,7 +214,7 @@ script_fault : {script : List ℕ} {names : List (List ℕ)} {shelf : ShelfUse} 
 script_fault none (IsNoDebuggee.too_many many calm) = refl
 script_fault none (IsNoDebuggee.unscripted note few why) = refl
 script_fault none (IsNoDebuggee.refused bytes status note read why) = absurd (none bytes read)
-script_fault none (IsNoDebuggee.misscripted bytes p fault read is says) = absurd (none bytes read)
+script_fault none (IsNoDebuggee.misscripted bytes p fault read is gave says) = absurd (none bytes read)
 
 undebugged_is : {script : List ℕ} {names : List (List ℕ)} {r : Request} {status : ℕ} {output note left : List ℕ}
     → DueToUndebugged script names r status output note left → IsNoDebuggee script names (shelf_of r) status note
@@ -231,28 +232,29 @@ module _ {script : List ℕ} {names : List (List ℕ)} {limits : RunLimits} {c :
       let (output, note, row, out, notes) = came comes eight nine in script_fault none (undebugged_is row)
   about_script none (DebugComes.debugs image commands is bounded goes) eight nine = absurd (none is.bytes is.read)
 
--- of a shelf that tells its files, where the script and the files were read
-module _ {script : List ℕ} {names : List (List ℕ)} {shelf : ShelfUse} {files : FileMap} {contents : List (List ℕ)} {bytes : List ℕ} (told : HasTold shelf files)
-    (read : AreRead shelf MOST_SOURCE_BYTES names contents) (script_read : ScriptIsRead shelf script bytes) where
+-- where the script and the files are known
+module _ {script : List ℕ} {names : List (List ℕ)} {shelf : ShelfUse} {contents : List (List ℕ)} {bytes : List ℕ}
+    (read : AreKnown shelf MOST_SOURCE_BYTES names contents) (script_read : ScriptIsKnown shelf script bytes contents) where
   -- the script is read once
-  same_bytes : {other : List ℕ} → ScriptIsRead shelf script other → other ≡ bytes
-  same_bytes again =
-      let here = rw told.0 at script_read.held in
-      let there = rw told.0 at again.held in
-      cc
+  same_bytes : {other : List ℕ} {p : List Class} → ScriptIsRead shelf script other → (is : IsProgram shelf names p)
+      → EndsWith (other ∷ is.contents) shelf.gave_after → other ≡ bytes
+  same_bytes {other} again is gave = by script_read.known
+    where
+      by : ((files : FileMap) × (shelf.files ≡ Some files)) ⊎ EndsWith (bytes ∷ contents) shelf.gave_after → other ≡ bytes
+      by (inl (files, told)) =
+          let here = rw told at script_read.held in
+          let there = rw told at again.held in
+          cc
+      by (inr last) =
+          let each : length is.contents ≡ length contents = sym (held_length shelf.files names is.contents is.read.held) ∙ held_length shelf.files names contents read.held in
+          let one : other ∷ is.contents ≡ bytes ∷ contents = ends_same shelf.gave_after (other ∷ is.contents) (bytes ∷ contents) gave last (omega (arith, each)) in
+          cc
 
   -- so there is no reason why it was not
   no_unscripted : {note : List ℕ} → ScriptIsUnread shelf script note → ⊥
-  no_unscripted (ScriptIsUnread.missing asked gone) =
-      let here = rw told.0 at script_read.held in
-      let none = (rw told.0 at gone).0 in
-      cc
-  no_unscripted (ScriptIsUnread.unread asked rose) = omega (arith, rose.more told.1, told.2)
-  no_unscripted (ScriptIsUnread.too_large asked long) =
-      let here = rw told.0 at script_read.held in
-      let longer = rw told.0 at long in
-      let same : longer.0 ≡ bytes = cc in
-      omega (arith, script_read.within, longer.2, ap length same)
+  no_unscripted (ScriptIsUnread.missing asked gone) = not_gone shelf.files script bytes _ _ script_read.held read.below read.calm gone
+  no_unscripted (ScriptIsUnread.unread asked rose) = omega (arith, rose.more read.below, read.calm)
+  no_unscripted (ScriptIsUnread.too_large asked long) = not_large shelf.files script bytes _ _ _ script_read.held script_read.within read.below read.calm long
 
   -- nothing is debugged only where the files are no program, or the script has a fault for it
   resolved : {status : ℕ} {note : List ℕ} → IsNoDebuggee script names shelf status note → IsNoProgram shelf names status note
@@ -260,14 +262,14 @@ module _ {script : List ℕ} {names : List (List ℕ)} {shelf : ShelfUse} {files
   resolved (IsNoDebuggee.too_many many calm) = absurd (let few = read.few in omega arith)
   resolved (IsNoDebuggee.unscripted note few why) = absurd (no_unscripted why)
   resolved (IsNoDebuggee.refused other status note again why) = inl why
-  resolved (IsNoDebuggee.misscripted other q fault again is says) = inr (q, fault, is, rw (same_bytes again) at says, refl, refl)
+  resolved (IsNoDebuggee.misscripted other q fault again is gave says) = inr (q, fault, is, rw (same_bytes again is gave) at says, refl, refl)
 
   -- the faults of the files say the status and the note
   faults_told : {faults : List Fault} {status : ℕ} {note : List ℕ} → IsFaultList contents faults → faults ≢ [] → IsNoDebuggee script names shelf status note
       → (status ≡ 1) × (note ≡ refused_note names faults)
   faults_told list some why = elim (resolved why) [
-    | inl none ↦ (let so = refused_with told read none list in (so.1, so.2))
-    | inr h ↦ absurd (some (program_faultless told read h.2 list))
+    | inl none ↦ (let so = refused_with read none list in (so.1, so.2))
+    | inr h ↦ absurd (some (program_faultless read h.2 list))
   ]
 
   module _ {p : List Class} (is : IsAccepted contents p) where
@@ -275,62 +277,61 @@ module _ {script : List ℕ} {names : List (List ℕ)} {shelf : ShelfUse} {files
     fault_so : {status : ℕ} {note : List ℕ} → IsNoDebuggee script names shelf status note
         → (fault : ScriptFault) × (commands_for p names bytes ≡ Err fault) × (status ≡ 12) × (note ≡ script_note script fault)
     fault_so why = elim (resolved why) [
-      | inl none ↦ absurd (no_refusal told read is none)
-      | inr h ↦ (h.1, rw (same_program told read is h.2) at h.3, h.4, h.5)
+      | inl none ↦ absurd (no_refusal read is none)
+      | inr h ↦ (h.1, rw (same_program read is h.2) at h.3, h.4, h.5)
     ]
 
     -- and of what is debugged the program and the script are these
     says_so : {image : ImageParts} {others : List DebugCommand} (h : IsDebuggee script names shelf image others)
         → (h.p ≡ p) × (commands_for p names bytes ≡ Ok others)
-    says_so h = let program = same_program told read is h.is in (program, rw (program, same_bytes h.read) at h.says)
+    says_so h = let program = same_program read is h.is in (program, rw (program, same_bytes h.read h.is h.gave) at h.says)
 
 -- where nothing is wrong, memory ran out where nothing was debugged
-undebugged_so : {script : List ℕ} {names : List (List ℕ)} {c : Call} {files : FileMap} {contents : List (List ℕ)} {bytes : List ℕ} {p : List Class}
-    {commands : List DebugCommand} {status : ℕ} → HasTold (shelf_of c.request) files → AreRead (shelf_of c.request) MOST_SOURCE_BYTES names contents
-    → ScriptIsRead (shelf_of c.request) script bytes → IsAccepted contents p → commands_for p names bytes ≡ Ok commands
+undebugged_so : {script : List ℕ} {names : List (List ℕ)} {c : Call} {contents : List (List ℕ)} {bytes : List ℕ} {p : List Class}
+    {commands : List DebugCommand} {status : ℕ} → AreKnown (shelf_of c.request) MOST_SOURCE_BYTES names contents
+    → ScriptIsKnown (shelf_of c.request) script bytes contents → IsAccepted contents p → commands_for p names bytes ≡ Ok commands
     → Comes (DueToUndebugged script names c.request) NoPieces c status → (status ≡ 9) × DidNothing c
-undebugged_so told read script_read is says (Comes.written status output note row out notes) =
-    absurd (let (fault, wrong, twelve, note_is) = fault_so told read script_read is (undebugged_is row) in cc)
-undebugged_so told read script_read is says (Comes.unwritten before piece none part notes) = absurd none
-undebugged_so told read script_read is says (Comes.unnoted status output note row out part) =
-    absurd (let (fault, wrong, twelve, note_is) = fault_so told read script_read is (undebugged_is row) in cc)
-undebugged_so told read script_read is says (Comes.short nothing) = (refl, nothing)
+undebugged_so read script_read is says (Comes.written status output note row out notes) =
+    absurd (let (fault, wrong, twelve, note_is) = fault_so read script_read is (undebugged_is row) in cc)
+undebugged_so read script_read is says (Comes.unwritten before piece none part notes) = absurd none
+undebugged_so read script_read is says (Comes.unnoted status output note row out part) =
+    absurd (let (fault, wrong, twelve, note_is) = fault_so read script_read is (undebugged_is row) in cc)
+undebugged_so read script_read is says (Comes.short nothing) = (refl, nothing)
 
-module _ {script : List ℕ} {names : List (List ℕ)} {limits : RunLimits} {c : Call} {files : FileMap} {contents : List (List ℕ)} {bytes : List ℕ}
-    (told : HasTold (shelf_of c.request) files) (read : AreRead (shelf_of c.request) MOST_SOURCE_BYTES names contents)
-    (script_read : ScriptIsRead (shelf_of c.request) script bytes) where
+module _ {script : List ℕ} {names : List (List ℕ)} {limits : RunLimits} {c : Call} {contents : List (List ℕ)} {bytes : List ℕ}
+    (read : AreKnown (shelf_of c.request) MOST_SOURCE_BYTES names contents) (script_read : ScriptIsKnown (shelf_of c.request) script bytes contents) where
   about_faults : {faults : List Fault} {status : ℕ} → IsFaultList contents faults → faults ≢ [] → DebugComes script names limits c status
       → UnlessCutShort status ((status ≡ 1) × Got c.notes (refused_note names faults))
   about_faults list some (DebugComes.refused comes) eight nine =
       let (output, note, row, out, notes) = came comes eight nine in
-      let so = faults_told told read script_read list some (undebugged_is row) in
+      let so = faults_told read script_read list some (undebugged_is row) in
       (so.0, rw so.1 at notes)
-  about_faults list some (DebugComes.debugs image commands is bounded goes) eight nine = absurd (some (program_faultless told read is.is list))
+  about_faults list some (DebugComes.debugs image commands is bounded goes) eight nine = absurd (some (program_faultless read is.is list))
 
   module _ {p : List Class} (is : IsAccepted contents p) where
     about_fault : {fault : ScriptFault} {status : ℕ} → commands_for p names bytes ≡ Err fault → DebugComes script names limits c status
         → UnlessCutShort status ((status ≡ 12) × Got c.notes (script_note script fault))
     about_fault {fault} says (DebugComes.refused comes) eight nine =
         let (output, note, row, out, notes) = came comes eight nine in
-        let (found, wrong, twelve, note_is) = fault_so told read script_read is (undebugged_is row) in
+        let (found, wrong, twelve, note_is) = fault_so read script_read is (undebugged_is row) in
         let same : found ≡ fault = cc in
         (twelve, rw (note_is, same) at notes)
-    about_fault says (DebugComes.debugs image others h bounded goes) eight nine = absurd (let said = (says_so told read script_read is h).1 in cc)
+    about_fault says (DebugComes.debugs image others h bounded goes) eight nine = absurd (let said = (says_so read script_read is h).1 in cc)
 
     module _ {commands : List DebugCommand} (says : commands_for p names bytes ≡ Ok commands) where
       debugs_so : {status : ℕ} → DebugComes script names limits c status → Debugs limits (image_of (program_lines p names)) commands c status
-      debugs_so {status} (DebugComes.refused comes) = let so = undebugged_so told read script_read is says comes in rw so.0 (Debugs.short so.1)
+      debugs_so {status} (DebugComes.refused comes) = let so = undebugged_so read script_read is says comes in rw so.0 (Debugs.short so.1)
       debugs_so {status} (DebugComes.debugs image others h bounded goes) =
-          let (program, said) = says_so told read script_read is h in
+          let (program, said) = says_so read script_read is h in
           let same : others ≡ commands = cc in
           subst (λ (i : ImageParts). Debugs limits i commands c status) (h.image_is ∙ ap (λ (q : List Class). image_of (program_lines q names)) program)
           (rw same at goes)
 
       headline : {status : ℕ} → AreBytes c.request.input → DebugComes script names limits c status
           → Headline c status limits names p ⊎ StopsShort c status limits names p commands ⊎ ((status ≡ 9) × DidNothing c)
-      headline are (DebugComes.refused comes) = inr (inr (undebugged_so told read script_read is says comes))
+      headline are (DebugComes.refused comes) = inr (inr (undebugged_so read script_read is says comes))
       headline are (DebugComes.debugs image others h bounded goes) =
-          let (program, said) = says_so told read script_read is h in
+          let (program, said) = says_so read script_read is h in
           let same : others ≡ commands = cc in
           debug_headline limits image commands names p c (rw program at h.means) bounded are (rw same at goes)
 
@@ -338,9 +339,9 @@ pub debug_ends : {script : List ℕ} {names : List (List ℕ)} {limits : RunLimi
     → DebugEnds script names limits c status
 debug_ends comes = record {
   comes = comes;
-  debugged_exactly = λ files contents p bytes commands told read is script_read says. debugs_so told read script_read is says comes;
-  misscripted_exactly = λ files contents p bytes fault told read is script_read says. about_fault told read script_read is says comes;
-  debugged_headline = λ files contents p bytes commands told read is script_read says are. headline told read script_read is says are comes;
+  debugged_exactly = λ contents p bytes commands read is script_read says. debugs_so read script_read is says comes;
+  misscripted_exactly = λ contents p bytes fault read is script_read says. about_fault read script_read is says comes;
+  debugged_headline = λ contents p bytes commands read is script_read says are. headline read script_read is says are comes;
   script_missing_exactly = λ files told gone. about_script (λ bytes read. let there = rw told.0 at read.held in absurd cc) comes;
   script_too_large_exactly = λ files large told there more.
       about_script (λ bytes read.
@@ -348,5 +349,5 @@ debug_ends comes = record {
       let same : large ≡ bytes = cc in
       omega (arith, read.within, ap length same)) comes;
   files = about_files comes;
-  refused_exactly = λ files contents bytes faults told read script_read list some. about_faults told read script_read list some comes;
+  refused_exactly = λ contents bytes faults read script_read list some. about_faults read script_read list some comes;
 }

@@ -4,10 +4,10 @@ use Rattle.cool_classes.specs.Chains.{Class}
 use Rattle.cool_eval.proofs.PartsOfRuns.{part_of_last_line, part_of_reading, part_of_short, part_of_writing}
 use Rattle.cool_eval.specs.{Counts.{CountedEnd}, Ends.{Evaluates, IsPart, IsWhole, StoppedReading, StoppedShort}, declared.evaluation.EvalEnd.{EvalEnd}}
 use Rattle.cool_faults.specs.Verdicts.{IsAccepted}
-use Rattle.cool_ports.specs.{ShelfFiles.{FileMap}, SinkBytes.{GotPrefix, appended}}
+use Rattle.cool_ports.specs.SinkBytes.{GotPrefix, appended}
 use Rattle.cool_syntax.specs.declared.TheConstants.{MOST_SOURCE_BYTES}
-use Rattle.cool_driver.specs.{Calls.{Call, DidNothing, Got, HasTold, Request, SinkUse, shelf_of}, Comes.{Comes}, Ends.{Goes}, Evaluation.{note_of_end, status_of_end}}
-use Rattle.cool_driver.specs.{Notes.{read_fault_note, step_limit_note}, Sources.{AreRead, IsProgram, SourcesExactly}, Statuses.{code_of}, Telling.{Noted}}
+use Rattle.cool_driver.specs.{Calls.{Call, DidNothing, Got, Request, SinkUse, shelf_of}, Comes.{Comes}, Ends.{Goes}, Evaluation.{note_of_end, status_of_end}}
+use Rattle.cool_driver.specs.{Notes.{read_fault_note, step_limit_note}, Sources.{AreKnown, IsProgram, SourcesExactly}, Statuses.{code_of}, Telling.{Noted}}
 use Rattle.cool_driver.specs.{commands.Eval.{CutShort, DueToEval, EndsAs, EvalEnds, FailsToNote, FailsToWrite, PiecesOfEval}, declared.status.Status.{Status}}
 use Rattle.cool_driver.proofs.DevicesOfCalls.{IsFinished, IsNoted, came, cut_goes, due_finished, finished_goes, got_alone, is_noted, short_goes}
 use Rattle.cool_driver.proofs.{SourcesOfCalls.{IsVerdictOn, files_told, no_refusal, same_program, sources_exactly, verdict_status}, StatusesOfRuns.{IsOneOf}}
@@ -65,15 +65,15 @@ abbrev EvalComes : List (List ℕ) → ℕ → Call → ℕ → Type 0
 EvalComes names steps c status =
     Comes (DueToEval names steps c.request) (PiecesOfEval names steps c.request) c status ⊎ ((status ≡ 9) × CutShort names steps c)
 
-module _ (names : List (List ℕ)) (steps : ℕ) (c : Call) (files : FileMap) (contents : List (List ℕ)) (p : List Class) (told : HasTold (shelf_of c.request) files)
-    (read : AreRead (shelf_of c.request) MOST_SOURCE_BYTES names contents) (is : IsAccepted contents p) where
+module _ (names : List (List ℕ)) (steps : ℕ) (c : Call) (contents : List (List ℕ)) (p : List Class) (files_known : AreKnown (shelf_of c.request) MOST_SOURCE_BYTES names contents)
+    (is : IsAccepted contents p) where
   abbrev runs : ℕ → source.Run
   runs = source.run p names c.request.input
 
   due_by : {status : ℕ} {output note left : List ℕ} → DueToEval names steps c.request status output note left → IsDueBy runs steps status output note left
-  due_by (DueToEval.evaluated q status other e) = rw (← same_program told read is other) (inr (e, refl, refl, refl))
-  due_by (DueToEval.unread q output left other stops) = rw (← same_program told read is other) (inl (refl, stops))
-  due_by (DueToEval.refused status note why) = absurd (no_refusal told read is why)
+  due_by (DueToEval.evaluated q status other e) = rw (← same_program files_known is other) (inr (e, refl, refl, refl))
+  due_by (DueToEval.unread q output left other stops) = rw (← same_program files_known is other) (inl (refl, stops))
+  due_by (DueToEval.refused status note why) = absurd (no_refusal files_known is why)
 
   -- what was due was written
   ends_as : {status : ℕ} {output note : List ℕ} → IsDueBy runs steps status output note c.left → Got c.out output → Got c.notes note
@@ -90,9 +90,9 @@ module _ (names : List (List ℕ)) (steps : ℕ) (c : Call) (files : FileMap) (c
   writing_by : {before piece left : List ℕ} → PiecesOfEval names steps c.request before piece left → left ≡ c.left
       → GotPrefix (appended c.out.held_before before) piece c.out.held_after → FailsToWrite c p names steps
   writing_by (PiecesOfEval.of_call q spent printed other next) here got =
-      rw (← same_program told read is other) (inl (record { spent = spent; printed = printed; writes = next; left = sym here; got = got }))
+      rw (← same_program files_known is other) (inl (record { spent = spent; printed = printed; writes = next; left = sym here; got = got }))
   writing_by (PiecesOfEval.of_last_line q before other last) here got =
-      rw (← same_program told read is other) (inr (record { before = before; ends = last; left = sym here; got = got }))
+      rw (← same_program files_known is other) (inr (record { before = before; ends = last; left = sym here; got = got }))
 
   fails_prefix : FailsToWrite c p names steps → GotPrefix c.out.held_before (runs steps).output c.out.held_after
   fails_prefix (inl h) = prefix_of_part (part_of_writing p is.typed names c.request.input steps _ c.left _ h)
@@ -100,7 +100,7 @@ module _ (names : List (List ℕ)) (steps : ℕ) (c : Call) (files : FileMap) (c
 
   -- memory ran out
   stopped_short : CutShort names steps c → StoppedShort p names runs steps c.out.held_before c.left c.out.held_after
-  stopped_short s = rw (same_program told read is s.is) at s.stopped
+  stopped_short s = rw (same_program files_known is s.is) at s.stopped
 
   prefix : {status : ℕ} → EvalComes names steps c status → GotPrefix c.out.held_before (runs steps).output c.out.held_after
   prefix (inl (Comes.written status output note row out notes)) = due_prefix (due_by row) out
@@ -133,16 +133,16 @@ about : {names : List (List ℕ)} {steps : ℕ} {c : Call} {status : ℕ} → Ev
 about (inl comes) = sources_exactly (λ s o n l. verdict_of) comes
 about (inr (nine, s)) = record {
   files = files_told (λ _ other. absurd (other nine));
-  refused_exactly = λ files contents faults told read list some _ other. absurd (other nine);
+  refused_exactly = λ contents faults known list some _ other. absurd (other nine);
 }
 
 pub eval_ends : {names : List (List ℕ)} {steps : ℕ} {c : Call} {status : ℕ} → EvalComes names steps c status → EvalEnds names steps c status
 eval_ends comes = record {
   comes = comes;
-  evaluated_exactly = λ files contents p told read is. exactly _ _ _ files contents p told read is comes;
-  evaluated_prefix = λ files contents p told read is. prefix _ _ _ files contents p told read is comes;
-  evaluated_unwritten = λ files contents p told read is. failed _ _ _ files contents p told read is comes;
-  evaluated_short = λ files contents p told read is. cut_short _ _ _ files contents p told read is comes;
+  evaluated_exactly = λ contents p known is. exactly _ _ _ contents p known is comes;
+  evaluated_prefix = λ contents p known is. prefix _ _ _ contents p known is comes;
+  evaluated_unwritten = λ contents p known is. failed _ _ _ contents p known is comes;
+  evaluated_short = λ contents p known is. cut_short _ _ _ contents p known is comes;
   sources = about comes;
 }
 

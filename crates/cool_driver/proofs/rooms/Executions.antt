@@ -1,12 +1,11 @@
 -- How a call of `exec` ends.
 use Rattle.std.proofs.Common.{Err, IfErr, IfOk, List, Ok, Result, [], ap, arith, get_or, inl, inr, refl, true, ℕ, ◌∷◌, ◌≡◌, ◌⊎◌}
 use Rattle.std.specs.Global.{Vec}
-use Rattle.cool_ports.specs.ShelfFiles.{FileMap}
 use Rattle.cool_words.specs.declared.plan.RunLimits.{RunLimits}
 use Rattle.mips_isa.specs.{ImageBounds.{ImageParts}, declared.asm_fault.AsmFault.{AsmFault}}
-use Rattle.cool_driver.specs.{Calls.{Call, HasTold, Request, ShelfUse, shelf_of}, Comes.{Comes}, Contents.{texts}, Ends.{Goes}}
+use Rattle.cool_driver.specs.{Calls.{Call, Request, ShelfUse, shelf_of}, Comes.{Comes}, Contents.{texts}, Ends.{Goes}}
 use Rattle.cool_driver.specs.{Execution.{IsRunnable, IsTextFault, is_text_file, run_of, status_of}, Notes.{asm_note}, Refusals.{IsTold}, Runs.{DueToRun, PiecesOfRun}}
-use Rattle.cool_driver.specs.{Sources.{AreRead}, commands.Exec.{DueToExec, ExecEnds, FileIsRead, IsDueToBytes, IsLoaded, IsNoImage, PiecesOfExec}}
+use Rattle.cool_driver.specs.{Sources.{AreRead}, commands.Exec.{DueToExec, ExecEnds, FileIsKnown, FileIsRead, IsDueToBytes, IsLoaded, IsNoImage, PiecesOfExec}}
 use Rattle.cool_driver.specs.{declared.TheConstants.{MOST_IMAGE_BYTES}, declared.refusal.Refusal.{Refusal}}
 use Rattle.cool_driver.proofs.{ComesOfRefusals.{IsRefusalStatus, comes_map, goes_map}, ComesOfRuns.{run_so}, DevicesOfCalls.{came}, RefusalsTold.{told_so}}
 use Rattle.cool_driver.proofs.{RunnableFiles.{fault_or_runs, one_runnable, one_text_fault, unfit_or_runs}, SourcesOfCalls.{WereRead, files_told, no_unread, same_contents}}
@@ -54,50 +53,48 @@ module _ {name : List ℕ} {r : Request} where
   read_one (DueToExec.refused status note (IsNoImage.not_read _ why)) = inr refl
 
 -- a file is read once
-same : {shelf : ShelfUse} {files : FileMap} {name bytes other : List ℕ} → HasTold shelf files → FileIsRead shelf name bytes → FileIsRead shelf name other
-    → other ≡ bytes
-same told read again = let one = same_contents told read again in cc
+same : {shelf : ShelfUse} {name bytes other : List ℕ} → FileIsKnown shelf name bytes → FileIsRead shelf name other → other ≡ bytes
+same known again = let one = same_contents known again in cc
 
-module _ {name : List ℕ} {limits : RunLimits} {r : Request} {files : FileMap} {bytes : List ℕ} (told : HasTold (shelf_of r) files)
-    (read : FileIsRead (shelf_of r) name bytes) where
+module _ {name : List ℕ} {limits : RunLimits} {r : Request} {bytes : List ℕ} (known : FileIsKnown (shelf_of r) name bytes) where
   -- where it stands for an image
   executed_so : {image : ImageParts} → IsRunnable image bytes → {status : ℕ} {output note left : List ℕ}
       → DueToExec name limits r status output note left → (status ≡ 7) ⊎ (status ≡ status_of (run_of limits image r.input))
-  executed_so runs (DueToExec.ran found status output note left is row) = run_so (one_runnable _ _ _ (rw (same told read is.read) at is.runs) runs) row
-  executed_so runs (DueToExec.refused _ _ (IsNoImage.unfit other fault again binary is)) = absurd (unfit_or_runs _ other fault binary is (rw (← same told read again) at runs))
-  executed_so runs (DueToExec.refused _ _ (IsNoImage.misread other fault again text wrong)) = absurd (fault_or_runs _ other fault text wrong (rw (← same told read again) at runs))
-  executed_so runs (DueToExec.refused _ _ (IsNoImage.not_read note why)) = absurd (no_unread told read why)
+  executed_so runs (DueToExec.ran found status output note left is row) = run_so (one_runnable _ _ _ (rw (same known is.read) at is.runs) runs) row
+  executed_so runs (DueToExec.refused _ _ (IsNoImage.unfit other fault again binary is)) = absurd (unfit_or_runs _ other fault binary is (rw (← same known again) at runs))
+  executed_so runs (DueToExec.refused _ _ (IsNoImage.misread other fault again text wrong)) = absurd (fault_or_runs _ other fault text wrong (rw (← same known again) at runs))
+  executed_so runs (DueToExec.refused _ _ (IsNoImage.not_read note why)) = absurd (no_unread known why)
 
   -- where it stands for none
   unfit_so : ((image : ImageParts) → IsRunnable image bytes → ⊥) → {status : ℕ} {output note left : List ℕ}
       → DueToExec name limits r status output note left → status ≡ 12
-  unfit_so none (DueToExec.ran found status output note left is row) = absurd (none found (rw (same told read is.read) at is.runs))
+  unfit_so none (DueToExec.ran found status output note left is row) = absurd (none found (rw (same known is.read) at is.runs))
   unfit_so none (DueToExec.refused _ _ (IsNoImage.unfit other fault again binary is)) = refl
   unfit_so none (DueToExec.refused _ _ (IsNoImage.misread other fault again text wrong)) = refl
-  unfit_so none (DueToExec.refused _ _ (IsNoImage.not_read note why)) = absurd (no_unread told read why)
+  unfit_so none (DueToExec.refused _ _ (IsNoImage.not_read note why)) = absurd (no_unread known why)
 
   -- where it is a text with a fault
   misread_so : {fault : AsmFault} → is_text_file bytes ≡ true → IsTextFault bytes fault → {status : ℕ} {output note left : List ℕ}
       → DueToExec name limits r status output note left → (status ≡ 12) × (note ≡ asm_note name fault)
   misread_so text wrong (DueToExec.ran found status output note left is row) =
-      absurd (fault_or_runs found bytes _ text wrong (rw (same told read is.read) at is.runs))
-  misread_so text wrong (DueToExec.refused _ _ (IsNoImage.unfit other found again binary is)) = absurd (let here = rw (same told read again) at binary in cc)
+      absurd (fault_or_runs found bytes _ text wrong (rw (same known is.read) at is.runs))
+  misread_so text wrong (DueToExec.refused _ _ (IsNoImage.unfit other found again binary is)) = absurd (let here = rw (same known again) at binary in cc)
   misread_so text wrong (DueToExec.refused _ _ (IsNoImage.misread other found again text' wrong')) =
-      (refl, ap (asm_note name) (one_text_fault bytes found _ (rw (same told read again) at wrong') wrong))
-  misread_so text wrong (DueToExec.refused _ _ (IsNoImage.not_read note why)) = absurd (no_unread told read why)
+      (refl, ap (asm_note name) (one_text_fault bytes found _ (rw (same known again) at wrong') wrong))
+  misread_so text wrong (DueToExec.refused _ _ (IsNoImage.not_read note why)) = absurd (no_unread known why)
 
 -- so it ends as it should
 pub exec_ends : {name : List ℕ} {limits : RunLimits} {c : Call} {status : ℕ}
     → Comes (DueToExec name limits c.request) (PiecesOfExec name limits c.request) c status → ExecEnds name limits c status
 exec_ends comes = record {
   comes = comes;
-  executed_exactly = λ files bytes image told read runs eight nine.
-      let (output, note, row, out, notes) = came comes eight nine in executed_so told read runs row;
-  unfit_exactly = λ files bytes told read none eight nine.
-      let (output, note, row, out, notes) = came comes eight nine in unfit_so told read none row;
-  misread_exactly = λ files bytes fault told read text wrong eight nine.
+  executed_exactly = λ bytes image known runs eight nine.
+      let (output, note, row, out, notes) = came comes eight nine in executed_so known runs row;
+  unfit_exactly = λ bytes known none eight nine.
+      let (output, note, row, out, notes) = came comes eight nine in unfit_so known none row;
+  misread_exactly = λ bytes fault known text wrong eight nine.
       let (output, note, row, out, notes) = came comes eight nine in
-      let so = misread_so told read text wrong row in
+      let so = misread_so known text wrong row in
       (so.0, rw so.1 at notes);
   files = files_told (λ eight nine. let (output, note, row, out, notes) = came comes eight nine in read_one row);
 }

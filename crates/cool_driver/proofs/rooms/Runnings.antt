@@ -3,13 +3,12 @@ use Rattle.std.proofs.Common.{Bool, List, arith, inl, inr, refl, ℕ, ◌≡◌,
 use Rattle.cool_classes.specs.Chains.{Class}
 use Rattle.cool_emit.specs.Programs.{program_lines}
 use Rattle.cool_faults.specs.Verdicts.{IsAccepted}
-use Rattle.cool_ports.specs.ShelfFiles.{FileMap}
 use Rattle.cool_simulation.specs.Accord.{Means}
 use Rattle.cool_syntax.specs.declared.TheConstants.{MOST_SOURCE_BYTES}
 use Rattle.cool_words.specs.declared.plan.RunLimits.{RunLimits}
 use Rattle.mips_isa.specs.{Assembly.{image_of}, ImageBounds.{ImageParts}}
-use Rattle.cool_driver.specs.{Calls.{Call, DidNothing, Got, GotPart, HasTold, Request, shelf_of}, Comes.{Comes}, Compiled.{IsImageFor, compiled_program}, Ends.{Goes}}
-use Rattle.cool_driver.specs.{Execution.{run_of, status_of}, Headline.{Headline}, Runs.{DueToRun, PiecesOfRun}, Sources.{AreRead}}
+use Rattle.cool_driver.specs.{Calls.{Call, DidNothing, Got, GotPart, Request, shelf_of}, Comes.{Comes}, Compiled.{IsImageFor, compiled_program}, Ends.{Goes}}
+use Rattle.cool_driver.specs.{Execution.{run_of, status_of}, Headline.{Headline}, Runs.{DueToRun, PiecesOfRun}, Sources.{AreKnown}}
 use Rattle.cool_driver.specs.commands.Run.{DueToRunning, IsRunFor, PiecesOfRunning, RunEnds}
 use Rattle.cool_driver.proofs.{ComesOfRefusals.{comes_map, goes_map}, ComesOfRuns.{run_so, run_status}, DevicesOfCalls.{came}, HeadlineOfRuns.{headline_cut, headline_due}}
 use Rattle.cool_driver.proofs.SourcesOfCalls.{IsVerdictOn, no_refusal, same_program, sources_exactly, verdict_status}
@@ -23,34 +22,34 @@ module _ {names : List (List ℕ)} {limits : RunLimits} {fold : Bool} {r : Reque
   verdict_of (DueToRunning.refused status note why) = inr why
 
   -- where the files were read and are accepted
-  module _ {files : FileMap} {contents : List (List ℕ)} {p : List Class} (told : HasTold (shelf_of r) files)
-      (read : AreRead (shelf_of r) MOST_SOURCE_BYTES names contents) (is : IsAccepted contents p) where
+  module _ {contents : List (List ℕ)} {p : List Class} (known : AreKnown (shelf_of r) MOST_SOURCE_BYTES names contents)
+      (is : IsAccepted contents p) where
     -- the image that runs is one for their program
     image_for : {image : ImageParts} → IsRunFor names limits fold r image → IsImageFor fold p names image
-    image_for f = rw (same_program told read is f.is) at f.for
+    image_for f = rw (same_program known is f.is) at f.for
 
     -- its status
     compiled_so : {status : ℕ} {output note left : List ℕ} → DueToRunning names limits fold r status output note left
         → (status ≡ 7) ⊎ (status ≡ status_of (run_of limits (image_of (program_lines (compiled_program fold p) names)) r.input))
     compiled_so (DueToRunning.ran image status output note left for row) = run_so (image_for for).image_is row
-    compiled_so (DueToRunning.refused status note why) = absurd (no_refusal told read is why)
+    compiled_so (DueToRunning.refused status note why) = absurd (no_refusal known is why)
 
 module _ {names : List (List ℕ)} {limits : RunLimits} {fold : Bool} {c : Call} where
-  module _ {files : FileMap} {contents : List (List ℕ)} {p q : List Class} (told : HasTold (shelf_of c.request) files)
-      (read : AreRead (shelf_of c.request) MOST_SOURCE_BYTES names contents) (is : IsAccepted contents p)
+  module _ {contents : List (List ℕ)} {p q : List Class} (known : AreKnown (shelf_of c.request) MOST_SOURCE_BYTES names contents)
+      (is : IsAccepted contents p)
       (meant : (image : ImageParts) → IsImageFor fold p names image → Means image q names) (are : AreBytes c.request.input) where
     -- what is due was written, or all of it but the note
     due_so : {status : ℕ} {output note left : List ℕ} → DueToRunning names limits fold c.request status output note left → c.left ≡ left
         → Got c.out output → Headline c status limits names q × Headline c 8 limits names q
     due_so (DueToRunning.ran image status output note left for row) same got =
-        headline_due limits image names q c (meant image (image_for told read is for)) for.bounded are status output note left row same got
-    due_so (DueToRunning.refused status note why) same got = absurd (no_refusal told read is why)
+        headline_due limits image names q c (meant image (image_for known is for)) for.bounded are status output note left row same got
+    due_so (DueToRunning.refused status note why) same got = absurd (no_refusal known is why)
 
     -- the write of a piece failed
     cut_so : {before piece left : List ℕ} → PiecesOfRunning names limits fold c.request before piece left → c.left ≡ left → GotPart c.out before piece
         → Headline c 8 limits names q
     cut_so (PiecesOfRunning.of_run image before piece left for row) =
-        headline_cut limits image names q c (meant image (image_for told read is for)) for.bounded are before piece left row
+        headline_cut limits image names q c (meant image (image_for known is for)) for.bounded are before piece left row
 
     headline : {status : ℕ} → Comes (DueToRunning names limits fold c.request) (PiecesOfRunning names limits fold c.request) c status → status ≢ 9
         → Headline c status limits names q
@@ -61,7 +60,7 @@ module _ {names : List (List ℕ)} {limits : RunLimits} {fold : Bool} {c : Call}
 
   -- want of memory comes before anything was done
   not_run : {status : ℕ} → Comes (DueToRunning names limits fold c.request) (PiecesOfRunning names limits fold c.request) c status → status ≡ 9 → DidNothing c
-  not_run (Comes.written status output note row out notes) e = let known = (verdict_status {r = c.request} (verdict_of row)).0 in absurd (grind arith)
+  not_run (Comes.written status output note row out notes) e = let one = (verdict_status {r = c.request} (verdict_of row)).0 in absurd (grind arith)
   not_run (Comes.short nothing) e = nothing
   not_run _ e = absurd (omega arith)
 
@@ -69,10 +68,10 @@ module _ {names : List (List ℕ)} {limits : RunLimits} {fold : Bool} {c : Call}
       → RunEnds names limits fold c status
   running_ends comes = record {
     comes = comes;
-    headline = λ files contents p told read is are other. headline told read is (λ image for. for.means) are comes other;
-    compiled_headline = λ files contents p told read is are other. headline told read is (λ image for. for.means_compiled) are comes other;
-    compiled_exactly = λ files contents p told read is eight nine.
-        let (output, note, row, out, notes) = came comes eight nine in compiled_so told read is row;
+    headline = λ contents p known is are other. headline known is (λ image for. for.means) are comes other;
+    compiled_headline = λ contents p known is are other. headline known is (λ image for. for.means_compiled) are comes other;
+    compiled_exactly = λ contents p known is eight nine.
+        let (output, note, row, out, notes) = came comes eight nine in compiled_so known is row;
     not_run = not_run comes;
     sources = sources_exactly (λ s o n l. verdict_of) comes;
   }

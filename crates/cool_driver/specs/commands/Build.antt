@@ -3,14 +3,14 @@ use Rattle.std.specs.Prelude.{◌≡◌, ℕ, List, []}
 use Rattle.cool_syntax.specs.declared.TheConstants.{MOST_SOURCE_BYTES}
 use Rattle.cool_classes.specs.Chains.{Class}
 use Rattle.cool_faults.specs.Verdicts.{IsAccepted}
-use Rattle.cool_ports.specs.{ShelfFiles.{FileMap}, SinkPuts.{PutFront, pieces_of}}
+use Rattle.cool_ports.specs.SinkPuts.{PutFront, pieces_of}
 use Rattle.cool_emit.specs.Programs.{program_lines}
 use Rattle.cool_simulation.specs.Accord.{Means}
 use Rattle.mips_isa.specs.Assembly.{image_of}
 use Rattle.mips_image.specs.{ImageBytes.{image_bytes}, declared.stored_image.TheConstants.{CHECKED_VERSION}}
 use Rattle.mips_text.specs.Printing.{printed}
-use Rattle.cool_driver.specs.{Calls.{Request, Call, Got, ShelfUse, shelf_of, HasTold, UnlessCutShort}, Comes.{Comes}, Execution.{IsAssembled}}
-use Rattle.cool_driver.specs.{Sources.{AreRead, IsProgram, IsNoProgram, SourcesExactly}, Statuses.{DONE}, declared.writing.TheConstants.{MOST_PIECE_BYTES}}
+use Rattle.cool_driver.specs.{Calls.{Request, Call, Got, ShelfUse, shelf_of, UnlessCutShort}, Comes.{Comes}, Execution.{IsAssembled}}
+use Rattle.cool_driver.specs.{Sources.{AreKnown, IsProgram, IsNoProgram, SourcesExactly}, Statuses.{DONE}, declared.writing.TheConstants.{MOST_PIECE_BYTES}}
 use Rattle.cool_driver.specs.{declared.commands.build.Form.{Form}, declared.commands.build.Form.TheVariants.{Text, Image}}
 
 -- what `asm` and `build` write for a program whose files have these names: its lines, and the image of its lines in the version of checked
@@ -39,14 +39,14 @@ pub data PiecesOfBuild (form : Form) (names : List (List ℕ)) (r : Request) : L
 pub record BuildEnds (form : Form) (names : List (List ℕ)) (c : Call) (status : ℕ) : Type 0 where
   pub comes : Comes (DueToBuild form names c.request) (PiecesOfBuild form names c.request) c status
   -- where the files were read and are accepted, status 0 comes, and the lines or the image
-  pub built_exactly : (files : FileMap) (contents : List (List ℕ)) (p : List Class) → HasTold (shelf_of c.request) files
-      → AreRead (shelf_of c.request) MOST_SOURCE_BYTES names contents → IsAccepted contents p
+  pub built_exactly : (contents : List (List ℕ)) (p : List Class) → AreKnown (shelf_of c.request) MOST_SOURCE_BYTES names contents
+      → IsAccepted contents p
       → UnlessCutShort status ((status ≡ DONE) × Got c.out (built_bytes form p names))
   -- what is put of it are its pieces from the first on, in order (all of them where `built_exactly` holds)
-  pub built_pieces : (files : FileMap) (contents : List (List ℕ)) (p : List Class) → HasTold (shelf_of c.request) files
-      → AreRead (shelf_of c.request) MOST_SOURCE_BYTES names contents → IsAccepted contents p
+  pub built_pieces : (contents : List (List ℕ)) (p : List Class) → AreKnown (shelf_of c.request) MOST_SOURCE_BYTES names contents
+      → IsAccepted contents p
       → PutFront c.out.puts_before (pieces_of MOST_PIECE_BYTES (built_bytes form p names)) c.out.puts_after
   -- and the image, for which the text stands, too, means the program
-  pub built_means : (files : FileMap) (contents : List (List ℕ)) (p : List Class) → HasTold (shelf_of c.request) files
-      → AreRead (shelf_of c.request) MOST_SOURCE_BYTES names contents → IsAccepted contents p → UnlessCutShort status (IsCompiled p names)
+  pub built_means : (contents : List (List ℕ)) (p : List Class) → AreKnown (shelf_of c.request) MOST_SOURCE_BYTES names contents
+      → IsAccepted contents p → UnlessCutShort status (IsCompiled p names)
   pub sources : SourcesExactly names c status

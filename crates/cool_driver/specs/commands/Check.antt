@@ -3,8 +3,7 @@ use Rattle.std.specs.Prelude.{◌≡◌, ◌≢◌, ℕ, List, []}
 use Rattle.cool_syntax.specs.declared.TheConstants.{MOST_SOURCE_BYTES}
 use Rattle.cool_classes.specs.Chains.{Class}
 use Rattle.cool_faults.specs.{declared.fault.Fault.{Fault}, Verdicts.{IsFaultList}}
-use Rattle.cool_ports.specs.ShelfFiles.{FileMap}
-use Rattle.cool_driver.specs.{Calls.{Request, Call, shelf_of, HasTold, UnlessCutShort}, Comes.{Comes, NoPieces}, Sources.{AreRead, IsProgram, IsNoProgram, SourcesExactly}}
+use Rattle.cool_driver.specs.{Calls.{Request, Call, shelf_of, UnlessCutShort}, Comes.{Comes, NoPieces}, Sources.{AreKnown, IsProgram, IsNoProgram, SourcesExactly}}
 use Rattle.cool_driver.specs.Statuses.{DONE, REFUSED}
 
 pub data DueToCheck (names : List (List ℕ)) (r : Request) : ℕ → List ℕ → List ℕ → List ℕ → Type 0 where
@@ -15,7 +14,7 @@ pub data DueToCheck (names : List (List ℕ)) (r : Request) : ℕ → List ℕ �
 pub record CheckEnds (names : List (List ℕ)) (c : Call) (status : ℕ) : Type 0 where
   pub comes : Comes (DueToCheck names c.request) NoPieces c status
   -- where the files were read, status 0 comes where their fault list is empty, and status 1 where it is not
-  pub checked_exactly : (files : FileMap) (contents : List (List ℕ)) (faults : List Fault) → HasTold (shelf_of c.request) files
-      → AreRead (shelf_of c.request) MOST_SOURCE_BYTES names contents → IsFaultList contents faults
+  pub checked_exactly : (contents : List (List ℕ)) (faults : List Fault) → AreKnown (shelf_of c.request) MOST_SOURCE_BYTES names contents
+      → IsFaultList contents faults
       → UnlessCutShort status ((faults ≡ [] → status ≡ DONE) × (faults ≢ [] → status ≡ REFUSED))
   pub sources : SourcesExactly names c status

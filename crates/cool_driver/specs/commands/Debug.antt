@@ -16,13 +16,20 @@ use Rattle.cool_words.specs.{Plans.{IsBounded}, declared.plan.RunLimits.{RunLimi
 use Rattle.cool_driver.specs.{Calls.{Request, Call, SinkUse, Got, GotPart, ShelfUse, shelf_of, HasTold, UnlessCutShort, DidNothing}, Comes.{Comes, NoPieces}}
 use Rattle.cool_driver.specs.{Debugging.{commands_for, debuggee_within, debug_notes}, Execution.{run_of, status_of, note_of}, Headline.{Headline, IsPartOfSource}}
 use Rattle.cool_driver.specs.Notes.{missing_note, unread_note, too_many_note, too_large_note, refused_note, read_fault_note, script_note}
-use Rattle.cool_driver.specs.{Sources.{AreRead, EndsWith, IsProgram, IsNoProgram, FilesExactly}, Statuses.{REFUSED, READ_FAULT, WRITE_FAULT, OUT_OF_MEMORY, FILE_FAULT, UNFIT}}
+use Rattle.cool_driver.specs.{Sources.{AreKnown, EndsWith, IsProgram, IsNoProgram, FilesExactly}, Statuses.{REFUSED, READ_FAULT, WRITE_FAULT, OUT_OF_MEMORY, FILE_FAULT, UNFIT}}
 use Rattle.lists.specs.Bytes.{AreBytes}
 
 -- The script of this name has these bytes, as far as the shelf tells, and is not too large.
 pub record ScriptIsRead (shelf : ShelfUse) (script bytes : List ℕ) : Type 0 where
   pub held : MayHold shelf.files script bytes
   pub within : length bytes ≤ MOST_SCRIPT_BYTES
+
+-- The same as a premise, of files with these contents, by what the shelf tells or by what it gave: the script has these bytes where the shelf tells
+-- its files, and where it does not, it was given before them. It is not too large.
+pub record ScriptIsKnown (shelf : ShelfUse) (script bytes : List ℕ) (contents : List (List ℕ)) : Type 0 where
+  pub held : MayHold shelf.files script bytes
+  pub within : length bytes ≤ MOST_SCRIPT_BYTES
+  pub known : ((files : FileMap) × (shelf.files ≡ Some files)) ⊎ EndsWith (bytes ∷ contents) shelf.gave_after
 
 -- Why the script of this name was not read, for which the shelf was last asked, and the note of it.
 pub data ScriptIsUnread (shelf : ShelfUse) (script : List ℕ) : List ℕ → Type 0 where
@@ -49,7 +56,8 @@ pub data IsNoDebuggee (script : List ℕ) (names : List (List ℕ)) (shelf : She
   refused : (bytes : List ℕ) (status : ℕ) (note : List ℕ) → ScriptIsRead shelf script bytes → IsNoProgram shelf names status note
       → IsNoDebuggee script names shelf status note
   -- they are one, for which the script has a fault
-  misscripted : (bytes : List ℕ) (p : List Class) (fault : ScriptFault) → ScriptIsRead shelf script bytes → IsProgram shelf names p
+  misscripted : (bytes : List ℕ) (p : List Class) (fault : ScriptFault) → ScriptIsRead shelf script bytes → (is : IsProgram shelf names p)
+      → EndsWith (bytes ∷ is.contents) shelf.gave_after
       → commands_for p names bytes ≡ Err fault → IsNoDebuggee script names shelf UNFIT (script_note script fault)
 
 -- The image that is debugged for them, that of the lines of the program that the files are, which means it; and the commands that the script says
@@ -59,6 +67,7 @@ pub record IsDebuggee (script : List ℕ) (names : List (List ℕ)) (shelf : She
   pub read : ScriptIsRead shelf script bytes
   pub p : List Class
   pub is : IsProgram shelf names p
+  pub gave : EndsWith (bytes ∷ is.contents) shelf.gave_after
   pub says : commands_for p names bytes ≡ Ok commands
   pub image_is : image ≡ image_of (program_lines p names)
   pub means : Means image p names
@@ -127,19 +136,19 @@ pub record DebugEnds (script : List ℕ) (names : List (List ℕ)) (limits : Run
   pub comes : DebugComes script names limits c status
   -- where the files were read and are accepted, and the script was read and has no fault, it goes as the run of the image of the program under
   -- the debugger, whatever the status
-  pub debugged_exactly : (files : FileMap) (contents : List (List ℕ)) (p : List Class) (bytes : List ℕ) (commands : List DebugCommand)
-      → HasTold (shelf_of c.request) files → AreRead (shelf_of c.request) MOST_SOURCE_BYTES names contents → IsAccepted contents p
-      → ScriptIsRead (shelf_of c.request) script bytes → commands_for p names bytes ≡ Ok commands
+  pub debugged_exactly : (contents : List (List ℕ)) (p : List Class) (bytes : List ℕ) (commands : List DebugCommand)
+      → AreKnown (shelf_of c.request) MOST_SOURCE_BYTES names contents → IsAccepted contents p
+      → ScriptIsKnown (shelf_of c.request) script bytes contents → commands_for p names bytes ≡ Ok commands
       → Debugs limits (image_of (program_lines p names)) commands c status
   -- where it has a fault, status 12 comes, and the note tells that
-  pub misscripted_exactly : (files : FileMap) (contents : List (List ℕ)) (p : List Class) (bytes : List ℕ) (fault : ScriptFault)
-      → HasTold (shelf_of c.request) files → AreRead (shelf_of c.request) MOST_SOURCE_BYTES names contents → IsAccepted contents p
-      → ScriptIsRead (shelf_of c.request) script bytes → commands_for p names bytes ≡ Err fault
+  pub misscripted_exactly : (contents : List (List ℕ)) (p : List Class) (bytes : List ℕ) (fault : ScriptFault)
+      → AreKnown (shelf_of c.request) MOST_SOURCE_BYTES names contents → IsAccepted contents p
+      → ScriptIsKnown (shelf_of c.request) script bytes contents → commands_for p names bytes ≡ Err fault
       → UnlessCutShort status ((status ≡ UNFIT) × Got c.notes (script_note script fault))
   -- where it has none, it goes as `run`, unless it stops short, or memory ran out before anything was written or taken
-  pub debugged_headline : (files : FileMap) (contents : List (List ℕ)) (p : List Class) (bytes : List ℕ) (commands : List DebugCommand)
-      → HasTold (shelf_of c.request) files → AreRead (shelf_of c.request) MOST_SOURCE_BYTES names contents → IsAccepted contents p
-      → ScriptIsRead (shelf_of c.request) script bytes → commands_for p names bytes ≡ Ok commands → AreBytes c.request.input
+  pub debugged_headline : (contents : List (List ℕ)) (p : List Class) (bytes : List ℕ) (commands : List DebugCommand)
+      → AreKnown (shelf_of c.request) MOST_SOURCE_BYTES names contents → IsAccepted contents p
+      → ScriptIsKnown (shelf_of c.request) script bytes contents → commands_for p names bytes ≡ Ok commands → AreBytes c.request.input
       → Headline c status limits names p ⊎ StopsShort c status limits names p commands ⊎ ((status ≡ OUT_OF_MEMORY) × DidNothing c)
   -- status 10 comes where the script is missing or too large, and where files are
   pub script_missing_exactly : (files : FileMap) → HasTold (shelf_of c.request) files → files script ≡ None
@@ -148,6 +157,6 @@ pub record DebugEnds (script : List ℕ) (names : List (List ℕ)) (limits : Run
       → MOST_SCRIPT_BYTES < length bytes → UnlessCutShort status (status ≡ FILE_FAULT)
   pub files : FilesExactly names MOST_SOURCE_BYTES c status
   -- status 1 comes where the script and the files were read and the fault list is not empty, with a line for each fault of it
-  pub refused_exactly : (files : FileMap) (contents : List (List ℕ)) (bytes : List ℕ) (faults : List Fault) → HasTold (shelf_of c.request) files
-      → AreRead (shelf_of c.request) MOST_SOURCE_BYTES names contents → ScriptIsRead (shelf_of c.request) script bytes
+  pub refused_exactly : (contents : List (List ℕ)) (bytes : List ℕ) (faults : List Fault)
+      → AreKnown (shelf_of c.request) MOST_SOURCE_BYTES names contents → ScriptIsKnown (shelf_of c.request) script bytes contents
       → IsFaultList contents faults → faults ≢ [] → UnlessCutShort status ((status ≡ REFUSED) × Got c.notes (refused_note names faults))

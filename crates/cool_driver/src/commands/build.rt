@@ -46,9 +46,9 @@ pub fn build_files<F: Shelf, O: Sink, E: Sink>(
     ensures kept { F.files files.new ≡ F.files files.old }
     ensures asked { AskedFront (words_of names.now) (F.asked files.old) (F.asked files.new) }
     ensures lines { PutsLines (E.puts notes.old) (E.puts notes.new) }
-    ensures refused { code_of result ≡ REFUSED → PutsFaults (words_of names.now) (shelf_use F.files F.faults F.asked files.old files.new) (E.puts notes.old) (E.puts notes.new) }
+    ensures refused { code_of result ≡ REFUSED → PutsFaults (words_of names.now) (shelf_use F.files F.faults F.asked F.gave files.old files.new) (E.puts notes.old) (E.puts notes.new) }
     ensures ends { (words : List (List ℕ)) (input : List ℕ) (faults : ℕ)
-        → Goes (BuildEnds form (words_of names.now)) (untaking words (shelf_use F.files F.faults F.asked files.old files.new) input faults
+        → Goes (BuildEnds form (words_of names.now)) (untaking words (shelf_use F.files F.faults F.asked F.gave files.old files.new) input faults
         (sink_use O.held O.faults O.puts out.old out.new) (sink_use E.held E.faults E.puts notes.old notes.new)) (code_of result) }
 {
     match make_bytes(alloc, form, names, files) {
@@ -69,9 +69,9 @@ fn make_bytes<F: Shelf>(
     ensures kept { F.files files.new ≡ F.files files.old }
     ensures asked { AskedFront (words_of names.now) (F.asked files.old) (F.asked files.new) }
     ensures count { F.faults files.old ≤ F.faults files.new }
-    ensures built { IfOk result (λ bytes. IsBuilt form (words_of names.now) (shelf_use F.files F.faults F.asked files.old files.new) bytes.items) }
-    ensures refused { IfErr result (IsTold (IsNoProgram (shelf_use F.files F.faults F.asked files.old files.new) (words_of names.now))) }
-    ensures lined { IfErr result (AreFaultLines (words_of names.now) (shelf_use F.files F.faults F.asked files.old files.new)) }
+    ensures built { IfOk result (λ bytes. IsBuilt form (words_of names.now) (shelf_use F.files F.faults F.asked F.gave files.old files.new) bytes.items) }
+    ensures refused { IfErr result (IsTold (IsNoProgram (shelf_use F.files F.faults F.asked F.gave files.old files.new) (words_of names.now))) }
+    ensures lined { IfErr result (AreFaultLines (words_of names.now) (shelf_use F.files F.faults F.asked F.gave files.old files.new)) }
 {
     match read_program(alloc, names, files) {
         Ok(program) => write_program(alloc, form, &program, names),

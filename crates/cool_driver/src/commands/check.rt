@@ -29,9 +29,9 @@ pub fn check_files<F: Shelf, E: Sink>(
     ensures kept { F.files files.new ≡ F.files files.old }
     ensures asked { AskedFront (words_of names.now) (F.asked files.old) (F.asked files.new) }
     ensures lines { PutsLines (E.puts notes.old) (E.puts notes.new) }
-    ensures refused { code_of result ≡ REFUSED → PutsFaults (words_of names.now) (shelf_use F.files F.faults F.asked files.old files.new) (E.puts notes.old) (E.puts notes.new) }
+    ensures refused { code_of result ≡ REFUSED → PutsFaults (words_of names.now) (shelf_use F.files F.faults F.asked F.gave files.old files.new) (E.puts notes.old) (E.puts notes.new) }
     ensures ends { (words : List (List ℕ)) (input : List ℕ) (faults : ℕ) (out : SinkUse) → Got out []
-        → Goes (CheckEnds (words_of names.now)) (untaking words (shelf_use F.files F.faults F.asked files.old files.new) input faults out
+        → Goes (CheckEnds (words_of names.now)) (untaking words (shelf_use F.files F.faults F.asked F.gave files.old files.new) input faults out
         (sink_use E.held E.faults E.puts notes.old notes.new)) (code_of result) }
 {
     match read_program(alloc, names, files) {

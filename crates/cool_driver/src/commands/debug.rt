@@ -13,7 +13,7 @@ ghost use Rattle.spim_debug.specs.Debugging.{IsScriptFor};
 ghost use Rattle.cool_driver.specs.Calls.{Request, request_of, shelf_use, sink_use};
 ghost use Rattle.cool_driver.specs.Debugging.{commands_for};
 ghost use Rattle.cool_driver.specs.Ends.{Goes};
-ghost use Rattle.cool_driver.specs.Sources.{AskedFront};
+ghost use Rattle.cool_driver.specs.Sources.{AskedFront, EndsWith};
 ghost use Rattle.cool_driver.specs.Refusals.{AreFaultLines, IsTold, PutsFaults};
 ghost use Rattle.cool_driver.specs.Statuses.{REFUSED, code_of};
 ghost use Rattle.cool_driver.specs.Telling.{PutsLines};
@@ -59,11 +59,11 @@ pub fn debug_files<F: Shelf, I: Source, O: Sink, E: Sink>(
     ensures kept { F.files files.new ≡ F.files files.old }
     ensures asked { AskedFront (script.now ∷ words_of names.now) (F.asked files.old) (F.asked files.new) }
     ensures lines { PutsLines (E.puts notes.old) (E.puts notes.new) }
-    ensures refused { code_of result ≡ REFUSED → PutsFaults (words_of names.now) (shelf_use F.files F.faults F.asked files.old files.new) (E.puts notes.old) (E.puts notes.new) }
+    ensures refused { code_of result ≡ REFUSED → PutsFaults (words_of names.now) (shelf_use F.files F.faults F.asked F.gave files.old files.new) (E.puts notes.old) (E.puts notes.new) }
     ensures taken { (ended : Bool) × Took false ended (I.past input.old) (I.past input.new) (I.left input.old) (I.left input.new) }
     ensures ends { (words : List (List ℕ)) (given rest : List ℕ) → Leaves (I.past input.old) (I.past input.new) given rest
         → Goes (DebugEnds script.now (words_of names.now) limits) (record {
-          request = request_of words (shelf_use F.files F.faults F.asked files.old files.new) given;
+          request = request_of words (shelf_use F.files F.faults F.asked F.gave files.old files.new) given;
           out = sink_use O.held O.faults O.puts out.old out.new;
           notes = sink_use E.held E.faults E.puts notes.old notes.new;
           left = rest;
@@ -99,10 +99,10 @@ fn read_debuggee<F: Shelf>(
     ensures kept { F.files files.new ≡ F.files files.old }
     ensures asked { AskedFront (script.now ∷ words_of names.now) (F.asked files.old) (F.asked files.new) }
     ensures count { F.faults files.old ≤ F.faults files.new }
-    ensures debuggee { IfOk result (λ x. IsDebuggee script.now (words_of names.now) (shelf_use F.files F.faults F.asked files.old files.new) x.image x.commands.items) }
+    ensures debuggee { IfOk result (λ x. IsDebuggee script.now (words_of names.now) (shelf_use F.files F.faults F.asked F.gave files.old files.new) x.image x.commands.items) }
     ensures script { IfOk result (λ x. IsScriptFor x.image.text x.commands.items) }
-    ensures refused { IfErr result (IsTold (IsNoDebuggee script.now (words_of names.now) (shelf_use F.files F.faults F.asked files.old files.new))) }
-    ensures lined { IfErr result (AreFaultLines (words_of names.now) (shelf_use F.files F.faults F.asked files.old files.new)) }
+    ensures refused { IfErr result (IsTold (IsNoDebuggee script.now (words_of names.now) (shelf_use F.files F.faults F.asked F.gave files.old files.new))) }
+    ensures lined { IfErr result (AreFaultLines (words_of names.now) (shelf_use F.files F.faults F.asked F.gave files.old files.new)) }
 {
     if names.len() > MOST_FILES {
         return Err(refuse_by_line(alloc, Status::FileFault, TOO_MANY_FILES));
@@ -119,8 +119,9 @@ fn read_bytes<F: Shelf>(alloc: Global, script: &str, files: &mut F) -> Result<Ve
     ensures asked { F.asked files.new ≡ F.asked files.old ++ script.now ∷ [] }
     ensures count { F.faults files.old ≤ F.faults files.new }
     ensures calm { OnOk result (F.faults files.new ≡ F.faults files.old) }
-    ensures read { IfOk result (λ bytes. ScriptIsRead (shelf_use F.files F.faults F.asked files.old files.new) script.now bytes.items) }
-    ensures refused { IfErr result (IsTold (IsDueUnscripted (shelf_use F.files F.faults F.asked files.old files.new) script.now)) }
+    ensures gave { IfOk result (λ bytes. F.gave files.new ≡ F.gave files.old ++ bytes.items ∷ []) }
+    ensures read { IfOk result (λ bytes. ScriptIsRead (shelf_use F.files F.faults F.asked F.gave files.old files.new) script.now bytes.items) }
+    ensures refused { IfErr result (IsTold (IsDueUnscripted (shelf_use F.files F.faults F.asked F.gave files.old files.new) script.now)) }
 {
     match files.read(alloc, script, MOST_SCRIPT_BYTES) {
         Ok(bytes) => Ok(bytes),
@@ -141,14 +142,15 @@ fn read_scripted<F: Shelf>(
 ) -> Result<Scripted, Refusal>
     requires some { 0 < length names.now }
     requires names { list_all is_file_name (words_of names.now) ≡ true }
-    requires read { ScriptIsRead (shelf_use F.files F.faults F.asked files.old files.old) script.now bytes.now }
+    requires read { ScriptIsRead (shelf_use F.files F.faults F.asked F.gave files.old files.old) script.now bytes.now }
+    requires gave { EndsWith (bytes.now ∷ []) (F.gave files.old) }
     ensures kept { F.files files.new ≡ F.files files.old }
     ensures asked { AskedFront (words_of names.now) (F.asked files.old) (F.asked files.new) }
     ensures count { F.faults files.old ≤ F.faults files.new }
-    ensures debuggee { IfOk result (λ x. IsDebuggee script.now (words_of names.now) (shelf_use F.files F.faults F.asked files.old files.new) x.image x.commands.items) }
+    ensures debuggee { IfOk result (λ x. IsDebuggee script.now (words_of names.now) (shelf_use F.files F.faults F.asked F.gave files.old files.new) x.image x.commands.items) }
     ensures script { IfOk result (λ x. IsScriptFor x.image.text x.commands.items) }
-    ensures refused { IfErr result (IsTold (IsNoDebuggee script.now (words_of names.now) (shelf_use F.files F.faults F.asked files.old files.new))) }
-    ensures lined { IfErr result (AreFaultLines (words_of names.now) (shelf_use F.files F.faults F.asked files.old files.new)) }
+    ensures refused { IfErr result (IsTold (IsNoDebuggee script.now (words_of names.now) (shelf_use F.files F.faults F.asked F.gave files.old files.new))) }
+    ensures lined { IfErr result (AreFaultLines (words_of names.now) (shelf_use F.files F.faults F.asked F.gave files.old files.new)) }
 {
     match read_program(alloc, names, files) {
         Ok(program) => script_program(alloc, script, bytes, names, &program),

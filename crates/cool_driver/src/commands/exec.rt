@@ -48,7 +48,7 @@ pub fn execute_file<F: Shelf, I: Source, O: Sink, E: Sink>(
     ensures taken { (ended : Bool) × Took false ended (I.past input.old) (I.past input.new) (I.left input.old) (I.left input.new) }
     ensures ends { (words : List (List ℕ)) (given rest : List ℕ) → Leaves (I.past input.old) (I.past input.new) given rest
         → Goes (ExecEnds (string_bytes file) limits) (record {
-          request = request_of words (shelf_use F.files F.faults F.asked files.old files.new) given;
+          request = request_of words (shelf_use F.files F.faults F.asked F.gave files.old files.new) given;
           out = sink_use O.held O.faults O.puts out.old out.new;
           notes = sink_use E.held E.faults E.puts notes.old notes.new;
           left = rest;
@@ -67,8 +67,8 @@ fn load_file<F: Shelf>(alloc: Global, file: String, files: &mut F) -> Result<Ima
     ensures kept { F.files files.new ≡ F.files files.old }
     ensures asked { AskedFront (string_bytes file ∷ []) (F.asked files.old) (F.asked files.new) }
     ensures count { F.faults files.old ≤ F.faults files.new }
-    ensures image { IfOk result (IsLoaded (shelf_use F.files F.faults F.asked files.old files.new) (string_bytes file)) }
-    ensures refused { IfErr result (IsTold (IsNoImage (shelf_use F.files F.faults F.asked files.old files.new) (string_bytes file))) }
+    ensures image { IfOk result (IsLoaded (shelf_use F.files F.faults F.asked F.gave files.old files.new) (string_bytes file)) }
+    ensures refused { IfErr result (IsTold (IsNoImage (shelf_use F.files F.faults F.asked F.gave files.old files.new) (string_bytes file))) }
 {
     let names = vec![in alloc; file]?;
     match read_sources(alloc, &names, MOST_IMAGE_BYTES, files) {

@@ -44,11 +44,11 @@ pub fn run_files<F: Shelf, I: Source, O: Sink, E: Sink>(
     ensures kept { F.files files.new ≡ F.files files.old }
     ensures asked { AskedFront (words_of names.now) (F.asked files.old) (F.asked files.new) }
     ensures lines { PutsLines (E.puts notes.old) (E.puts notes.new) }
-    ensures refused { code_of result ≡ REFUSED → PutsFaults (words_of names.now) (shelf_use F.files F.faults F.asked files.old files.new) (E.puts notes.old) (E.puts notes.new) }
+    ensures refused { code_of result ≡ REFUSED → PutsFaults (words_of names.now) (shelf_use F.files F.faults F.asked F.gave files.old files.new) (E.puts notes.old) (E.puts notes.new) }
     ensures taken { (ended : Bool) × Took false ended (I.past input.old) (I.past input.new) (I.left input.old) (I.left input.new) }
     ensures ends { (words : List (List ℕ)) (given rest : List ℕ) → Leaves (I.past input.old) (I.past input.new) given rest
         → Goes (RunEnds (words_of names.now) limits fold) (record {
-          request = request_of words (shelf_use F.files F.faults F.asked files.old files.new) given;
+          request = request_of words (shelf_use F.files F.faults F.asked F.gave files.old files.new) given;
           out = sink_use O.held O.faults O.puts out.old out.new;
           notes = sink_use E.held E.faults E.puts notes.old notes.new;
           left = rest;
@@ -74,9 +74,9 @@ fn compile_files<F: Shelf>(
     ensures kept { F.files files.new ≡ F.files files.old }
     ensures asked { AskedFront (words_of names.now) (F.asked files.old) (F.asked files.new) }
     ensures count { F.faults files.old ≤ F.faults files.new }
-    ensures image { IfOk result (IsCompiledTo fold (words_of names.now) (shelf_use F.files F.faults F.asked files.old files.new)) }
-    ensures refused { IfErr result (IsTold (IsNoProgram (shelf_use F.files F.faults F.asked files.old files.new) (words_of names.now))) }
-    ensures lined { IfErr result (AreFaultLines (words_of names.now) (shelf_use F.files F.faults F.asked files.old files.new)) }
+    ensures image { IfOk result (IsCompiledTo fold (words_of names.now) (shelf_use F.files F.faults F.asked F.gave files.old files.new)) }
+    ensures refused { IfErr result (IsTold (IsNoProgram (shelf_use F.files F.faults F.asked F.gave files.old files.new) (words_of names.now))) }
+    ensures lined { IfErr result (AreFaultLines (words_of names.now) (shelf_use F.files F.faults F.asked F.gave files.old files.new)) }
 {
     match read_program(alloc, names, files) {
         Ok(program) => {

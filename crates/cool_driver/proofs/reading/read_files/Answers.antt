@@ -1,7 +1,7 @@
 use Rattle.std.proofs.Common.{◌≡◌, rules, ap, length, ◌∙◌, arith}
 use Rattle.std.specs.Prelude.{Err}
 use Rattle.cool_driver.specs.{Calls.{shelf_use}, declared.reading.ReadError.TheVariants.{Memory}}
-use Rattle.cool_driver.proofs.ReadingNames.{held_turn, bytes_turn, total_turn, cause_of, stop_at, asked_turn, asked_part}
+use Rattle.cool_driver.proofs.ReadingNames.{held_turn, bytes_turn, total_turn, cause_of, stop_at, asked_turn, asked_part, gave_turn}
 use Rattle.cool_driver.proofs.reading.read_files.Goals as goal
 
 -- a file was refused
@@ -17,9 +17,10 @@ returns-in_default g c =
       kept = c.read.ensures.kept ∙ so_far.kept;
       count = omega (arith, so_far.calm, c.read.ensures.count.no_less);
       asked = tt;
+      gave = tt;
       asked_for = asked_part c.args.names.now c.loop-index.index c.index-names-index.result c.as_str-name.result.now c.loop-index-test.true c.index-names-index.is c.as_str-name.ensures.value _ _ _ so_far.asked c.read.ensures.asked;
       stop = stop_at c.args.names.now c.loop-index.index c.index-names-index.result c.as_str-name.result.now c.loop-index-test.true c.index-names-index.is c.as_str-name.ensures.value
-          (shelf_use g.F.Shelf.files g.F.Shelf.faults g.F.Shelf.asked c.args.files.now c.read.new.self) _ _ c.loop-index.contents.items c.args.most c.loop-index.left c.in-Err.fault _ _
+          (shelf_use g.F.Shelf.files g.F.Shelf.faults g.F.Shelf.asked g.F.Shelf.gave c.args.files.now c.read.new.self) _ _ c.loop-index.contents.items c.args.most c.loop-index.left c.in-Err.fault _ _
           c.requires.few so_far.kept so_far.calm so_far.held so_far.rest
           (cause_of _ _ _ c.as_str-name.result.now c.loop-index.left c.in-Err.fault (λ e. read.missing (ap Err e)) (λ e. read.too_large (ap Err e)) (λ e. read.failed (ap Err e)) c.in_default.not-Memory)
           so_far.asked c.read.ensures.asked;
@@ -38,6 +39,7 @@ loop-index-preserved g c =
       rest = omega (arith, total_turn c.loop-index.contents.items c.push.new.self.items c.in-Ok.bytes pushed, so_far.rest, read.within, c.byte_count-left.ensures.count, ap length c.deref.ensures.value);
       calm = read.no_fault ∙ so_far.calm;
       asked = asked_turn c.args.names.now c.loop-index.index c.index-names-index.result c.as_str-name.result.now c.loop-index-test.true c.index-names-index.is c.as_str-name.ensures.value _ _ _ so_far.asked c.read.ensures.asked;
+      gave = gave_turn _ _ _ c.loop-index.contents.items c.push.new.self.items c.in-Ok.bytes pushed so_far.gave read.gave;
       kept = c.read.ensures.kept ∙ so_far.kept;
     }
 

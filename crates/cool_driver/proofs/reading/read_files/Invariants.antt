@@ -15,5 +15,6 @@ invariant-loop-index g l = record {
   rest : total (texts l.contents.items) + l.left ≡ l.most;
   calm : g.F.Shelf.faults l.files ≡ g.F.Shelf.faults l.fn.files;
   asked : g.F.Shelf.asked l.files ≡ g.F.Shelf.asked l.fn.files ++ words_of (take l.index l.names);
+  gave : g.F.Shelf.gave l.files ≡ g.F.Shelf.gave l.fn.files ++ texts l.contents.items;
   kept : g.F.Shelf.files l.files ≡ g.F.Shelf.files l.fn.files;
 }

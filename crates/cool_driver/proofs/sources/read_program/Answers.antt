@@ -1,7 +1,7 @@
-use Rattle.std.proofs.{Common.{arith, string_bytes}, lemmas.List.{length-map}}
+use Rattle.std.proofs.{Common.{arith, string_bytes, sym}, lemmas.List.{length-map}}
 use Rattle.cool_words.specs.Plans.{words_of}
 use Rattle.cool_driver.specs.{Contents.{texts}, Sources.{IsDueUnread, IsNoProgram}}
-use Rattle.cool_driver.proofs.{HeldFiles.{held_length}, RefusalsTold.{told_so, other_lined}, SourcesOfCalls.{faulty_of, program_of, sources_read}}
+use Rattle.cool_driver.proofs.{HeldFiles.{held_length}, Results.{on_ok}, RefusalsTold.{told_so, other_lined}, SourcesOfCalls.{faulty_of, program_of, sources_read}}
 use Rattle.cool_driver.proofs.sources.read_program.Goals as goal
 
 -- the files are sources
@@ -19,6 +19,12 @@ accept_sources-requires g c =
 pub returns-in-Ok-clause-program : goal.returns-in-Ok-clause-program
 returns-in-Ok-clause-program g c =
     program_of c.accept_sources.result c.deref.ensures.value c.in-Ok.ensures.read c.in-Ok.ensures.bytes c.accept_sources.ensures.program
+
+pub returns-in-Ok-clause-grew : goal.returns-in-Ok-clause-grew
+returns-in-Ok-clause-grew g c =
+    let files = c.in-Ok.contents.items in
+    on_ok c.accept_sources.result
+    (texts files, sym (held_length (g.F.Shelf.files c.args.files.now) (words_of c.args.names.now) (texts files) c.in-Ok.ensures.read.held), c.in-Ok.ensures.gave)
 
 -- they have faults
 pub returns-in-Ok-clause-refused : goal.returns-in-Ok-clause-refused

@@ -20,6 +20,9 @@ read_scripted-requires-clause-read g c =
     let read = rw (← c.deref.ensures.value) at c.in-Ok.ensures.read in
     record { held = rw c.read_bytes.ensures.kept read.held; within = read.within }
 
+pub read_scripted-requires-clause-gave : goal.read_scripted-requires-clause-gave
+read_scripted-requires-clause-gave g c = rw c.deref.ensures.value (_, c.in-Ok.ensures.gave)
+
 -- it was read
 pub returns-in-Ok-clause-debuggee : goal.returns-in-Ok-clause-debuggee
 returns-in-Ok-clause-debuggee g c = rw (c.read_bytes.ensures.kept, c.in-Ok.ensures.calm) at c.read_scripted.ensures.debuggee

@@ -1,6 +1,9 @@
 use Rattle.cool_driver.specs.{Sources.{IsNoProgram}, commands.Debug.{IsNoDebuggee, IsDueToScript}}
 use Rattle.cool_driver.proofs.{ProgramsMeant.{program_fits, program_meant}, RefusalsTold.{told_so, other_lined}, rooms.Debuggings.{debuggee_if, misscripted_if}, Results.{for_err}}
-use Rattle.std.proofs.Common.{arith}
+use Rattle.std.proofs.Common.{List, arith, length, ◌∷◌, [], ℕ}
+use Rattle.cool_classes.specs.Chains.{Class}
+use Rattle.cool_driver.specs.{Calls.{ShelfUse}, Sources.{EndsWith, GrewBy, IsProgram}}
+use Rattle.cool_driver.proofs.HeldFiles.{first_then, held_length}
 use Rattle.cool_words.specs.Plans.{words_of}
 use Rattle.cool_driver.proofs.commands.debug.read_scripted.Goals as goal
 
@@ -12,18 +15,25 @@ script_program-requires-clause-fits g c = program_fits c.args.names.now _ c.in-O
 pub script_program-requires-clause-small : goal.script_program-requires-clause-small
 script_program-requires-clause-small g c = c.requires.read.within
 
+-- they were given after the script
+given_after : {names : List (List ℕ)} {shelf : ShelfUse} {p : List Class} {bytes : List ℕ} {before : List (List ℕ)} → (is : IsProgram shelf names p)
+    → EndsWith (bytes ∷ []) before → GrewBy (length names) before shelf.gave_after → EndsWith (bytes ∷ is.contents) shelf.gave_after
+given_after {names} {shelf} {p} {bytes} {before} is script grew =
+    first_then bytes names is.contents before shelf.gave_after script grew is.read.gave (held_length shelf.files names is.contents is.read.held)
+
 -- the files are a program
 pub returns-in-Ok-clause-debuggee : goal.returns-in-Ok-clause-debuggee
 returns-in-Ok-clause-debuggee g c =
     let is = c.in-Ok.ensures.program in
     let script = c.requires.read in
-    debuggee_if c.script_program.result (record { held = script.held; within = script.within }) is
+    debuggee_if c.script_program.result (record { held = script.held; within = script.within }) is (given_after is c.requires.gave c.in-Ok.ensures.grew)
     (program_meant c.args.names.now _ c.in-Ok.program c.requires.names is) c.script_program.ensures.image c.script_program.ensures.says
 
 pub returns-in-Ok-clause-refused : goal.returns-in-Ok-clause-refused
 returns-in-Ok-clause-refused g c =
     let script = c.requires.read in
-    misscripted_if c.script_program.result (record { held = script.held; within = script.within }) c.in-Ok.ensures.program c.script_program.ensures.refused
+    misscripted_if c.script_program.result (record { held = script.held; within = script.within }) c.in-Ok.ensures.program
+    (given_after c.in-Ok.ensures.program c.requires.gave c.in-Ok.ensures.grew) c.script_program.ensures.refused
 
 -- they are none
 pub returns-in-Err-clause-refused : goal.returns-in-Err-clause-refused
