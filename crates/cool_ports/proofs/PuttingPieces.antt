@@ -1,9 +1,9 @@
 -- What a sink was given to put, over several puts.
-use Rattle.std.proofs.Common.{◌≡◌, ℕ, zero, suc, ◌+◌, ◌-◌, ◌*◌, ◌<◌, ◌≤◌, inl, inr, min, List, [], ◌∷◌, ◌++◌, length, take, drop, map, refl, sym, ◌∙◌, ap, append_assoc, append-nil, arith}
+use Rattle.std.proofs.Common.{◌≡◌, ℕ, zero, suc, ◌+◌, ◌-◌, ◌*◌, ◌<◌, ◌≤◌, inl, inr, min, List, [], ◌∷◌, ◌++◌, length, take, drop, map, refl, sym, ◌∙◌, ap, append_assoc, append-nil, take-append-drop, arith}
 use Rattle.std.proofs.Math.Nat.{add-div_right, add-mod_right, div-eq_of_lt, mod-eq_of_lt}
 use Rattle.std.proofs.lemmas.Bool.{cases_lt}
 use Rattle.std.proofs.lemmas.List.{drop-drop, length-drop, take_all, drop_all, nil_from_length}
-use Rattle.std.specs.List.{range_with_len}
+use Rattle.std.specs.List.{range_with_len, concat}
 use Rattle.std.specs.Int.{div_ceil}
 use Rattle.cool_ports.specs.SinkPuts.{piece_of, pieces_of, PutUpTo, PutFront}
 
@@ -48,6 +48,18 @@ no_pieces : (size : ℕ) → 0 < size → pieces_of size [] ≡ []
 no_pieces size some =
     let none : div_ceil 0 size ≡ 0 = omega (arith, div-eq_of_lt some, mod-eq_of_lt some) in
     ap (λ n. map (piece_of size []) (range_with_len 0 n)) none
+
+-- the pieces are the bytes, one after another
+pub pieces_whole : (size : ℕ) (bytes : List ℕ) → 0 < size → concat (pieces_of size bytes) ≡ bytes
+pieces_whole size bytes some = by (length bytes) bytes (omega arith)
+  where
+    by : (most : ℕ) (bytes : List ℕ) → length bytes ≤ most → concat (pieces_of size bytes) ≡ bytes
+    by most [] few = ap concat (no_pieces size some)
+    by zero (byte ∷ bytes) few = absurd (omega (arith, few))
+    by (suc most) (byte ∷ bytes) few =
+        ap concat (pieces_next size (byte ∷ bytes) some (omega arith))
+        ∙ ap (λ rest. take size (byte ∷ bytes) ++ rest) (by most (drop size (byte ∷ bytes)) (omega (arith, few, some, length-drop size (byte ∷ bytes))))
+        ∙ take-append-drop size (byte ∷ bytes)
 
 -- bytes that fit one piece are one piece
 pub one_piece : (size : ℕ) (bytes : List ℕ) → 0 < length bytes → length bytes ≤ size → pieces_of size bytes ≡ bytes ∷ []

@@ -19,5 +19,6 @@ pub mod CountsOfRuns
 mod RunsUpToBreaks
 pub mod RunsWithoutBreaks
 mod PutsOfRuns
+mod PutsAreOutput
 pub mod StoppedRuns
 pub mod LoadedRuns

@@ -48,6 +48,12 @@ abbrev pub run_puts : List ℕ → Segments → ℕ → State → List (List ℕ
 run_puts text b zero s = []
 run_puts text b (suc n) s = cycle_puts text b s.core ++ puts_then (cycle text b s) (run_puts text b n)
 
+-- the output that a run has where it comes to this
+abbrev pub output_of : Outcome → List ℕ
+output_of (Running s) = s.output
+output_of (Exited code s) = s.output
+output_of (Trapped trap s) = s.output
+
 -- These were put, or a front of them where a put failed.
 abbrev pub PutBy : Halt → List (List ℕ) → List (List ℕ) → List (List ℕ) → Type 0
 PutBy WriteFault due before after = PutFront before due after

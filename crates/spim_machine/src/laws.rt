@@ -1,12 +1,15 @@
 //! Laws on runs, and on what they take of a source.
 
-ghost use Rattle.std.specs.Prelude.{◌≡◌, ◌≢◌, ◌+◌, List, [], ℕ, Bool, Option, Some};
+ghost use Rattle.std.specs.Prelude.{◌≡◌, ◌≢◌, ◌+◌, ◌++◌, List, [], ℕ, Bool, Option, Some};
+ghost use Rattle.std.specs.List.{concat};
 ghost use Rattle.cool_ports.specs.Answers.{Past, Leaves};
 ghost use Rattle.mips_isa.specs.Bytes.{Segments};
 ghost use Rattle.mips_isa.specs.Calls.{State};
+ghost use Rattle.mips_isa.specs.Run.{run};
 ghost use Rattle.cool_ports.specs.Taking.{Took};
 ghost use Rattle.spim_machine.specs.Machine.{MachineParts, IsIn};
 ghost use Rattle.spim_machine.specs.Ends.{Ran};
+ghost use Rattle.spim_machine.specs.Puts.{run_puts, output_of};
 ghost use Rattle.spim_machine.specs.declared.halt.Halt.{Halt};
 ghost use Rattle.spim_machine.specs.declared.halt.Halt.TheVariants.{StepLimit};
 
@@ -26,4 +29,9 @@ pub fn law_possible_inputs()
     ensures some { (was is : Bool) (before after : Past) (left left' : Option (List ℕ)) → (took : Took was is before after left left') → Leaves before after took.front [] }
     ensures told { (was is : Bool) (before after : Past) (input : List ℕ) (left' : Option (List ℕ)) → Took was is before after (Some input) left'
         → (rest : List ℕ) × (left' ≡ Some rest) × Leaves before after input rest }
+{}
+
+/// What a run puts, put after put, is what it adds to the output.
+pub fn law_puts_are_output()
+    ensures added { (text : List ℕ) (b : Segments) (n : ℕ) (s : State) → output_of (run text b n s) ≡ s.output ++ concat (run_puts text b n s) }
 {}

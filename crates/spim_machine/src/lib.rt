@@ -12,5 +12,5 @@ mod number;
 mod output;
 
 pub use halt::{Halt, Stopped};
-pub use laws::{law_possible_inputs, law_two_budgets};
+pub use laws::{law_possible_inputs, law_puts_are_output, law_two_budgets};
 pub use machine::Machine;
