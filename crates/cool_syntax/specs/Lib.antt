@@ -13,6 +13,7 @@ pub mod NodeLists
 pub mod PlainTrees
 pub mod Readings
 pub mod Shapes
+pub mod Spellings
 pub mod TokenFacts
 pub mod Tree
 pub mod TreeCode

@@ -1,6 +1,8 @@
 //! Names and string constants: bytes of their own, which contracts see as lists.
 
-ghost use Rattle.std.specs.Prelude.{◌≡◌, IfOk};
+ghost use Rattle.std.specs.Prelude.{◌≡◌, ◌≤◌, length, IfOk};
+ghost use Rattle.cool_syntax.specs.Spellings.{IsSpelled, spelled};
+ghost use Rattle.cool_syntax.specs.declared.text.TheConstants.{MOST_SHORT_NAME};
 
 use std::alloc::{AllocError, Global};
 use std::marker::Model;
@@ -51,10 +53,29 @@ impl Bytes {
     }
 }
 
-/// The name of a class, a feature, a formal or a variable. A contract sees the list of its bytes.
+/// The most bytes of a name that takes no memory of its own.
+pub const MOST_SHORT_NAME: usize = 14;
+
+/// A name takes 16 bytes, and what a long one is boxed in.
+const _: () = prove!(size_of::<Name>() == 16);
+
+/// The name of a class, a feature, a formal or a variable, in 16 bytes: a name of up to `MOST_SHORT_NAME` bytes stands in them, and a longer
+/// one in a box. A contract sees the list of its bytes.
 #[derive(Debug, Drop)]
 pub struct Name {
-    spelling: Bytes,
+    spelling: Spelling,
+}
+
+/// The bytes of a name.
+#[derive(Debug, Drop)]
+enum Spelling {
+    /// The first bytes, this many, of these.
+    Short {
+        count: u8,
+        bytes: [u8; MOST_SHORT_NAME],
+    },
+    /// All of these.
+    Long(Box<Vec<u8>>),
 }
 
 impl Model for Name {
@@ -62,7 +83,11 @@ impl Model for Name {
 
     ghost Value = { List ℕ };
 
-    ghost view = { λ s. s.spelling };
+    ghost use Rattle.cool_syntax.specs.Spellings.{IsSpelled, spelled};
+
+    ghost view = { λ name. spelled name.spelling };
+
+    ghost invariant = { λ name. IsSpelled name.spelling };
 }
 
 impl Name {
@@ -70,9 +95,12 @@ impl Name {
     pub fn new(alloc: Global, bytes: &[u8]) -> Result<Self, AllocError>
         ensures copied { IfOk result (λ name. name ≡ bytes.now) }
     {
-        Ok(Name {
-            spelling: Bytes::new(alloc, bytes)?,
-        })
+        let spelling = if bytes.len() <= MOST_SHORT_NAME {
+            short(bytes)
+        } else {
+            Spelling::Long(Box::new(alloc, Vec::from_slice(alloc, bytes)?)?)
+        };
+        Ok(Name { spelling })
     }
 
     /// A copy. `Err` comes only for want of memory.
@@ -86,6 +114,23 @@ impl Name {
     pub fn as_slice(&self) -> &[u8]
         ensures { result.now ≡ self.now }
     {
-        self.spelling.as_slice()
+        match &self.spelling {
+            Spelling::Short { count, bytes } => &bytes[..usize::from(*count)],
+            Spelling::Long(bytes) => bytes.as_slice(),
+        }
+    }
+}
+
+/// A name of few bytes.
+fn short(bytes: &[u8]) -> Spelling
+    requires { length bytes.now ≤ MOST_SHORT_NAME }
+    ensures held { IsSpelled result }
+    ensures copied { spelled result ≡ bytes.now }
+{
+    let mut copy = [0; MOST_SHORT_NAME];
+    copy[..bytes.len()].copy_from_slice(bytes);
+    Spelling::Short {
+        count: bytes.len() as u8,
+        bytes: copy,
     }
 }

@@ -1,0 +1,15 @@
+-- How a name is kept.
+use Rattle.std.specs.Prelude.{ℕ, ◌≤◌, List, take}
+use Rattle.cool_syntax.specs.declared.text.Spelling as declared
+use Rattle.cool_syntax.specs.declared.text.Spelling.TheVariants.{Short, Long}
+use Rattle.cool_syntax.specs.declared.text.TheConstants.{MOST_SHORT_NAME}
+
+-- the bytes of a name
+abbrev pub spelled : declared.Spelling → List ℕ
+spelled (Short count bytes) = take count bytes
+spelled (Long bytes) = bytes.value.items
+
+-- a short name is no longer than its room
+abbrev pub IsSpelled : declared.Spelling → Type 0
+IsSpelled (Short count bytes) = count ≤ MOST_SHORT_NAME
+IsSpelled (Long bytes) = Unit {0}
