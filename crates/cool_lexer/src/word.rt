@@ -9,6 +9,9 @@ use crate::span::{Span, span_len};
 use cool_syntax::{Key, Name, TokenKind};
 use std::alloc::{AllocError, Global};
 
+/// The most bytes of a keyword.
+const LONGEST: usize = 8;
+
 /// The word that a text begins with: this letter, and what goes on with it of the bytes after. `Err` comes only for want of memory.
 pub(crate) fn word_at(
     alloc: Global,
@@ -32,23 +35,26 @@ pub(crate) fn word_at(
 fn word(alloc: Global, capital: bool, text: &[u8]) -> Result<TokenKind, AllocError>
     ensures { IfOk result (λ kind. kind ≡ named capital text.now (key_among keywords (map lower text.now))) }
 {
-    let lowered = lowered(alloc, text)?;
-    match keyword(lowered.as_slice()) {
+    match keyword_in_any_case(text) {
         Some(key) if !capital || !is_truth(key) => Ok(TokenKind::Key(key)),
         _ if capital => Ok(TokenKind::TypeId(Name::new(alloc, text)?)),
         _ => Ok(TokenKind::ObjectId(Name::new(alloc, text)?)),
     }
 }
 
-/// The text with small letters in place of capital ones. `Err` comes only for want of memory.
-fn lowered(alloc: Global, text: &[u8]) -> Result<Vec<u8>, AllocError>
-    ensures { IfOk result (λ small. small.items ≡ map lower text.now) }
+/// The keyword that a word is, where capital letters count as small ones.
+#[tactic(auto, using(crate::proofs::Keywords::lowered, crate::proofs::Keywords::none_longer))]
+fn keyword_in_any_case(text: &[u8]) -> Option<Key>
+    ensures { result ≡ key_among keywords (map lower text.now) }
 {
-    let mut small = Vec::new(alloc);
-    for byte in text {
-        small.push(byte.to_ascii_lowercase())?;
+    if text.len() > LONGEST {
+        return None;
     }
-    Ok(small)
+    let mut small = [0; LONGEST];
+    let small = &mut small[..text.len()];
+    small.copy_from_slice(text);
+    small.make_ascii_lowercase();
+    keyword(small)
 }
 
 /// Whether the key is `true` or `false`.
