@@ -13,3 +13,4 @@ pub mod LexemesKeepLimits
 pub mod WeightsOfTokens
 pub mod OneReading
 pub mod AlwaysOneReading
+mod Blanks
