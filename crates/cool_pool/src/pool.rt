@@ -120,7 +120,9 @@ impl Pool {
         ensures room { self.new.spare ≡ 0 }
     {
         let empty = Vec::new(self.alloc);
-        Body::from_nodes(replace(&mut self.nodes, empty))
+        let mut nodes = replace(&mut self.nodes, empty);
+        nodes.shrink_to_fit();
+        Body::from_nodes(nodes)
     }
 
     /// Gives the nodes up, and keeps their room.
