@@ -1,6 +1,6 @@
 //! The names of registers.
 
-ghost use Rattle.std.specs.Prelude.{◌≡◌, ◌<◌, IfSome, map};
+ghost use Rattle.std.specs.Prelude.{◌≡◌, ◌<◌, IfSome, bytes_eq, map};
 ghost use Rattle.mips_text.specs.Names.{register_text};
 ghost use Rattle.mips_text.specs.Operands.{place_from, register_named};
 
@@ -24,9 +24,9 @@ static NUMBERS: [&str; 32] = [
 pub(crate) fn register_named(name: &[u8]) -> Option<Reg>
     ensures { result ≡ register_named name.now }
 {
-    let number = match place_of(&NUMBERS, name) {
-        Some(number) => number,
-        None => place_of(&NAMES, name)?,
+    let number = match name {
+        [b'0'..=b'9', ..] => place_of(&NUMBERS, name)?,
+        _ => place_of(&NAMES, name)?,
     };
     Some(Reg::new(number as u32))
 }
@@ -37,11 +37,21 @@ fn place_of(table: &[&str; 32], name: &[u8]) -> Option<usize>
     ensures below { IfSome result (λ place. place < 32) }
 {
     for (index, known) in table.iter().enumerate() {
-        if known.as_bytes() == name {
+        if is_spelled(known.as_bytes(), name) {
             return Some(index);
         }
     }
     None
+}
+
+/// Whether two spellings are the same. Most have two bytes, which are compared at once.
+fn is_spelled(known: &[u8], name: &[u8]) -> bool
+    ensures { result ≡ bytes_eq known.now name.now }
+{
+    match (known, name) {
+        ([a, b], [c, d]) => *a == *c && *b == *d,
+        _ => known.len() == name.len() && known == name,
+    }
 }
 
 /// The name of a register, without its `$`.
