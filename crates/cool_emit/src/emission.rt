@@ -107,6 +107,10 @@ impl<'a> Emission<'a> {
 pub(crate) fn add_lines(lines: &mut Vec<Line>, more: Vec<Line>) -> Result<(), AllocError>
     ensures { OnOk result (lines_of lines.new.items ≡ lines_of lines.old.items ++ lines_of more.items) }
 {
+    if lines.is_empty() {
+        *lines = more;
+        return Ok(());
+    }
     for line in more {
         lines.push(line)?;
     }
