@@ -1,26 +1,23 @@
-//! Laws on checking: a table and a feature have no fault exactly where the rules type them, and an expression has one type at most.
+//! Laws on checking: a table that keeps the rules on classes, and a feature of it, have no fault exactly where the rules type them; and in
+//! each whole table an expression has one type at most.
 
+ghost use Rattle.std.specs.Prelude.{List};
+ghost use Rattle.cool_classes.specs.Chains.{Class};
+ghost use Rattle.cool_classes.specs.LawfulTables.{IsLawful};
+ghost use Rattle.cool_classes.specs.Tables.{IsWholeTable};
 ghost use Rattle.cool_check.specs.Laws.{HasOneType, IsCheckedWhereTyped, IsFaultlessWhereTyped};
 
-use cool_classes::ClassTable;
-
 /// A table is typed by the rules exactly where it has no typing fault.
-pub fn law_faultless(t: &ClassTable)
-    ensures { IsFaultlessWhereTyped t.now }
-{
-    let _count = t.count();
-}
+pub fn law_faultless()
+    ensures { (p : List Class) → IsWholeTable p → IsLawful p → IsFaultlessWhereTyped p }
+{}
 
 /// A feature is checked without a fault exactly where the rules type it.
-pub fn law_typed_exactly(t: &ClassTable)
-    ensures { IsCheckedWhereTyped t.now }
-{
-    let _count = t.count();
-}
+pub fn law_typed_exactly()
+    ensures { (p : List Class) → IsWholeTable p → IsLawful p → IsCheckedWhereTyped p }
+{}
 
-/// The rules give an expression one type at most.
-pub fn law_one_type(t: &ClassTable)
-    ensures { HasOneType t.now }
-{
-    let _count = t.count();
-}
+/// The rules give an expression one type at most. So it is in each whole table, lawful or not.
+pub fn law_one_type()
+    ensures { (p : List Class) → IsWholeTable p → HasOneType p }
+{}

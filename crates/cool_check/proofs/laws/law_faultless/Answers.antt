@@ -2,4 +2,4 @@ use Rattle.cool_check.proofs.AcceptedTables.{typed_exactly}
 use Rattle.cool_check.proofs.laws.law_faultless.Goals as goal
 
 pub returns : goal.returns
-returns c = typed_exactly c.args.t.now c.count-count.ensures.whole c.count-count.ensures.lawful
+returns c = λ p whole lawful. typed_exactly p whole lawful

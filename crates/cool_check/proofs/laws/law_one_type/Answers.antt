@@ -2,4 +2,4 @@ use Rattle.cool_check.proofs.OneType.{one_type}
 use Rattle.cool_check.proofs.laws.law_one_type.Goals as goal
 
 pub returns : goal.returns
-returns c = one_type c.args.t.now c.count-count.ensures.whole
+returns c = λ p whole. one_type p whole
