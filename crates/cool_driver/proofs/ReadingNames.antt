@@ -2,12 +2,12 @@
 use Rattle.std.proofs.Common.{◌≡◌, ◌≢◌, ℕ, suc, ◌+◌, ◌-◌, ◌<◌, ◌≤◌, List, [], ◌∷◌, ◌++◌, length, get_or, take, drop, refl, sym, ◌∙◌, ap, subst, append_assoc, append-nil, take-append-drop, arith}
 use Rattle.std.proofs.lemmas.List.{at_drop_more, length-map, map_more, map_push, map-append}
 use Rattle.std.specs.{Prelude.{Option, string_bytes, String}, List.{AllByRecursion}, Global.{Global, Vec}}
-use Rattle.cool_ports.specs.{Counts.{Rose}, ShelfFiles.{FileMap, MayHold, IsMissing, IsLonger, AreHeld}, declared.shelf.ShelfFault.{ShelfFault}}
+use Rattle.cool_ports.specs.{Counts.{Rose}, ShelfFiles.{FileMap, MayHold, IsMissing, IsLonger, AreHeld, AskedFront}, declared.shelf.ShelfFault.{ShelfFault}}
 use Rattle.cool_ports.specs.declared.shelf.ShelfFault.TheVariants as faults
 use Rattle.cool_faults.specs.Files.{total}
 use Rattle.cool_syntax.specs.declared.TheConstants.{MOST_FILES}
 use Rattle.cool_words.specs.Plans.{words_of}
-use Rattle.cool_driver.specs.{Calls.{ShelfUse}, Sources.{IsCause, IsStopAt, AskedFront}, Contents.{texts}}
+use Rattle.cool_driver.specs.{Calls.{ShelfUse}, Sources.{IsCause, IsStopAt}, Contents.{texts}}
 use Rattle.lists.specs.Bytes.{AreBytes}
 use Rattle.cool_ports.proofs.FilesHeld.{held_more}
 use Rattle.cool_faults.proofs.FileSizes.{total-push}
@@ -107,24 +107,3 @@ module _ (names : List (String Global)) (i : ℕ) (name : String Global) (given 
         },
         subst (λ (x : Type 0). x) (λ j. IsCause (same j) (calm j) shelf.faults_after given (most_left j) fault) cause,
       )
-
--- What a shelf was asked for, of some names
-
--- none, all, and the first
-pub asked_none : (names before : List (List ℕ)) → AskedFront names before before
-asked_none names before = record { front = []; rest = names; stands = refl; asked = sym (append-nil before) }
-
-pub asked_whole : (names before after : List (List ℕ)) → after ≡ before ++ names → AskedFront names before after
-asked_whole names before after is = record { front = names; rest = []; stands = sym (append-nil names); asked = is }
-
-pub asked_first : (name : List ℕ) (names before after : List (List ℕ)) → after ≡ before ++ name ∷ [] → AskedFront (name ∷ names) before after
-asked_first name names before after first = record { front = name ∷ []; rest = names; stands = refl; asked = first }
-
--- the first, and then some of the others
-pub asked_then : (name : List ℕ) (names before middle after : List (List ℕ)) → middle ≡ before ++ name ∷ [] → AskedFront names middle after → AskedFront (name ∷ names) before after
-asked_then name names before middle after first h = record {
-  front = name ∷ h.front;
-  rest = h.rest;
-  stands = ap (λ (ns : List (List ℕ)). name ∷ ns) h.stands;
-  asked = h.asked ∙ ap (λ (ns : List (List ℕ)). ns ++ h.front) first ∙ append_assoc before (name ∷ []) h.front;
-}

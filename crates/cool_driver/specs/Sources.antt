@@ -28,13 +28,6 @@ IsCause files before after name most shelf_faults.Failed = Rose before after
 IsCause files before after name most shelf_faults.TooLarge = IsLonger files name most before after
 IsCause files before after name most shelf_faults.Memory = ⊥
 
--- Where a shelf had been asked for `before`, it was then asked for some of the names, from the first on, each once, in order.
-pub record AskedFront (names before after : List (List ℕ)) : Type 0 where
-  pub front : List (List ℕ)
-  pub rest : List (List ℕ)
-  pub stands : names ≡ front ++ rest
-  pub asked : after ≡ before ++ front
-
 -- what these texts end with
 abbrev pub EndsWith : List (List ℕ) → List (List ℕ) → Type 0
 EndsWith last all = (before : List (List ℕ)) × (all ≡ before ++ last)

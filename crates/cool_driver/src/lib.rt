@@ -6,6 +6,7 @@
 ghost use Rattle.std.specs.Prelude.{◌≡◌, ◌⊎◌, ℕ, List, Bool, Some, false};
 ghost use Rattle.cool_ports.specs.Answers.{Leaves};
 ghost use Rattle.cool_ports.specs.Counts.{Rose};
+ghost use Rattle.cool_ports.specs.ShelfFiles.{AskedFront};
 ghost use Rattle.cool_ports.specs.SinkBytes.{appended, GotPrefix};
 ghost use Rattle.cool_ports.specs.Taking.{Took};
 ghost use Rattle.cool_driver.specs.Calls.{shelf_use, sink_use};
@@ -14,7 +15,6 @@ ghost use Rattle.cool_driver.specs.Notes.{usage_note};
 ghost use Rattle.cool_driver.specs.Ends.{Ends};
 ghost use Rattle.cool_driver.specs.Limits.{AreLimits};
 ghost use Rattle.cool_driver.specs.Refusals.{PutsFaults};
-ghost use Rattle.cool_driver.specs.Sources.{AskedFront};
 ghost use Rattle.cool_driver.specs.Statuses.{READ_FAULT, REFUSED};
 ghost use Rattle.cool_driver.specs.Telling.{PutsLines};
 ghost use Rattle.cool_words.specs.Plans.Asked.{session};

@@ -4,11 +4,11 @@ ghost use Rattle.std.specs.Prelude.{◌≡◌, ◌<◌, ◌≤◌, ◌^◌, ◌+
 ghost use Rattle.std.specs.List.{AllByRecursion};
 ghost use Rattle.cool_faults.specs.Files.{total};
 ghost use Rattle.lists.specs.Bytes.{AreBytes};
-ghost use Rattle.cool_ports.specs.ShelfFiles.{AreHeld};
+ghost use Rattle.cool_ports.specs.ShelfFiles.{AreHeld, AskedFront};
 ghost use Rattle.cool_words.specs.Plans.{words_of};
 ghost use Rattle.cool_syntax.specs.declared.TheConstants.{MOST_FILES};
 ghost use Rattle.cool_driver.specs.Calls.{shelf_use};
-ghost use Rattle.cool_driver.specs.Sources.{AskedFront, IsStop};
+ghost use Rattle.cool_driver.specs.Sources.{IsStop};
 ghost use Rattle.cool_driver.specs.Contents.{texts};
 
 use cool_ports::{Shelf, ShelfFault};

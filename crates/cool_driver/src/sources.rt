@@ -1,6 +1,7 @@
 //! Sources: the files of a command, read, and accepted as a program, or why not.
 
 ghost use Rattle.std.specs.Prelude.{◌≡◌, ◌<◌, ◌≤◌, ◌^◌, ◌++◌, length, IfErr, IfOk, OnOk, true};
+ghost use Rattle.cool_ports.specs.ShelfFiles.{AskedFront};
 ghost use Rattle.std.specs.List.{list_all, AllByRecursion};
 ghost use Rattle.cool_faults.specs.Verdicts.{IsAccepted};
 ghost use Rattle.lists.specs.Bytes.{AreBytes};
@@ -9,7 +10,7 @@ ghost use Rattle.cool_words.specs.Plans.{is_file_name, words_of};
 ghost use Rattle.cool_driver.specs.Calls.{ShelfUse, shelf_use};
 ghost use Rattle.cool_driver.specs.Contents.{texts};
 ghost use Rattle.cool_driver.specs.Refusals.{AreFaultLines, IsDueToFaults, IsTold};
-ghost use Rattle.cool_driver.specs.Sources.{AskedFront, AreRead, GrewBy, IsDueUnread, IsNoProgram, IsProgram, AreSources};
+ghost use Rattle.cool_driver.specs.Sources.{AreRead, GrewBy, IsDueUnread, IsNoProgram, IsProgram, AreSources};
 
 use crate::notes::TOO_MANY_FILES;
 use crate::reading::{ReadError, read_files};

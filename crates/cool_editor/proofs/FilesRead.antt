@@ -7,9 +7,9 @@ use Rattle.cool_ports.specs.declared.shelf.ShelfFault.{ShelfFault}
 use Rattle.cool_ports.specs.declared.shelf.ShelfFault.TheVariants as faults
 use Rattle.std.specs.Global.{Global, Vec}
 use Rattle.std.proofs.lemmas.List.{at_drop_more, map_more, map_push, map-append}
-use Rattle.cool_ports.specs.ShelfFiles.{FileMap, MayHold, IsMissing, IsLonger, AreHeld}
+use Rattle.cool_ports.specs.ShelfFiles.{FileMap, MayHold, IsMissing, IsLonger, AreHeld, AskedFront}
 use Rattle.cool_faults.specs.Files.{bytes_of, total}
-use Rattle.cool_editor.specs.Ends.{AskedFront, IsCause, IsStop}
+use Rattle.cool_editor.specs.Ends.{IsCause, IsStop}
 use Rattle.cool_faults.proofs.FileSizes.{total-push}
 use Rattle.cool_ports.proofs.FilesHeld.{held_more}
 
@@ -83,10 +83,3 @@ asked_part names i name given before middle after h is called so_far asked = rec
   stands = ap (map string_bytes) (sym (take-append-drop (i + 1) names)) ∙ map-append string_bytes (take (i + 1) names) (drop (i + 1) names);
   asked = asked_turn names i name given before middle after h is called so_far asked;
 }
-
--- it was asked for none of them, or for all
-pub asked_none : (names before : List (List ℕ)) → AskedFront names before before
-asked_none names before = record { front = []; rest = names; stands = refl; asked = sym (append-nil before) }
-
-pub asked_whole : (names before after : List (List ℕ)) → after ≡ before ++ names → AskedFront names before after
-asked_whole names before after is = record { front = names; rest = []; stands = sym (append-nil names); asked = is }

@@ -50,13 +50,6 @@ IsTextOf contents None = AreNoTable contents
 abbrev pub IsText : Option FileMap → List (List ℕ) → Option (Vec ℕ) → Type 0
 IsText files names text = (contents : List (List ℕ)) × AreHeld files names contents × IsTextOf contents text
 
--- Where a shelf had been asked for `before`, it was then asked for some of the names, from the first on, each once, in order.
-pub record AskedFront (names before after : List (List ℕ)) : Type 0 where
-  pub front : List (List ℕ)
-  pub rest : List (List ℕ)
-  pub stands : names ≡ front ++ rest
-  pub asked : after ≡ before ++ front
-
 -- a sink got the lines of the marks of the files of these names, in pieces of 4,096 bytes
 pub record IsListed (files : Option FileMap) (names : List (List ℕ)) (before after : Option (List ℕ)) (puts_before puts_after : List (List ℕ)) : Type 0 where
   pub contents : List (List ℕ)

@@ -4,8 +4,9 @@ ghost use Rattle.std.specs.Prelude.{◌≡◌, ◌≢◌, ◌<◌, ◌≤◌, �
 ghost use Rattle.cool_syntax.specs.declared.TheConstants.{MOST_FILES, MOST_SOURCE_BYTES};
 ghost use Rattle.cool_faults.specs.Files.{bytes_of, total};
 ghost use Rattle.cool_ports.specs.Counts.{Rose};
+ghost use Rattle.cool_ports.specs.ShelfFiles.{AskedFront};
 ghost use Rattle.cool_ports.specs.SinkBytes.{appended};
-ghost use Rattle.cool_editor.specs.Ends.{AreUnread, AskedFront, IsCutShort, IsListed, IsNoteCut, IsRefused, IsText, IsTextOf, IsUntold, note_of, puts_of};
+ghost use Rattle.cool_editor.specs.Ends.{AreUnread, IsCutShort, IsListed, IsNoteCut, IsRefused, IsText, IsTextOf, IsUntold, note_of, puts_of};
 
 use crate::files::file_marks;
 use crate::line::lines;
@@ -76,7 +77,7 @@ pub fn list_names<F: Shelf, O: Sink, E: Sink>(
 }
 
 /// The lines of the marks of the files of these names, or none where they are no class table.
-#[tactic(auto, using(crate::proofs::FilesRead::asked_none, crate::proofs::FilesRead::asked_whole))]
+#[tactic(auto, using(cool_ports::proofs::AskedNames::asked_none, cool_ports::proofs::AskedNames::asked_whole))]
 fn names_text<F: Shelf>(
     alloc: Global,
     names: &[String],

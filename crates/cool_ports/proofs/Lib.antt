@@ -1,3 +1,4 @@
+pub mod AskedNames
 pub mod FilesHeld
 pub mod GettingBytes
 pub mod GivingBytes

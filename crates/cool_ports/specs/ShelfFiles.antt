@@ -1,6 +1,6 @@
--- The files of a shelf. `Some` is the map from names to bytes of a shelf that tells it, and `None` is a shelf that
--- does not tell.
-use Rattle.std.specs.Prelude.{◌≡◌, List, [], ◌∷◌, ℕ, ◌<◌, length, Option, Some, None}
+-- The files of a shelf, and what it was asked for. `Some` is the map from names to bytes of a shelf that tells it, and `None` is a shelf
+-- that does not tell.
+use Rattle.std.specs.Prelude.{◌≡◌, List, [], ◌∷◌, ◌++◌, ℕ, ◌<◌, length, Option, Some, None}
 use Rattle.cool_ports.specs.Counts.{Rose}
 
 abbrev pub FileMap : Type 0
@@ -33,3 +33,10 @@ IsLonger (Some files) name most before after =
 abbrev pub IsWanting : Option FileMap → ℕ → ℕ → Type 0
 IsWanting None before after = Rose before after
 IsWanting (Some files) before after = after ≡ before
+
+-- Where a shelf had been asked for `before`, it was then asked for some of the names, from the first on, each once, in order.
+pub record AskedFront (names before after : List (List ℕ)) : Type 0 where
+  pub front : List (List ℕ)
+  pub rest : List (List ℕ)
+  pub stands : names ≡ front ++ rest
+  pub asked : after ≡ before ++ front

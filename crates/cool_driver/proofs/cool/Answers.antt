@@ -3,7 +3,8 @@ use Rattle.std.specs.Prelude.{Err, string_bytes}
 use Rattle.cool_ports.proofs.InputsInParts.{took_nothing, leaves_same}
 use Rattle.cool_words.specs.{declared.plan.RunLimits.{RunLimits}, Plans.{plan_of}}
 use Rattle.cool_driver.specs.CommandLine.{asked_for, words_of}
-use Rattle.cool_driver.proofs.{ReadingNames.{asked_none}, DevicesOfCalls.{got_nothing}, EndsByCommand.{command_ends, usage_ends, short_ends}, rooms.Sessions.{read_fault_of_seven}}
+use Rattle.cool_ports.proofs.AskedNames.{asked_none}
+use Rattle.cool_driver.proofs.{DevicesOfCalls.{got_nothing}, EndsByCommand.{command_ends, usage_ends, short_ends}, rooms.Sessions.{read_fault_of_seven}}
 use Rattle.cool_driver.proofs.LinesOfNotes.{no_lines}
 use Rattle.cool_driver.proofs.cool.Goals.{in-Ok-Check, in-Ok-Asm, in-Ok-Build, in-Ok-Run, in-Ok-Eval, in-Ok-Exec, in-Ok-Debug, in-Ok-Big, in-Ok-Session, in-Err-Usage, in-Err-Memory}
 use Rattle.cool_driver.proofs.cool.Goals as goal

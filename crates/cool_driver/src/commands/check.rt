@@ -1,12 +1,12 @@
 //! The command `check`: whether files are a program.
 
 ghost use Rattle.std.specs.Prelude.{◌≡◌, ◌<◌, ℕ, List, [], length, true};
+ghost use Rattle.cool_ports.specs.ShelfFiles.{AskedFront};
 ghost use Rattle.std.specs.List.{list_all};
 ghost use Rattle.cool_words.specs.Plans.{is_file_name, words_of};
 ghost use Rattle.cool_driver.specs.Calls.{Got, SinkUse, shelf_use, sink_use, untaking};
 ghost use Rattle.cool_driver.specs.Ends.{Goes};
 ghost use Rattle.cool_driver.specs.Refusals.{PutsFaults};
-ghost use Rattle.cool_driver.specs.Sources.{AskedFront};
 ghost use Rattle.cool_driver.specs.Statuses.{REFUSED, code_of};
 ghost use Rattle.cool_driver.specs.Telling.{PutsLines};
 ghost use Rattle.cool_driver.specs.commands.Check.{CheckEnds};

@@ -4,6 +4,7 @@ ghost use Rattle.std.specs.Prelude.{◌≡◌, ◌≢◌, ◌<◌, ◌≤◌, �
 ghost use Rattle.std.specs.List.{list_all};
 ghost use Rattle.cool_emit.specs.Programs.{program_lines};
 ghost use Rattle.cool_ports.specs.Answers.{Leaves};
+ghost use Rattle.cool_ports.specs.ShelfFiles.{AskedFront};
 ghost use Rattle.cool_ports.specs.Taking.{Took};
 ghost use Rattle.cool_rules.specs.Fits.{Fits};
 ghost use Rattle.cool_words.specs.Plans.{IsBounded, is_file_name, words_of};
@@ -13,7 +14,7 @@ ghost use Rattle.spim_debug.specs.Debugging.{IsScriptFor};
 ghost use Rattle.cool_driver.specs.Calls.{Request, request_of, shelf_use, sink_use};
 ghost use Rattle.cool_driver.specs.Debugging.{commands_for};
 ghost use Rattle.cool_driver.specs.Ends.{Goes};
-ghost use Rattle.cool_driver.specs.Sources.{AskedFront, EndsWith};
+ghost use Rattle.cool_driver.specs.Sources.{EndsWith};
 ghost use Rattle.cool_driver.specs.Refusals.{AreFaultLines, IsTold, PutsFaults};
 ghost use Rattle.cool_driver.specs.Statuses.{REFUSED, code_of};
 ghost use Rattle.cool_driver.specs.Telling.{PutsLines};

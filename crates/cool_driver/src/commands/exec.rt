@@ -2,12 +2,12 @@
 
 ghost use Rattle.std.specs.Prelude.{◌≡◌, ◌≤◌, ℕ, List, Bool, false, length, IfErr, IfOk, string_bytes, true, [], ◌∷◌};
 ghost use Rattle.cool_ports.specs.Answers.{Leaves};
+ghost use Rattle.cool_ports.specs.ShelfFiles.{AskedFront};
 ghost use Rattle.cool_ports.specs.Taking.{Took};
 ghost use Rattle.cool_words.specs.Plans.{IsBounded};
 ghost use Rattle.cool_driver.specs.Calls.{request_of, shelf_use, sink_use};
 ghost use Rattle.cool_driver.specs.Ends.{Goes};
 ghost use Rattle.cool_driver.specs.Execution.{IsRunnable, is_text_file};
-ghost use Rattle.cool_driver.specs.Sources.{AskedFront};
 ghost use Rattle.cool_driver.specs.declared.TheConstants.{MOST_IMAGE_BYTES};
 ghost use Rattle.cool_driver.specs.Refusals.{IsTold};
 ghost use Rattle.cool_driver.specs.Statuses.{code_of};

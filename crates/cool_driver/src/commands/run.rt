@@ -3,6 +3,7 @@
 ghost use Rattle.std.specs.Prelude.{◌≡◌, ◌<◌, ◌≤◌, ℕ, List, Bool, false, length, IfErr, IfOk, true};
 ghost use Rattle.std.specs.List.{list_all};
 ghost use Rattle.cool_ports.specs.Answers.{Leaves};
+ghost use Rattle.cool_ports.specs.ShelfFiles.{AskedFront};
 ghost use Rattle.cool_ports.specs.Taking.{Took};
 ghost use Rattle.cool_rules.specs.Fits.{Fits};
 ghost use Rattle.cool_words.specs.Plans.{IsBounded, is_file_name, words_of};
@@ -10,7 +11,7 @@ ghost use Rattle.cool_driver.specs.Calls.{request_of, shelf_use, sink_use};
 ghost use Rattle.cool_driver.specs.Compiled.{compiled_program};
 ghost use Rattle.cool_driver.specs.Ends.{Goes};
 ghost use Rattle.cool_driver.specs.Refusals.{AreFaultLines, IsTold, PutsFaults};
-ghost use Rattle.cool_driver.specs.Sources.{AskedFront, IsNoProgram};
+ghost use Rattle.cool_driver.specs.Sources.{IsNoProgram};
 ghost use Rattle.cool_driver.specs.Statuses.{REFUSED, code_of};
 ghost use Rattle.cool_driver.specs.Telling.{PutsLines};
 ghost use Rattle.cool_driver.specs.commands.Run.{IsCompiledTo, RunEnds};

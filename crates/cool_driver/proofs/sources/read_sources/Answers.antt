@@ -4,7 +4,8 @@ use Rattle.cool_syntax.specs.declared.TheConstants.{MOST_FILES}
 use Rattle.cool_words.specs.Plans.{words_of}
 use Rattle.cool_driver.specs.{Calls.{shelf_use}, Notes.{too_many_note}, Sources.{IsDueUnread}, Sources.AreUnread.{too_many}}
 use Rattle.cool_driver.specs.declared.status.Status.TheVariants as statuses
-use Rattle.cool_driver.proofs.{ReadingNames.{asked_none, asked_whole}, LinesOfNotes.{ends_after, feed}, RefusalsTold.{line_told, stop_told}}
+use Rattle.cool_ports.proofs.AskedNames.{asked_none, asked_whole}
+use Rattle.cool_driver.proofs.{LinesOfNotes.{ends_after, feed}, RefusalsTold.{line_told, stop_told}}
 use Rattle.cool_driver.proofs.sources.read_sources.Goals as goal
 
 -- there are too many files

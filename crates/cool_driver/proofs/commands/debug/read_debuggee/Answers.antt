@@ -2,7 +2,8 @@ use Rattle.std.proofs.{Common.{arith, length, refl, string_bytes, ◌<◌, ◌�
 use Rattle.cool_syntax.specs.declared.TheConstants.{MOST_FILES}
 use Rattle.cool_words.specs.Plans.{words_of}
 use Rattle.cool_driver.specs.{Notes.{too_many_note}, commands.Debug.{IsDueUnscripted, IsNoDebuggee}, declared.status.Status.{Status}}
-use Rattle.cool_driver.proofs.{ReadingNames.{asked_first, asked_none, asked_then}, RefusalsTold.{line_told, told_so, line_lined, other_lined}, LinesOfNotes.{ends_after, feed}}
+use Rattle.cool_ports.proofs.AskedNames.{asked_first, asked_none, asked_then}
+use Rattle.cool_driver.proofs.{RefusalsTold.{line_told, told_so, line_lined, other_lined}, LinesOfNotes.{ends_after, feed}}
 use Rattle.std.specs.Prelude.{codes}
 use Rattle.cool_driver.proofs.commands.debug.read_debuggee.Goals as goal
 

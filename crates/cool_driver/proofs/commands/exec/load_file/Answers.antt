@@ -2,7 +2,8 @@ use Rattle.std.proofs.Common.{List, String, ap, get_or, string_bytes, ◌∙◌,
 use Rattle.std.specs.Global.{Global}
 use Rattle.cool_words.specs.Plans.{words_of}
 use Rattle.cool_driver.specs.{Sources.{IsDueUnread}, commands.Exec.{IsNoImage}}
-use Rattle.cool_driver.proofs.{ReadingNames.{asked_none}, RefusalsTold.{told_so}, rooms.Executions.{file_read, unloaded}}
+use Rattle.cool_ports.proofs.AskedNames.{asked_none}
+use Rattle.cool_driver.proofs.{RefusalsTold.{told_so}, rooms.Executions.{file_read, unloaded}}
 use Rattle.cool_driver.proofs.commands.exec.load_file.Goals as goal
 
 -- the file stands for no image
