@@ -1,4 +1,6 @@
+pub mod NamesMarked
 mod PartsLeft
+mod ProgramUsesTold
 mod ScopesInOrder
 mod SeenTypes
 mod UsesTold

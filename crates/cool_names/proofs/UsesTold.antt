@@ -64,7 +64,7 @@ told_both p [] ys (u ∷ us) vs h k = absurd h
 told_both p (m ∷ xs) ys [] vs h k = absurd h
 told_both p (m ∷ xs) ys (u ∷ us) vs h k = (h.0, told_both p xs ys us vs h.1 k)
 
-join : (p : List Class) (xs ys : List Mark) (us vs : List Use) → AreTold p (uses_among xs) us → AreTold p (uses_among ys) vs → AreTold p (uses_among (xs ++ ys)) (us ++ vs)
+pub join : (p : List Class) (xs ys : List Mark) (us vs : List Use) → AreTold p (uses_among xs) us → AreTold p (uses_among ys) vs → AreTold p (uses_among (xs ++ ys)) (us ++ vs)
 join p xs ys us vs h k = subst (λ (ms : List Mark). AreTold p ms (us ++ vs)) (sym (among_both xs ys)) (told_both p (uses_among xs) (uses_among ys) us vs h k)
 
 where_written : (p : List Class) (b : Bool) (xs : List Mark) (us : List Use) → AreTold p (uses_among xs) us → AreTold p (uses_among (if b then xs else [])) (if b then us else [])
@@ -274,7 +274,7 @@ module _ (p : List Class) (whole : IsWholeTable p) where
     same_scope : (inner : List Binding) (es : List ClassId) → IsChain p (Some c) es → inner ++ own_scope p c ≡ inner ++ attributes_in_scope p (attributes_of p es)
     same_scope inner es is = ap (λ (xs : List ClassId). inner ++ attributes_in_scope p (attributes_of p xs)) (chain_unique p (Some c) (chain p c) es (chain_is p c whole.table less) is)
 
-    feature_told : (x : Feature) → IsTyped p x → HasDifferentFormals x → (typed : IsTypedFeature p c x) → AreTold p (uses_among (feature_marks (class_context p ds c) x)) (uses_of p c x typed)
+    pub feature_told : (x : Feature) → IsTyped p x → HasDifferentFormals x → (typed : IsTypedFeature p c x) → AreTold p (uses_among (feature_marks (class_context p ds c) x)) (uses_of p c x typed)
     feature_told (Method m) types different typed =
         subst (λ (ms : List Mark). AreTold p ms (uses_of p c (Method m) typed))
         (sym (formals_told ds m.formals (type_mark p ds m.result ∷ marks_of (within p ds c (programs.attributes_in_scope p c)) (programs.formals_in_scope m.formals) m.body)))

@@ -3,5 +3,7 @@ pub mod Scopes
 pub mod Meanings
 pub mod Marks
 pub mod Programs
+pub mod ProgramUses
 pub mod Settings
 pub mod Uses
+pub mod WrittenNames

@@ -15,6 +15,8 @@ mod program;
 mod scope;
 mod setting;
 
-pub use laws::{law_declared_type, law_seen_type, law_uses_told};
+pub use laws::{
+    law_declared_type, law_marks_are_names, law_program_uses_told, law_seen_type, law_uses_told,
+};
 pub use mark::{Mark, Meaning, Role, Target};
 pub use program::program_marks;

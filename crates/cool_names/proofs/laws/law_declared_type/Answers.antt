@@ -3,4 +3,4 @@ use Rattle.cool_names.proofs.SeenTypes.{declared_rightly}
 use Rattle.cool_names.proofs.laws.law_declared_type.Goals as goal
 
 pub returns : goal.returns
-returns c = declared_rightly c.args.t.now
+returns c = λ p. declared_rightly p

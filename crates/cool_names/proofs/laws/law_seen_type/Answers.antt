@@ -3,4 +3,4 @@ use Rattle.cool_names.proofs.SeenTypes.{seen_rightly}
 use Rattle.cool_names.proofs.laws.law_seen_type.Goals as goal
 
 pub returns : goal.returns
-returns c = seen_rightly c.args.t.now c.count-count.ensures.whole
+returns c = λ p whole. seen_rightly p whole

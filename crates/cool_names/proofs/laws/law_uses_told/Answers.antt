@@ -3,4 +3,4 @@ use Rattle.cool_names.proofs.UsesTold.{uses_are_told}
 use Rattle.cool_names.proofs.laws.law_uses_told.Goals as goal
 
 pub returns : goal.returns
-returns c = uses_are_told c.args.t.now c.count-count.ensures.whole c.requires
+returns c = λ p whole lawful. uses_are_told p whole lawful

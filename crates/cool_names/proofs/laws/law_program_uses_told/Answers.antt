@@ -1,0 +1,9 @@
+-- The features of a definition are those of its class.
+use Rattle.cool_names.proofs.ProgramUsesTold.{program_told, program_typed}
+use Rattle.cool_names.proofs.laws.law_program_uses_told.Goals as goal
+
+pub returns-clause-told : goal.returns-clause-told
+returns-clause-told c = λ p whole lawful. program_told p whole lawful
+
+pub returns-clause-typed : goal.returns-clause-typed
+returns-clause-typed c = λ p typed. program_typed p typed
