@@ -17,6 +17,8 @@ mod NewObjects
 mod NoStepLeft
 pub mod PartsOfRuns
 mod PropertiesOfMeanings
+mod PutsAreOutput
+mod PutsOfSteps
 mod QuietFrames
 mod QuietSteps
 mod RunBegins

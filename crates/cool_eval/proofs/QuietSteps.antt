@@ -2,7 +2,7 @@
 use Rattle.std.proofs.Common.{◌≡◌, ℕ, ◌+◌, Bool, List, Option, Some, Result, Ok, Err, inl, inr, refl, sym, ap, subst, arith}
 use Rattle.std.specs.Prelude.{◌⊎◌, IfErr}
 use Rattle.cool_ports.specs.Answers.{Past}
-use Rattle.cool_ports.specs.SinkBytes.{appended}
+use Rattle.cool_ports.specs.SinkPuts.{SinkSeen}
 use Rattle.cool_syntax.specs.declared.place.Place.{Place}
 use Rattle.cool_classes.specs.declared.method.BasicMethod.{BasicMethod}
 use Rattle.cool_classes.specs.declared.method.MethodRef.{MethodRef}
@@ -21,17 +21,18 @@ use Rattle.cool_eval.specs.declared.store.Store.{Store}
 use Rattle.cool_eval.specs.declared.machine.Machine.{Machine}
 use Rattle.cool_eval.specs.Configurations.{Comes, frames_of}
 use Rattle.cool_eval.specs.Counts.{Counted, FaultsInCalls, IsInner}
-use Rattle.cool_eval.specs.Devices.{OnDevices, Reaches, Acts, HasLeft, HasPut, ToValue, ToStep, state_at}
+use Rattle.cool_eval.specs.Devices.{OnDevices, Reaches, Acts, HasLeft, HasPutSome, ToValue, ToStep, sink_before, state_at}
 use Rattle.cool_eval.specs.Machine.{Frame, Return, Next, after, begin_call}
 use Rattle.cool_ports.proofs.InputsInParts.{leaves_same}
+use Rattle.cool_eval.proofs.PutsOfSteps.{sink_still}
 
 -- what came, with the sink as it was
-pub comes_reach : (p : List Class) (r : Result Focus Ending) (m : Machine) (first : Option (List ℕ)) (output input : List ℕ)
+pub comes_reach : (p : List Class) (r : Result Focus Ending) (m : Machine) (first : SinkSeen) (output input : List ℕ)
     (next : Next)
-    → IfErr r IsInner → Comes p r m input output next → Reaches p r m first output input input (appended first output) next
-comes_reach p (Ok f) m first output input next inner is = (output, refl, is)
-comes_reach p (Err (ending.Error e)) m first output input next inner is = (output, refl, is)
-comes_reach p (Err ending.StepLimit) m first output input next inner is = (output, refl, is)
+    → IfErr r IsInner → Comes p r m input output next → Reaches p r m first output input input (sink_before first output) next
+comes_reach p (Ok f) m first output input next inner is = (output, sink_still first output, is)
+comes_reach p (Err (ending.Error e)) m first output input next inner is = (output, sink_still first output, is)
+comes_reach p (Err ending.StepLimit) m first output input next inner is = (output, sink_still first output, is)
 comes_reach p (Err ending.Stuck) m first output input next inner is = is
 comes_reach p (Err ending.Memory) m first output input next inner is = (refl, inl refl)
 comes_reach p (Err ending.ReadFault) m first output input next inner is = absurd is
@@ -39,10 +40,10 @@ comes_reach p (Err ending.WriteFault) m first output input next inner is = absur
 
 -- so it is whatever the source and the sink had
 pub quiet_reaches : (p : List Class) (r : Result Focus Ending) (m : Machine) (ended : Bool) (past : Past)
-    (held : Option (List ℕ)) (next : List ℕ → List ℕ → Next)
+    (sink : SinkSeen) (next : List ℕ → List ℕ → Next)
     → IfErr r IsInner → ((input output : List ℕ) → Comes p r m input output (next input output))
-    → OnDevices ended past past held (λ first output input rest. Reaches p r m first output input rest held (next input output))
-quiet_reaches p r m ended past held next inner comes first output input rest put leaves at_end =
+    → OnDevices ended past past sink (λ first output input rest. Reaches p r m first output input rest sink (next input output))
+quiet_reaches p r m ended past sink next inner comes first output input rest put leaves at_end =
     rw (put, leaves_same past input rest leaves) (comes_reach p r m first output input (next input output) inner (comes input output))
 
 -- no count rose
@@ -78,12 +79,12 @@ spent_faults (Err ending.WriteFault) left mid left' spent same = omega (arith, s
 
 -- what is done next, seen otherwise
 pub reaches_same : (p : List Class) (r : Result Focus Ending) (m : Machine) (ended : Bool) (past past' : Past)
-    (held held' : Option (List ℕ)) (next next' : List ℕ → List ℕ → Next)
+    (sink sink' : SinkSeen) (next next' : List ℕ → List ℕ → Next)
     → ((input output : List ℕ) → next' input output ≡ next input output)
-    → OnDevices ended past past' held (λ first output input rest. Reaches p r m first output input rest held' (next input output))
-    → OnDevices ended past past' held (λ first output input rest. Reaches p r m first output input rest held' (next' input output))
-reaches_same p r m ended past past' held held' next next' same reaches first output input rest put leaves at_end =
-    subst (λ (k : Next). Reaches p r m first output input rest held' k) (sym (same input output)) (reaches first output input rest put leaves at_end)
+    → OnDevices ended past past' sink (λ first output input rest. Reaches p r m first output input rest sink' (next input output))
+    → OnDevices ended past past' sink (λ first output input rest. Reaches p r m first output input rest sink' (next' input output))
+reaches_same p r m ended past past' sink sink' next next' same reaches first output input rest put leaves at_end =
+    subst (λ (k : Next). Reaches p r m first output input rest sink' k) (sym (same input output)) (reaches first output input rest put leaves at_end)
 
 -- Methods of basic classes
 
@@ -103,33 +104,33 @@ short_reaches : (n : ℕ) (input rest : List ℕ) (o : Outcome values.Value) (fs
 short_reaches n input rest o fs (inl same) = inl same
 short_reaches n input rest o fs (inr v) = inr (value_reaches n o fs (HasLeft rest) v)
 
-acts_reach : (p : List Class) (r : Result Value Ending) (m : Machine) (first : Option (List ℕ)) (output input rest : List ℕ)
-    (held : Option (List ℕ)) (o : Outcome values.Value) → Acts r m.store first output input rest held m.left o
-    → Reaches p (returned_as r) m first output input rest held (after o (frames_of p m))
+acts_reach : (p : List Class) (r : Result Value Ending) (m : Machine) (first : SinkSeen) (output input rest : List ℕ)
+    (sink : SinkSeen) (o : Outcome values.Value) → Acts r m.store first output input rest sink m.left o
+    → Reaches p (returned_as r) m first output input rest sink (after o (frames_of p m))
 unfolding after
-acts_reach p (Ok v) m first output input rest held o (now, put, is) =
+acts_reach p (Ok v) m first output input rest sink o (now, put, is) =
     (now, put, ap (λ (r : Outcome values.Value). after r (frames_of p m)) is)
-acts_reach p (Err (ending.Error e)) m first output input rest held o (now, put, is) =
+acts_reach p (Err (ending.Error e)) m first output input rest sink o (now, put, is) =
     (now, put, ap (λ (r : Outcome values.Value). after r (frames_of p m)) is)
-acts_reach p (Err ending.Stuck) m first output input rest held o is =
+acts_reach p (Err ending.Stuck) m first output input rest sink o is =
     ap (λ (r : Outcome values.Value). after r (frames_of p m)) is
-acts_reach p (Err ending.Memory) m first output input rest held o (put, more) =
+acts_reach p (Err ending.Memory) m first output input rest sink o (put, more) =
     (put, short_reaches m.left input rest o (frames_of p m) more)
-acts_reach p (Err ending.StepLimit) m first output input rest held o is = absurd is
-acts_reach p (Err ending.ReadFault) m first output input rest held o (put, v) =
+acts_reach p (Err ending.StepLimit) m first output input rest sink o is = absurd is
+acts_reach p (Err ending.ReadFault) m first output input rest sink o (put, v) =
     (put, value_reaches m.left o (frames_of p m) (HasLeft rest) v)
-acts_reach p (Err ending.WriteFault) m first output input rest held o (left, v) =
-    (left, value_reaches m.left o (frames_of p m) (HasPut first output held) v)
+acts_reach p (Err ending.WriteFault) m first output input rest sink o (left, v) =
+    (left, value_reaches m.left o (frames_of p m) (HasPutSome first output sink) v)
 
 -- a method of a basic class is begun and ends
 pub basic_reaches : (p : List Class) (r : Result Value Ending) (r' : Result Focus Ending) (m : Machine) (ended : Bool)
-    (past past' : Past) (held held' : Option (List ℕ)) (at : Place) (v : values.Value) (vs : List values.Value)
+    (past past' : Past) (sink sink' : SinkSeen) (at : Place) (v : values.Value) (vs : List values.Value)
     (b : BasicMethod) (o : Option MethodRef) (store : Store)
     → Some (Basic b) ≡ o → r' ≡ returned_as r
-    → OnDevices ended past past' held (λ first output input rest. (n : ℕ) → Acts r m.store first output input rest held' n (basic p b at v vs (state_at store input output) n).outcome)
-    → OnDevices ended past past' held (λ first output input rest. Reaches p r' m first output input rest held' (begin_call p at v vs o (frames_of p m) (state_at store input output) m.left))
+    → OnDevices ended past past' sink (λ first output input rest. (n : ℕ) → Acts r m.store first output input rest sink' n (basic p b at v vs (state_at store input output) n).outcome)
+    → OnDevices ended past past' sink (λ first output input rest. Reaches p r' m first output input rest sink' (begin_call p at v vs o (frames_of p m) (state_at store input output) m.left))
 unfolding begin_call
-basic_reaches p r r' m ended past past' held held' at v vs b o store is same acts first output input rest put leaves at_end =
-    subst (λ (q : Result Focus Ending). Reaches p q m first output input rest held' (begin_call p at v vs o (frames_of p m) (state_at store input output) m.left)) (sym same)
-    (subst (λ (q : Option MethodRef). Reaches p (returned_as r) m first output input rest held' (begin_call p at v vs q (frames_of p m) (state_at store input output) m.left)) is
-    (acts_reach p r m first output input rest held' (basic p b at v vs (state_at store input output) m.left).outcome (acts first output input rest put leaves at_end m.left)))
+basic_reaches p r r' m ended past past' sink sink' at v vs b o store is same acts first output input rest put leaves at_end =
+    subst (λ (q : Result Focus Ending). Reaches p q m first output input rest sink' (begin_call p at v vs o (frames_of p m) (state_at store input output) m.left)) (sym same)
+    (subst (λ (q : Option MethodRef). Reaches p (returned_as r) m first output input rest sink' (begin_call p at v vs q (frames_of p m) (state_at store input output) m.left)) is
+    (acts_reach p r m first output input rest sink' (basic p b at v vs (state_at store input output) m.left).outcome (acts first output input rest put leaves at_end m.left)))

@@ -1,6 +1,7 @@
 -- How a run begins: the configuration with the call of main on a new object of class Main.
-use Rattle.std.proofs.Common.{◌≡◌, ℕ, List, [], ◌∷◌, Option, None, Ok, Err, inl, sym, ◌∙◌, refl, subst, arith}
+use Rattle.std.proofs.Common.{◌≡◌, ℕ, List, [], ◌∷◌, ◌++◌, None, Ok, Err, inl, sym, ◌∙◌, refl, subst, append-nil, arith}
 use Rattle.std.specs.Prelude.{codes}
+use Rattle.cool_ports.specs.SinkPuts.{SinkSeen, seen}
 use Rattle.cool_syntax.specs.Bare.{nowhere}
 use Rattle.cool_classes.specs.Chains.{Class}
 use Rattle.cool_rules.specs.Rules.{class_named}
@@ -11,24 +12,34 @@ use Rattle.cool_eval.specs.declared.frame.Focus.{Focus}
 use Rattle.cool_eval.specs.declared.machine.Machine.{Machine}
 use Rattle.cool_eval.specs.Configurations.{frames_of, stack_of, state_of, Comes}
 use Rattle.cool_eval.specs.Counts.{FaultsInCalls}
-use Rattle.cool_eval.specs.Devices.{Reaches}
+use Rattle.cool_eval.specs.Devices.{Reaches, sink_after}
 use Rattle.cool_eval.specs.Machine.{Receiver, Next, begin_new, begun, step}
-use Rattle.cool_eval.specs.Running.{outcome_of, RunsShort, Ended}
-use Rattle.cool_eval.proofs.RunSoFar.{SoFar, nothing_appended, reached_on, reached_end, short_here, main_focus, main_frames, main_reached}
+use Rattle.cool_eval.specs.Running.{outcome_of, puts_of, IsNeverStuck, RunsShort, Ended}
+use Rattle.cool_eval.proofs.PutsOfSteps.{sink_still}
+use Rattle.cool_eval.proofs.RunSoFar.{SoFar, nothing_before, reached_on, reached_end, short_here, main_focus, main_frames, main_reached}
+
+-- no step has put anything
+none_put : (p : List Class) (input : List ℕ) (before : List (List ℕ)) → IsNeverStuck (outcome_of p input)
+    → before ≡ before ++ puts_of (outcome_of p input) 0
+none_put p input before never = sym (append-nil before)
 
 -- memory ran out before the first step
-pub short_at_start : (p : List Class) (steps : ℕ) (first : Option (List ℕ)) (input : List ℕ)
+pub short_at_start : (p : List Class) (steps : ℕ) (first : SinkSeen) (input : List ℕ)
     → RunsShort (outcome_of p input) steps first input first
 short_at_start p steps first input =
-    short_here p input 0 main_focus main_frames (start input) (main_reached p input) steps steps (omega arith) first first [] input refl (nothing_appended first) refl
+    short_here p input 0 main_focus main_frames (start input) (main_reached p input) steps steps (omega arith) first first first.puts (none_put p input first.puts) [] input refl (nothing_before first) refl
+
+-- after the first step the sink is as it was
+quiet_start : (first : SinkSeen) → first ≡ sink_after first [] []
+quiet_start first = nothing_before first ∙ sink_still first []
 
 -- what a step answered that touches neither source nor sink, over a sink that nothing was put to
-comes_reaches : (p : List Class) (e : Ending) (m : Machine) (first : Option (List ℕ)) (input : List ℕ) (next : Next)
-    → Comes p (Err e) m input [] next → Reaches p (Err e) m first [] input input first next
-comes_reaches p (ending.Error e) m first input next is = ([], nothing_appended first, is)
-comes_reaches p ending.StepLimit m first input next is = ([], nothing_appended first, is)
+comes_reaches : (p : List Class) (e : Ending) (m : Machine) (first : SinkSeen) (input : List ℕ) (next : Next)
+    → Comes p (Err e) m input [] next → Reaches p (Err e) m (seen first.held first.puts) [] input input first next
+comes_reaches p (ending.Error e) m first input next is = ([], quiet_start first, is)
+comes_reaches p ending.StepLimit m first input next is = ([], quiet_start first, is)
 comes_reaches p ending.Stuck m first input next is = is
-comes_reaches p ending.Memory m first input next is = (nothing_appended first, inl refl)
+comes_reaches p ending.Memory m first input next is = (nothing_before first, inl refl)
 comes_reaches p ending.ReadFault m first input next is = absurd is
 comes_reaches p ending.WriteFault m first input next is = absurd is
 
@@ -41,7 +52,7 @@ comes_quietly p ending.ReadFault m input next left is = absurd is
 comes_quietly p ending.WriteFault m input next left is = absurd is
 
 -- A machine with no frame, whose store is empty and which has all steps left.
-module _ (p : List Class) (steps : ℕ) (first : Option (List ℕ)) (input : List ℕ) (before : Machine) (main method : List ℕ)
+module _ (p : List Class) (steps : ℕ) (first : SinkSeen) (input : List ℕ) (before : Machine) (main method : List ℕ)
     (main_is : main ≡ codes "Main") (method_is : method ≡ codes "main")
     (frames : before.frames.items ≡ []) (stored : before.store.values ≡ []) (drawn : before.store.drawn ≡ 0)
     (left : before.left ≡ steps) where
@@ -55,12 +66,12 @@ module _ (p : List Class) (steps : ℕ) (first : Option (List ℕ)) (input : Lis
 
   pub so_begun : (f : Focus) (m : Machine) → Comes p (Ok f) m input [] main_begun → SoFar p steps first input f m input first
   so_begun f m is =
-      reached_on p steps 0 steps first input main_focus main_frames (start input) (main_reached p input) (omega arith) f m [] input input first
-      ([], nothing_appended first, sym main_same ∙ is)
+      reached_on p steps 0 steps first first.puts input main_focus main_frames (start input) (main_reached p input) (omega arith) (none_put p input first.puts) f m input input first
+      ([], quiet_start first, sym main_same ∙ is)
 
   pub begun_ends : (e : Ending) (m : Machine) → Comes p (Err e) m input [] main_begun
       → Ended (outcome_of p input) steps first (Err e) input first
   begun_ends e m is =
       let next : Next = step p main_focus main_frames (start input) steps in
-      reached_end p input 0 main_focus main_frames (start input) (main_reached p input) steps steps (omega arith) first first [] input refl e m (comes_quietly p e m input main_begun steps is)
+      reached_end p input 0 main_focus main_frames (start input) (main_reached p input) steps steps (omega arith) first first first.puts (none_put p input first.puts) [] input refl e m (comes_quietly p e m input main_begun steps is)
       (comes_reaches p e m first input next (subst (λ (n : Next). Comes p (Err e) m input [] n) main_same is))

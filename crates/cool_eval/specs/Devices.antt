@@ -2,6 +2,7 @@
 use Rattle.std.specs.Prelude.{◌≡◌, ◌⊎◌, ℕ, Bool, true, List, [], ◌++◌, Option, Result, Ok, Err}
 use Rattle.cool_ports.specs.Answers.{Past, Leaves}
 use Rattle.cool_ports.specs.SinkBytes.{appended, GotPrefix}
+use Rattle.cool_ports.specs.SinkPuts.{SinkSeen, seen, pieces_of, PutFront}
 use Rattle.cool_classes.specs.Chains.{Class}
 use Rattle.cool_meaning.specs.Values as values
 use Rattle.cool_meaning.specs.Values.{State}
@@ -16,17 +17,25 @@ use Rattle.cool_eval.specs.Values.{value_of}
 use Rattle.cool_eval.specs.Configurations.{focus_of, frames_of, state_of, error_of}
 use Rattle.cool_eval.specs.Machine as machine
 use Rattle.cool_eval.specs.Machine.{Next, Continue, Halt}
+use Rattle.cool_eval.specs.Puts.{written_since}
 
 -- the state of a store, an input and an output
 abbrev pub state_at : Store → List ℕ → List ℕ → State
 state_at store input output = record { store = store.values; input = input; output = output; drawn = store.drawn }
 
+-- A sink before a step, after this output: `first` is what it held before all output, and what it was given to put before the step.
+abbrev pub sink_before : SinkSeen → List ℕ → SinkSeen
+sink_before first output = seen (appended first.held output) first.puts
+
+-- That sink after the step, with which the output is `now`: what the step wrote was put in pieces.
+abbrev pub sink_after : SinkSeen → List ℕ → List ℕ → SinkSeen
+sink_after first output now = seen (appended first.held now) (first.puts ++ pieces_of 64 (written_since output now))
+
 -- So it is for each input that the source may have had, of which a rest is left, and for each output that was put before to a sink that held
--- `first`. `ended` says whether the source answered its end before.
-abbrev pub OnDevices : Bool → Past → Past → Option (List ℕ)
-    → ((first : Option (List ℕ)) (output input rest : List ℕ) → Type 0) → Type 0
-OnDevices ended past past' held holds =
-    (first : Option (List ℕ)) (output input rest : List ℕ) → held ≡ appended first output → Leaves past past' input rest
+-- that of `first`. `ended` says whether the source answered its end before.
+abbrev pub OnDevices : Bool → Past → Past → SinkSeen → ((first : SinkSeen) (output input rest : List ℕ) → Type 0) → Type 0
+OnDevices ended past past' sink holds =
+    (first : SinkSeen) (output input rest : List ℕ) → sink ≡ sink_before first output → Leaves past past' input rest
     → (ended ≡ true → input ≡ [])
     → holds first output input rest
 
@@ -38,6 +47,11 @@ HasLeft rest s = (kept : List ℕ) × (rest ≡ kept ++ s.input)
 abbrev pub HasPut : Option (List ℕ) → List ℕ → Option (List ℕ) → State → Type 0
 HasPut first output held s =
     (printed : List ℕ) × (s.output ≡ output ++ printed) × GotPrefix (appended first output) printed held
+
+-- and of its pieces a front was given to the sink to put
+abbrev pub HasPutSome : SinkSeen → List ℕ → SinkSeen → State → Type 0
+HasPutSome first output sink s =
+    HasPut first.held output sink.held s × PutFront first.puts (pieces_of 64 (written_since output s.output)) sink.puts
 
 -- the outcome is a value, with so many steps left, and so it is of its state
 pub record ToValue (n : ℕ) (o : Outcome values.Value) (holds : State → Type 0) : Type 0 where
@@ -54,36 +68,36 @@ pub record ToStep (n : ℕ) (next : Next) (holds : State → Type 0) : Type 0 wh
   pub is : next ≡ Continue focus frames state n
   pub there : holds state
 
--- What a method of a basic class answered, with the store after it: an outcome, where there was memory and no fault. The sink held `first`
--- and `output` before, and `held` after it; of `input` a rest is left. It takes no step. Where a read failed, or memory ran out, nothing was
+-- What a method of a basic class answered, with the store after it: an outcome, where there was memory and no fault. The sink was that of
+-- `first` and `output` before, and `sink` after it; of `input` a rest is left. It takes no step. Where a read failed, or memory ran out, nothing was
 -- put; where a write failed, nothing was taken.
-abbrev pub Acts : Result Value Ending → Store → Option (List ℕ) → List ℕ → List ℕ → List ℕ → Option (List ℕ) → ℕ
+abbrev pub Acts : Result Value Ending → Store → SinkSeen → List ℕ → List ℕ → List ℕ → SinkSeen → ℕ
     → Outcome values.Value → Type 0
-Acts (Ok v) store first output input rest held n o =
-    (now : List ℕ) × (held ≡ appended first now) × (o ≡ Val (value_of v) (state_at store rest now) n)
-Acts (Err (ending.Error e)) store first output input rest held n o =
-    (now : List ℕ) × (held ≡ appended first now) × (o ≡ Stop (error_of e) (state_at store rest now))
-Acts (Err ending.Stuck) store first output input rest held n o = o ≡ Stuck
-Acts (Err ending.Memory) store first output input rest held n o =
-    (held ≡ appended first output) × ((rest ≡ input) ⊎ ToValue n o (HasLeft rest))
-Acts (Err ending.StepLimit) store first output input rest held n o = ⊥
-Acts (Err ending.ReadFault) store first output input rest held n o =
-    (held ≡ appended first output) × ToValue n o (HasLeft rest)
-Acts (Err ending.WriteFault) store first output input rest held n o = (rest ≡ input) × ToValue n o (HasPut first output held)
+Acts (Ok v) store first output input rest sink n o =
+    (now : List ℕ) × (sink ≡ sink_after first output now) × (o ≡ Val (value_of v) (state_at store rest now) n)
+Acts (Err (ending.Error e)) store first output input rest sink n o =
+    (now : List ℕ) × (sink ≡ sink_after first output now) × (o ≡ Stop (error_of e) (state_at store rest now))
+Acts (Err ending.Stuck) store first output input rest sink n o = o ≡ Stuck
+Acts (Err ending.Memory) store first output input rest sink n o =
+    (sink ≡ sink_before first output) × ((rest ≡ input) ⊎ ToValue n o (HasLeft rest))
+Acts (Err ending.StepLimit) store first output input rest sink n o = ⊥
+Acts (Err ending.ReadFault) store first output input rest sink n o =
+    (sink ≡ sink_before first output) × ToValue n o (HasLeft rest)
+Acts (Err ending.WriteFault) store first output input rest sink n o = (rest ≡ input) × ToValue n o (HasPutSome first output sink)
 
 -- What a step answered, with the machine after it: what is done next, where there was memory and no fault.
-abbrev pub Reaches : List Class → Result Focus Ending → Machine → Option (List ℕ) → List ℕ → List ℕ → List ℕ
-    → Option (List ℕ) → Next → Type 0
-Reaches p (Ok f) m first output input rest held next =
-    (now : List ℕ) × (held ≡ appended first now) × (next ≡ Continue (focus_of p f) (frames_of p m) (state_of m rest now) m.left)
-Reaches p (Err (ending.Error e)) m first output input rest held next =
-    (now : List ℕ) × (held ≡ appended first now) × (next ≡ Halt (Stop (error_of e) (state_of m rest now)))
-Reaches p (Err ending.StepLimit) m first output input rest held next =
-    (now : List ℕ) × (held ≡ appended first now) × (next ≡ Halt (On (state_of m rest now)))
-Reaches p (Err ending.Stuck) m first output input rest held next = next ≡ Halt Stuck
-Reaches p (Err ending.Memory) m first output input rest held next =
-    (held ≡ appended first output) × ((rest ≡ input) ⊎ ToStep m.left next (HasLeft rest))
-Reaches p (Err ending.ReadFault) m first output input rest held next =
-    (held ≡ appended first output) × ToStep m.left next (HasLeft rest)
-Reaches p (Err ending.WriteFault) m first output input rest held next =
-    (rest ≡ input) × ToStep m.left next (HasPut first output held)
+abbrev pub Reaches : List Class → Result Focus Ending → Machine → SinkSeen → List ℕ → List ℕ → List ℕ → SinkSeen
+    → Next → Type 0
+Reaches p (Ok f) m first output input rest sink next =
+    (now : List ℕ) × (sink ≡ sink_after first output now) × (next ≡ Continue (focus_of p f) (frames_of p m) (state_of m rest now) m.left)
+Reaches p (Err (ending.Error e)) m first output input rest sink next =
+    (now : List ℕ) × (sink ≡ sink_after first output now) × (next ≡ Halt (Stop (error_of e) (state_of m rest now)))
+Reaches p (Err ending.StepLimit) m first output input rest sink next =
+    (now : List ℕ) × (sink ≡ sink_after first output now) × (next ≡ Halt (On (state_of m rest now)))
+Reaches p (Err ending.Stuck) m first output input rest sink next = next ≡ Halt Stuck
+Reaches p (Err ending.Memory) m first output input rest sink next =
+    (sink ≡ sink_before first output) × ((rest ≡ input) ⊎ ToStep m.left next (HasLeft rest))
+Reaches p (Err ending.ReadFault) m first output input rest sink next =
+    (sink ≡ sink_before first output) × ToStep m.left next (HasLeft rest)
+Reaches p (Err ending.WriteFault) m first output input rest sink next =
+    (rest ≡ input) × ToStep m.left next (HasPutSome first output sink)

@@ -5,6 +5,7 @@ pub mod Ends
 pub mod Groups
 pub mod Machine
 pub mod Methods
+pub mod Puts
 pub mod Ready
 pub mod Running
 pub mod Values

@@ -1,9 +1,9 @@
 -- What the parts of the methods of the basic classes answer.
-use Rattle.std.specs.Prelude.{◌≡◌, ℕ, Bool, List, [], ◌∷◌, ◌++◌, Option, Result, Ok, Err}
+use Rattle.std.specs.Prelude.{◌≡◌, ℕ, Bool, List, [], ◌∷◌, ◌++◌, Result, Ok, Err}
 use denote.Ref.{Bor}
 use Rattle.std.proofs.Common.{Vec}
 use Rattle.cool_ports.specs.Answers.{Past}
-use Rattle.cool_ports.specs.SinkBytes.{appended}
+use Rattle.cool_ports.specs.SinkPuts.{SinkSeen}
 use Rattle.cool_meaning.specs.Values as values
 use Rattle.cool_meaning.specs.Meters.{Outcome, Computation, Val, Stop, Stuck}
 use Rattle.cool_meaning.specs.BasicMethods.{as_string, one, two, line_of}
@@ -13,7 +13,7 @@ use Rattle.cool_eval.specs.declared.ending.Ending.TheVariants as ending
 use Rattle.cool_eval.specs.declared.store.Store.{Store}
 use Rattle.cool_eval.specs.Values.{value_of}
 use Rattle.cool_eval.specs.Configurations.{error_of}
-use Rattle.cool_eval.specs.Devices.{Acts, OnDevices, state_at}
+use Rattle.cool_eval.specs.Devices.{Acts, OnDevices, sink_before, state_at}
 
 -- the bytes of a value that is a string
 abbrev pub IsStringOf : Result (Bor (List ℕ)) Ending → values.Value → Type 0
@@ -66,11 +66,11 @@ Makes (Err ending.ReadFault) store input output n o = ⊥
 Makes (Err ending.WriteFault) store input output n o = ⊥
 
 -- What a method that leaves source and store does to a sink: whatever the state, this computation.
-abbrev pub ActsOnSink : Result Value Ending → Option (List ℕ) → Option (List ℕ) → Computation values.Value → Type 0
-ActsOnSink r held held' d =
-    (store : Store) (first : Option (List ℕ)) (output input : List ℕ) (n : ℕ) → held ≡ appended first output → Acts r store first output input input held' n (d (state_at store input output) n).outcome
+abbrev pub ActsOnSink : Result Value Ending → SinkSeen → SinkSeen → Computation values.Value → Type 0
+ActsOnSink r sink sink' d =
+    (store : Store) (first : SinkSeen) (output input : List ℕ) (n : ℕ) → sink ≡ sink_before first output → Acts r store first output input input sink' n (d (state_at store input output) n).outcome
 
 -- What a method that leaves sink and store does to a source.
 abbrev pub ActsOnSource : Result Value Ending → Bool → Past → Past → Computation values.Value → Type 0
 ActsOnSource r ended past past' d =
-    (store : Store) (held : Option (List ℕ)) → OnDevices ended past past' held (λ first output input rest. (n : ℕ) → Acts r store first output input rest held n (d (state_at store input output) n).outcome)
+    (store : Store) (sink : SinkSeen) → OnDevices ended past past' sink (λ first output input rest. (n : ℕ) → Acts r store first output input rest sink n (d (state_at store input output) n).outcome)

@@ -1,6 +1,7 @@
 -- How a run of the interpreter goes on and ends, by the evaluation of the whole program.
-use Rattle.std.specs.Prelude.{◌≡◌, ℕ, ◌+◌, ◌<◌, ◌≤◌, List, [], ◌++◌, Option, Some, None, Result, Ok, Err}
+use Rattle.std.specs.Prelude.{◌≡◌, ◌≢◌, ℕ, suc, ◌+◌, ◌<◌, ◌≤◌, List, [], ◌++◌, Option, Some, None, Result, Ok, Err}
 use Rattle.cool_ports.specs.SinkBytes.{appended}
+use Rattle.cool_ports.specs.SinkPuts.{SinkSeen, PutFront}
 use Rattle.cool_classes.specs.Chains.{Class}
 use Rattle.cool_meaning.specs.Values as values
 use Rattle.cool_meaning.specs.Values.{State, start}
@@ -13,23 +14,42 @@ use Rattle.cool_eval.specs.declared.frame.Focus.{Focus}
 use Rattle.cool_eval.specs.declared.machine.Machine.{Machine}
 use Rattle.cool_eval.specs.Configurations.{state_of, error_of}
 use Rattle.cool_eval.specs.Machine.{Next, Halt}
-use Rattle.cool_eval.specs.Devices.{HasLeft, HasPut, Reaches}
+use Rattle.cool_eval.specs.Devices.{HasLeft, HasPut, Reaches, sink_before}
+use Rattle.cool_eval.specs.Puts.{steps_puts}
 
 -- what the whole program comes to on an input, with so many steps
 unfoldable pub outcome_of : List Class → List ℕ → ℕ → Outcome values.Value
 outcome_of p input n = (eval p (calls_within p n) values.Void [] main_call (start input) n).outcome
 
 -- What one step answered, with the machine after it: none where the value of the whole was returned.
-abbrev pub Steps : List Class → Result (Option Focus) Ending → Machine → Option (List ℕ) → List ℕ → List ℕ → List ℕ
-    → Option (List ℕ) → Next → Type 0
-Steps p (Ok (Some f)) m first output input rest held next = Reaches p (Ok f) m first output input rest held next
-Steps p (Ok None) m first output input rest held next =
-    (v : values.Value) × (n : ℕ) × (held ≡ appended first output) × (next ≡ Halt (Val v (state_of m rest output) n))
-Steps p (Err e) m first output input rest held next = Reaches p (Err e) m first output input rest held next
+abbrev pub Steps : List Class → Result (Option Focus) Ending → Machine → SinkSeen → List ℕ → List ℕ → List ℕ → SinkSeen
+    → Next → Type 0
+Steps p (Ok (Some f)) m first output input rest sink next = Reaches p (Ok f) m first output input rest sink next
+Steps p (Ok None) m first output input rest sink next =
+    (v : values.Value) × (n : ℕ) × (sink ≡ sink_before first output) × (next ≡ Halt (Val v (state_of m rest output) n))
+Steps p (Err e) m first output input rest sink next = Reaches p (Err e) m first output input rest sink next
 
--- all that was printed up to a state was put, and the input that is left there is left
-abbrev pub IsAt : State → Option (List ℕ) → List ℕ → Option (List ℕ) → Type 0
-IsAt s held rest held' = (held' ≡ appended held s.output) × (rest ≡ s.input)
+-- what was printed up to an outcome
+abbrev pub output_of : Outcome values.Value → List ℕ
+output_of (Val v s n) = s.output
+output_of (Stop e s) = s.output
+output_of (On s) = s.output
+output_of Stuck = []
+
+-- the puts of so many steps, of a program that comes to these outcomes
+abbrev pub puts_of : (ℕ → Outcome values.Value) → ℕ → List (List ℕ)
+puts_of outcomes n = steps_puts (λ k. output_of (outcomes k)) n
+
+-- with each number of steps a rule applies
+abbrev pub IsNeverStuck : (ℕ → Outcome values.Value) → Type 0
+IsNeverStuck outcomes = (n : ℕ) → outcomes n ≢ Stuck
+
+-- With all steps a program comes to this state: all that was printed up to it was put, step by step, and the input that is left there is
+-- left.
+pub record IsAt (outcomes : ℕ → Outcome values.Value) (steps : ℕ) (s : State) (start : SinkSeen) (rest : List ℕ) (sink : SinkSeen) : Type 0 where
+  pub put : sink.held ≡ appended start.held s.output
+  pub puts : IsNeverStuck outcomes → sink.puts ≡ start.puts ++ puts_of outcomes steps
+  pub left : rest ≡ s.input
 
 -- So it is of the state of an outcome; where no rule applied there is none.
 abbrev pub OfState : Outcome values.Value → (State → Type 0) → Type 0
@@ -39,52 +59,51 @@ OfState (On s) holds = holds s
 OfState Stuck holds = Unit {0}
 
 -- A read failed, of a program that comes to these outcomes with so many steps: with `spent` of them it stops before the call that reads, at a
--- state up to which all was put. With one step more at least that is left which is left after it.
-pub record FailsReading (outcomes : ℕ → Outcome values.Value) (steps : ℕ) (held : Option (List ℕ)) (rest : List ℕ)
-    (held' : Option (List ℕ)) : Type 0 where
+-- state up to which all was put, step by step. With one step more at least that is left which is left after it.
+pub record FailsReading (outcomes : ℕ → Outcome values.Value) (steps : ℕ) (start : SinkSeen) (rest : List ℕ) (sink : SinkSeen) : Type 0 where
   pub spent : ℕ
   pub fewer : spent < steps
   pub state : State
   pub stops : outcomes spent ≡ On state
-  pub put : held' ≡ appended held state.output
+  pub put : sink.held ≡ appended start.held state.output
+  pub puts : IsNeverStuck outcomes → sink.puts ≡ start.puts ++ puts_of outcomes spent
   pub taken : List ℕ
   pub left : state.input ≡ taken ++ rest
   pub later : OfState (outcomes (spent + 1)) (HasLeft rest)
 
 -- A write failed: the program stops before the call that writes, and a prefix was put of what is printed with one step more.
-pub record FailsWriting (outcomes : ℕ → Outcome values.Value) (steps : ℕ) (held : Option (List ℕ)) (rest : List ℕ)
-    (held' : Option (List ℕ)) : Type 0 where
+pub record FailsWriting (outcomes : ℕ → Outcome values.Value) (steps : ℕ) (start : SinkSeen) (rest : List ℕ) (sink : SinkSeen) : Type 0 where
   pub spent : ℕ
   pub fewer : spent < steps
   pub state : State
   pub stops : outcomes spent ≡ On state
   pub left : rest ≡ state.input
-  pub later : OfState (outcomes (spent + 1)) (HasPut held state.output held')
+  pub later : OfState (outcomes (spent + 1)) (HasPut start.held state.output sink.held)
+  pub puts : IsNeverStuck outcomes → PutFront start.puts (puts_of outcomes (suc spent)) sink.puts
 
 -- this was printed up to a state, and of the input that is left there a part was taken
 abbrev pub HasTaken : List ℕ → List ℕ → State → Type 0
 HasTaken output rest s = (s.output ≡ output) × ((taken : List ℕ) × (s.input ≡ taken ++ rest))
 
 -- Memory ran out: with `spent` steps the program prints just what was put. With all of them at least that is left which is left then.
-pub record RunsShort (outcomes : ℕ → Outcome values.Value) (steps : ℕ) (held : Option (List ℕ)) (rest : List ℕ)
-    (held' : Option (List ℕ)) : Type 0 where
+pub record RunsShort (outcomes : ℕ → Outcome values.Value) (steps : ℕ) (start : SinkSeen) (rest : List ℕ) (sink : SinkSeen) : Type 0 where
   pub spent : ℕ
   pub within : spent ≤ steps
   pub output : List ℕ
-  pub put : held' ≡ appended held output
+  pub put : sink.held ≡ appended start.held output
+  pub puts : IsNeverStuck outcomes → sink.puts ≡ start.puts ++ puts_of outcomes spent
   pub stands : OfState (outcomes spent) (HasTaken output rest)
   pub later : OfState (outcomes steps) (HasLeft rest)
 
 -- How the loop of steps ended, of a program that comes to these outcomes with so many steps: with that of all steps, or within it, where a
 -- device failed or memory ran out.
-abbrev pub Ended : (ℕ → Outcome values.Value) → ℕ → Option (List ℕ) → Result (Unit {0}) Ending → List ℕ → Option (List ℕ)
-    → Type 0
-Ended outcomes steps held (Ok x) rest held' =
-    (v : values.Value) × (s : State) × (n : ℕ) × (outcomes steps ≡ Val v s n) × IsAt s held rest held'
-Ended outcomes steps held (Err (ending.Error e)) rest held' =
-    (s : State) × (outcomes steps ≡ Stop (error_of e) s) × IsAt s held rest held'
-Ended outcomes steps held (Err ending.StepLimit) rest held' = (s : State) × (outcomes steps ≡ On s) × IsAt s held rest held'
-Ended outcomes steps held (Err ending.Stuck) rest held' = outcomes steps ≡ Stuck
-Ended outcomes steps held (Err ending.ReadFault) rest held' = FailsReading outcomes steps held rest held'
-Ended outcomes steps held (Err ending.WriteFault) rest held' = FailsWriting outcomes steps held rest held'
-Ended outcomes steps held (Err ending.Memory) rest held' = RunsShort outcomes steps held rest held'
+abbrev pub Ended : (ℕ → Outcome values.Value) → ℕ → SinkSeen → Result (Unit {0}) Ending → List ℕ → SinkSeen → Type 0
+Ended outcomes steps start (Ok x) rest sink =
+    (v : values.Value) × (s : State) × (n : ℕ) × (outcomes steps ≡ Val v s n) × IsAt outcomes steps s start rest sink
+Ended outcomes steps start (Err (ending.Error e)) rest sink =
+    (s : State) × (outcomes steps ≡ Stop (error_of e) s) × IsAt outcomes steps s start rest sink
+Ended outcomes steps start (Err ending.StepLimit) rest sink = (s : State) × (outcomes steps ≡ On s) × IsAt outcomes steps s start rest sink
+Ended outcomes steps start (Err ending.Stuck) rest sink = outcomes steps ≡ Stuck
+Ended outcomes steps start (Err ending.ReadFault) rest sink = FailsReading outcomes steps start rest sink
+Ended outcomes steps start (Err ending.WriteFault) rest sink = FailsWriting outcomes steps start rest sink
+Ended outcomes steps start (Err ending.Memory) rest sink = RunsShort outcomes steps start rest sink

@@ -2,6 +2,7 @@
 
 ghost use Rattle.std.specs.Prelude.{◌≡◌, ℕ, List, IfOk, IfErr, map, option_map};
 ghost use Rattle.cool_classes.specs.Chains.{Class};
+ghost use Rattle.cool_ports.specs.SinkPuts.{seen};
 ghost use Rattle.cool_ports.specs.Taking.{Took};
 ghost use Rattle.cool_meaning.specs.BasicMethods.{basic as basic_of, copy as copy_of, part as part_of};
 ghost use Rattle.cool_meaning.specs.Values as values;
@@ -134,7 +135,7 @@ fn copy(alloc: Global, store: &mut Store, me: &Value) -> Result<Value, Ending>
 
 /// `out_string`: the string is put.
 fn out_string<K: Sink>(sink: &mut K, me: Value, given: &[Value]) -> Result<Value, Ending>
-    ensures acts { (p : List Class) (at : Place) → ActsOnSink result (K.held sink.old) (K.held sink.new) (basic_of p BasicMethod.OutString at (value_of me) (map value_of given.now)) }
+    ensures acts { (p : List Class) (at : Place) → ActsOnSink result (seen (K.held sink.old) (K.puts sink.old)) (seen (K.held sink.new) (K.puts sink.new)) (basic_of p BasicMethod.OutString at (value_of me) (map value_of given.now)) }
     ensures counts { Counted result 0 0 (K.faults sink.old) (K.faults sink.new) }
 {
     let bytes = bytes_of(one(given)?)?;
@@ -149,7 +150,7 @@ fn out_int<K: Sink>(
     me: Value,
     given: &[Value],
 ) -> Result<Value, Ending>
-    ensures acts { (p : List Class) (at : Place) → ActsOnSink result (K.held sink.old) (K.held sink.new) (basic_of p BasicMethod.OutInt at (value_of me) (map value_of given.now)) }
+    ensures acts { (p : List Class) (at : Place) → ActsOnSink result (seen (K.held sink.old) (K.puts sink.old)) (seen (K.held sink.new) (K.puts sink.new)) (basic_of p BasicMethod.OutInt at (value_of me) (map value_of given.now)) }
     ensures counts { Counted result 0 0 (K.faults sink.old) (K.faults sink.new) }
 {
     let shown = number(one(given)?)?;
@@ -236,7 +237,7 @@ pub(crate) fn basic<S: Source, K: Sink>(
     sink: &mut K,
 ) -> Result<Value, Ending>
     ensures took { Took ended.old ended.new (S.past source.old) (S.past source.new) (S.left source.old) (S.left source.new) }
-    ensures acts { OnDevices ended.old (S.past source.old) (S.past source.new) (K.held sink.old) (λ first output input rest. (n : ℕ) → Acts result store.new first output input rest (K.held sink.new) n
+    ensures acts { OnDevices ended.old (S.past source.old) (S.past source.new) (seen (K.held sink.old) (K.puts sink.old)) (λ first output input rest. (n : ℕ) → Acts result store.new first output input rest (seen (K.held sink.new) (K.puts sink.new)) n
         (basic_of setting.now.table.now method at (value_of me) (map value_of given.items) (state_at store.old input output) n).outcome) }
     ensures counts { Counted result (S.faults source.old) (S.faults source.new) (K.faults sink.old) (K.faults sink.new) }
 {

@@ -2,6 +2,7 @@
 
 ghost use Rattle.std.specs.Prelude.{◌≡◌, ◌+◌, ◌∷◌, [], ◌++◌, ℕ, List, Some, IfErr, IfOk, map, option_map};
 ghost use Rattle.cool_ports.specs.Answers.{Leaves};
+ghost use Rattle.cool_ports.specs.SinkPuts.{seen};
 ghost use Rattle.cool_ports.specs.Taking.{Took};
 ghost use Rattle.cool_classes.specs.Chains.{Class};
 ghost use Rattle.cool_classes.specs.ClimbedChains.{chain};
@@ -92,7 +93,7 @@ pub(crate) fn call<'a, S: Source, K: Sink>(
     sink: &mut K,
 ) -> Result<Focus<'a>, Ending>
     requires ready { IsReady setting.now.table.now setting.now.layouts.now }
-    ensures reaches { OnDevices machine.old.ended (S.past source.old) (S.past source.new) (K.held sink.old) (λ first output input rest. Reaches setting.now.table.now result machine.new first output input rest (K.held sink.new)
+    ensures reaches { OnDevices machine.old.ended (S.past source.old) (S.past source.new) (seen (K.held sink.old) (K.puts sink.old)) (λ first output input rest. Reaches setting.now.table.now result machine.new first output input rest (seen (K.held sink.new) (K.puts sink.new))
         (call_class setting.now.table.now at name.now (value_of me) (map value_of given.items) (class_called setting.now.table.now at (class_name class.entry) (value_of me) (state_of machine.old input output) machine.old.left).outcome (frames_of setting.now.table.now machine.old))) }
     ensures took { Took machine.old.ended machine.new.ended (S.past source.old) (S.past source.new) (S.left source.old) (S.left source.new) }
     ensures spent { FaultsInCalls result machine.old.left machine.new.left }
@@ -146,7 +147,7 @@ fn begin_call<'a, S: Source, K: Sink>(
     sink: &mut K,
 ) -> Result<Focus<'a>, Ending>
     requires ready { IsReady setting.now.table.now setting.now.layouts.now }
-    ensures reaches { OnDevices machine.old.ended (S.past source.old) (S.past source.new) (K.held sink.old) (λ first output input rest. Reaches setting.now.table.now result machine.new first output input rest (K.held sink.new)
+    ensures reaches { OnDevices machine.old.ended (S.past source.old) (S.past source.new) (seen (K.held sink.old) (K.puts sink.old)) (λ first output input rest. Reaches setting.now.table.now result machine.new first output input rest (seen (K.held sink.new) (K.puts sink.new))
         (call_begun setting.now.table.now at (value_of me) (map value_of given.items) method (frames_of setting.now.table.now machine.old) (state_of machine.old input output) machine.old.left)) }
     ensures took { Took machine.old.ended machine.new.ended (S.past source.old) (S.past source.new) (S.left source.old) (S.left source.new) }
     ensures left { machine.new.left ≡ machine.old.left }

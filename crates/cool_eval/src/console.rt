@@ -1,9 +1,10 @@
 //! What the methods of IO put into the sink and take from the source.
 
-ghost use Rattle.std.specs.Prelude.{◌≡◌, ℕ, List, [], true, IfErr, OnOk, OnErr};
+ghost use Rattle.std.specs.Prelude.{◌≡◌, ◌++◌, ℕ, List, [], true, IfErr, OnOk, OnErr};
 ghost use Rattle.cool_ports.specs.Answers.{Leaves};
 ghost use Rattle.cool_ports.specs.Counts.{Rose};
 ghost use Rattle.cool_ports.specs.SinkBytes.{appended, GotPrefix};
+ghost use Rattle.cool_ports.specs.SinkPuts.{pieces_of, PutFront};
 ghost use Rattle.cool_ports.specs.Taking.{Took};
 ghost use Rattle.cool_eval.specs.Counts.{Counted};
 ghost use Rattle.cool_eval.specs.Methods.{TookLine};
@@ -18,7 +19,9 @@ const PIECE: usize = 64;
 /// Puts bytes in pieces. `Err` comes only where a put fails; then a prefix of the bytes was put.
 pub(crate) fn print<K: Sink>(sink: &mut K, bytes: &[u8]) -> Result<(), Ending>
     ensures put { OnOk result (K.held sink.new ≡ appended (K.held sink.old) bytes.now) }
+    ensures pieces { OnOk result (K.puts sink.new ≡ K.puts sink.old ++ pieces_of 64 bytes.now) }
     ensures prefix { OnErr result (GotPrefix (K.held sink.old) bytes.now (K.held sink.new)) }
+    ensures pieces_up_to { OnErr result (PutFront (K.puts sink.old) (pieces_of 64 bytes.now) (K.puts sink.new)) }
     ensures no_fault { OnOk result (K.faults sink.new ≡ K.faults sink.old) }
     ensures failed { OnErr result (Rose (K.faults sink.old) (K.faults sink.new)) }
     ensures fault { IfErr result (λ e. e ≡ Ending.WriteFault) }

@@ -2,10 +2,12 @@
 
 ghost use Rattle.std.specs.Prelude.{◌≡◌, ℕ, Bool, false, List, IfOk, codes, map, string_bytes};
 ghost use Rattle.cool_ports.specs.Answers.{Leaves};
+ghost use Rattle.cool_ports.specs.SinkPuts.{seen};
 ghost use Rattle.cool_ports.specs.Taking.{Took};
 ghost use Rattle.cool_classes.specs.Tables.{IsWholeTable};
 ghost use Rattle.cool_eval.specs.Counts.{Counted, CountedEnd};
 ghost use Rattle.cool_eval.specs.Ends.{Evaluates};
+ghost use Rattle.cool_eval.specs.Puts.{PutByRun};
 ghost use Rattle.cool_eval.specs.Ready.{AreLayouts, IsReady};
 ghost use Rattle.cool_eval.specs.Running.{outcome_of, Ended};
 
@@ -41,8 +43,8 @@ pub enum EvalEnd {
 /// Runs a program, whose files have these names, with so many steps at most (the Cool manual, section 13), and writes its output and how it
 /// ended: the line for a good end, or that of a run-time error.
 ///
-/// `ReadFault` and `WriteFault` come at the first take or put that fails, and `Memory` where memory runs out; then all was put that was due
-/// before that point of the run.
+/// What a step writes is put before the next step, in pieces of at most 64 bytes, and so is the last line. `ReadFault` and `WriteFault` come at
+/// the first take or put that fails, and `Memory` where memory runs out; then all was put that was due before that point of the run.
 pub fn evaluate<S: Source, K: Sink>(
     alloc: Global,
     program: &TypedProgram,
@@ -54,6 +56,8 @@ pub fn evaluate<S: Source, K: Sink>(
     ensures took { (ended : Bool) × Took false ended (S.past source.old) (S.past source.new) (S.left source.old) (S.left source.new) }
     ensures ends { (input rest : List ℕ) → Leaves (S.past source.old) (S.past source.new) input rest
         → Evaluates program.now (map string_bytes names.now) input steps (K.held sink.old) result rest (K.held sink.new) }
+    ensures puts { (input rest : List ℕ) → Leaves (S.past source.old) (S.past source.new) input rest
+        → PutByRun program.now (map string_bytes names.now) input steps result rest (K.puts sink.old) (K.puts sink.new) }
     ensures counts { CountedEnd result (S.faults source.old) (S.faults source.new) (K.faults sink.old) (K.faults sink.new) }
 {
     let table = program.table();
@@ -100,7 +104,7 @@ fn run<'a, S: Source, K: Sink>(
     requires method { method.now ≡ codes "main" }
     ensures took { (ended : Bool) × Took false ended (S.past source.old) (S.past source.new) (S.left source.old) (S.left source.new) }
     ensures ends { (input rest : List ℕ) → Leaves (S.past source.old) (S.past source.new) input rest
-        → Ended (outcome_of setting.now.table.now input) steps (K.held sink.old) result rest (K.held sink.new) }
+        → Ended (outcome_of setting.now.table.now input) steps (seen (K.held sink.old) (K.puts sink.old)) result rest (seen (K.held sink.new) (K.puts sink.new)) }
     ensures counts { Counted result (S.faults source.old) (S.faults source.new) (K.faults sink.old) (K.faults sink.new) }
 {
     let alloc = setting.alloc;

@@ -26,4 +26,4 @@ mod store;
 mod value;
 
 pub use evaluation::{EvalEnd, evaluate};
-pub use laws::law_stopped_within;
+pub use laws::{law_puts_are_output, law_stopped_within};

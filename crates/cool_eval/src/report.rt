@@ -1,13 +1,14 @@
 //! What is written at the end of a run.
 
-ghost use Rattle.std.specs.Prelude.{◌≡◌, ◌≢◌, ◌++◌, ℕ, List, IfOk, Option, codes, map, string_bytes};
+ghost use Rattle.std.specs.Prelude.{◌≡◌, ◌++◌, ℕ, List, IfOk, codes, map, string_bytes};
+ghost use Rattle.cool_ports.specs.SinkPuts.{SinkSeen, seen};
 ghost use Rattle.cool_classes.specs.Chains.{name_of};
-ghost use Rattle.cool_meaning.specs.Meters.{Stuck};
 ghost use Rattle.cool_meaning.specs.SourceRun as runs;
 ghost use Rattle.cool_eval.specs.Configurations.{error_of};
 ghost use Rattle.cool_eval.specs.Counts.{CountedFinish};
 ghost use Rattle.cool_eval.specs.Ends.{Evaluates};
-ghost use Rattle.cool_eval.specs.Running.{outcome_of, Ended};
+ghost use Rattle.cool_eval.specs.Puts.{PutByRun};
+ghost use Rattle.cool_eval.specs.Running.{outcome_of, Ended, IsNeverStuck};
 
 use crate::console::print;
 use crate::ending::{Ending, RunError};
@@ -25,9 +26,12 @@ pub(crate) fn finish<K: Sink>(
     end: Result<(), Ending>,
     sink: &mut K,
 ) -> EvalEnd
-    ensures ends { (input : List ℕ) (steps : ℕ) (first : Option (List ℕ)) (rest : List ℕ) → ((n : ℕ) → outcome_of setting.now.table.now input n ≢ Stuck)
-        → Ended (outcome_of setting.now.table.now input) steps first end rest (K.held sink.old)
-        → Evaluates setting.now.table.now (map string_bytes names.now) input steps first result rest (K.held sink.new) }
+    ensures ends { (input : List ℕ) (steps : ℕ) (start : SinkSeen) (rest : List ℕ) → IsNeverStuck (outcome_of setting.now.table.now input)
+        → Ended (outcome_of setting.now.table.now input) steps start end rest (seen (K.held sink.old) (K.puts sink.old))
+        → Evaluates setting.now.table.now (map string_bytes names.now) input steps start.held result rest (K.held sink.new) }
+    ensures puts { (input : List ℕ) (steps : ℕ) (start : SinkSeen) (rest : List ℕ) → IsNeverStuck (outcome_of setting.now.table.now input)
+        → Ended (outcome_of setting.now.table.now input) steps start end rest (seen (K.held sink.old) (K.puts sink.old))
+        → PutByRun setting.now.table.now (map string_bytes names.now) input steps result rest start.puts (K.puts sink.new) }
     ensures counts { CountedFinish end result (K.faults sink.old) (K.faults sink.new) }
 {
     match end {

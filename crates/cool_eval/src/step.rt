@@ -2,6 +2,7 @@
 
 ghost use Rattle.std.specs.Prelude.{◌≡◌, ◌∷◌, [], ◌++◌, ℕ, List, None, IfErr, IfOk};
 ghost use Rattle.cool_ports.specs.Answers.{Leaves};
+ghost use Rattle.cool_ports.specs.SinkPuts.{seen};
 ghost use Rattle.cool_ports.specs.Taking.{Took};
 ghost use Rattle.cool_syntax.specs.Bare.{nowhere};
 ghost use Rattle.cool_classes.specs.Chains.{Class};
@@ -42,7 +43,7 @@ fn give<'a, S: Source, K: Sink>(
     sink: &mut K,
 ) -> Result<Focus<'a>, Ending>
     requires ready { IsReady setting.now.table.now setting.now.layouts.now }
-    ensures reaches { OnDevices machine.old.ended (S.past source.old) (S.past source.new) (K.held sink.old) (λ first output input rest. Reaches setting.now.table.now result machine.new first output input rest (K.held sink.new)
+    ensures reaches { OnDevices machine.old.ended (S.past source.old) (S.past source.new) (seen (K.held sink.old) (K.puts sink.old)) (λ first output input rest. Reaches setting.now.table.now result machine.new first output input rest (seen (K.held sink.new) (K.puts sink.new))
         (returned setting.now.table.now (frame_of setting.now.table.now frame.entry) (value_of value) (frames_of setting.now.table.now machine.old) (state_of machine.old input output) machine.old.left)) }
     ensures took { Took machine.old.ended machine.new.ended (S.past source.old) (S.past source.new) (S.left source.old) (S.left source.new) }
     ensures spent { FaultsInCalls result machine.old.left machine.new.left }
@@ -270,7 +271,7 @@ pub(crate) fn step<'a, S: Source, K: Sink>(
     sink: &mut K,
 ) -> Result<Option<Focus<'a>>, Ending>
     requires ready { IsReady setting.now.table.now setting.now.layouts.now }
-    ensures reaches { OnDevices machine.old.ended (S.past source.old) (S.past source.new) (K.held sink.old) (λ first output input rest. Steps setting.now.table.now result machine.new first output input rest (K.held sink.new)
+    ensures reaches { OnDevices machine.old.ended (S.past source.old) (S.past source.new) (seen (K.held sink.old) (K.puts sink.old)) (λ first output input rest. Steps setting.now.table.now result machine.new first output input rest (seen (K.held sink.new) (K.puts sink.new))
         (steps.step setting.now.table.now (focus_of setting.now.table.now focus.entry) (frames_of setting.now.table.now machine.old) (state_of machine.old input output) machine.old.left)) }
     ensures took { Took machine.old.ended machine.new.ended (S.past source.old) (S.past source.new) (S.left source.old) (S.left source.new) }
     ensures spent { FaultsInCalls result machine.old.left machine.new.left }
