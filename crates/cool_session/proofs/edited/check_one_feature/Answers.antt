@@ -85,6 +85,9 @@ bounds-features-id g c =
     (in_features base.untyped base.faults.items base.kept c.args.lexed.items c.args.number c.args.run c.requires.differ
     c.in_ok-ids.ids.items c.in_ok-ids.ensures id c.index-id.ensures)
 
+pub returns-in_err-ids-clause-failed : goal.returns-in_err-ids-clause-failed
+returns-in_err-ids-clause-failed g c = on_error c.from_residual-in_err-ids.result (same_base c.args.base.now _ _ _)
+
 pub returns-then-not-declare_same-clause-other : goal.returns-then-not-declare_same-clause-other
 returns-then-not-declare_same-clause-other g c = same_base c.args.base.now _ _ _
 
