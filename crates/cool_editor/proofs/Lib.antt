@@ -1,2 +1,3 @@
 mod FilesRead
+mod FreshDevices
 mod TreesOfTokens

@@ -1,5 +1,5 @@
 -- The tokens of files that are a class table are trees, each the one that the parser gives.
-use Rattle.std.proofs.Common.{◌≡◌, ℕ, ◌+◌, ◌<◌, List, [], ◌∷◌, ◌++◌, length, drop, take, get_or, ap, ◌∙◌, refl, subst, append_assoc, arith}
+use Rattle.std.proofs.Common.{◌≡◌, ℕ, ◌+◌, ◌<◌, List, [], ◌∷◌, ◌++◌, length, drop, map, take, get_or, ap, ◌∙◌, refl, subst, append_assoc, arith}
 use Rattle.cool_syntax.specs.declared.file_tree.ClassDef.{ClassDef}
 use Rattle.cool_syntax.specs.declared.file_tree.FileTree.{FileTree}
 use Rattle.cool_syntax.specs.Grammar.{Parses}
@@ -7,9 +7,14 @@ use Rattle.cool_lexer.specs.declared.lexer.Lexed.{Lexed}
 use Rattle.cool_classes.specs.Chains.{Class}
 use Rattle.cool_classes.specs.Definitions.{AreDefinedBy, IsTableOf, definitions}
 use Rattle.cool_classes.specs.Tables.{IsTable}
-use Rattle.cool_faults.specs.Phases.{AreFound, IsParsed, IsSyntactic}
+use Rattle.cool_faults.specs.declared.fault.Untyped.{Untyped}
+use Rattle.cool_faults.specs.Phases.{AreFound, IsLexed, IsLexical, IsParsed, IsSyntactic}
+use Rattle.cool_faults.specs.Untyped.{IsUntyped}
 use Rattle.cool_faults.proofs.FindingsInARow.{AllFound, all_found}
-use Rattle.cool_editor.specs.Ends.{AreTrees}
+use Rattle.cool_names.specs.Programs.{program_marks}
+use Rattle.cool_names.specs.WrittenNames.{AreRead, names_in, spot_of}
+use Rattle.cool_names.proofs.NamesMarked.{program_names}
+use Rattle.cool_editor.specs.Ends.{AreTrees, tokens_of}
 use Rattle.lists.proofs.ItemsLeft.{drop_one}
 
 -- files that were parsed are trees
@@ -21,6 +26,22 @@ trees_of k (l ∷ ls) (t ∷ ts) h = (h.0.whole, trees_of (k + 1) ls ts h.1)
 
 pub are_trees : (files : List Lexed) (trees : List FileTree) → AreFound IsParsed IsSyntactic 0 files trees [] → AreTrees files trees
 are_trees files trees found = trees_of 0 files trees (all_found IsParsed IsSyntactic found refl)
+
+-- and were read from their tokens
+read_of : (k : ℕ) (texts : List (List ℕ)) (files : List Lexed) (trees : List FileTree) → AllFound IsLexed k texts files → AllFound IsParsed k files trees → AreRead k texts (tokens_of files) trees
+read_of k [] [] [] h g = AreRead.none k
+read_of k [] [] (t ∷ ts) h g = absurd g
+read_of k [] (l ∷ ls) ts h g = absurd h
+read_of k (bytes ∷ texts) [] ts h g = absurd h
+read_of k (bytes ∷ texts) (l ∷ ls) [] h g = absurd g
+read_of k (bytes ∷ texts) (l ∷ ls) (t ∷ ts) h g =
+    AreRead.and_more k bytes texts l.tokens.items (tokens_of ls) t ts h.0.lexes g.0.whole (read_of (k + 1) texts ls ts h.1 g.1)
+
+-- the marks stand at the names of the files
+pub are_names : (texts : List (List ℕ)) (u : Untyped) (is : IsUntyped texts u) → map spot_of (program_marks u.classes (definitions is.trees)) ≡ names_in (tokens_of u.lexed.items)
+are_names texts u is =
+    program_names u.classes texts (tokens_of u.lexed.items) is.trees
+    (read_of 0 texts u.lexed.items is.trees (all_found IsLexed IsLexical is.lexed refl) (all_found IsParsed IsSyntactic is.parsed refl))
 
 -- there are as many classes as definitions, besides the basic ones
 as_many : (p : List Class) (ds : List ClassDef) (cs : List Class) → AreDefinedBy p ds cs → length cs ≡ length ds

@@ -1,7 +1,8 @@
 -- How a call ends: the lines of the marks of the files are written, or the files are no class table, or not read, or a write fails.
-use Rattle.std.specs.Prelude.{◌≡◌, ℕ, ◌-◌, ◌<◌, ◌≤◌, ◌⊎◌, List, [], ◌∷◌, ◌++◌, length, codes, Option, Some, None}
+use Rattle.std.specs.Prelude.{◌≡◌, ℕ, ◌-◌, ◌<◌, ◌≤◌, ◌⊎◌, List, [], ◌∷◌, ◌++◌, map, length, codes, Option, Some, None}
 use Rattle.std.specs.Global.{Vec}
 use Rattle.cool_syntax.specs.declared.TheConstants.{MOST_FILES, MOST_SOURCE_BYTES}
+use Rattle.cool_syntax.specs.declared.token.Token.{Token}
 use Rattle.cool_syntax.specs.declared.file_tree.FileTree.{FileTree}
 use Rattle.cool_syntax.specs.Grammar.{Parses}
 use Rattle.cool_lexer.specs.declared.lexer.Lexed.{Lexed}
@@ -12,10 +13,12 @@ use Rattle.cool_faults.specs.Files.{total}
 use Rattle.cool_faults.specs.Untyped.{IsRefusedEarly, IsUntyped}
 use Rattle.cool_names.specs.declared.mark.Mark.{Mark}
 use Rattle.cool_names.specs.Programs.{program_marks}
+use Rattle.cool_names.specs.WrittenNames.{names_in, spot_of}
 use Rattle.cool_ports.specs.Counts.{Rose}
 use Rattle.cool_ports.specs.ShelfFiles.{FileMap, IsMissing, IsLonger, AreHeld}
 use Rattle.cool_ports.specs.SinkBytes.{appended, GotPrefix}
 use Rattle.cool_ports.specs.SinkPuts.{PutFront, pieces_of}
+use Rattle.cool_editor.specs.Devices.{ShelfUse, IsUnused, AreRead, SinkUse}
 use Rattle.cool_editor.specs.Lines.{mark_lines}
 use Rattle.cool_editor.specs.declared.status.Status.{Status}
 use Rattle.cool_editor.specs.declared.status.Status.TheVariants.{Done, Refused, Usage, WriteFault, Memory, FileFault}
@@ -27,11 +30,17 @@ AreTrees [] (tree ∷ trees) = ⊥
 AreTrees (lexed ∷ files) [] = ⊥
 AreTrees (lexed ∷ files) (tree ∷ trees) = Parses lexed.tokens.items tree.classes × AreTrees files trees
 
--- the marks of files: those of their class table and of the definitions of their trees
+-- the tokens of files, one file after the other
+abbrev pub tokens_of : List Lexed → List Token
+tokens_of [] = []
+tokens_of (file ∷ files) = file.tokens.items ++ tokens_of files
+
+-- the marks of files: those of their class table and of the definitions of their trees, which stand at the names of the files and at nothing else
 pub record AreMarks (files : List (List ℕ)) (marks : List Mark) : Type 0 where
   pub untyped : Untyped
   pub is : IsUntyped files untyped
   pub are : marks ≡ program_marks untyped.classes (definitions is.trees)
+  pub named : map spot_of marks ≡ names_in (tokens_of untyped.lexed.items)
 
 -- no class table: a phase before typing finds faults
 abbrev pub AreNoTable : List (List ℕ) → Type 0
@@ -46,52 +55,54 @@ abbrev pub IsTextOf : List (List ℕ) → Option (Vec ℕ) → Type 0
 IsTextOf contents (Some text) = (marks : List Mark) × AreMarks contents marks × (text.items ≡ mark_lines marks)
 IsTextOf contents None = AreNoTable contents
 
--- the same of the files of these names
-abbrev pub IsText : Option FileMap → List (List ℕ) → Option (Vec ℕ) → Type 0
-IsText files names text = (contents : List (List ℕ)) × AreHeld files names contents × IsTextOf contents text
+-- the same of the files of these names, which were read
+abbrev pub IsText : ShelfUse → List (List ℕ) → Option (Vec ℕ) → Type 0
+IsText shelf names text = (contents : List (List ℕ)) × AreRead shelf names contents × IsTextOf contents text
 
--- a sink got the lines of the marks of the files of these names, in pieces of 4,096 bytes
-pub record IsListed (files : Option FileMap) (names : List (List ℕ)) (before after : Option (List ℕ)) (puts_before puts_after : List (List ℕ)) : Type 0 where
+-- a sink got the lines of the marks of the files of these names, which were read, in pieces of 4,096 bytes
+pub record IsListed (shelf : ShelfUse) (names : List (List ℕ)) (out : SinkUse) : Type 0 where
   pub contents : List (List ℕ)
-  pub held : AreHeld files names contents
+  pub read : AreRead shelf names contents
   pub marks : List Mark
   pub are : AreMarks contents marks
-  pub written : after ≡ appended before (mark_lines marks)
-  pub put : puts_after ≡ puts_before ++ pieces_of 4096 (mark_lines marks)
+  pub written : out.held_after ≡ appended out.held_before (mark_lines marks)
+  pub put : out.puts_after ≡ out.puts_before ++ pieces_of 4096 (mark_lines marks)
 
--- the files of these names are no class table
-pub record IsRefused (files : Option FileMap) (names : List (List ℕ)) : Type 0 where
+-- the files of these names, which were read, are no class table
+pub record IsRefused (shelf : ShelfUse) (names : List (List ℕ)) : Type 0 where
   pub contents : List (List ℕ)
-  pub held : AreHeld files names contents
+  pub read : AreRead shelf names contents
   pub none : AreNoTable contents
 
 -- why the shelf refuses the file of this name, which may have so many bytes: it is missing, or longer, or was not read
 abbrev pub IsCause : Option FileMap → ℕ → ℕ → List ℕ → ℕ → Type 0
 IsCause files before after name most = IsMissing files name before after ⊎ (IsLonger files name most before after ⊎ Rose before after)
 
--- the files in front of one were read, and the shelf refuses that one
-pub record IsStop (files : Option FileMap) (before after : ℕ) (names : List (List ℕ)) : Type 0 where
+-- The files in front of one were read, and the shelf, which was last asked for that one, refuses it.
+pub record IsStop (shelf : ShelfUse) (names : List (List ℕ)) : Type 0 where
   pub front : List (List ℕ)
   pub name : List ℕ
   pub rest : List (List ℕ)
   pub contents : List (List ℕ)
   pub stands : names ≡ front ++ name ∷ rest
-  pub held : AreHeld files front contents
+  pub held : AreHeld shelf.files front contents
+  pub asked : shelf.asked_after ≡ shelf.asked_before ++ (front ++ name ∷ [])
+  pub gave : shelf.gave_after ≡ shelf.gave_before ++ contents
   pub within : total contents ≤ MOST_SOURCE_BYTES
-  pub cause : IsCause files before after name (MOST_SOURCE_BYTES - total contents)
+  pub cause : IsCause shelf.files shelf.faults_before shelf.faults_after name (MOST_SOURCE_BYTES - total contents)
 
--- the files of these names are too many, and no read of one failed, or one of them was refused
-abbrev pub AreUnread : Option FileMap → ℕ → ℕ → List (List ℕ) → Type 0
-AreUnread files before after names = ((MOST_FILES < length names) × (after ≡ before)) ⊎ ((length names ≤ MOST_FILES) × IsStop files before after names)
+-- the files of these names are too many, and none was asked for, or one of them was refused
+abbrev pub AreUnread : ShelfUse → List (List ℕ) → Type 0
+AreUnread shelf names = ((MOST_FILES < length names) × IsUnused shelf) ⊎ ((length names ≤ MOST_FILES) × IsStop shelf names)
 
 -- why there is no text of the files of these names
-abbrev pub IsUntold : Option FileMap → ℕ → ℕ → List (List ℕ) → Status → Type 0
-IsUntold files before after names Usage = (names ≡ []) × (after ≡ before)
-IsUntold files before after names FileFault = AreUnread files before after names
-IsUntold files before after names Memory = Unit {0}
-IsUntold files before after names Done = ⊥
-IsUntold files before after names Refused = ⊥
-IsUntold files before after names WriteFault = ⊥
+abbrev pub IsUntold : ShelfUse → List (List ℕ) → Status → Type 0
+IsUntold shelf names Usage = (names ≡ []) × IsUnused shelf
+IsUntold shelf names FileFault = AreUnread shelf names
+IsUntold shelf names Memory = Unit {0}
+IsUntold shelf names Done = ⊥
+IsUntold shelf names Refused = ⊥
+IsUntold shelf names WriteFault = ⊥
 
 -- the note of a call that ends so
 abbrev pub note_of : Status → List ℕ
@@ -112,29 +123,30 @@ puts_of WriteFault = []
 puts_of Memory = []
 
 -- why a note of this status is written
-abbrev pub IsDue : Option FileMap → ℕ → ℕ → List (List ℕ) → Status → Type 0
-IsDue files before after names Usage = (names ≡ []) × (after ≡ before)
-IsDue files before after names Refused = IsRefused files names
-IsDue files before after names FileFault = AreUnread files before after names
-IsDue files before after names Done = ⊥
-IsDue files before after names WriteFault = ⊥
-IsDue files before after names Memory = ⊥
+abbrev pub IsDue : ShelfUse → List (List ℕ) → Status → Type 0
+IsDue shelf names Usage = (names ≡ []) × IsUnused shelf
+IsDue shelf names Refused = IsRefused shelf names
+IsDue shelf names FileFault = AreUnread shelf names
+IsDue shelf names Done = ⊥
+IsDue shelf names WriteFault = ⊥
+IsDue shelf names Memory = ⊥
 
 -- the note that was due was put at once, and a sink got a prefix of it
-pub record IsNoteCut (files : Option FileMap) (faults_before faults_after : ℕ) (names : List (List ℕ)) (before after : Option (List ℕ)) (puts_before puts_after : List (List ℕ)) : Type 0 where
+pub record IsNoteCut (shelf : ShelfUse) (names : List (List ℕ)) (notes : SinkUse) : Type 0 where
   pub due : Status
-  pub is : IsDue files faults_before faults_after names due
-  pub got : GotPrefix before (note_of due) after
-  pub put : puts_after ≡ puts_before ++ note_of due ∷ []
+  pub is : IsDue shelf names due
+  pub got : GotPrefix notes.held_before (note_of due) notes.held_after
+  pub put : notes.puts_after ≡ notes.puts_before ++ note_of due ∷ []
 
--- a sink got a prefix of the lines of the marks of the files of these names, and some of their pieces were put
-pub record IsCutShort (files : Option FileMap) (names : List (List ℕ)) (before after : Option (List ℕ)) (puts_before puts_after : List (List ℕ)) : Type 0 where
+-- A write failed: a sink got a prefix of the lines of the marks of the files of these names, which were read, and some of their pieces were put.
+pub record IsCutShort (shelf : ShelfUse) (names : List (List ℕ)) (out : SinkUse) : Type 0 where
+  pub failed : Rose out.faults_before out.faults_after
   pub contents : List (List ℕ)
-  pub held : AreHeld files names contents
+  pub read : AreRead shelf names contents
   pub marks : List Mark
   pub are : AreMarks contents marks
-  pub got : GotPrefix before (mark_lines marks) after
-  pub put : PutFront puts_before (pieces_of 4096 (mark_lines marks)) puts_after
+  pub got : GotPrefix out.held_before (mark_lines marks) out.held_after
+  pub put : PutFront out.puts_before (pieces_of 4096 (mark_lines marks)) out.puts_after
 
 -- the exit status of a call that ends so
 abbrev pub code_of : Status → ℕ

@@ -1,2 +1,4 @@
+pub mod Devices
 pub mod Ends
 pub mod Lines
+pub mod Processes

@@ -6,6 +6,7 @@ ghost use Rattle.cool_faults.specs.Files.{bytes_of, total};
 ghost use Rattle.cool_ports.specs.Counts.{Rose};
 ghost use Rattle.cool_ports.specs.ShelfFiles.{AskedFront};
 ghost use Rattle.cool_ports.specs.SinkBytes.{appended};
+ghost use Rattle.cool_editor.specs.Devices.{shelf_use, sink_use, GotNothing};
 ghost use Rattle.cool_editor.specs.Ends.{AreUnread, IsCutShort, IsListed, IsNoteCut, IsRefused, IsText, IsTextOf, IsUntold, note_of, puts_of};
 
 use crate::files::file_marks;
@@ -28,26 +29,30 @@ pub fn list_names<F: Shelf, O: Sink, E: Sink>(
     notes: &mut E,
 ) -> Status
     // The lines of the marks were written, and nothing else.
-    ensures listed { result ≡ Status.Done → IsListed (F.files files.old) (map string_bytes names.now) (O.held out.old) (O.held out.new) (O.puts out.old) (O.puts out.new) }
+    ensures listed { result ≡ Status.Done
+        → IsListed (shelf_use F.files F.faults F.asked F.gave files.old files.new) (map string_bytes names.now) (sink_use O.held O.faults O.puts out.old out.new) }
     // The files are no class table.
-    ensures refused { result ≡ Status.Refused → IsRefused (F.files files.old) (map string_bytes names.now) }
+    ensures refused { result ≡ Status.Refused → IsRefused (shelf_use F.files F.faults F.asked F.gave files.old files.new) (map string_bytes names.now) }
     // There is no name.
     ensures usage { result ≡ Status.Usage → names.now ≡ [] }
     ensures no_name { names.now ≡ [] → (result ≡ Status.Usage) ⊎ (result ≡ Status.WriteFault) }
     // There are too many names, or a file was refused when those in front of it were read.
-    ensures file_fault { result ≡ Status.FileFault → AreUnread (F.files files.old) (F.faults files.old) (F.faults files.new) (map string_bytes names.now) }
+    ensures file_fault { result ≡ Status.FileFault → AreUnread (shelf_use F.files F.faults F.asked F.gave files.old files.new) (map string_bytes names.now) }
     ensures too_many { MOST_FILES < length names.now → (result ≡ Status.FileFault) ⊎ (result ≡ Status.WriteFault) }
     // A write of the lines failed, and a prefix of them was written, or one of the note.
-    ensures write_fault { result ≡ Status.WriteFault → (Rose (O.faults out.old) (O.faults out.new) × IsCutShort (F.files files.old) (map string_bytes names.now) (O.held out.old) (O.held out.new) (O.puts out.old) (O.puts out.new)) ⊎ (Rose (E.faults notes.old) (E.faults notes.new) × ((O.held out.new ≡ O.held out.old) × (O.puts out.new ≡ O.puts out.old))) }
+    ensures write_fault { result ≡ Status.WriteFault
+        → IsCutShort (shelf_use F.files F.faults F.asked F.gave files.old files.new) (map string_bytes names.now) (sink_use O.held O.faults O.puts out.old out.new)
+        ⊎ (Rose (E.faults notes.old) (E.faults notes.new) × GotNothing (sink_use O.held O.faults O.puts out.old out.new)) }
     // Nothing is written but where a write fails.
-    ensures nothing { result ≢ Status.Done → result ≢ Status.WriteFault → (O.held out.new ≡ O.held out.old) × (O.puts out.new ≡ O.puts out.old) }
+    ensures nothing { result ≢ Status.Done → result ≢ Status.WriteFault → GotNothing (sink_use O.held O.faults O.puts out.old out.new) }
     // Just the note of the status is written.
     ensures note { result ≢ Status.WriteFault → E.held notes.new ≡ appended (E.held notes.old) (note_of result) }
     // It is put at once.
     ensures put { result ≢ Status.WriteFault → E.puts notes.new ≡ E.puts notes.old ++ puts_of result }
     // Where a write of the lines failed nothing is noted, and where that of the note failed a prefix of it was written.
-    ensures unnoted { O.faults out.old < O.faults out.new → (E.held notes.new ≡ E.held notes.old) × (E.puts notes.new ≡ E.puts notes.old) }
-    ensures note_cut { E.faults notes.old < E.faults notes.new → IsNoteCut (F.files files.old) (F.faults files.old) (F.faults files.new) (map string_bytes names.now) (E.held notes.old) (E.held notes.new) (E.puts notes.old) (E.puts notes.new) }
+    ensures unnoted { O.faults out.old < O.faults out.new → GotNothing (sink_use E.held E.faults E.puts notes.old notes.new) }
+    ensures note_cut { E.faults notes.old < E.faults notes.new
+        → IsNoteCut (shelf_use F.files F.faults F.asked F.gave files.old files.new) (map string_bytes names.now) (sink_use E.held E.faults E.puts notes.old notes.new) }
     // No failure is passed over.
     ensures out_fault { O.faults out.old < O.faults out.new → result ≡ Status.WriteFault }
     ensures notes_fault { E.faults notes.old < E.faults notes.new → result ≡ Status.WriteFault }
@@ -59,8 +64,6 @@ pub fn list_names<F: Shelf, O: Sink, E: Sink>(
     ensures kept { F.files files.new ≡ F.files files.old }
     // The shelf is asked for files of these names alone, from the first on, in order, each once.
     ensures asked { AskedFront (map string_bytes names.now) (F.asked files.old) (F.asked files.new) }
-    // For all of them where they were listed, or are no class table.
-    ensures asked_all { (result ≡ Status.Done) ⊎ (result ≡ Status.Refused) → F.asked files.new ≡ F.asked files.old ++ map string_bytes names.now }
 {
     match names_text(alloc, names, files) {
         Ok(Some(text)) => match put_pieces(out, &text, MOST_PIECE_BYTES) {
@@ -83,15 +86,14 @@ fn names_text<F: Shelf>(
     names: &[String],
     files: &mut F,
 ) -> Result<Option<Vec<u8>>, Status>
-    ensures text { IfOk result (IsText (F.files files.old) (map string_bytes names.now)) }
+    ensures text { IfOk result (IsText (shelf_use F.files F.faults F.asked F.gave files.old files.new) (map string_bytes names.now)) }
     ensures calm { OnOk result (F.faults files.new ≡ F.faults files.old) }
-    ensures untold { IfErr result (IsUntold (F.files files.old) (F.faults files.old) (F.faults files.new) (map string_bytes names.now)) }
+    ensures untold { IfErr result (IsUntold (shelf_use F.files F.faults F.asked F.gave files.old files.new) (map string_bytes names.now)) }
     ensures no_name { names.now ≡ [] → IsErrOf result Status.Usage }
     ensures too_many { MOST_FILES < length names.now → IsErrOf result Status.FileFault }
     ensures kept { F.files files.new ≡ F.files files.old }
     ensures no_less { F.faults files.old ≤ F.faults files.new }
     ensures asked { AskedFront (map string_bytes names.now) (F.asked files.old) (F.asked files.new) }
-    ensures asked_all { OnOk result (F.asked files.new ≡ F.asked files.old ++ map string_bytes names.now) }
 {
     if names.is_empty() {
         return Err(Status::Usage);

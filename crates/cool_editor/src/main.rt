@@ -1,17 +1,18 @@
 //! The program for editors: `cool_editor FILES` writes where each name of the files stands, what it is, and which definition it means.
 //!
 //! Comes in: names of files. Goes out: a line for each mark of `cool_names`, as `specs/Lines.antt` defines it, or a status. It meets
-//! `specs/Ends.antt`.
+//! `specs/Ends.antt`, and over the system's files and streams `specs/Processes.antt`.
 #![tactic(auto)]
 
 mod files;
 mod line;
 mod listing;
+mod process;
 mod reading;
 mod status;
 
-use cool_ports::{FileShelf, StdSink};
-use listing::list_names;
+use cool_ports::StdSink;
+use process::list_over_system;
 use status::{BAD_COMMAND_LINE, Status, tell};
 use std::alloc::Global;
 use std::io::ErrorKind;
@@ -19,15 +20,14 @@ use std::process::ExitCode;
 use std::{env, io};
 
 fn main(rt: HostRuntime) -> ExitCode {
-    let mut notes = StdSink::new(rt.stderr());
     let status = match words(&rt) {
-        Ok(words) => {
-            let mut files = FileShelf::new(&rt);
-            let mut out = StdSink::new(rt.stdout());
-            list_names(rt.alloc(), &words, &mut files, &mut out, &mut notes)
-        }
+        Ok(words) => list_over_system(rt.alloc(), &words, &rt, rt.stdout(), rt.stderr()).status,
         Err(error) if error.kind() == ErrorKind::OutOfMemory => Status::Memory,
-        Err(_) => tell(&mut notes, Status::Usage, BAD_COMMAND_LINE),
+        Err(_) => tell(
+            &mut StdSink::new(rt.stderr()),
+            Status::Usage,
+            BAD_COMMAND_LINE,
+        ),
     };
     ExitCode::from(status.code())
 }

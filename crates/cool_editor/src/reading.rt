@@ -1,10 +1,11 @@
 //! Reading the files.
 
-ghost use Rattle.std.specs.Prelude.{◌≡◌, ◌≤◌, ◌⊎◌, ◌++◌, length, map, string_bytes, IfOk, IfErr, OnOk, OnErr};
+ghost use Rattle.std.specs.Prelude.{◌≡◌, ◌≤◌, ◌⊎◌, length, map, string_bytes, IfOk, IfErr, OnOk, OnErr};
 ghost use Rattle.cool_syntax.specs.declared.TheConstants.{MOST_SOURCE_BYTES};
 ghost use Rattle.cool_faults.specs.Files.{bytes_of, total};
+ghost use Rattle.cool_editor.specs.Devices.{shelf_use, AreRead};
 ghost use Rattle.cool_editor.specs.Ends.{IsStop};
-ghost use Rattle.cool_ports.specs.ShelfFiles.{AreHeld, AskedFront};
+ghost use Rattle.cool_ports.specs.ShelfFiles.{AskedFront};
 
 use crate::status::Status;
 use cool_ports::{Shelf, ShelfFault};
@@ -18,15 +19,16 @@ pub fn read_files<F: Shelf>(
     names: &[String],
     files: &mut F,
 ) -> Result<Vec<Vec<u8>>, Status>
-    ensures held { IfOk result (λ contents. AreHeld (F.files files.old) (map string_bytes names.now) (bytes_of contents.items)) }
+    ensures read { IfOk result (λ contents.
+        AreRead (shelf_use F.files F.faults F.asked F.gave files.old files.new) (map string_bytes names.now) (bytes_of contents.items)) }
     ensures within { IfOk result (λ contents. total (bytes_of contents.items) ≤ MOST_SOURCE_BYTES) }
     ensures each { IfOk result (λ contents. length contents.items ≡ length names.now) }
     ensures calm { OnOk result (F.faults files.new ≡ F.faults files.old) }
-    ensures stop { IfErr result (λ status. (status ≡ Status.Memory) ⊎ ((status ≡ Status.FileFault) × IsStop (F.files files.old) (F.faults files.old) (F.faults files.new) (map string_bytes names.now))) }
+    ensures stop { IfErr result (λ status. (status ≡ Status.Memory)
+        ⊎ ((status ≡ Status.FileFault) × IsStop (shelf_use F.files F.faults F.asked F.gave files.old files.new) (map string_bytes names.now))) }
     ensures kept { F.files files.new ≡ F.files files.old }
     ensures no_less { F.faults files.old ≤ F.faults files.new }
-    ensures asked { OnOk result (F.asked files.new ≡ F.asked files.old ++ map string_bytes names.now) }
-    ensures asked_for { OnErr result (AskedFront (map string_bytes names.now) (F.asked files.old) (F.asked files.new)) }
+    ensures asked { OnErr result (AskedFront (map string_bytes names.now) (F.asked files.old) (F.asked files.new)) }
 {
     let mut contents = Vec::new(alloc);
     let mut left = MOST_SOURCE_BYTES;

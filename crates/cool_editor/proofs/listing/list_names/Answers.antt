@@ -4,6 +4,7 @@ use Rattle.std.specs.Prelude.{string_bytes}
 use Rattle.cool_ports.specs.SinkBytes.{appended, GotPrefix}
 use Rattle.cool_ports.specs.SinkPuts.{PutFront, pieces_of}
 use Rattle.cool_ports.proofs.GettingBytes.{appended-nil}
+use Rattle.cool_editor.specs.Devices.{shelf_use}
 use Rattle.cool_editor.specs.Ends.{IsTextOf, IsUntold}
 use Rattle.cool_editor.specs.declared.status.Status.{Status}
 use Rattle.cool_editor.specs.declared.status.Status.TheVariants.{FileFault, Refused, Usage}
@@ -12,12 +13,12 @@ use Rattle.cool_editor.proofs.listing.list_names.Goals as goal
 -- the lines were written
 pub returns-in-Ok-clause-listed : goal.returns-in-Ok-clause-listed
 returns-in-Ok-clause-listed g c done =
-    let (contents, held, told) = c.in-Ok-Some.ensures.text in
+    let (contents, read, told) = c.in-Ok-Some.ensures.text in
     let (marks, are, is) = subst (IsTextOf contents) c.in-Ok-Some.field-0-is told in
     let bytes = c.deref.ensures.value ∙ is in
     record {
       contents = contents;
-      held = held;
+      read = read;
       marks = marks;
       are = are;
       written = c.in-Ok.ensures.put ∙ ap (appended (g.O.Sink.held c.args.out.now)) bytes;
@@ -33,40 +34,33 @@ returns-in-Ok-clause-put g c other = sym (append-nil (g.E.Sink.puts c.args.notes
 pub returns-in-Ok-clause-asked : goal.returns-in-Ok-clause-asked
 returns-in-Ok-clause-asked g c = c.names_text.ensures.asked
 
-pub returns-in-Ok-clause-asked_all : goal.returns-in-Ok-clause-asked_all
-returns-in-Ok-clause-asked_all g c done = c.in-Ok-Some.ensures.asked_all
-
 -- a write of them failed
 pub returns-in-Ok-Some-clause-write_fault : goal.returns-in-Ok-Some-clause-write_fault
 returns-in-Ok-Some-clause-write_fault g c same =
-    let (contents, held, told) = c.in-Ok-Some.ensures.text in
+    let (contents, read, told) = c.in-Ok-Some.ensures.text in
     let (marks, are, is) = subst (IsTextOf contents) c.in-Ok-Some.field-0-is told in
     let put = c.in-Err-put_pieces.ensures in
     let bytes = c.deref.ensures.value ∙ is in
-    inl (
-      put.failed,
-      record {
-        contents = contents;
-        held = held;
-        marks = marks;
-        are = are;
-        got = subst (λ (lines : List ℕ). GotPrefix (g.O.Sink.held c.args.out.now) lines (g.O.Sink.held c.put_pieces.new.sink)) bytes put.prefix;
-        put = subst (λ (lines : List ℕ). PutFront (g.O.Sink.puts c.args.out.now) (pieces_of 4096 lines) (g.O.Sink.puts c.put_pieces.new.sink)) bytes put.pieces_up_to;
-      },
-    )
+    inl
+    (record {
+      failed = put.failed;
+      contents = contents;
+      read = read;
+      marks = marks;
+      are = are;
+      got = subst (λ (lines : List ℕ). GotPrefix (g.O.Sink.held c.args.out.now) lines (g.O.Sink.held c.put_pieces.new.sink)) bytes put.prefix;
+      put = subst (λ (lines : List ℕ). PutFront (g.O.Sink.puts c.args.out.now) (pieces_of 4096 lines) (g.O.Sink.puts c.put_pieces.new.sink)) bytes put.pieces_up_to;
+    })
 
 -- the files are no class table
 pub returns-in-Ok-None-clause-note_cut : goal.returns-in-Ok-None-clause-note_cut
 returns-in-Ok-None-clause-note_cut g c less =
-    let (contents, held, told) = c.in-Ok-None.ensures.text in
+    let (contents, read, told) = c.in-Ok-None.ensures.text in
     let none = subst (IsTextOf contents) c.in-Ok-None.field-0-is told in
-    record { due = Refused; is = record { contents = contents; held = held; none = none }; got = c.tell.ensures.prefix less; put = c.tell.ensures.put }
+    record { due = Refused; is = record { contents = contents; read = read; none = none }; got = c.tell.ensures.prefix less; put = c.tell.ensures.put }
 
 pub returns-in-Ok-None-clause-asked : goal.returns-in-Ok-None-clause-asked
 returns-in-Ok-None-clause-asked g c = c.names_text.ensures.asked
-
-pub returns-in-Ok-None-clause-asked_all : goal.returns-in-Ok-None-clause-asked_all
-returns-in-Ok-None-clause-asked_all g c done = c.in-Ok-None.ensures.asked_all
 
 -- there is no name
 pub returns-in-Usage-clause-note_cut : goal.returns-in-Usage-clause-note_cut
@@ -74,7 +68,9 @@ returns-in-Usage-clause-note_cut g c less = record {
   due = Usage;
   is =
       subst
-      (λ (status : Status). IsUntold (g.F.Shelf.files c.args.files.now) (g.F.Shelf.faults c.args.files.now) (g.F.Shelf.faults c.names_text.new.files) (map string_bytes c.args.names.now) status)
+      (λ (status : Status).
+      IsUntold (shelf_use g.F.Shelf.files g.F.Shelf.faults g.F.Shelf.asked g.F.Shelf.gave c.args.files.now c.names_text.new.files)
+      (map string_bytes c.args.names.now) status)
       c.in-Usage.is c.in-Err.ensures.untold;
   got = c.tell-in-Usage.ensures.prefix less;
   put = c.tell-in-Usage.ensures.put;
@@ -86,7 +82,9 @@ returns-in-FileFault-clause-note_cut g c less = record {
   due = FileFault;
   is =
       subst
-      (λ (status : Status). IsUntold (g.F.Shelf.files c.args.files.now) (g.F.Shelf.faults c.args.files.now) (g.F.Shelf.faults c.names_text.new.files) (map string_bytes c.args.names.now) status)
+      (λ (status : Status).
+      IsUntold (shelf_use g.F.Shelf.files g.F.Shelf.faults g.F.Shelf.asked g.F.Shelf.gave c.args.files.now c.names_text.new.files)
+      (map string_bytes c.args.names.now) status)
       c.in-FileFault.is c.in-Err.ensures.untold;
   got = c.tell-in-FileFault.ensures.prefix less;
   put = c.tell-in-FileFault.ensures.put;

@@ -13,5 +13,6 @@ invariant-loop-index g l = record {
   each : length l.contents.items ≡ l.index;
   calm : g.F.Shelf.faults l.files ≡ g.F.Shelf.faults l.fn.files;
   asked : g.F.Shelf.asked l.files ≡ g.F.Shelf.asked l.fn.files ++ map string_bytes (take l.index l.names);
+  gave : g.F.Shelf.gave l.files ≡ g.F.Shelf.gave l.fn.files ++ bytes_of l.contents.items;
   kept : g.F.Shelf.files l.files ≡ g.F.Shelf.files l.fn.files;
 }

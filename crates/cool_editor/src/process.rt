@@ -1,0 +1,69 @@
+//! The call over the system: a runtime's files, and std's writers.
+
+ghost use Rattle.std.specs.Prelude.{◌≡◌, ◌≢◌, ◌⊎◌, [], map, string_bytes, Some};
+ghost use Rattle.cool_ports.specs.ShelfFiles.{AskedFront};
+ghost use Rattle.cool_editor.specs.Ends.{note_of};
+ghost use Rattle.cool_editor.specs.Processes.{HasListed, HasRefused, WasCutShort, WereUnread};
+
+use crate::listing::list_names;
+use crate::status::Status;
+use cool_ports::{FileShelf, Shelf, Sink, StdSink};
+use std::alloc::Global;
+use std::io::Write;
+use std::rt::Files;
+
+/// How a call over the system ended, with what its files gave, and what its output and its notes took.
+#[derive(Drop)]
+pub struct Process<R, O, E> {
+    /// How it ended.
+    pub status: Status,
+    /// The files, with what was asked for and given.
+    pub files: FileShelf<R>,
+    /// The output, with what it took.
+    pub out: StdSink<O>,
+    /// The notes, with what they took.
+    pub notes: StdSink<E>,
+}
+
+/// Writes the lines of the marks of the files of these names, as `list_names` does: the files are those that a runtime opens, and writers of std
+/// take the lines and the notes.
+pub fn list_over_system<R: Files, O: Write, E: Write>(
+    alloc: Global,
+    names: &[String],
+    files: R,
+    out: O,
+    notes: E,
+) -> Process<R, O, E>
+    // The output took the lines of the marks of the files that were given, and nothing else.
+    ensures listed { result.status ≡ Status.Done
+        → HasListed (map string_bytes names.now) (⟦<FileShelf<R> as Shelf>⟧.asked result.files) (⟦<FileShelf<R> as Shelf>⟧.gave result.files)
+        (⟦<StdSink<O> as Sink>⟧.held result.out) }
+    // The files that were given are no class table.
+    ensures refused { result.status ≡ Status.Refused
+        → HasRefused (map string_bytes names.now) (⟦<FileShelf<R> as Shelf>⟧.asked result.files) (⟦<FileShelf<R> as Shelf>⟧.gave result.files) }
+    // There are too many names, or the file that was last asked for was not given.
+    ensures file_fault { result.status ≡ Status.FileFault
+        → WereUnread (map string_bytes names.now) (⟦<FileShelf<R> as Shelf>⟧.asked result.files) (⟦<FileShelf<R> as Shelf>⟧.gave result.files) }
+    // A write of the lines failed, after a prefix of them, or one of the note.
+    ensures write_fault { result.status ≡ Status.WriteFault
+        → WasCutShort (map string_bytes names.now) (⟦<FileShelf<R> as Shelf>⟧.asked result.files) (⟦<FileShelf<R> as Shelf>⟧.gave result.files)
+        (⟦<StdSink<O> as Sink>⟧.held result.out)
+        ⊎ (⟦<StdSink<O> as Sink>⟧.puts result.out ≡ []) }
+    // Nothing is put to the output but lines.
+    ensures nothing { result.status ≢ Status.Done → result.status ≢ Status.WriteFault → ⟦<StdSink<O> as Sink>⟧.puts result.out ≡ [] }
+    // The files of these names alone are asked for, from the first on, in order, each once.
+    ensures asked { AskedFront (map string_bytes names.now) [] (⟦<FileShelf<R> as Shelf>⟧.asked result.files) }
+    // The notes took just the note of the status.
+    ensures note { result.status ≢ Status.WriteFault → ⟦<StdSink<E> as Sink>⟧.held result.notes ≡ Some (note_of result.status) }
+{
+    let mut files = FileShelf::new(files);
+    let mut out = StdSink::new(out);
+    let mut notes = StdSink::new(notes);
+    let status = list_names(alloc, names, &mut files, &mut out, &mut notes);
+    Process {
+        status,
+        files,
+        out,
+        notes,
+    }
+}
