@@ -33,6 +33,10 @@ told_goes P (Refusal.Told status lines) answered promise row known shelf left in
 told_goes P Refusal.Memory answered promise row known shelf left input out told noted =
     rw noted.0 (short_goes shelf (input, out.1) noted.1.1 (promise 9 (Comes.short (out, noted.1, left, input))))
 
+-- what is due where files are refused: a note alone
+pub data DueToRefusal (P : ℕ → List ℕ → Type 0) (r : Request) : ℕ → List ℕ → List ℕ → List ℕ → Type 0 where
+  refused : (status : ℕ) (note : List ℕ) → P status note → DueToRefusal P r status [] note r.input
+
 -- so one does whose files are no program
 pub refusal_goes : {due : Dues} {pieces : Pieces} {Promise : Call → ℕ → Type 0} {c : Call} (names : List (List ℕ)) (refusal : Refusal) (answered : Status)
     → ((status : ℕ) → Comes due pieces c status → Promise c status)

@@ -4,8 +4,8 @@ use Rattle.cool_words.specs.Plans.{Asked}
 use Rattle.mips_isa.specs.Calls.{asked}
 use Rattle.cool_driver.specs.{Calls.{Call, DidNothing, Got}, Comes.{Comes}, CommandLine.{asked_for}, Devices.{Devices}, Ends.{Ends, EndsBy, Goes}, Notes.{usage_note}}
 use Rattle.cool_driver.specs.{Statuses.{code_of}, Telling.{Noted}, commands.Debug.{DebugComes}, commands.Usage.{DueToUsage}, declared.status.Status.{Status}}
-use Rattle.cool_driver.proofs.{rooms.Bigs.{big_ends}, rooms.Builds.{build_ends}, rooms.Checks.{check_ends}, rooms.Debuggings.{debug_ends}, rooms.Evaluations.{eval_ends}}
-use Rattle.cool_driver.proofs.{rooms.Executions.{exec_ends}, rooms.Runnings.{running_ends}, rooms.Sessions.{unbegun}}
+use Rattle.cool_driver.proofs.{rooms.Bigs.{big_ends}, rooms.Builds.{unbuilt_ends}, rooms.Checks.{check_ends}, rooms.Debuggings.{debug_ends}, rooms.Evaluations.{unevaluated_ends}}
+use Rattle.cool_driver.proofs.{rooms.Executions.{unloaded_ends}, rooms.Runnings.{unrun_ends}, rooms.Sessions.{unbegun}}
 
 -- a call ends as its command promises
 pub ends_by : {c : Call} {status : ℕ} (asked : Option Asked) → asked_for c.request.words ≡ asked → Devices c status → EndsBy asked c status
@@ -32,11 +32,11 @@ usage_ends none calm left input out (inr (failed, part)) =
 short_promise : (c : Call) (asked : Option Asked) → c.out.puts_after ≡ c.out.puts_before → c.request.faults_after ≡ c.request.faults_before → DidNothing c → EndsBy asked c 9
 short_promise c None still calm nothing = record { comes = Comes.short nothing; usage_exactly = λ eight nine. absurd (nine refl) }
 short_promise c (Some (Asked.check names)) still calm nothing = check_ends (Comes.short nothing)
-short_promise c (Some (Asked.asm names)) still calm nothing = build_ends (inl still) (Comes.short nothing)
-short_promise c (Some (Asked.build names)) still calm nothing = build_ends (inl still) (Comes.short nothing)
-short_promise c (Some (Asked.run names limits fold)) still calm nothing = running_ends (Comes.short nothing)
-short_promise c (Some (Asked.eval names steps)) still calm nothing = eval_ends (inl (Comes.short nothing))
-short_promise c (Some (Asked.exec name limits)) still calm nothing = exec_ends (Comes.short nothing)
+short_promise c (Some (Asked.asm names)) still calm nothing = unbuilt_ends still (Comes.short nothing)
+short_promise c (Some (Asked.build names)) still calm nothing = unbuilt_ends still (Comes.short nothing)
+short_promise c (Some (Asked.run names limits fold)) still calm nothing = unrun_ends still (Comes.short nothing)
+short_promise c (Some (Asked.eval names steps)) still calm nothing = unevaluated_ends still (Comes.short nothing)
+short_promise c (Some (Asked.exec name limits)) still calm nothing = unloaded_ends still (Comes.short nothing)
 short_promise c (Some (Asked.debug script names limits)) still calm nothing = debug_ends (DebugComes.refused (Comes.short nothing))
 short_promise c (Some (Asked.big n)) still calm nothing = big_ends (Comes.short nothing)
 short_promise c (Some Asked.session) still calm nothing = unbegun calm nothing

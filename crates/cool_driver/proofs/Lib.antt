@@ -15,4 +15,5 @@ mod EndsByCommand
 mod RunsWithinLimits
 mod BigRuns
 mod ProgramsMeant
+mod PutsOfCalls
 mod HeadlineOfRuns

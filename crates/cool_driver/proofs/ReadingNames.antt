@@ -1,16 +1,21 @@
 -- The files of names are read one after another, until one is refused.
-use Rattle.std.proofs.Common.{◌≡◌, ◌≢◌, ℕ, suc, ◌+◌, ◌-◌, ◌<◌, ◌≤◌, List, [], ◌∷◌, ◌++◌, length, get_or, take, drop, refl, sym, ◌∙◌, ap, subst, append_assoc, append-nil, take-append-drop, arith}
+use Rattle.std.proofs.Common.{◌≡◌, ◌≢◌, ℕ, suc, ◌+◌, ◌-◌, ◌<◌, ◌≤◌, List, [], ◌∷◌, ◌++◌, length, get_or, take, drop, refl, sym, ◌∙◌, ap, subst, append_assoc, take-append-drop, arith}
 use Rattle.std.proofs.lemmas.List.{at_drop_more, length-map, map_more, map_push, map-append}
-use Rattle.std.specs.{Prelude.{Option, string_bytes, String}, List.{AllByRecursion}, Global.{Global, Vec}}
+use Rattle.std.proofs.lemmas.Bool.{le-ltb}
+use Rattle.std.specs.{Prelude.{Bool, if◌then◌else◌, Option, string_bytes, String}, List.{AllByRecursion}, Global.{Global, Vec}}
 use Rattle.cool_ports.specs.{Counts.{Rose}, ShelfFiles.{FileMap, MayHold, IsMissing, IsLonger, AreHeld, AskedFront}, declared.shelf.ShelfFault.{ShelfFault}}
 use Rattle.cool_ports.specs.declared.shelf.ShelfFault.TheVariants as faults
 use Rattle.cool_faults.specs.Files.{total}
 use Rattle.cool_syntax.specs.declared.TheConstants.{MOST_FILES}
 use Rattle.cool_words.specs.Plans.{words_of}
-use Rattle.cool_driver.specs.{Calls.{ShelfUse}, Sources.{IsCause, IsStopAt}, Contents.{texts}}
+use Rattle.cool_driver.specs.{Calls.{ShelfUse}, Sources.{IsCause, IsStopAt, unless_too_many}, Contents.{texts}}
 use Rattle.lists.specs.Bytes.{AreBytes}
 use Rattle.cool_ports.proofs.FilesHeld.{held_more}
 use Rattle.cool_faults.proofs.FileSizes.{total-push}
+
+-- names that are not too many are asked for
+pub few_asked : (files asked : List (List ℕ)) → length files ≤ MOST_FILES → unless_too_many files asked ≡ asked
+few_asked files asked few = ap (λ (many : Bool). if many then [] else asked) (le-ltb MOST_FILES (length files) few)
 
 -- numbers of 8 bits are bytes
 pub all_bytes : (bytes : List ℕ) → ((i : ℕ) → get_or bytes i 0 < 256) → AreBytes bytes
@@ -89,11 +94,11 @@ module _ (names : List (String Global)) (i : ℕ) (name : String Global) (given 
   }
 
   -- it refused this one after those that were read
-  pub stop_at : (shelf : ShelfUse) (now : Option FileMap) (now_before : ℕ) (contents : List (Vec ℕ)) (most left : ℕ) (fault : ShelfFault) (asked middle : List (List ℕ))
+  pub stop_at : (shelf : ShelfUse) (now : Option FileMap) (now_before : ℕ) (contents : List (Vec ℕ)) (most left : ℕ) (fault : ShelfFault) (asked middle gave : List (List ℕ))
       → length names ≤ MOST_FILES → now ≡ shelf.files → now_before ≡ shelf.faults_before → AreHeld shelf.files (words_of (take i names)) (texts contents)
       → total (texts contents) + left ≡ most → IsCause now now_before shelf.faults_after given left fault → middle ≡ asked ++ words_of (take i names)
-      → shelf.asked_after ≡ middle ++ given ∷ [] → IsStopAt shelf (words_of names) most given fault
-  stop_at shelf now now_before contents most left fault asked middle few same calm held rest cause so_far after =
+      → shelf.asked_after ≡ middle ++ given ∷ [] → shelf.gave_after ≡ gave ++ texts contents → IsStopAt shelf (words_of names) most given fault
+  stop_at shelf now now_before contents most left fault asked middle gave few same calm held rest cause so_far after given_last =
       let most_left : left ≡ most - total (texts contents) = omega arith in (
         texts contents,
         record {
@@ -104,6 +109,7 @@ module _ (names : List (String Global)) (i : ℕ) (name : String Global) (given 
           held = held;
           within = omega arith;
           asked = (asked, up_to_here asked middle shelf.asked_after so_far after);
+          gave = (gave, given_last);
         },
         subst (λ (x : Type 0). x) (λ j. IsCause (same j) (calm j) shelf.faults_after given (most_left j) fault) cause,
       )

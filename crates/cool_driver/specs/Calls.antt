@@ -1,6 +1,6 @@
 -- A call of `cool`: what it was asked, which files were read for it, what came of its output, its notes and its input.
 use Rattle.std.specs.Prelude.{◌≡◌, ◌≢◌, ℕ, ◌<◌, ◌≤◌, List, [], Option, Some}
-use Rattle.cool_ports.specs.{Counts.{last_count, Rose}, ShelfFiles.{FileMap, MayHold}, SinkBytes.{appended, GotPrefix}}
+use Rattle.cool_ports.specs.{Counts.{last_count, Rose}, ShelfFiles.{FileMap}, SinkBytes.{appended, GotPrefix}}
 use Rattle.cool_driver.specs.Statuses.{WRITE_FAULT, OUT_OF_MEMORY}
 
 -- What a call was asked: its words, the files that the shelf tells, the shelf's count of faults before and after, the names that it was asked for
@@ -104,16 +104,20 @@ request_of words shelf input = record {
   input = input;
 }
 
--- a call that takes nothing of its input
-abbrev pub untaking : List (List ℕ) → ShelfUse → List ℕ → ℕ → SinkUse → SinkUse → Call
-untaking words shelf input faults out notes = record {
+-- a call by words over a shelf, a source and two sinks: the source may have had this input at first, of which a rest is left
+abbrev pub call_of : List (List ℕ) → ShelfUse → (input rest : List ℕ) → (faults_before faults_after : ℕ) → (out notes : SinkUse) → Call
+call_of words shelf input rest before after out notes = record {
   request = request_of words shelf input;
   out = out;
   notes = notes;
-  left = input;
-  input_before = faults;
-  input_after = faults;
+  left = rest;
+  input_before = before;
+  input_after = after;
 }
+
+-- a call that takes nothing of its input
+abbrev pub untaking : List (List ℕ) → ShelfUse → List ℕ → ℕ → SinkUse → SinkUse → Call
+untaking words shelf input faults out notes = call_of words shelf input input faults faults out notes
 
 -- the shelf tells these files, and no fault of it can have come
 abbrev pub HasTold : ShelfUse → FileMap → Type 0

@@ -1,6 +1,7 @@
 -- How what is due comes: whole, or in part, where a write failed, or not at all, where memory ran out before it.
-use Rattle.std.specs.Prelude.{ℕ, List, []}
-use Rattle.cool_driver.specs.{Calls.{Call, Got, GotPart, DidNothing}, Statuses.{WRITE_FAULT, OUT_OF_MEMORY}}
+use Rattle.std.specs.Prelude.{◌≡◌, ◌≢◌, ℕ, List, [], ◌++◌}
+use Rattle.cool_ports.specs.SinkPuts.{PutFront}
+use Rattle.cool_driver.specs.{Calls.{Call, SinkUse, Got, GotPart, DidNothing, UnlessCutShort}, Statuses.{READ_FAULT, WRITE_FAULT, OUT_OF_MEMORY}}
 
 -- what is due: the status, the output, the note, and what is left of the input
 abbrev pub Dues : Type 1
@@ -25,3 +26,8 @@ pub data Comes (due : Dues) (pieces : Pieces) (c : Call) : ℕ → Type 0 where
 -- no output is written
 abbrev pub NoPieces : Pieces
 NoPieces before piece left = ⊥
+
+-- These texts were put, a put for each, in order: a front of them, and all, unless a read or a write failed or memory ran out.
+pub record PutAsDue (texts : List (List ℕ)) (s : SinkUse) (status : ℕ) : Type 0 where
+  pub front : PutFront s.puts_before texts s.puts_after
+  pub all : status ≢ READ_FAULT → UnlessCutShort status (s.puts_after ≡ s.puts_before ++ texts)

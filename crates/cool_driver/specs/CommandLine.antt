@@ -5,6 +5,7 @@ use Rattle.cool_words.specs.Plans as words
 use Rattle.cool_words.specs.Plans.{Asked}
 use Rattle.cool_words.specs.Plans.Asked.{check, asm, build, run, eval, exec, debug, big, session}
 use Rattle.cool_words.specs.declared.plan.RunLimits.{RunLimits}
+use Rattle.cool_driver.specs.Sources.{unless_too_many}
 
 -- what the words ask for
 unfoldable pub asked_for : List (List ℕ) → Option Asked
@@ -13,13 +14,13 @@ asked_for given = words.plan_of given
 -- the names of which the shelf is asked, in order
 abbrev pub names_asked : Option Asked → List (List ℕ)
 names_asked None = []
-names_asked (Some (check names)) = names
-names_asked (Some (asm names)) = names
-names_asked (Some (build names)) = names
-names_asked (Some (run names limits fold)) = names
-names_asked (Some (eval names steps)) = names
+names_asked (Some (check names)) = unless_too_many names names
+names_asked (Some (asm names)) = unless_too_many names names
+names_asked (Some (build names)) = unless_too_many names names
+names_asked (Some (run names limits fold)) = unless_too_many names names
+names_asked (Some (eval names steps)) = unless_too_many names names
 names_asked (Some (exec name limits)) = name ∷ []
-names_asked (Some (debug script names limits)) = script ∷ names
+names_asked (Some (debug script names limits)) = unless_too_many names (script ∷ names)
 names_asked (Some (big n)) = []
 names_asked (Some session) = []
 

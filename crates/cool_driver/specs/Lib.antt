@@ -17,3 +17,4 @@ pub mod Refusals
 pub mod Headline
 pub mod commands
 pub mod Ends
+pub mod System

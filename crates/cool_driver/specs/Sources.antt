@@ -1,5 +1,5 @@
 -- The files of a command: that they were read, that they are a program, or why not.
-use Rattle.std.specs.{Prelude.{◌≡◌, ◌≢◌, ℕ, ◌-◌, ◌<◌, ◌≤◌, ◌⊎◌, true, List, [], ◌∷◌, ◌++◌, length, Contains, Option, Some, None, String}, List.{list_all, AllByRecursion}}
+use Rattle.std.specs.{Prelude.{◌≡◌, ◌≢◌, ℕ, ◌-◌, ◌<◌, ◌≤◌, ◌⊎◌, nat_lt, if◌then◌else◌, true, List, [], ◌∷◌, ◌++◌, length, Contains, Option, Some, None, String}, List.{list_all, AllByRecursion}}
 use Rattle.std.specs.Global.{Global, Vec}
 use Rattle.cool_syntax.specs.declared.TheConstants.{MOST_FILES, MOST_SOURCE_BYTES}
 use Rattle.cool_classes.specs.Chains.{Class}
@@ -27,6 +27,10 @@ IsCause files before after name most shelf_faults.Missing = IsMissing files name
 IsCause files before after name most shelf_faults.Failed = Rose before after
 IsCause files before after name most shelf_faults.TooLarge = IsLonger files name most before after
 IsCause files before after name most shelf_faults.Memory = ⊥
+
+-- these names are asked for, unless those of the files are too many; then none is
+abbrev pub unless_too_many : (files asked : List (List ℕ)) → List (List ℕ)
+unless_too_many files asked = if nat_lt MOST_FILES (length files) then [] else asked
 
 -- what these texts end with
 abbrev pub EndsWith : List (List ℕ) → List (List ℕ) → Type 0
@@ -57,7 +61,7 @@ pub record AreKnown (shelf : ShelfUse) (most : ℕ) (names contents : List (List
   pub known : ((files : FileMap) × (shelf.files ≡ Some files)) ⊎ EndsWith contents shelf.gave_after
 
 -- The files before the one of this name have these bytes, as far as the shelf tells, and not more than this; the shelf was last asked for them and
--- for that one, each once, in order.
+-- for that one, each once, in order, and it gave these bytes last.
 pub record AreReadUpTo (shelf : ShelfUse) (most : ℕ) (names : List (List ℕ)) (name : List ℕ) (contents : List (List ℕ)) : Type 0 where
   pub front : List (List ℕ)
   pub rest : List (List ℕ)
@@ -66,6 +70,7 @@ pub record AreReadUpTo (shelf : ShelfUse) (most : ℕ) (names : List (List ℕ))
   pub held : AreHeld shelf.files front contents
   pub within : total contents ≤ most
   pub asked : EndsWith (front ++ name ∷ []) shelf.asked_after
+  pub gave : EndsWith contents shelf.gave_after
 
 -- where the reading of files stops: at one that the shelf refuses, when those before it were read
 abbrev pub IsStopAt : ShelfUse → List (List ℕ) → ℕ → List ℕ → ShelfFault → Type 0

@@ -4,12 +4,12 @@ ghost use Rattle.std.specs.Prelude.{◌≡◌, ◌≢◌, List, ℕ, Bool, false
 ghost use Rattle.cool_ports.specs.Answers.{Leaves};
 ghost use Rattle.cool_ports.specs.Taking.{Took};
 ghost use Rattle.cool_driver.specs.Calls.{Request, sink_use};
-ghost use Rattle.cool_driver.specs.Comes.{Comes};
+ghost use Rattle.cool_driver.specs.Comes.{Comes, PutAsDue};
 ghost use Rattle.cool_driver.specs.Ends.{Goes};
 ghost use Rattle.cool_driver.specs.Execution.{heap_of, stack_of};
 ghost use Rattle.cool_words.specs.Plans.{IsBounded};
 ghost use Rattle.spim_memory.specs.Memory.{IsLimits};
-ghost use Rattle.cool_driver.specs.Runs.{DueToRun, PiecesOfRun};
+ghost use Rattle.cool_driver.specs.Runs.{DueToRun, PiecesOfRun, puts_of_run};
 ghost use Rattle.cool_driver.specs.Statuses.{REFUSED, code_of};
 ghost use Rattle.cool_driver.specs.Telling.{HaltNoted, PutsLines};
 
@@ -48,6 +48,7 @@ pub fn execute<I: Source, O: Sink, E: Sink>(
     ensures lines { PutsLines (E.puts notes.old) (E.puts notes.new) }
     ensures other { code_of result ≢ REFUSED }
     ensures taken { (ended : Bool) × Took false ended (I.past input.old) (I.past input.new) (I.left input.old) (I.left input.new) }
+    ensures puts { (given rest : List ℕ) → Leaves (I.past input.old) (I.past input.new) given rest → PutAsDue (puts_of_run limits image.now given) (sink_use O.held O.faults O.puts out.old out.new) (code_of result) }
     ensures ends { (r : Request) (rest : List ℕ) → r.faults_after ≡ r.faults_before → Leaves (I.past input.old) (I.past input.new) r.input rest
         → Goes (Comes (DueToRun limits image.now r.input) (PiecesOfRun limits image.now r.input)) (record {
           request = r;

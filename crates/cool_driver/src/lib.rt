@@ -9,7 +9,7 @@ ghost use Rattle.cool_ports.specs.Counts.{Rose};
 ghost use Rattle.cool_ports.specs.ShelfFiles.{AskedFront};
 ghost use Rattle.cool_ports.specs.SinkBytes.{appended, GotPrefix};
 ghost use Rattle.cool_ports.specs.Taking.{Took};
-ghost use Rattle.cool_driver.specs.Calls.{shelf_use, sink_use};
+ghost use Rattle.cool_driver.specs.Calls.{call_of, shelf_use, sink_use};
 ghost use Rattle.cool_driver.specs.CommandLine.{words_of, asked_for, names_asked, IfSources, TakesNoInput};
 ghost use Rattle.cool_driver.specs.Notes.{usage_note};
 ghost use Rattle.cool_driver.specs.Ends.{Ends};
@@ -67,7 +67,7 @@ pub fn cool<F: Shelf, I: Source, O: Sink, E: Sink>(
     // The shelf keeps its files.
     ensures files { F.files files.new ≡ F.files files.old }
 
-    // It is asked for the files of the command line, in order, each once, up to one that it refuses.
+    // It is asked for the files of the command line, in order, each once, up to one that it refuses; for none where they are too many.
     ensures asked { AskedFront (names_asked (asked_for (words_of words.now))) (F.asked files.old) (F.asked files.new) }
 
     // Each text that it puts to the notes ends in a line feed.
@@ -88,22 +88,9 @@ pub fn cool<F: Shelf, I: Source, O: Sink, E: Sink>(
 
     // How it ends, by its status, for any input that begins with what it took, and is no more than that where the end was
     // answered.
-    ensures ends { (given rest : List ℕ) → Leaves (I.past input.old) (I.past input.new) given rest → Ends (record {
-      request = record {
-        words = words_of words.now;
-        files = F.files files.old;
-        faults_before = F.faults files.old;
-        faults_after = F.faults files.new;
-        asked_after = F.asked files.new;
-        gave_after = F.gave files.new;
-        input = given;
-      };
-      out = sink_use O.held O.faults O.puts out.old out.new;
-      notes = sink_use E.held E.faults E.puts notes.old notes.new;
-      left = rest;
-      input_before = I.faults input.old;
-      input_after = I.faults input.new;
-    }) result }
+    ensures ends { (given rest : List ℕ) → Leaves (I.past input.old) (I.past input.new) given rest
+        → Ends (call_of (words_of words.now) (shelf_use F.files F.faults F.asked F.gave files.old files.new) given rest (I.faults input.old) (I.faults input.new)
+        (sink_use O.held O.faults O.puts out.old out.new) (sink_use E.held E.faults E.puts notes.old notes.new)) result }
 {
     let status = match read_words(alloc, words) {
         Ok(Plan::Check { files: names }) => check_files(alloc, &names, files, notes),

@@ -10,7 +10,7 @@ ghost use Rattle.cool_words.specs.Plans.{is_file_name, words_of};
 ghost use Rattle.cool_driver.specs.Calls.{ShelfUse, shelf_use};
 ghost use Rattle.cool_driver.specs.Contents.{texts};
 ghost use Rattle.cool_driver.specs.Refusals.{AreFaultLines, IsDueToFaults, IsTold};
-ghost use Rattle.cool_driver.specs.Sources.{AreRead, GrewBy, IsDueUnread, IsNoProgram, IsProgram, AreSources};
+ghost use Rattle.cool_driver.specs.Sources.{AreRead, GrewBy, IsDueUnread, IsNoProgram, IsProgram, AreSources, unless_too_many};
 
 use crate::notes::TOO_MANY_FILES;
 use crate::reading::{ReadError, read_files};
@@ -31,7 +31,7 @@ pub fn read_program<F: Shelf>(
     requires some { 0 < length names.now }
     requires names { list_all is_file_name (words_of names.now) ≡ true }
     ensures kept { F.files files.new ≡ F.files files.old }
-    ensures asked { AskedFront (words_of names.now) (F.asked files.old) (F.asked files.new) }
+    ensures asked { AskedFront (unless_too_many (words_of names.now) (words_of names.now)) (F.asked files.old) (F.asked files.new) }
     ensures count { F.faults files.old ≤ F.faults files.new }
     ensures grew { OnOk result (GrewBy (length (words_of names.now)) (F.gave files.old) (F.gave files.new)) }
     ensures program { IfOk result (IsProgram (shelf_use F.files F.faults F.asked F.gave files.old files.new) (words_of names.now)) }
@@ -53,7 +53,7 @@ pub fn read_sources<F: Shelf>(
 ) -> Result<Vec<Vec<u8>>, Refusal>
     requires { most < 2 ^ 40 }
     ensures kept { F.files files.new ≡ F.files files.old }
-    ensures asked { AskedFront (words_of names.now) (F.asked files.old) (F.asked files.new) }
+    ensures asked { AskedFront (unless_too_many (words_of names.now) (words_of names.now)) (F.asked files.old) (F.asked files.new) }
     ensures count { F.faults files.old ≤ F.faults files.new }
     ensures read { IfOk result (λ contents. AreRead (shelf_use F.files F.faults F.asked F.gave files.old files.new) most (words_of names.now) (texts contents.items)) }
     ensures gave { IfOk result (λ contents. F.gave files.new ≡ F.gave files.old ++ texts contents.items) }

@@ -1,13 +1,13 @@
 -- How a call of `exec` ends.
-use Rattle.std.proofs.Common.{Err, IfErr, IfOk, List, Ok, Result, [], ap, arith, get_or, inl, inr, refl, true, ℕ, ◌∷◌, ◌≡◌, ◌⊎◌}
+use Rattle.std.proofs.Common.{Err, IfErr, IfOk, List, Ok, Result, [], ap, arith, get_or, inl, inr, refl, subst, true, ℕ, ◌∷◌, ◌≡◌, ◌⊎◌}
 use Rattle.std.specs.Global.{Vec}
 use Rattle.cool_words.specs.declared.plan.RunLimits.{RunLimits}
 use Rattle.mips_isa.specs.{ImageBounds.{ImageParts}, declared.asm_fault.AsmFault.{AsmFault}}
-use Rattle.cool_driver.specs.{Calls.{Call, Request, ShelfUse, shelf_of}, Comes.{Comes}, Contents.{texts}, Ends.{Goes}}
-use Rattle.cool_driver.specs.{Execution.{IsRunnable, IsTextFault, is_text_file, run_of, status_of}, Notes.{asm_note}, Refusals.{IsTold}, Runs.{DueToRun, PiecesOfRun}}
+use Rattle.cool_driver.specs.{Calls.{Call, Request, ShelfUse, shelf_of}, Comes.{Comes, NoPieces, PutAsDue}, Contents.{texts}, Ends.{Goes}}
+use Rattle.cool_driver.specs.{Execution.{IsRunnable, IsTextFault, is_text_file, run_of, status_of}, Notes.{asm_note}, Refusals.{IsTold}, Runs.{DueToRun, PiecesOfRun, puts_of_run}}
 use Rattle.cool_driver.specs.{Sources.{AreRead}, commands.Exec.{DueToExec, ExecEnds, FileIsKnown, FileIsRead, IsDueToBytes, IsLoaded, IsNoImage, PiecesOfExec}}
 use Rattle.cool_driver.specs.{declared.TheConstants.{MOST_IMAGE_BYTES}, declared.refusal.Refusal.{Refusal}}
-use Rattle.cool_driver.proofs.{ComesOfRefusals.{IsRefusalStatus, comes_map, goes_map}, ComesOfRuns.{run_so}, DevicesOfCalls.{came}, RefusalsTold.{told_so}}
+use Rattle.cool_driver.proofs.{ComesOfRefusals.{DueToRefusal, IsRefusalStatus, comes_map, goes_map}, ComesOfRuns.{run_so}, DevicesOfCalls.{came}, PutsOfCalls.{put_refused}, RefusalsTold.{told_so}}
 use Rattle.cool_driver.proofs.{RunnableFiles.{fault_or_runs, one_runnable, one_text_fault, unfit_or_runs}, SourcesOfCalls.{WereRead, files_told, no_unread, same_contents}}
 
 -- What is read of the file
@@ -56,14 +56,19 @@ module _ {name : List ℕ} {r : Request} where
 same : {shelf : ShelfUse} {name bytes other : List ℕ} → FileIsKnown shelf name bytes → FileIsRead shelf name other → other ≡ bytes
 same known again = let one = same_contents known again in cc
 
+-- it stands for an image, or there is a reason why for none
+runs_or_none : {shelf : ShelfUse} {name bytes : List ℕ} → FileIsKnown shelf name bytes → {image : ImageParts} → IsRunnable image bytes
+    → {status : ℕ} {note : List ℕ} → IsNoImage shelf name status note → ⊥
+runs_or_none known runs (IsNoImage.unfit other fault again binary is) = unfit_or_runs _ other fault binary is (rw (← same known again) at runs)
+runs_or_none known runs (IsNoImage.misread other fault again text wrong) = fault_or_runs _ other fault text wrong (rw (← same known again) at runs)
+runs_or_none known runs (IsNoImage.not_read note why) = no_unread known why
+
 module _ {name : List ℕ} {limits : RunLimits} {r : Request} {bytes : List ℕ} (known : FileIsKnown (shelf_of r) name bytes) where
   -- where it stands for an image
   executed_so : {image : ImageParts} → IsRunnable image bytes → {status : ℕ} {output note left : List ℕ}
       → DueToExec name limits r status output note left → (status ≡ 7) ⊎ (status ≡ status_of (run_of limits image r.input))
   executed_so runs (DueToExec.ran found status output note left is row) = run_so (one_runnable _ _ _ (rw (same known is.read) at is.runs) runs) row
-  executed_so runs (DueToExec.refused _ _ (IsNoImage.unfit other fault again binary is)) = absurd (unfit_or_runs _ other fault binary is (rw (← same known again) at runs))
-  executed_so runs (DueToExec.refused _ _ (IsNoImage.misread other fault again text wrong)) = absurd (fault_or_runs _ other fault text wrong (rw (← same known again) at runs))
-  executed_so runs (DueToExec.refused _ _ (IsNoImage.not_read note why)) = absurd (no_unread known why)
+  executed_so runs (DueToExec.refused _ _ why) = absurd (runs_or_none known runs why)
 
   -- where it stands for none
   unfit_so : ((image : ImageParts) → IsRunnable image bytes → ⊥) → {status : ℕ} {output note left : List ℕ}
@@ -83,11 +88,17 @@ module _ {name : List ℕ} {limits : RunLimits} {r : Request} {bytes : List ℕ}
       (refl, ap (asm_note name) (one_text_fault bytes found _ (rw (same known again) at wrong') wrong))
   misread_so text wrong (DueToExec.refused _ _ (IsNoImage.not_read note why)) = absurd (no_unread known why)
 
+-- what is put for the image that a file stands for
+abbrev IsPrinted : List ℕ → RunLimits → Call → ℕ → Type 0
+IsPrinted name limits c status = (bytes : List ℕ) (image : ImageParts) → FileIsKnown (shelf_of c.request) name bytes → IsRunnable image bytes
+    → PutAsDue (puts_of_run limits image c.request.input) c.out status
+
 -- so it ends as it should
-pub exec_ends : {name : List ℕ} {limits : RunLimits} {c : Call} {status : ℕ}
+exec_ends : {name : List ℕ} {limits : RunLimits} {c : Call} {status : ℕ} → IsPrinted name limits c status
     → Comes (DueToExec name limits c.request) (PiecesOfExec name limits c.request) c status → ExecEnds name limits c status
-exec_ends comes = record {
+exec_ends printed comes = record {
   comes = comes;
+  printed_exactly = printed;
   executed_exactly = λ bytes image known runs eight nine.
       let (output, note, row, out, notes) = came comes eight nine in executed_so known runs row;
   unfit_exactly = λ bytes known none eight nine.
@@ -101,5 +112,18 @@ exec_ends comes = record {
 
 -- the image ran
 pub ran_goes : {name : List ℕ} {limits : RunLimits} {c : Call} {status : ℕ} {image : ImageParts} → IsLoaded (shelf_of c.request) name image
-    → Goes (Comes (DueToRun limits image c.request.input) (PiecesOfRun limits image c.request.input)) c status → Goes (ExecEnds name limits) c status
-ran_goes is = goes_map (λ comes. exec_ends (comes_map (λ s o n l row. DueToExec.ran _ s o n l is row) (λ b p l row. PiecesOfExec.of_run _ b p l is row) comes))
+    → PutAsDue (puts_of_run limits image c.request.input) c.out status → Goes (Comes (DueToRun limits image c.request.input) (PiecesOfRun limits image c.request.input)) c status → Goes (ExecEnds name limits) c status
+ran_goes {limits = limits} {c} {status} is put = goes_map (λ comes. exec_ends
+    (λ bytes image known runs. subst (λ (i : ImageParts). PutAsDue (puts_of_run limits i c.request.input) c.out status) (one_runnable _ _ _ (rw (same known is.read) at is.runs) runs) put)
+    (comes_map (λ s o n l row. DueToExec.ran _ s o n l is row) (λ b p l row. PiecesOfExec.of_run _ b p l is row) comes))
+
+-- the file was refused, and nothing was put
+row_of : {name : List ℕ} {limits : RunLimits} {r : Request} {status : ℕ} {output note left : List ℕ}
+    → DueToRefusal (IsNoImage (shelf_of r) name) r status output note left → DueToExec name limits r status output note left
+row_of (DueToRefusal.refused status note why) = DueToExec.refused status note why
+
+pub unloaded_ends : {name : List ℕ} {limits : RunLimits} {c : Call} {status : ℕ} → c.out.puts_after ≡ c.out.puts_before
+    → Comes (DueToRefusal (IsNoImage (shelf_of c.request) name) c.request) NoPieces c status → ExecEnds name limits c status
+unloaded_ends none comes =
+    exec_ends (λ bytes image known runs. put_refused (λ s n why. runs_or_none known runs why) none comes)
+    (comes_map (λ s o n l row. row_of row) (λ b p l row. absurd row) comes)

@@ -1,5 +1,5 @@
 -- How a call of `run` ends.
-use Rattle.std.proofs.Common.{Bool, List, arith, inl, inr, refl, ℕ, ◌≡◌, ◌≢◌, ◌⊎◌}
+use Rattle.std.proofs.Common.{Bool, List, arith, inl, inr, refl, subst, ℕ, ◌≡◌, ◌≢◌, ◌⊎◌}
 use Rattle.cool_classes.specs.Chains.{Class}
 use Rattle.cool_emit.specs.Programs.{program_lines}
 use Rattle.cool_faults.specs.Verdicts.{IsAccepted}
@@ -7,10 +7,10 @@ use Rattle.cool_simulation.specs.Accord.{Means}
 use Rattle.cool_syntax.specs.declared.TheConstants.{MOST_SOURCE_BYTES}
 use Rattle.cool_words.specs.declared.plan.RunLimits.{RunLimits}
 use Rattle.mips_isa.specs.{Assembly.{image_of}, ImageBounds.{ImageParts}}
-use Rattle.cool_driver.specs.{Calls.{Call, DidNothing, Got, GotPart, Request, shelf_of}, Comes.{Comes}, Compiled.{IsImageFor, compiled_program}, Ends.{Goes}}
-use Rattle.cool_driver.specs.{Execution.{run_of, status_of}, Headline.{Headline}, Runs.{DueToRun, PiecesOfRun}, Sources.{AreKnown}}
+use Rattle.cool_driver.specs.{Calls.{Call, DidNothing, Got, GotPart, Request, shelf_of}, Comes.{Comes, NoPieces, PutAsDue}, Compiled.{IsImageFor, compiled_program}, Ends.{Goes}}
+use Rattle.cool_driver.specs.{Execution.{run_of, status_of}, Headline.{Headline}, Runs.{DueToRun, PiecesOfRun, puts_of_run}, Sources.{AreKnown, IsNoProgram}}
 use Rattle.cool_driver.specs.commands.Run.{DueToRunning, IsRunFor, PiecesOfRunning, RunEnds}
-use Rattle.cool_driver.proofs.{ComesOfRefusals.{comes_map, goes_map}, ComesOfRuns.{run_so, run_status}, DevicesOfCalls.{came}, HeadlineOfRuns.{headline_cut, headline_due}}
+use Rattle.cool_driver.proofs.{ComesOfRefusals.{DueToRefusal, comes_map, goes_map}, ComesOfRuns.{run_so, run_status}, DevicesOfCalls.{came}, HeadlineOfRuns.{headline_cut, headline_due}, PutsOfCalls.{put_refused}}
 use Rattle.cool_driver.proofs.SourcesOfCalls.{IsVerdictOn, no_refusal, same_program, sources_exactly, verdict_status}
 use Rattle.lists.specs.Bytes.{AreBytes}
 
@@ -33,6 +33,16 @@ module _ {names : List (List ℕ)} {limits : RunLimits} {fold : Bool} {r : Reque
         → (status ≡ 7) ⊎ (status ≡ status_of (run_of limits (image_of (program_lines (compiled_program fold p) names)) r.input))
     compiled_so (DueToRunning.ran image status output note left for row) = run_so (image_for for).image_is row
     compiled_so (DueToRunning.refused status note why) = absurd (no_refusal known is why)
+
+-- what is put for the program that files are
+abbrev IsPrinted : List (List ℕ) → RunLimits → Bool → Call → ℕ → Type 0
+IsPrinted names limits fold c status = (contents : List (List ℕ)) (p : List Class) → AreKnown (shelf_of c.request) MOST_SOURCE_BYTES names contents → IsAccepted contents p
+    → PutAsDue (puts_of_run limits (image_of (program_lines (compiled_program fold p) names)) c.request.input) c.out status
+
+-- the rows of a refusal
+row_of : {names : List (List ℕ)} {limits : RunLimits} {fold : Bool} {r : Request} {status : ℕ} {output note left : List ℕ}
+    → DueToRefusal (IsNoProgram (shelf_of r) names) r status output note left → DueToRunning names limits fold r status output note left
+row_of (DueToRefusal.refused status note why) = DueToRunning.refused status note why
 
 module _ {names : List (List ℕ)} {limits : RunLimits} {fold : Bool} {c : Call} where
   module _ {contents : List (List ℕ)} {p q : List Class} (known : AreKnown (shelf_of c.request) MOST_SOURCE_BYTES names contents)
@@ -64,20 +74,30 @@ module _ {names : List (List ℕ)} {limits : RunLimits} {fold : Bool} {c : Call}
   not_run (Comes.short nothing) e = nothing
   not_run _ e = absurd (omega arith)
 
-  pub running_ends : {status : ℕ} → Comes (DueToRunning names limits fold c.request) (PiecesOfRunning names limits fold c.request) c status
+  running_ends : {status : ℕ} → IsPrinted names limits fold c status → Comes (DueToRunning names limits fold c.request) (PiecesOfRunning names limits fold c.request) c status
       → RunEnds names limits fold c status
-  running_ends comes = record {
+  running_ends printed comes = record {
     comes = comes;
     headline = λ contents p known is are other. headline known is (λ image for. for.means) are comes other;
     compiled_headline = λ contents p known is are other. headline known is (λ image for. for.means_compiled) are comes other;
     compiled_exactly = λ contents p known is eight nine.
         let (output, note, row, out, notes) = came comes eight nine in compiled_so known is row;
+    printed_exactly = printed;
     not_run = not_run comes;
     sources = sources_exactly (λ s o n l. verdict_of) comes;
   }
 
   -- the image ran
-  pub ran_goes : {status : ℕ} {image : ImageParts} → IsRunFor names limits fold c.request image
+  pub ran_goes : {status : ℕ} {image : ImageParts} → IsRunFor names limits fold c.request image → PutAsDue (puts_of_run limits image c.request.input) c.out status
       → Goes (Comes (DueToRun limits image c.request.input) (PiecesOfRun limits image c.request.input)) c status → Goes (RunEnds names limits fold) c status
-  ran_goes for =
-      goes_map (λ comes. running_ends (comes_map (λ s o n l row. DueToRunning.ran _ s o n l for row) (λ b p l row. PiecesOfRunning.of_run _ b p l for row) comes))
+  ran_goes {status} for put =
+      goes_map (λ comes. running_ends
+      (λ contents p known is. subst (λ (i : ImageParts). PutAsDue (puts_of_run limits i c.request.input) c.out status) (image_for known is for).image_is put)
+      (comes_map (λ s o n l row. DueToRunning.ran _ s o n l for row) (λ b p l row. PiecesOfRunning.of_run _ b p l for row) comes))
+
+  -- the files were refused, and nothing was put
+  pub unrun_ends : {status : ℕ} → c.out.puts_after ≡ c.out.puts_before
+      → Comes (DueToRefusal (IsNoProgram (shelf_of c.request) names) c.request) NoPieces c status → RunEnds names limits fold c status
+  unrun_ends none comes =
+      running_ends (λ contents p known is. put_refused (λ s n why. no_refusal known is why) none comes)
+      (comes_map (λ s o n l row. row_of row) (λ b p l row. absurd row) comes)

@@ -3,13 +3,13 @@ use Rattle.std.specs.Prelude.{◌≡◌, ℕ, List, []}
 use Rattle.cool_syntax.specs.declared.TheConstants.{MOST_SOURCE_BYTES}
 use Rattle.cool_classes.specs.Chains.{Class}
 use Rattle.cool_faults.specs.Verdicts.{IsAccepted}
-use Rattle.cool_ports.specs.SinkPuts.{PutFront, pieces_of}
+use Rattle.cool_ports.specs.SinkPuts.{pieces_of}
 use Rattle.cool_emit.specs.Programs.{program_lines}
 use Rattle.cool_simulation.specs.Accord.{Means}
 use Rattle.mips_isa.specs.Assembly.{image_of}
 use Rattle.mips_image.specs.{ImageBytes.{image_bytes}, declared.stored_image.TheConstants.{CHECKED_VERSION}}
 use Rattle.mips_text.specs.Printing.{printed}
-use Rattle.cool_driver.specs.{Calls.{Request, Call, Got, ShelfUse, shelf_of, UnlessCutShort}, Comes.{Comes}, Execution.{IsAssembled}}
+use Rattle.cool_driver.specs.{Calls.{Request, Call, Got, ShelfUse, shelf_of, UnlessCutShort}, Comes.{Comes, PutAsDue}, Execution.{IsAssembled}}
 use Rattle.cool_driver.specs.{Sources.{AreKnown, IsProgram, IsNoProgram, SourcesExactly}, Statuses.{DONE}, declared.writing.TheConstants.{MOST_PIECE_BYTES}}
 use Rattle.cool_driver.specs.{declared.commands.build.Form.{Form}, declared.commands.build.Form.TheVariants.{Text, Image}}
 
@@ -42,10 +42,10 @@ pub record BuildEnds (form : Form) (names : List (List ℕ)) (c : Call) (status 
   pub built_exactly : (contents : List (List ℕ)) (p : List Class) → AreKnown (shelf_of c.request) MOST_SOURCE_BYTES names contents
       → IsAccepted contents p
       → UnlessCutShort status ((status ≡ DONE) × Got c.out (built_bytes form p names))
-  -- what is put of it are its pieces from the first on, in order (all of them where `built_exactly` holds)
+  -- they are put in pieces, in order
   pub built_pieces : (contents : List (List ℕ)) (p : List Class) → AreKnown (shelf_of c.request) MOST_SOURCE_BYTES names contents
       → IsAccepted contents p
-      → PutFront c.out.puts_before (pieces_of MOST_PIECE_BYTES (built_bytes form p names)) c.out.puts_after
+      → PutAsDue (pieces_of MOST_PIECE_BYTES (built_bytes form p names)) c.out status
   -- and the image, for which the text stands, too, means the program
   pub built_means : (contents : List (List ℕ)) (p : List Class) → AreKnown (shelf_of c.request) MOST_SOURCE_BYTES names contents
       → IsAccepted contents p → UnlessCutShort status (IsCompiled p names)

@@ -8,7 +8,7 @@ ghost use Rattle.cool_words.specs.Plans.{is_file_name, words_of};
 ghost use Rattle.cool_driver.specs.Calls.{Got, SinkUse, shelf_use, sink_use, untaking};
 ghost use Rattle.cool_driver.specs.Ends.{Goes};
 ghost use Rattle.cool_driver.specs.Refusals.{AreFaultLines, IsTold, PutsFaults};
-ghost use Rattle.cool_driver.specs.Sources.{IsNoProgram};
+ghost use Rattle.cool_driver.specs.Sources.{IsNoProgram, unless_too_many};
 ghost use Rattle.cool_driver.specs.Statuses.{REFUSED, code_of};
 ghost use Rattle.cool_driver.specs.Telling.{PutsLines};
 ghost use Rattle.cool_driver.specs.commands.Build.{BuildEnds, IsBuilt, built_bytes};
@@ -45,7 +45,7 @@ pub fn build_files<F: Shelf, O: Sink, E: Sink>(
     requires some { 0 < length names.now }
     requires names { list_all is_file_name (words_of names.now) ≡ true }
     ensures kept { F.files files.new ≡ F.files files.old }
-    ensures asked { AskedFront (words_of names.now) (F.asked files.old) (F.asked files.new) }
+    ensures asked { AskedFront (unless_too_many (words_of names.now) (words_of names.now)) (F.asked files.old) (F.asked files.new) }
     ensures lines { PutsLines (E.puts notes.old) (E.puts notes.new) }
     ensures refused { code_of result ≡ REFUSED → PutsFaults (words_of names.now) (shelf_use F.files F.faults F.asked F.gave files.old files.new) (E.puts notes.old) (E.puts notes.new) }
     ensures ends { (words : List (List ℕ)) (input : List ℕ) (faults : ℕ)
@@ -68,7 +68,7 @@ fn make_bytes<F: Shelf>(
     requires some { 0 < length names.now }
     requires names { list_all is_file_name (words_of names.now) ≡ true }
     ensures kept { F.files files.new ≡ F.files files.old }
-    ensures asked { AskedFront (words_of names.now) (F.asked files.old) (F.asked files.new) }
+    ensures asked { AskedFront (unless_too_many (words_of names.now) (words_of names.now)) (F.asked files.old) (F.asked files.new) }
     ensures count { F.faults files.old ≤ F.faults files.new }
     ensures built { IfOk result (λ bytes. IsBuilt form (words_of names.now) (shelf_use F.files F.faults F.asked F.gave files.old files.new) bytes.items) }
     ensures refused { IfErr result (IsTold (IsNoProgram (shelf_use F.files F.faults F.asked F.gave files.old files.new) (words_of names.now))) }

@@ -14,7 +14,7 @@ ghost use Rattle.spim_debug.specs.Debugging.{IsScriptFor};
 ghost use Rattle.cool_driver.specs.Calls.{Request, request_of, shelf_use, sink_use};
 ghost use Rattle.cool_driver.specs.Debugging.{commands_for};
 ghost use Rattle.cool_driver.specs.Ends.{Goes};
-ghost use Rattle.cool_driver.specs.Sources.{EndsWith};
+ghost use Rattle.cool_driver.specs.Sources.{EndsWith, unless_too_many};
 ghost use Rattle.cool_driver.specs.Refusals.{AreFaultLines, IsTold, PutsFaults};
 ghost use Rattle.cool_driver.specs.Statuses.{REFUSED, code_of};
 ghost use Rattle.cool_driver.specs.Telling.{PutsLines};
@@ -58,7 +58,7 @@ pub fn debug_files<F: Shelf, I: Source, O: Sink, E: Sink>(
     requires names { list_all is_file_name (words_of names.now) ≡ true }
     requires limits { IsBounded limits }
     ensures kept { F.files files.new ≡ F.files files.old }
-    ensures asked { AskedFront (script.now ∷ words_of names.now) (F.asked files.old) (F.asked files.new) }
+    ensures asked { AskedFront (unless_too_many (words_of names.now) (script.now ∷ words_of names.now)) (F.asked files.old) (F.asked files.new) }
     ensures lines { PutsLines (E.puts notes.old) (E.puts notes.new) }
     ensures refused { code_of result ≡ REFUSED → PutsFaults (words_of names.now) (shelf_use F.files F.faults F.asked F.gave files.old files.new) (E.puts notes.old) (E.puts notes.new) }
     ensures taken { (ended : Bool) × Took false ended (I.past input.old) (I.past input.new) (I.left input.old) (I.left input.new) }
@@ -98,7 +98,7 @@ fn read_debuggee<F: Shelf>(
     requires some { 0 < length names.now }
     requires names { list_all is_file_name (words_of names.now) ≡ true }
     ensures kept { F.files files.new ≡ F.files files.old }
-    ensures asked { AskedFront (script.now ∷ words_of names.now) (F.asked files.old) (F.asked files.new) }
+    ensures asked { AskedFront (unless_too_many (words_of names.now) (script.now ∷ words_of names.now)) (F.asked files.old) (F.asked files.new) }
     ensures count { F.faults files.old ≤ F.faults files.new }
     ensures debuggee { IfOk result (λ x. IsDebuggee script.now (words_of names.now) (shelf_use F.files F.faults F.asked F.gave files.old files.new) x.image x.commands.items) }
     ensures script { IfOk result (λ x. IsScriptFor x.image.text x.commands.items) }
@@ -146,7 +146,7 @@ fn read_scripted<F: Shelf>(
     requires read { ScriptIsRead (shelf_use F.files F.faults F.asked F.gave files.old files.old) script.now bytes.now }
     requires gave { EndsWith (bytes.now ∷ []) (F.gave files.old) }
     ensures kept { F.files files.new ≡ F.files files.old }
-    ensures asked { AskedFront (words_of names.now) (F.asked files.old) (F.asked files.new) }
+    ensures asked { AskedFront (unless_too_many (words_of names.now) (words_of names.now)) (F.asked files.old) (F.asked files.new) }
     ensures count { F.faults files.old ≤ F.faults files.new }
     ensures debuggee { IfOk result (λ x. IsDebuggee script.now (words_of names.now) (shelf_use F.files F.faults F.asked F.gave files.old files.new) x.image x.commands.items) }
     ensures script { IfOk result (λ x. IsScriptFor x.image.text x.commands.items) }

@@ -11,7 +11,7 @@ ghost use Rattle.cool_driver.specs.Calls.{request_of, shelf_use, sink_use};
 ghost use Rattle.cool_driver.specs.Compiled.{compiled_program};
 ghost use Rattle.cool_driver.specs.Ends.{Goes};
 ghost use Rattle.cool_driver.specs.Refusals.{AreFaultLines, IsTold, PutsFaults};
-ghost use Rattle.cool_driver.specs.Sources.{IsNoProgram};
+ghost use Rattle.cool_driver.specs.Sources.{IsNoProgram, unless_too_many};
 ghost use Rattle.cool_driver.specs.Statuses.{REFUSED, code_of};
 ghost use Rattle.cool_driver.specs.Telling.{PutsLines};
 ghost use Rattle.cool_driver.specs.commands.Run.{IsCompiledTo, RunEnds};
@@ -43,7 +43,7 @@ pub fn run_files<F: Shelf, I: Source, O: Sink, E: Sink>(
     requires names { list_all is_file_name (words_of names.now) ≡ true }
     requires limits { IsBounded limits }
     ensures kept { F.files files.new ≡ F.files files.old }
-    ensures asked { AskedFront (words_of names.now) (F.asked files.old) (F.asked files.new) }
+    ensures asked { AskedFront (unless_too_many (words_of names.now) (words_of names.now)) (F.asked files.old) (F.asked files.new) }
     ensures lines { PutsLines (E.puts notes.old) (E.puts notes.new) }
     ensures refused { code_of result ≡ REFUSED → PutsFaults (words_of names.now) (shelf_use F.files F.faults F.asked F.gave files.old files.new) (E.puts notes.old) (E.puts notes.new) }
     ensures taken { (ended : Bool) × Took false ended (I.past input.old) (I.past input.new) (I.left input.old) (I.left input.new) }
@@ -73,7 +73,7 @@ fn compile_files<F: Shelf>(
     requires some { 0 < length names.now }
     requires names { list_all is_file_name (words_of names.now) ≡ true }
     ensures kept { F.files files.new ≡ F.files files.old }
-    ensures asked { AskedFront (words_of names.now) (F.asked files.old) (F.asked files.new) }
+    ensures asked { AskedFront (unless_too_many (words_of names.now) (words_of names.now)) (F.asked files.old) (F.asked files.new) }
     ensures count { F.faults files.old ≤ F.faults files.new }
     ensures image { IfOk result (IsCompiledTo fold (words_of names.now) (shelf_use F.files F.faults F.asked F.gave files.old files.new)) }
     ensures refused { IfErr result (IsTold (IsNoProgram (shelf_use F.files F.faults F.asked F.gave files.old files.new) (words_of names.now))) }

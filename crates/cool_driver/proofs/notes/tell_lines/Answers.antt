@@ -1,5 +1,5 @@
 use Rattle.std.proofs.Common.{◌≡◌, ◌+◌, true, false, List, ℕ, drop, refl, sym, ap, ◌∙◌, inr, subst}
-use Rattle.std.specs.{Prelude.{Option, Result, Ok, Err, OnOk, OnErr}, Result.{is_err}}
+use Rattle.std.specs.{Prelude.{Option, Result, Ok, Err, OnErr}, Result.{is_err}}
 use Rattle.cool_ports.specs.{Counts.{Rose}, SinkBytes.{appended, GotPrefix}}
 use Rattle.cool_ports.proofs.{GettingBytes.{appended-nil}, SeenSinks.{seen_none, seen_more, some_next, put_one, failed_one}}
 use Rattle.cool_driver.specs.{Contents.{texts}, Telling.{note_of}}

@@ -20,10 +20,10 @@ returns-in_default g c =
       gave = tt;
       asked_for = asked_part c.args.names.now c.loop-index.index c.index-names-index.result c.as_str-name.result.now c.loop-index-test.true c.index-names-index.is c.as_str-name.ensures.value _ _ _ so_far.asked c.read.ensures.asked;
       stop = stop_at c.args.names.now c.loop-index.index c.index-names-index.result c.as_str-name.result.now c.loop-index-test.true c.index-names-index.is c.as_str-name.ensures.value
-          (shelf_use g.F.Shelf.files g.F.Shelf.faults g.F.Shelf.asked g.F.Shelf.gave c.args.files.now c.read.new.self) _ _ c.loop-index.contents.items c.args.most c.loop-index.left c.in-Err.fault _ _
+          (shelf_use g.F.Shelf.files g.F.Shelf.faults g.F.Shelf.asked g.F.Shelf.gave c.args.files.now c.read.new.self) _ _ c.loop-index.contents.items c.args.most c.loop-index.left c.in-Err.fault _ _ _
           c.requires.few so_far.kept so_far.calm so_far.held so_far.rest
           (cause_of _ _ _ c.as_str-name.result.now c.loop-index.left c.in-Err.fault (λ e. read.missing (ap Err e)) (λ e. read.too_large (ap Err e)) (λ e. read.failed (ap Err e)) c.in_default.not-Memory)
-          so_far.asked c.read.ensures.asked;
+          so_far.asked c.read.ensures.asked (read.nothing_given ∙ so_far.gave);
     }
 
 -- one more file was read

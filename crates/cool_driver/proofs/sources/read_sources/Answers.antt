@@ -1,11 +1,12 @@
-use Rattle.std.proofs.{Common.{◌<◌, length, refl, arith}, lemmas.List.{length-map}}
-use Rattle.std.specs.Prelude.{codes, string_bytes}
+use Rattle.std.proofs.{Common.{◌<◌, ◌≤◌, length, refl, arith, subst, sym, List, ℕ}, lemmas.List.{length-map}}
+use Rattle.std.specs.{Prelude.{codes, string_bytes, String}, Global.{Global}}
+use Rattle.cool_ports.specs.ShelfFiles.{AskedFront}
 use Rattle.cool_syntax.specs.declared.TheConstants.{MOST_FILES}
 use Rattle.cool_words.specs.Plans.{words_of}
-use Rattle.cool_driver.specs.{Calls.{shelf_use}, Notes.{too_many_note}, Sources.{IsDueUnread}, Sources.AreUnread.{too_many}}
+use Rattle.cool_driver.specs.{Calls.{shelf_use}, Notes.{too_many_note}, Sources.{IsDueUnread, unless_too_many}, Sources.AreUnread.{too_many}}
 use Rattle.cool_driver.specs.declared.status.Status.TheVariants as statuses
 use Rattle.cool_ports.proofs.AskedNames.{asked_none, asked_whole}
-use Rattle.cool_driver.proofs.{LinesOfNotes.{ends_after, feed}, RefusalsTold.{line_told, stop_told}}
+use Rattle.cool_driver.proofs.{ReadingNames.{few_asked}, LinesOfNotes.{ends_after, feed}, RefusalsTold.{line_told, stop_told}}
 use Rattle.cool_driver.proofs.sources.read_sources.Goals as goal
 
 -- there are too many files
@@ -40,11 +41,18 @@ returns-in-Err-Refused-clause-refused g c =
 pub returns-then-names-gt-MOST_FILES-clause-asked : goal.returns-then-names-gt-MOST_FILES-clause-asked
 returns-then-names-gt-MOST_FILES-clause-asked g c = asked_none _ _
 
+-- they are not too many
+few : (names : List (String Global)) → length names ≤ MOST_FILES → (before after : List (List ℕ)) → AskedFront (words_of names) before after
+    → AskedFront (unless_too_many (words_of names) (words_of names)) before after
+few names within before after asked =
+    let no_more : length (words_of names) ≤ MOST_FILES = omega (arith, length-map names string_bytes, within) in
+    subst (λ (ns : List (List ℕ)). AskedFront ns before after) (sym (few_asked (words_of names) (words_of names) no_more)) asked
+
 pub returns-in-Ok-clause-asked : goal.returns-in-Ok-clause-asked
-returns-in-Ok-clause-asked g c = asked_whole _ _ _ c.in-Ok.ensures.asked
+returns-in-Ok-clause-asked g c = few c.args.names.now c.if-names-gt-MOST_FILES.false _ _ (asked_whole _ _ _ c.in-Ok.ensures.asked)
 
 pub returns-in-Err-Refused-clause-asked : goal.returns-in-Err-Refused-clause-asked
-returns-in-Err-Refused-clause-asked g c = c.in-Err-Refused.ensures.asked_for
+returns-in-Err-Refused-clause-asked g c = few c.args.names.now c.if-names-gt-MOST_FILES.false _ _ c.in-Err-Refused.ensures.asked_for
 
 pub returns-in-Err-Memory-clause-asked : goal.returns-in-Err-Memory-clause-asked
-returns-in-Err-Memory-clause-asked g c = c.in-Err-Memory.ensures.asked_for
+returns-in-Err-Memory-clause-asked g c = few c.args.names.now c.if-names-gt-MOST_FILES.false _ _ c.in-Err-Memory.ensures.asked_for

@@ -12,6 +12,8 @@ run_ends c status names limits fold ends asks = subst (λ (a : Option Asked). En
 -- the headline, where neither a read nor a write failed
 pub returns : goal.returns
 returns g c = record {
+  asked = c.cool.ensures.asked;
+  ends = c.cool.ensures.ends;
   ran = λ names limits fold contents p given rest asks known is are leaves seven eight nine.
       let ends = run_ends _ _ names limits fold (c.cool.ensures.ends given rest leaves) asks in
       let accords = (ends.headline contents p known is are nine).accords seven eight in

@@ -1,15 +1,18 @@
-use Rattle.std.proofs.Common.{List, ℕ, [], append-nil, refl, sym, inr, subst}
+use Rattle.std.proofs.Common.{List, ℕ, refl, sym, inr, subst}
 use Rattle.std.specs.Prelude.{Option}
-use Rattle.cool_ports.specs.{SinkBytes.{GotPrefix}, SinkPuts.{pieces_of}}
+use Rattle.cool_ports.specs.SinkBytes.{GotPrefix}
 use Rattle.cool_ports.proofs.GettingBytes.{appended-nil}
-use Rattle.cool_driver.specs.declared.writing.TheConstants.{MOST_PIECE_BYTES}
+use Rattle.cool_driver.proofs.PutsOfCalls.{put_cut, put_whole}
 use Rattle.cool_driver.proofs.writing.write_pieces.Goals as goal
 
 -- all pieces were put
 pub returns-in-Ok-clause-put : goal.returns-in-Ok-clause-put
-returns-in-Ok-clause-put g c = ([], record { front = pieces_of MOST_PIECE_BYTES c.args.bytes.now; cut = sym (append-nil _); put = c.in-Ok.ensures.pieces })
+returns-in-Ok-clause-put g c = put_whole c.in-Ok.ensures.pieces
 
 -- a write failed
+pub returns-in-Err-clause-put : goal.returns-in-Err-clause-put
+returns-in-Err-clause-put g c = put_cut c.in-Err.ensures.pieces_up_to
+
 pub returns-in-Err-clause-noted : goal.returns-in-Err-clause-noted
 returns-in-Err-clause-noted g c =
     let put = c.in-Err.ensures in

@@ -1,10 +1,11 @@
-use Rattle.std.proofs.{Common.{arith, length, refl, string_bytes, ◌<◌, ◌≤◌}, lemmas.List.{length-map}}
+use Rattle.std.proofs.{Common.{arith, length, refl, string_bytes, subst, sym, List, ℕ, ◌<◌, ◌≤◌, ◌≡◌, ◌∷◌, ◌++◌, []}, lemmas.List.{length-map}}
 use Rattle.cool_syntax.specs.declared.TheConstants.{MOST_FILES}
 use Rattle.cool_words.specs.Plans.{words_of}
-use Rattle.cool_driver.specs.{Notes.{too_many_note}, commands.Debug.{IsDueUnscripted, IsNoDebuggee}, declared.status.Status.{Status}}
+use Rattle.cool_driver.specs.{Notes.{too_many_note}, Sources.{unless_too_many}, commands.Debug.{IsDueUnscripted, IsNoDebuggee}, declared.status.Status.{Status}}
 use Rattle.cool_ports.proofs.AskedNames.{asked_first, asked_none, asked_then}
-use Rattle.cool_driver.proofs.{RefusalsTold.{line_told, told_so, line_lined, other_lined}, LinesOfNotes.{ends_after, feed}}
-use Rattle.std.specs.Prelude.{codes}
+use Rattle.cool_driver.proofs.{ReadingNames.{few_asked}, RefusalsTold.{line_told, told_so, line_lined, other_lined}, LinesOfNotes.{ends_after, feed}}
+use Rattle.std.specs.{Prelude.{codes, String}, Global.{Global}}
+use Rattle.cool_ports.specs.ShelfFiles.{AskedFront}
 use Rattle.cool_driver.proofs.commands.debug.read_debuggee.Goals as goal
 
 -- there are too many files
@@ -41,11 +42,28 @@ returns-in-Err-clause-refused g c =
 pub returns-then-names-gt-MOST_FILES-clause-asked : goal.returns-then-names-gt-MOST_FILES-clause-asked
 returns-then-names-gt-MOST_FILES-clause-asked g c = asked_none _ _
 
+few : (names : List (String Global)) → length names ≤ MOST_FILES → (asked : List (List ℕ)) → unless_too_many (words_of names) asked ≡ asked
+few names within asked = few_asked (words_of names) asked (omega (arith, length-map names string_bytes, within))
+
+script_asked : (names : List (String Global)) → length names ≤ MOST_FILES → (script : List ℕ) (before after : List (List ℕ)) → after ≡ before ++ script ∷ []
+    → AskedFront (unless_too_many (words_of names) (script ∷ words_of names)) before after
+script_asked names within script before after asked =
+    subst (λ (ns : List (List ℕ)). AskedFront ns before after) (sym (few names within (script ∷ words_of names)))
+    (asked_first script (words_of names) before after asked)
+
+both_asked : (names : List (String Global)) → length names ≤ MOST_FILES → (script : List ℕ) (before middle after : List (List ℕ)) → middle ≡ before ++ script ∷ []
+    → AskedFront (unless_too_many (words_of names) (words_of names)) middle after
+    → AskedFront (unless_too_many (words_of names) (script ∷ words_of names)) before after
+both_asked names within script before middle after asked more =
+    subst (λ (ns : List (List ℕ)). AskedFront ns before after) (sym (few names within (script ∷ words_of names)))
+    (asked_then script (words_of names) before middle after asked (subst (λ (ns : List (List ℕ)). AskedFront ns middle after) (few names within (words_of names)) more))
+
 pub returns-in-Ok-clause-asked : goal.returns-in-Ok-clause-asked
-returns-in-Ok-clause-asked g c = asked_then _ _ _ _ _ c.read_bytes.ensures.asked c.read_scripted.ensures.asked
+returns-in-Ok-clause-asked g c =
+    both_asked c.args.names.now c.if-names-gt-MOST_FILES.false c.args.script.now _ _ _ c.read_bytes.ensures.asked c.read_scripted.ensures.asked
 
 pub returns-in-Err-clause-asked : goal.returns-in-Err-clause-asked
-returns-in-Err-clause-asked g c = asked_first _ _ _ _ c.read_bytes.ensures.asked
+returns-in-Err-clause-asked g c = script_asked c.args.names.now c.if-names-gt-MOST_FILES.false c.args.script.now _ _ c.read_bytes.ensures.asked
 
 -- what is told of it
 pub returns-then-names-gt-MOST_FILES-clause-lined : goal.returns-then-names-gt-MOST_FILES-clause-lined

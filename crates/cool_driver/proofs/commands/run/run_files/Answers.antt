@@ -1,7 +1,7 @@
 use Rattle.std.proofs.Common.{false, refl}
 use Rattle.cool_ports.proofs.InputsInParts.{leaves_same, took_nothing}
-use Rattle.cool_driver.specs.{Sources.{IsNoProgram}, commands.Run.{DueToRunning}}
-use Rattle.cool_driver.proofs.{ComesOfRefusals.{refusal_goes}, DevicesOfCalls.{got_nothing}, RefusalsTold.{has_lines}, rooms.Runnings.{ran_goes, running_ends}}
+use Rattle.cool_driver.specs.Sources.{IsNoProgram}
+use Rattle.cool_driver.proofs.{ComesOfRefusals.{DueToRefusal, refusal_goes}, DevicesOfCalls.{got_nothing}, RefusalsTold.{has_lines}, rooms.Runnings.{ran_goes, unrun_ends}}
 use Rattle.cool_driver.proofs.commands.run.run_files.Goals as goal
 
 -- the files are a program
@@ -11,7 +11,7 @@ returns-in-Ok-clause-taken g c = c.execute.ensures.taken
 pub returns-in-Ok-clause-ends : goal.returns-in-Ok-clause-ends
 returns-in-Ok-clause-ends g c words given rest leaves =
     let is = c.in-Ok.ensures.image in
-    ran_goes (record { p = is.p; is = is.is; for = is.for; bounded = c.requires.limits }) (c.execute.ensures.ends _ rest is.is.read.calm leaves)
+    ran_goes (record { p = is.p; is = is.is; for = is.for; bounded = c.requires.limits }) (c.execute.ensures.puts given rest leaves) (c.execute.ensures.ends _ rest is.is.read.calm leaves)
 
 -- no line of the refusal is empty
 pub tell_refusal-requires : goal.tell_refusal-requires
@@ -24,7 +24,7 @@ returns-in-Err-clause-taken g c = (false, took_nothing _ _ _)
 pub returns-in-Err-clause-ends : goal.returns-in-Err-clause-ends
 returns-in-Err-clause-ends g c words given rest leaves =
     rw (leaves_same _ given rest leaves)
-    (refusal_goes _ c.in-Err.refusal c.tell_refusal.result (λ s. running_ends) DueToRunning.refused c.compile_files.ensures.count refl refl
+    (refusal_goes _ c.in-Err.refusal c.tell_refusal.result (λ s. unrun_ends refl) DueToRefusal.refused c.compile_files.ensures.count refl refl
     (got_nothing _ _) c.in-Err.ensures.refused c.tell_refusal.ensures.noted)
 
 pub returns-in-Err-clause-refused : goal.returns-in-Err-clause-refused
