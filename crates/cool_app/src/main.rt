@@ -1,31 +1,33 @@
 //! The program: `cool` over the words of the command line, the system's files and the standard streams.
+//!
+//! `perform` is all that it does where the words are text; its clauses are the promise over the process itself.
 #![tactic(auto)]
 
-use cool_driver::{Status, cool_over_system, refuse_words};
-use cool_ports::{FileShelf, StdSink, StdSource};
+mod process;
+
+use cool_driver::{Status, refuse_words};
+use cool_ports::StdSink;
+use process::perform;
 use std::alloc::Global;
 use std::io::ErrorKind;
 use std::process::ExitCode;
 use std::{env, io};
 
 fn main(rt: HostRuntime) -> ExitCode {
-    let mut notes = StdSink::new(rt.stderr());
     let status = match words(&rt) {
         Ok(words) => {
-            let mut files = FileShelf::new(&rt);
-            let mut input = StdSource::new(rt.stdin());
-            let mut out = StdSink::new(rt.stdout());
-            cool_over_system(
+            perform(
                 rt.alloc(),
                 &words,
-                &mut files,
-                &mut input,
-                &mut out,
-                &mut notes,
+                &rt,
+                rt.stdin(),
+                rt.stdout(),
+                rt.stderr(),
             )
+            .status
         }
         Err(error) if error.kind() == ErrorKind::OutOfMemory => Status::Memory.code(),
-        Err(_) => refuse_words(&mut notes).code(),
+        Err(_) => refuse_words(&mut StdSink::new(rt.stderr())).code(),
     };
     ExitCode::from(status)
 }
