@@ -6,7 +6,7 @@ from .answers import position
 from .classes import Refused
 from .diagnostics import MAIN
 from .files import to_path
-from .names import BASIC, KEYWORDS
+from .names import KEYWORDS
 from .ranges import Text
 
 NAME = re.compile(rb"[a-z][A-Za-z0-9_]*")

@@ -127,8 +127,9 @@ def a_class_is_renamed(room, words):
     wanted = {"one": [(17, 22), (46, 51)], "two": [(17, 22), (46, 51)], "stack": [(6, 11)], "node": [(17, 22)]}
     spans = {uri: [(edit["range"]["start"]["character"], edit["range"]["end"]["character"]) for edit in edits] for uri, edits in changes.items()}
     expect("edits", spans, {(at / (name + ".cl")).as_uri(): places for name, places in wanted.items()})
-    for character, new, why in ((19, "pile", "the name of a class"), (19, "Node", "Node is named in"), (19, "IO", "the name of a class"), (13, "X", ("only classes", "a name is")),
-                                (32, "X", "only classes"), (6, "CLass", "the name of a class")):
+    refused = ((19, "pile", "the name of a class"), (19, "Node", "Node is named in"), (19, "IO", "the name of a class"),
+               (13, "X", ("only classes", "a name is")), (32, "X", "only classes"), (6, "CLass", "the name of a class"))
+    for character, new, why in refused:
         expect(new, rename(character, new)["error"]["message"].startswith(why), True)
     (at / "two.cl").write_text(main + '"')
     expect("a lexical fault", "fault of lexemes" in rename(19, "Pile")["error"]["message"], True)

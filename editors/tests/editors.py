@@ -66,8 +66,8 @@ def emacs(room, words):
     if shutil.which("emacs") and subprocess.run(eglot, stderr=subprocess.DEVNULL).returncode:
         raise NotTried("eglot is not installed")
     said, version = said_in(room, words, call, COOL_MODE=str(HERE / "emacs" / "cool-mode.el"), COOL_MAKE="'%s' check m.cl" % words.cool)
-    expect("Emacs", said, ["cool-mode", "2:22-23 cool [E17]: " + TOLD, "1 told", "0 told", "definition: line 1", "outline: (Method Class Field)", "font-lock-keyword-face font-lock-string-face",
-                           "next error: m.cl, line 2"])
+    expect("Emacs", said, ["cool-mode", "2:22-23 cool [E17]: " + TOLD, "1 told", "0 told", "definition: line 1", "outline: (Method Class Field)",
+                           "font-lock-keyword-face font-lock-string-face", "next error: m.cl, line 2"])
     return version
 
 

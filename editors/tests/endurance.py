@@ -6,7 +6,7 @@ import subprocess
 import sys
 import time
 
-from .client import HERE, WITHIN, Client, ended, expect, fill
+from .client import HERE, WITHIN, Client, ended, expect
 
 FAULTY = "class Main { x : Int <- true; main() : Object { 0 }; };\n"
 FAULT = [(1, "E17", "initial value does not conform")]

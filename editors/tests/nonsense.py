@@ -1,5 +1,4 @@
 """An editor that sends what is no message, no request, or nothing that makes sense."""
-import json
 import random
 
 from .client import Client, expect
@@ -38,7 +37,8 @@ VALUES = [None, True, -1, 0, 1e300, 2**70, "", "x", "file:///", "file:///\0.cl",
 KEYS = ["textDocument", "uri", "text", "version", "contentChanges", "position", "range", "workspaceFolders", "rootUri", "capabilities", "event", "added",
         "removed", "context", "changes", "diagnostics"]
 METHODS = ["initialize", "initialized", "workspace/didChangeWatchedFiles", "workspace/didChangeWorkspaceFolders", "$/cancelRequest", "x", ""]
-METHODS += ["textDocument/" + name for name in ("didOpen", "didChange", "didClose", "didSave", "hover", "definition", "references", "documentSymbol", "completion", "rename", "codeAction")]
+METHODS += ["textDocument/" + name for name in ("didOpen", "didChange", "didClose", "didSave", "hover", "definition", "references")]
+METHODS += ["textDocument/" + name for name in ("documentSymbol", "completion", "rename", "codeAction")]
 
 
 def value(rnd, depth):

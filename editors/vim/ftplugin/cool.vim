@@ -1,3 +1,4 @@
+" Vim: comments, file names and the compiler of a buffer of Cool.
 if exists('b:did_ftplugin')
   finish
 endif
