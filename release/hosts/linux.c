@@ -1,10 +1,8 @@
-// What the program asks of a C library, by calls of Linux alone, on x86-64 and on ARM64: its start, files, streams, words and a heap.
-typedef __SIZE_TYPE__ size;
-typedef long long i64;
-
+// What host.c wants of the system, by calls of Linux alone, on x86-64 and on ARM64.
 #if defined(__x86_64__)
-enum { READ = 0, WRITE = 1, CLOSE = 3, MMAP = 9, MUNMAP = 11, SIGACTION = 13, MREMAP = 25, EXIT_GROUP = 231, OPENAT = 257 };
+enum { READ = 0, WRITE = 1, CLOSE = 3, MMAP = 9, MPROTECT = 10, MUNMAP = 11, SIGACTION = 13, MREMAP = 25, EXIT_GROUP = 231, OPENAT = 257, PRLIMIT = 302 };
 __asm__(".globl _start\n_start: xor %ebp, %ebp\n mov %rsp, %rdi\n and $-16, %rsp\n call begin\n");
+#define FINISH_ON(TOP) __asm__ volatile("mov %0, %%rsp\n call finish\n" : : "r"(TOP))
 
 static i64 call(i64 number, i64 a, i64 b, i64 c, i64 d, i64 e, i64 f) {
     register i64 r10 __asm__("r10") = d, r8 __asm__("r8") = e, r9 __asm__("r9") = f;
@@ -12,8 +10,7 @@ static i64 call(i64 number, i64 a, i64 b, i64 c, i64 d, i64 e, i64 f) {
     return number;
 }
 
-// What the start of a program for x86-64-v2 asks of the GNU C library: what the processor tells of its leaf 1 and 0x80000001, under 0 and 2.
-// Of any other leaf it is nothing.
+// By this a program for x86-64-v2 asks at its start what the processor can do: what it tells of its leaves 1 and 0x80000001, under 0 and 2.
 typedef struct {
     unsigned told[4], usable[4];
 } Features;
@@ -26,8 +23,9 @@ const Features *__x86_get_cpuid_feature_leaf(unsigned which) {
     return &features[which / 2];
 }
 #elif defined(__aarch64__)
-enum { OPENAT = 56, CLOSE = 57, READ = 63, WRITE = 64, EXIT_GROUP = 94, SIGACTION = 134, MUNMAP = 215, MREMAP = 216, MMAP = 222 };
+enum { OPENAT = 56, CLOSE = 57, READ = 63, WRITE = 64, EXIT_GROUP = 94, SIGACTION = 134, MUNMAP = 215, MREMAP = 216, MMAP = 222, MPROTECT = 226, PRLIMIT = 261 };
 __asm__(".globl _start\n_start: mov x29, #0\n mov x30, #0\n mov x0, sp\n bl begin\n");
+#define FINISH_ON(TOP) __asm__ volatile("mov sp, %0\n bl finish\n" : : "r"(TOP))
 
 static i64 call(i64 number, i64 a, i64 b, i64 c, i64 d, i64 e, i64 f) {
     register i64 x8 __asm__("x8") = number, x0 __asm__("x0") = a, x1 __asm__("x1") = b, x2 __asm__("x2") = c;
@@ -37,47 +35,36 @@ static i64 call(i64 number, i64 a, i64 b, i64 c, i64 d, i64 e, i64 f) {
 }
 #endif
 
-#include "bytes.c"
+typedef struct {
+    size is_there;
+    void *at;
+} Tried;
+#define TRIED(NAME, PARAMETERS, WORK)              \
+    Tried NAME PARAMETERS {                        \
+        void *found = WORK;                          \
+        return (Tried){.is_there = found != 0, found}; \
+    }
 
 // An answer of the system between these is the negative of an error's number.
 #define IS_ERROR(ANSWER) ((ANSWER) < 0 && (ANSWER) >= -4095)
-enum { HERE = -100, PROT_READ_WRITE = 3, MAP_PRIVATE_ANONYMOUS = 0x22, MAY_MOVE = 1, MASK_BYTES = 8 };
 
-static void *pages(i64 answer) { return IS_ERROR(answer) ? 0 : (void *)answer; }
-static void *map(size bytes) { return pages(call(MMAP, 0, bytes, PROT_READ_WRITE, MAP_PRIVATE_ANONYMOUS, -1, 0)); }
-static void unmap(void *at, size bytes) { call(MUNMAP, (i64)at, bytes, 0, 0, 0, 0); }
-static void *remap(void *at, size kept, size bytes) { return pages(call(MREMAP, (i64)at, kept, bytes, MAY_MOVE, 0, 0)); }
+static i64 told(i64 answer) { return IS_ERROR(answer) ? failed((int)-answer) : answer; }
 
-#include "heap.c"
-
-typedef struct {
-    size ok;
-    void *at;
-} Tried;
-
-static Tried tried(void *at) { return (Tried){at != 0, at}; }
-Tried rattle_alloc(size bytes, size align) { return tried(take(bytes)); }
-Tried rattle_realloc(void *at, size kept, size bytes, size align) { return tried(retake(at, kept, bytes)); }
-void rattle_dealloc(void *at) { give(at); }
-
-// The error of the last call that failed.
-static int error;
-
-static i64 told(i64 answer) {
-    if (!IS_ERROR(answer)) return answer;
-    error = (int)-answer;
-    return -1;
-}
-
-int rattle_errno(void) { return error; }
-void rattle_set_errno(int number) { error = number; }
+enum { HERE = -100 };
 int open(const char *name, int flags, ...) { return (int)told(call(OPENAT, HERE, (i64)name, flags, 0, 0, 0)); }
 int close(int file) { return (int)told(call(CLOSE, file, 0, 0, 0, 0, 0)); }
 i64 read(int file, void *to, size most) { return told(call(READ, file, (i64)to, most, 0, 0, 0)); }
 i64 write(int file, const void *from, size count) { return told(call(WRITE, file, (i64)from, count, 0, 0, 0)); }
 i64 __write(int file, const void *from, size count) { return write(file, from, count); }
 
-// As the kernel has it.
+enum { PROT_NONE = 0, PROT_READ_WRITE = 3, PRIVATE_ANONYMOUS = 0x22, STACK_WITHOUT_RESERVE = 0x24000, MAY_MOVE = 1 };
+static void *pages(i64 answer) { return IS_ERROR(answer) ? 0 : (void *)answer; }
+static void *map_as(size bytes, int flags) { return pages(call(MMAP, 0, bytes, PROT_READ_WRITE, PRIVATE_ANONYMOUS | flags, -1, 0)); }
+static void *map(size bytes) { return map_as(bytes, 0); }
+static void unmap(void *at, size bytes) { call(MUNMAP, (i64)at, bytes, 0, 0, 0, 0); }
+static void *remap(void *at, size kept, size bytes) { return pages(call(MREMAP, (i64)at, kept, bytes, MAY_MOVE, 0, 0)); }
+
+// By this the program ignores SIGPIPE, so that a closed pipe is an error of `write`. As the kernel has it.
 typedef struct {
     i64 action;
     size flags, restorer, mask;
@@ -85,33 +72,39 @@ typedef struct {
 
 i64 __sysv_signal(int signal, i64 action) {
     Action new = {.action = action}, old = {0};
-    return told(call(SIGACTION, signal, (i64)&new, (i64)&old, MASK_BYTES, 0, 0)) < 0 ? -1 : old.action;
+    return told(call(SIGACTION, signal, (i64)&new, (i64)&old, sizeof new.mask, 0, 0)) < 0 ? -1 : old.action;
 }
 
-static size word_count;
-static const char **words;
-
-// Puts word i at `to` and answers its length, -1 where there is no such word, or -2 where it has more than `most` bytes.
-i64 rattle_arg(size i, unsigned char *to, size most) {
-    if (i >= word_count) return -1;
-    size length = 0;
-    for (; words[i][length]; length++) {
-        if (length == most) return -2;
-        to[length] = (unsigned char)words[i][length];
-    }
-    return (i64)length;
-}
-
-// The environment is not read.
-i64 rattle_env(const char *name, void *to, size most) { return -1; }
-i64 rattle_env_at(size i, void *to, size most) { return -1; }
-
-int main(void);
-
-// `stack` is the stack at the start: how many words there are, and then they.
-__attribute__((used, noreturn)) void begin(i64 *stack) {
-    word_count = (size)stack[0];
-    words = (const char **)(stack + 1);
-    call(EXIT_GROUP, main(), 0, 0, 0, 0, 0);
+static __attribute__((noreturn)) void end(int status) {
+    call(EXIT_GROUP, status, 0, 0, 0, 0, 0);
     __builtin_trap();
+}
+
+__attribute__((used)) void finish(void) { end(main()); }
+
+// Where the address space has a limit (`ulimit -v`), a stack of LESS is taken, and leaves the rest to the heap; also where the system gives no more.
+// Below either stand GUARD bytes that nothing can touch, so that what would need more ends by a signal.
+#define LESS ((size)8 << 20)
+#define GUARD ((size)1 << 16)
+enum { RLIMIT_AS = 9, NO_MEMORY = 9 };
+
+static int is_limited(void) {
+    size most[2] = {0};
+    return call(PRLIMIT, 0, RLIMIT_AS, 0, (i64)most, 0, 0) < 0 || most[0] != (size)-1;
+}
+
+static char *stack_of(size bytes) {
+    char *at = map_as(GUARD + bytes, STACK_WITHOUT_RESERVE);
+    return at && call(MPROTECT, (i64)at, GUARD, PROT_NONE, 0, 0, 0) == 0 ? at + GUARD + bytes : 0;
+}
+
+// `at` is the stack as the system gives it at the start: how many words there are, and then they.
+__attribute__((used, noreturn)) void begin(i64 *at) {
+    word_count = (size)at[0];
+    words = (const char **)(at + 1);
+    char *top = is_limited() ? 0 : stack_of(STACK_BYTES);
+    if (!top) top = stack_of(LESS);
+    if (!top) end(NO_MEMORY);
+    FINISH_ON(top);
+    __builtin_unreachable();
 }
