@@ -1,12 +1,12 @@
-// The program as a command of node, 18 or newer, over the page's module: it passes files, standard streams and status through. `release/make`
-// puts it with module.js and program.js into release/cool.cjs, one file that needs nothing else.
+// A program as a command of node, 18 or newer, over its module: it passes files, standard streams and status through. `release/make` puts it behind
+// the module and program.js into release/cool.cjs and release/cool_editor.cjs, each one file that needs nothing else.
 //
 // It runs in a thread, whose stack lets it recurse as deep as on Linux.
 "use strict";
 const fs = require("fs");
 const { isMainThread, Worker } = require("worker_threads");
 
-const STACK_MB = 64, WAIT_MS = 5;
+const STACK_MB = 64, WAIT_MS = 5, RETURN = 13;
 // Of these the machine's loops are worth being made ready first.
 const LONG = ["run", "exec"];
 
@@ -31,13 +31,24 @@ function file(name) {
 }
 
 // On Windows the end of a pipe is told as an error.
-function input(most) {
+function someInput(most) {
     const buffer = Buffer.alloc(most);
     try {
         return buffer.subarray(0, waiting(() => fs.readSync(0, buffer, 0, most, null)));
     } catch (error) {
         if (error.code === "EOF") return buffer.subarray(0, 0);
         throw error;
+    }
+}
+
+// A line that is typed ends with two bytes on Windows, and with the second of them elsewhere.
+const hasReturns = process.platform === "win32" && require("tty").isatty(0);
+
+function input(most) {
+    for (;;) {
+        const bytes = someInput(most);
+        const kept = hasReturns ? bytes.filter((it) => it !== RETURN) : bytes;
+        if (kept.length > 0 || bytes.length === 0) return kept;
     }
 }
 
