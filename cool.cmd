@@ -1,2 +1,2 @@
-@rem On Windows, what cool is elsewhere: runs the program on the words given, by node 18 or newer (docs/release.md).
-@node "%~dp0release\cool.cjs" %*
+@rem On Windows, what cool is elsewhere: runs the program on the words given (docs/release.md).
+@"%~dp0release\cool.exe" %*
