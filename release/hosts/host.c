@@ -115,8 +115,8 @@ typedef struct Block {
 
 #define HEAD sizeof(size)
 #define ALIGN ((size)16)
-#define CLASSES 80
-#define MOST_CLASS_BYTES ((size)1 << 18)
+#define CLASSES 64
+#define MOST_CLASS_BYTES ((size)1 << 16)
 #define ROOM_BYTES ((size)1 << 20)
 #define PAGE_BYTES ((size)1 << 12)
 #define MOST_BYTES ((size)1 << 46)
