@@ -17,10 +17,13 @@ class Missing(Exception):
 
 def find(named, seconds, name="cool"):
     """The path of the program of this name: the one that is named, by a word or by COOL or COOL_EDITOR in the environment, else the one installed beside
-    the server, else that of the repository in which the server stands, else the one on PATH."""
+    the server, else that of the repository in which the server stands (on Windows the one of release/), else the one on PATH."""
     named = named or os.environ.get(name.upper())
     if named:
         return named
+    released = os.path.join(HERE, "release", name + ".exe")
+    if os.name == "nt" and os.path.isfile(released):
+        return released
     if os.access(os.path.join(HERE, "release", "program"), os.X_OK):
         return of_repository([os.path.join(HERE, "release", "program"), name], seconds)
     beside = os.path.join(HERE, name)
@@ -58,6 +61,9 @@ def start(words):
 
 
 def kill(process):
+    if os.name == "nt":
+        process.kill()
+        return
     try:
         os.killpg(process.pid, signal.SIGKILL)
     except OSError:
