@@ -68,7 +68,7 @@ int open(const char *name, int flags, ...) {
 
 int close(int file) {
     CloseHandle(handle_of(file));
-    opened[file - FIRST_FILE] = 0;
+    if (file >= FIRST_FILE) opened[file - FIRST_FILE] = 0;
     return 0;
 }
 
