@@ -1,4 +1,4 @@
-"""The cases that bench/spim-compare runs: those of folders, the calls of examples/README.md, and those that bench/random-cases makes."""
+"""The cases that bench/spim-compare and bench/qemu-compare run: those of folders, the calls of examples/README.md, and those that bench/random-cases makes."""
 import os
 import re
 import subprocess
