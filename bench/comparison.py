@@ -23,6 +23,8 @@ class Other:
 
     # A run may take so many seconds, and write so many blocks: behind an exception or the end of the input it may go on for ever.
     most, most_of_listed = (300, 65536), (5, 256)
+    # What compiles a Cool program for it.
+    compiles = "asm"
 
     def __init__(self, name, commands, listed, unlike):
         self.name, self.commands, self.unlike = name, commands, unlike
@@ -79,7 +81,7 @@ def difference(other, case, wanted, came):
 def compared(other, program, case, wanted, folder, most):
     """What differs on the other machine, or nothing; that no text can be made is a difference, too."""
     try:
-        text = other.text(case.text(program), case.limits["heap"], case.limits["stack"])
+        text = other.text(case.text(program, other.compiles), case.limits["heap"], case.limits["stack"])
     except other.unlike as why:
         return "no text for %s: %s" % (other.name, why)
     path = os.path.join(folder, case.name.replace("/", "_") + ".s")

@@ -38,11 +38,11 @@ class Case:
         done = subprocess.run([program] + self.words, cwd=self.folder, input=self.stdin, capture_output=True)
         return done.returncode, done.stdout
 
-    def text(self, program):
-        """The text of assembly that is run."""
+    def text(self, program, word):
+        """The text of assembly that is run, or its image, as this word of the program gives it."""
         if self.words[0] == "exec":
             return read(self.folder, self.files[0])
-        done = subprocess.run([program, "asm", "--"] + self.files, cwd=self.folder, stdout=subprocess.PIPE)
+        done = subprocess.run([program, word, "--"] + self.files, cwd=self.folder, stdout=subprocess.PIPE)
         return done.stdout
 
 
