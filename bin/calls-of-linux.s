@@ -189,8 +189,10 @@ linux.no_more:
 linux.not_read:
         li $t0, 4
         beq $v0, $t0, linux.read
-        li $a0, 7
-        b linux.exit2
+        li $s1, 7
+        la $a1, linux.read_fault
+        li $a2, 17
+        b linux.note
 
 linux.read_char:
         jal linux.next
@@ -264,7 +266,7 @@ linux.no_room:
 
 linux.exit:
         move $a0, $zero
-# Ends with the low byte of $a0, after its note.
+# Ends with the low byte of $a0, behind the note that 4 and 5 have.
 linux.exit2:
         move $s1, $a0
         li $t0, 4
@@ -274,11 +276,8 @@ linux.exit2:
         li $t0, 5
         la $a1, linux.stack_limit
         li $a2, 18
-        beq $a0, $t0, linux.note
-        li $t0, 7
-        la $a1, linux.read_fault
-        li $a2, 17
         bne $a0, $t0, linux.exit_now
+# Writes the note of $a2 bytes at $a1, and ends with $s1.
 linux.note:
         li $a0, 2
         li $v0, 4004
