@@ -2,6 +2,7 @@
 "use strict";
 
 const MOST_LINK_BYTES = 3 << 20;
+const NO_LINK = "The link of this address holds no program: it may have been cut.";
 
 async function bytesThrough(bytes, stream, most) {
     const reader = new Blob([bytes]).stream().pipeThrough(stream).getReader();

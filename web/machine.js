@@ -2,6 +2,7 @@
 "use strict";
 
 const CHANGED = "The program changed: the next move begins anew.";
+const SHORT = " It read to the end of what is given beforehand (in Output).";
 
 let here;
 // Of the program as it is: listing, outline, state, and what is shown of it; of the user: open (paths of objects), labels (breaks) and earlier (steps).
@@ -106,6 +107,10 @@ function showAgain() {
 const placeShown = () => machine.frames?.map((it) => it.place).find((it) => it !== undefined);
 
 function whereWords(state, { error, limit }) {
+    return `${stopWords(state, error, limit)}${state.short ? SHORT : ""}`;
+}
+
+function stopWords(state, error, limit) {
     const count = `after ${state.steps.toLocaleString("en")} instructions`;
     if (state.ended) return `The run has ended ${count}.`;
     if (limit) return `The step limit is reached ${count}.`;

@@ -23,7 +23,7 @@ async function debug(lines, wanted) {
     if (came.broken !== undefined) throw new MoveFailed(came.broken);
     const notes = came.notes.split("\n").slice(0, -1);
     if (notes.length < wanted) throw new MoveFailed(came.status === 1 ? "The program has faults." : endWords(came) ?? "the run ended before");
-    return { notes, output: came.output };
+    return { notes, output: came.output, short: came.short };
 }
 
 function linesTo(steps) {
@@ -56,12 +56,13 @@ class State {
         const state = new State();
         const shows = before ? wordsOf(before.used).slice(0, MOST_WORDS_READ) : [];
         const moves = linesTo(steps);
-        const { notes, output } = await debug([...moves, "regs", ...shows.map((it) => `show ${hex(it)}`)], moves.length + 1 + shows.length);
+        const { notes, output, short } = await debug([...moves, "regs", ...shows.map((it) => `show ${hex(it)}`)], moves.length + 1 + shows.length);
         const last = moves.length > 0 ? reached(notes[moves.length - 1]) : { steps: 0, pc: 0 };
         state.steps = last.steps;
         state.ended = last.pc === undefined;
         state.registers = registersIn(notes[moves.length]);
         state.output = output;
+        state.short = short;
         state.takeUp(notes.slice(moves.length + 1));
         return state;
     }

@@ -66,6 +66,7 @@ async function begin() {
     if (stored) openProgram(stored, stored.edited);
     if (linked) openProgram(linked);
     if (files.length === 0) openProgram(EXAMPLES[0] ?? EMPTY);
+    if (!linked && location.hash.length > 1) at("end").append(NO_LINK);
     showExamples();
     try {
         if (typeof COOL_MODULE === "undefined") throw new Error("module.js is missing beside this page: copy all scripts of web/");

@@ -109,6 +109,8 @@ def bad_links(page):
         page.run(f"tell(''); location.hash = '{fragment}';")
         page.wait("at('state').textContent === 'this link holds no program'")
         same(page.run("return fileNames();"), ["p.cl"])
+    page.open(fragment="#nothing")
+    same(page.run("return at('end').textContent;"), "The link of this address holds no program: it may have been cut.")
 
 
 @test("keeps the program, and the one before it")
