@@ -10,6 +10,7 @@ from .names import KEYWORDS
 from .ranges import Text
 
 NAME = re.compile(rb"[a-z][A-Za-z0-9_]*")
+CONSTANT = re.compile(rb'"\Z|(?<![A-Za-z0-9_])[0-9]+\Z')
 BEGUN = re.compile(rb"[A-Za-z0-9_]*\Z")
 DOT = re.compile(rb"\.\s*([A-Za-z0-9_]*)\Z")
 RECEIVER = re.compile(rb"\s*(?:@\s*[A-Z][A-Za-z0-9_]*\s*)?\.\s*\Z")
@@ -165,8 +166,10 @@ class Meanings:
         return None
 
     def type_before(self, marks, path, data, dot):
-        """The type of what ends before a place: a name, a call, a class after `new` in parentheses."""
+        """The type of what ends before a place: a constant, a name, a call, a class after `new` in parentheses."""
         code = data[:dot].rstrip()
+        if CONSTANT.search(code):
+            return "String" if code.endswith(b'"') else "Int"
         ends = {len(code): ("variable", "type"), len(code[:-1].rstrip()) if code.endswith(b")") else -1: ("type",), opening(code): ("call",)}
         own = last = None
         for mark in marks:
@@ -182,24 +185,29 @@ class Meanings:
         return own if type_ == "SELF_TYPE" else type_
 
     def variables(self, path, data, at):
-        """The names that have a meaning at a place: each is asked for as an expression there."""
+        """The names that have a meaning at a place, each of which is asked for as an expression there, and the methods of the class around it."""
         begun = BEGUN.search(data, 0, at).group()
         if begun[:1].isupper():
             return None
         end = at + len(re.compile(rb"[A-Za-z0-9_]*").match(data, at).group())
-        names, seen = [], set()
-        plain = self.of(path, {path: data[: at - len(begun)] + b"0" + data[end:]}) or ()
+        names, seen, own, plain, start = [], set(), None, None, at - len(begun)
+        for rest in (b"", b";", b")", b");"):  # what is not written yet
+            plain = self.of(path, {path: data[:start] + b"0" + rest + data[end:]})
+            if plain:
+                break
+        plain = plain or ()
         for mark in plain:
+            own = mark.name.decode() if mark.role == "class" and mark.place[0] == path and mark.place[1] < at else own
             if mark.role in VARIABLES and mark.name.startswith(begun) and mark.name not in seen:
                 seen.add(mark.name)
                 names.append(mark.name)
-        start = at - len(begun)
+        methods = [item for item in members(classes(plain), own) if begun and item["label"].startswith(begun.decode())]
         block = b"{" + b"".join(name + b";" for name in names) + b"}"
-        marks = names and self.of(path, {path: data[:start] + block + data[end:]})
+        marks = names and self.of(path, {path: data[:start] + block + rest + data[end:]})
         if not marks:
-            return [] if plain else None
+            return methods if plain else None
         found = [mark for mark in marks if mark.place[0] == path and start < mark.place[1] < start + len(block) and mark.type != "?"]
-        return [{"label": mark.name.decode(), "kind": VARIABLE, "detail": mark.type} for mark in found]
+        return [{"label": mark.name.decode(), "kind": VARIABLE, "detail": mark.type} for mark in found] + methods
 
 
 def opening(code):
