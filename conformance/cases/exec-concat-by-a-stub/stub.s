@@ -622,11 +622,11 @@ str_const1:
 	.align 2
 	.word -1
 __length2:
-	.word 3, 4, Int_dispTab, 10
+	.word 3, 4, Int_dispTab, 9
 	.word -1
 str_const2:
 	.word 5, 7, String_dispTab, __length2
-	.asciiz "/tmp/cc.cl"
+	.asciiz "concat.cl"
 	.align 2
 heap_start:
 	.word 0
