@@ -32,9 +32,9 @@ def take_options(words, options):
             raise BadWords
 
 
-def own_program():
-    """The program of the repository, which is proved and built first where it must be."""
-    found = subprocess.run([os.path.join(HERE, "..", "release", "program")], stdout=subprocess.PIPE, check=False)
+def own_program(name="cool"):
+    """The program of the repository, or `cool_editor`, which is proved and built first where it must be."""
+    found = subprocess.run([os.path.join(HERE, "..", "release", "program"), name], stdout=subprocess.PIPE, check=False)
     if found.returncode:
         sys.exit(125)
     return os.fsdecode(found.stdout.removesuffix(b"\n"))
