@@ -18,7 +18,7 @@ STATUSES = (0, 3, 4, 5)
 
 class Other:
     """Another machine: its name, the commands that it takes with their packages, and the file of bench/ with the cases that differ, and why. It has
-    `text(text, heap, stack)`, which makes its text of one for this machine or raises `Unlike`, and `run(path, stdin, most)`, which gives the status, the
+    `text(text, heap, stack)`, which makes its text of what `compiles` gives or raises `Unlike`, and `run(path, stdin, most)`, which gives the status, the
     output and the notes of that text within so many seconds and blocks of 512 bytes."""
 
     # A run may take so many seconds, and write so many blocks: behind an exception or the end of the input it may go on for ever.
