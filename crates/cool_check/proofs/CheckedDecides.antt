@@ -27,9 +27,10 @@ use Rattle.cool_classes.proofs.ChainsOfTables.{chain_is}
 use Rattle.cool_rules.proofs.RulesDecided.{same_types, types_same, named_denotes, denoted, denotes_type, join_is, one_type, conforming_type}
 use Rattle.cool_rules.proofs.TypesOfMethods.{formals_named, result_named, expression_type}
 use Rattle.cool_rules.proofs.EnteredScopes.{found_after}
+use Rattle.cool_check.specs.declared.fault.TypeFault.{TypeFault}
 use Rattle.cool_check.specs.declared.fault.TypeKind.{TypeKind}
-use Rattle.cool_check.specs.declared.fault.TypeKind.TheVariants.{E2, E3, E5, E8, E9, E10, E13, E14, E15, E16, E17}
-use Rattle.cool_check.specs.FirstFaults.{Checked, refuse, and_then, expect, is_self, bind, conform, or_unknown, name_checked, or_no_type, named, static_among, static_class, misfit, resulting, or_misfit, called_with, call_checked, initialized, bound_type, branch_among, branch_class, joined, compared, checked, all_checked, last_checked, maybe_checked, cases_checked}
+use Rattle.cool_check.specs.declared.fault.TypeKind.TheVariants.{E3, E6, E8, E9, E14, E16, E17}
+use Rattle.cool_check.specs.FirstFaults.{Checked, and_then, expect, fits, unfit, is_self, bind, conform, or_unknown, name_checked, or_no_type, named, static_among, static_class, misfit, resulting, or_misfit, called_with, call_checked, initialized, bound_type, branch_among, branch_class, joined, compared, checked, all_checked, last_checked, maybe_checked, cases_checked}
 use Rattle.cool_rules.specs.Rules.{same_type, join_in, type_of_name, type_meant, method_of, is_among}
 use Rattle.cool_check.specs.Contexts.{Context}
 use Rattle.cool_rules.proofs.RulesOfTables.{do_conform_true, true_do_conform, join_in_is, type_meant_is}
@@ -63,14 +64,14 @@ pub ok_decided : {A : Type 0} (a : A) → IsDecided (Ok a) (λ b. b ≡ a)
 ok_decided a = record { decided = (refl, λ b e. e) }
 
 -- a test that decides a premise
-expect_decided : {B : Type 0} (test : Bool) (kind : TypeKind) (at : Place) (r : Checked B) (X : Type 0) {Q : B → Type 0} → (test ≡ true → X) → (X → test ≡ true) → (X → IsDecided r Q) → IsDecided (expect test kind at r) (λ b. X × Q b)
-expect_decided true kind at r X f g k = decided_as (λ b q. (f refl, q)) (λ b w. w.1) (k (f refl))
-expect_decided false kind at r X f g k = record { decided = λ b w. absurd (true≢false (sym (g w.0))) }
+where_decided : {B : Type 0} (test : Bool) (fault : TypeFault) (r : Checked B) (X : Type 0) {Q : B → Type 0} → (test ≡ true → X) → (X → test ≡ true) → (X → IsDecided r Q) → IsDecided (if test then r else Err fault) (λ b. X × Q b)
+where_decided true fault r X f g k = decided_as (λ b q. (f refl, q)) (λ b w. w.1) (k (f refl))
+where_decided false fault r X f g k = record { decided = λ b w. absurd (true≢false (sym (g w.0))) }
 
 -- a test that refuses
-unless_decided : {B : Type 0} (test : Bool) (kind : TypeKind) (at : Place) (r : Checked B) (X : Type 0) {Q : B → Type 0} → (test ≡ false → X) → (X → test ≡ false) → (X → IsDecided r Q) → IsDecided (if test then refuse kind at else r) (λ b. X × Q b)
-unless_decided true kind at r X f g k = record { decided = λ b w. absurd (true≢false (g w.0)) }
-unless_decided false kind at r X f g k = decided_as (λ b q. (f refl, q)) (λ b w. w.1) (k (f refl))
+unless_decided : {B : Type 0} (test : Bool) (fault : TypeFault) (r : Checked B) (X : Type 0) {Q : B → Type 0} → (test ≡ false → X) → (X → test ≡ false) → (X → IsDecided r Q) → IsDecided (if test then Err fault else r) (λ b. X × Q b)
+unless_decided true fault r X f g k = record { decided = λ b w. absurd (true≢false (g w.0)) }
+unless_decided false fault r X f g k = decided_as (λ b q. (f refl, q)) (λ b w. w.1) (k (f refl))
 
 -- what is decided holds of one thing at most
 one_by : {A : Type 0} (P : A → Type 0) (r : Checked A) → Decides r P → (a b : A) → P a → P b → a ≡ b
@@ -90,12 +91,12 @@ module _ (s : Context) (whole : IsWholeTable s.table) (within : s.class.0 < leng
 
   -- Parts of rules
 
-  same_decided : {B : Type 0} {r : Checked B} {Q : B → Type 0} (kind : TypeKind) (at : Place) (t u : Ty) → (t ≡ u → IsDecided r Q) → IsDecided (expect (same_type t u) kind at r) (λ b. (t ≡ u) × Q b)
-  same_decided {r = r} kind at t u k = expect_decided (same_type t u) kind at r (t ≡ u) (same_types t u) (types_same t u) k
+  same_decided : {B : Type 0} {r : Checked B} {Q : B → Type 0} (kind : TypeKind) (at : Place) (t u : Ty) → (t ≡ u → IsDecided r Q) → IsDecided (expect t u kind at r) (λ b. (t ≡ u) × Q b)
+  same_decided {r = r} kind at t u k = where_decided (same_type t u) _ r (t ≡ u) (same_types t u) (types_same t u) k
 
   pub conform_decided : {B : Type 0} {r : Checked B} {Q : B → Type 0} (kind : TypeKind) (at : Place) (t u : Ty) → IsType s.table t → (Conforms s.table s.class t u → IsDecided r Q)
-      → IsDecided (expect (conform s t u) kind at r) (λ b. Conforms s.table s.class t u × Q b)
-  conform_decided {r = r} kind at t u h k = expect_decided (conform s t u) kind at r (Conforms s.table s.class t u) (λ e. do_conform_true s.table s.class t u whole.table within h e) (λ c. true_do_conform s.table s.class t u c) k
+      → IsDecided (fits s t u kind at r) (λ b. Conforms s.table s.class t u × Q b)
+  conform_decided {r = r} kind at t u h k = where_decided (conform s t u) _ r (Conforms s.table s.class t u) (λ e. do_conform_true s.table s.class t u whole.table within h e) (λ c. true_do_conform s.table s.class t u c) k
 
   or_no_type_decided : (at : Place) (name : List ℕ) (o : Option Ty) → type_of_name s.table name ≡ o → IsDecided (or_no_type o at) (λ t. Denotes s.table name t)
   or_no_type_decided at name None e = record { decided = λ t h. none (sym e ∙ denoted s.table whole name t h) }
@@ -167,7 +168,7 @@ module _ (s : Context) (whole : IsWholeTable s.table) (within : s.class.0 < leng
       by (conform s t (type_meant s.table f)) refl (misfit_by scope ts es fs result have.1 types.1 names.1 (omega arith))
     where
       by : (b : Bool) → b ≡ conform s t (type_meant s.table f) → IsDecided (or_misfit (misfit s fs ts es) result) (λ u. AreArguments s.table s.class ts fs × (u ≡ result))
-          → IsDecided (or_misfit (if b then misfit s fs ts es else Some (place_of e)) result) (λ u. AreArguments s.table s.class (t ∷ ts) (f ∷ fs) × (u ≡ result))
+          → IsDecided (or_misfit (if b then misfit s fs ts es else Some (unfit E6 (place_of e) t (type_meant s.table f))) result) (λ u. AreArguments s.table s.class (t ∷ ts) (f ∷ fs) × (u ≡ result))
       by true e more = decided_as
           (λ u w. (((type_meant s.table f, formal_meant f names.0, do_conform_true s.table s.class t (type_meant s.table f) whole.table within types.0 (sym e)), w.0), w.1))
           (λ u w. (w.0.1, w.1)) more
@@ -182,7 +183,7 @@ module _ (s : Context) (whole : IsWholeTable s.table) (within : s.class.0 < leng
 
   called_by : (scope : List Binding) (at : Place) (k : ClassId) (name : List ℕ) (receiver : Ty) (given : List Ty) (es : Trees) → k.0 < length s.table → HaveTypes s.table s.class scope es given
       → AllByRecursion (IsType s.table) given → (o : Option MethodRef) → implementation s.table (chain_of s.table k) name ≡ o
-      → IsDecided (called_with s at receiver es given o) (λ t. IsCall s.table s.class k name receiver given t)
+      → IsDecided (called_with s at k receiver es given o) (λ t. IsCall s.table s.class k name receiver given t)
   called_by scope at k name receiver given es k_within have types None e = record { decided = λ t call. none (sym e ∙ found_is k name call.method k_within call.found) }
     where
       none : {A : Type 0} {a : A} → None ≡ Some a → ⊥
@@ -204,7 +205,7 @@ module _ (s : Context) (whole : IsWholeTable s.table) (within : s.class.0 < leng
       let args : AreArguments s.table s.class given (formals_of s.table m) = subst (λ (x : MethodRef). AreArguments s.table s.class given (formals_of s.table x)) (sym same) call.arguments in
       let declared : Denotes s.table (result_of s.table m) call.result = subst (λ (x : MethodRef). Denotes s.table (result_of s.table x) call.result) (sym same) call.declared in
       (sym (argument_count given (formals_of s.table m) args), (args, call.is ∙ (ap (result_on receiver) (type_meant_is s.table (result_of s.table m) call.result whole.table declared) ∙ sym (result_is receiver (type_meant s.table (result_of s.table m)))))))
-      (expect_decided (nat_eq (length (formals_of s.table m)) (length given)) E5 at (or_misfit (misfit s (formals_of s.table m) given es) (resulting receiver (type_meant s.table (result_of s.table m))))
+      (where_decided (nat_eq (length (formals_of s.table m)) (length given)) _ (or_misfit (misfit s (formals_of s.table m) given es) (resulting receiver (type_meant s.table (result_of s.table m))))
       (length (formals_of s.table m) ≡ length given) (equal_true (length (formals_of s.table m)) (length given)) (equal_same (length (formals_of s.table m)) (length given))
       (λ same. misfit_by scope given es (formals_of s.table m) (resulting receiver (type_meant s.table (result_of s.table m))) have types (formals_named s.table whole m (method_there k name m k_within e)) (sym same)))
     where
@@ -245,13 +246,13 @@ module _ (s : Context) (whole : IsWholeTable s.table) (within : s.class.0 < leng
 
   -- Comparison
 
-  compared_less : (at : Place) (t u : Ty) → IsDecided (expect (same_type t int_type) E14 at (expect (same_type u int_type) E14 at (Ok bool_type))) (λ r. ((t ≡ int_type) × (u ≡ int_type)) × (r ≡ bool_type))
+  compared_less : (at : Place) (t u : Ty) → IsDecided (expect t int_type E14 at (expect u int_type E14 at (Ok bool_type))) (λ r. ((t ≡ int_type) × (u ≡ int_type)) × (r ≡ bool_type))
   compared_less at t u = decided_as (λ r w. ((w.0, w.1.0), w.1.1)) (λ r w. (w.0.0, (w.0.1, w.1))) (same_decided E14 at t int_type (λ x. same_decided E14 at u int_type (λ y. ok_decided bool_type)))
 
   compared_decided : (op : CompareOp) (at : Place) (t u : Ty) → IsDecided (compared op t u at) (λ r. AreComparable op t u × (r ≡ bool_type))
   compared_decided Less at t u = compared_less at t u
   compared_decided LessEqual at t u = compared_less at t u
-  compared_decided Equal at t u = unless_decided (not (same_type t u) && (has_values t || has_values u)) E15 at (Ok bool_type) (AreComparable Equal t u)
+  compared_decided Equal at t u = unless_decided (not (same_type t u) && (has_values t || has_values u)) _ (Ok bool_type) (AreComparable Equal t u)
       (λ e. yes_by (same_type t u) (has_values t) (has_values u) refl refl refl e) (λ h. no_by h) (λ x. ok_decided bool_type)
     where
       yes_by : (x y z : Bool) → same_type t u ≡ x → has_values t ≡ y → has_values u ≡ z → (not x && (y || z)) ≡ false → AreComparable Equal t u
@@ -322,7 +323,7 @@ module _ (s : Context) (whole : IsWholeTable s.table) (within : s.class.0 < leng
   bound_decided at scope name declared init o types h one = decided_as
       (λ b w. let (other, (t, denotes, (fits, is))) = w in (other, (subst (λ (x : Ty). Denotes s.table declared.name x) (sym is) denotes, subst (λ (x : Ty). HasInit s.table s.class scope x init) (sym is) fits)))
       (λ b w. let (other, (denotes, fits)) = w in (other, (b, denotes, (fits, refl))))
-      (unless_decided (is_self name) E10 at (and_then (named s declared) (λ bound. initialized s at bound o)) (IsNotSelf name) (λ e. e) (λ e. e) (λ other.
+      (unless_decided (is_self name) _ (and_then (named s declared) (λ bound. initialized s at bound o)) (IsNotSelf name) (λ e. e) (λ e. e) (λ other.
       bind_decided (named_decided declared) (λ bound denotes. init_by at scope init o bound types h one)))
 
   -- the class in which a receiver's method is looked for
@@ -433,14 +434,14 @@ module _ (s : Context) (whole : IsWholeTable s.table) (within : s.class.0 < leng
   branch_by at name earlier (Some (IsClass d)) e = decided_as
       (λ k w. (subst (λ (x : ClassId). Denotes s.table name (IsClass x)) (sym w.1) (named_denotes s.table whole name (IsClass d) e), subst (λ (x : ClassId). is_among earlier x ≡ false) (sym w.1) w.0))
       (λ k w. let same : k ≡ d = some (sym e ∙ denoted s.table whole name (IsClass k) w.0) in (subst (λ (x : ClassId). is_among earlier x ≡ false) same w.1, same))
-      (unless_decided (is_among earlier d) E13 at (Ok d) (is_among earlier d ≡ false) (λ x. x) (λ x. x) (λ x. ok_decided d))
+      (unless_decided (is_among earlier d) _ (Ok d) (is_among earlier d ≡ false) (λ x. x) (λ x. x) (λ x. ok_decided d))
     where
       some : {k : ClassId} → Some (IsClass d) ≡ Some (IsClass k) → k ≡ d
       some e = cc
 
   branch_decided : (at : Place) (name : List ℕ) (declared : TypeRef) (earlier : List ClassId)
       → IsDecided (branch_class s at name declared earlier) (λ d. IsNotSelf name × (Denotes s.table declared.name (IsClass d) × (is_among earlier d ≡ false)))
-  branch_decided at name declared earlier = unless_decided (is_self name) E10 at (branch_among declared.at earlier (type_of_name s.table declared.name)) (IsNotSelf name) (λ e. e) (λ e. e)
+  branch_decided at name declared earlier = unless_decided (is_self name) _ (branch_among declared.at earlier (type_of_name s.table declared.name)) (IsNotSelf name) (λ e. e) (λ e. e)
       (λ other. branch_by declared.at declared.name earlier (type_of_name s.table declared.name) refl)
 
   no_branches : (scope : List Binding) (earlier : List ClassId) (join : Option Ty) → IsDecided (Ok (unwrap_or join object_type)) (BranchesJoin scope earlier join NoCase)
@@ -537,7 +538,7 @@ module _ (s : Context) (whole : IsWholeTable s.table) (within : s.class.0 < leng
         (λ t w. let (d, other, has, there, conforms) = w in
         (t, has, (other, (d, ap (λ (x : Bool). if x then Some SelfType else found (o ++ s.attributes) name) other ∙ there, (conforms, refl)))))
         (bind_decided (checks e o types) (λ t has.
-        unless_decided (is_self name) E2 at (and_then (name_checked s o at name) (λ declared. expect (conform s t declared) E3 at (Ok t))) (IsNotSelf name) (λ e. e) (λ e. e) (λ other.
+        unless_decided (is_self name) _ (and_then (name_checked s o at name) (λ declared. fits s t declared E3 at (Ok t))) (IsNotSelf name) (λ e. e) (λ e. e) (λ other.
         bind_decided (name_decided o at name) (λ d there. conform_decided E3 at t d (expression_type s.table whole s.class within e (o ++ s.attributes) t (both_types o types) has) (λ k. ok_decided t)))))
     checks (trees.Dispatch at e name es) o types = decided_as
         (λ t w. let (r, has, (given, have, call)) = w in (r, given, has, have, call))

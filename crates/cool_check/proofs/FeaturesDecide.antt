@@ -29,7 +29,7 @@ use Rattle.cool_rules.proofs.TypesOfMethods.{expression_type}
 use Rattle.cool_check.specs.declared.fault.TypeKind.{TypeKind}
 use Rattle.cool_check.specs.declared.fault.TypeKind.TheVariants.{E17, E18}
 use Rattle.cool_check.specs.Contexts.{attribute_bindings}
-use Rattle.cool_check.specs.FirstFaults.{and_then, expect, conform, checked}
+use Rattle.cool_check.specs.FirstFaults.{and_then, fits, checked}
 use Rattle.cool_check.specs.TypingFaults.{class_context, initial_checked, feature_checked}
 use Rattle.cool_check.proofs.CheckedDecides.{IsDecided, decided_as, bind_decided, ok_decided, conform_decided, checked_decides}
 
@@ -49,7 +49,7 @@ module _ (p : List Class) (whole : IsWholeTable p) (c : ClassId) (within : c.0 <
 
   -- an expression conforms to what a feature declares
   declared_decided : (bs : List Binding) (kind : TypeKind) (at : Place) (e : Tree) (name : List ℕ) → NamesDiffer (own_scope p c) → NamesDiffer bs → AreTypes bs → IsTypeName p name
-      → IsDecided {A = Unit {0}} (and_then (checked (class_context p c) (entered bs []) e) (λ t. expect (conform (class_context p c) t (type_meant p name)) kind at (Ok tt))) (λ u. FitsDeclared p c bs e name)
+      → IsDecided {A = Unit {0}} (and_then (checked (class_context p c) (entered bs []) e) (λ t. fits (class_context p c) t (type_meant p name) kind at (Ok tt))) (λ u. FitsDeclared p c bs e name)
   declared_decided bs kind at e name differ different types named = decided_as
       (λ u w. let (t, has, (conforms, unit)) = w in record {
         chain = climbed.chain p c;

@@ -8,7 +8,8 @@ use Rattle.cool_syntax.specs.NodeLists.{at_id}
 use Rattle.cool_classes.specs.declared.class_id.Ty.{Ty}
 use Rattle.cool_rules.specs.Rules.{type_meant}
 use Rattle.cool_check.specs.Contexts.{Context}
-use Rattle.cool_check.specs.FirstFaults.{conform, misfit}
+use Rattle.cool_check.specs.declared.fault.TypeKind.TheVariants.{E6}
+use Rattle.cool_check.specs.FirstFaults.{conform, misfit, unfit}
 
 -- what is sought from one position on is sought from the next, where the argument there conforms
 past_one : (s : Context) (fs : List (List ℕ)) (types : List Ty) (ts : List Tree) (ids : List NodeId) (i : ℕ) (d : Ty) (e : List ℕ) → i < length fs → i < length types → i < length ids
@@ -18,7 +19,7 @@ past_one s [] types ts ids i d e fw tw iw fits = absurd (omega arith)
 past_one s (f ∷ fs) [] ts ids i d e fw tw iw fits = absurd (omega arith)
 past_one s (f ∷ fs) (a ∷ types) ts [] i d e fw tw iw fits = absurd (omega arith)
 past_one s (f ∷ fs) (a ∷ types) ts (x ∷ ids) zero d e fw tw iw fits =
-    sym (ap (λ (b : Bool). if b then misfit s fs types (of_list (map (at_id ts) ids)) else Some (place_of (at_id ts x))) fits)
+    sym (ap (λ (b : Bool). if b then misfit s fs types (of_list (map (at_id ts) ids)) else Some (unfit E6 (place_of (at_id ts x)) a (type_meant s.table f))) fits)
 past_one s (f ∷ fs) (a ∷ types) ts (x ∷ ids) (suc i) d e fw tw iw fits = past_one s fs types ts ids i d e (omega arith) (omega arith) (omega arith) fits
 
 pub misfit_later : (s : Context) (fs : List (List ℕ)) (types : List Ty) (ts : List Tree) (ids : List NodeId) (i : ℕ) (d : Ty) (e : List ℕ) (f : Ty) → i < length fs → i < length types → i < length ids

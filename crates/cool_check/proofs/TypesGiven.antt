@@ -15,7 +15,7 @@ use Rattle.cool_rules.specs.StaticTypes.{type_of}
 use Rattle.cool_rules.specs.Typing.{HasType}
 use Rattle.cool_rules.proofs.StaticTypesAreGiven.{type_is}
 use Rattle.cool_check.specs.Contexts.{Context}
-use Rattle.cool_check.specs.FirstFaults.{Checked, refuse, and_then, or_no_type, initialized, bound_type, branch_among, branch_class, conform, is_self, checked}
+use Rattle.cool_check.specs.FirstFaults.{Checked, refuse, refuse_type, and_then, or_no_type, initialized, bound_type, branch_among, branch_class, conform, is_self, checked}
 use Rattle.cool_check.specs.declared.fault.TypeKind.TheVariants.{E10, E13, E17}
 use Rattle.cool_check.specs.Settings.{HaveTypes}
 use Rattle.cool_check.proofs.CheckedDecides.{Decides, both_types, checked_decides}
@@ -45,7 +45,7 @@ bound_meant s at name declared given bound is = by (is_self name) is
     initial None a e = cc
     initial (Some g) a e = fitting (conform s g a) e
       where
-        fitting : (b : Bool) → (if b then Ok a else refuse E17 at) ≡ Ok bound → a ≡ bound
+        fitting : (b : Bool) → (if b then Ok a else refuse_type E17 at g a) ≡ Ok bound → a ≡ bound
         fitting true e = cc
         fitting false e = absurd (cc)
 

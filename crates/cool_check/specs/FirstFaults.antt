@@ -32,16 +32,23 @@ abbrev pub Checked : Type 0 → Type 0
 Checked X = Result X TypeFault
 
 abbrev pub refuse : {X : Type 0} → TypeKind → Place → Checked X
-refuse kind at = Err (record { kind = kind; at = at })
+refuse kind at = Err (record { kind = kind; at = at; found = None; due = None })
+
+-- a dispatch whose method is looked for in this class
+abbrev pub refuse_in : {X : Type 0} → TypeKind → Place → ClassId → Checked X
+refuse_in kind at class = Err (record { kind = kind; at = at; found = Some (IsClass class); due = None })
+
+-- the first type was found where the second one was due
+abbrev pub unfit : TypeKind → Place → Ty → Ty → TypeFault
+unfit kind at found due = record { kind = kind; at = at; found = Some found; due = Some due }
+
+abbrev pub refuse_type : {X : Type 0} → TypeKind → Place → Ty → Ty → Checked X
+refuse_type kind at found due = Err (unfit kind at found due)
 
 -- a check, and after it what its value gives
 abbrev pub and_then : {X Y : Type 0} → Checked X → (X → Checked Y) → Checked Y
 and_then (Ok x) f = f x
 and_then (Err e) f = Err e
-
--- what comes where a test holds, and else this fault
-abbrev pub expect : {X : Type 0} → Bool → TypeKind → Place → Checked X → Checked X
-expect test kind at r = if test then r else refuse kind at
 
 abbrev pub is_self : List ℕ → Bool
 is_self name = bytes_eq name (codes "self")
@@ -51,6 +58,14 @@ bind name type o = record { name = name; type = type } ∷ o
 
 abbrev pub conform : Context → Ty → Ty → Bool
 conform s = do_conform s.table s.class
+
+-- what comes where a type is the one that is due
+abbrev pub expect : {X : Type 0} → Ty → Ty → TypeKind → Place → Checked X → Checked X
+expect found due kind at r = if same_type found due then r else refuse_type kind at found due
+
+-- what comes where a type conforms to the one that is due
+abbrev pub fits : {X : Type 0} → Context → Ty → Ty → TypeKind → Place → Checked X → Checked X
+fits s found due kind at r = if conform s found due then r else refuse_type kind at found due
 
 -- the type of a name: of self, of the latest variable of that name, or else of the attribute
 abbrev pub or_unknown : Option Ty → Place → Checked Ty
@@ -63,7 +78,7 @@ name_checked s o at name = if is_self name then Ok SelfType else or_unknown (opt
 -- an assignment to a name of a value of this type
 abbrev pub assigned : Context → List Binding → Place → List ℕ → Ty → Checked Ty
 assigned s o at name given =
-    if is_self name then refuse E2 at else and_then (name_checked s o at name) (λ declared. expect (conform s given declared) E3 at (Ok given))
+    if is_self name then refuse E2 at else and_then (name_checked s o at name) (λ declared. fits s given declared E3 at (Ok given))
 
 -- the type of a class that is named
 abbrev pub or_no_type : Option Ty → Place → Checked Ty
@@ -77,41 +92,42 @@ named s r = or_no_type (type_of_name s.table r.name) r.at
 abbrev pub static_among : Context → Place → Ty → Option Ty → Checked ClassId
 static_among s at receiver None = refuse E11 at
 static_among s at receiver (Some SelfType) = refuse E7 at
-static_among s at receiver (Some (IsClass c)) = expect (conform s receiver (IsClass c)) E8 at (Ok c)
+static_among s at receiver (Some (IsClass c)) = fits s receiver (IsClass c) E8 at (Ok c)
 
 abbrev pub static_class : Context → TypeRef → Ty → Checked ClassId
 static_class s r receiver = static_among s r.at receiver (type_of_name s.table r.name)
 
--- the first argument that does not conform to its formal
-abbrev pub misfit : Context → List (List ℕ) → List Ty → Trees → Option Place
+-- the fault of the first argument that does not conform to its formal
+abbrev pub misfit : Context → List (List ℕ) → List Ty → Trees → Option TypeFault
 misfit s [] types args = None
 misfit s (f ∷ fs) [] args = None
 misfit s (f ∷ fs) (a ∷ as') Last = None
-misfit s (f ∷ fs) (a ∷ as') (More t ts) = if conform s a (type_meant s.table f) then misfit s fs as' ts else Some (place_of t)
+misfit s (f ∷ fs) (a ∷ as') (More t ts) = if conform s a (type_meant s.table f) then misfit s fs as' ts else Some (unfit E6 (place_of t) a (type_meant s.table f))
 
 -- the type of a result for a receiver
 abbrev pub resulting : Ty → Ty → Ty
 resulting receiver SelfType = receiver
 resulting receiver (IsClass c) = IsClass c
 
-abbrev pub or_misfit : Option Place → Ty → Checked Ty
+abbrev pub or_misfit : Option TypeFault → Ty → Checked Ty
 or_misfit None result = Ok result
-or_misfit (Some at) result = refuse E6 at
+or_misfit (Some fault) result = Err fault
 
--- a call of a method with arguments of these types
-abbrev pub called_with : Context → Place → Ty → Trees → List Ty → Option MethodRef → Checked Ty
-called_with s at receiver args types None = refuse E4 at
-called_with s at receiver args types (Some m) =
-    expect (nat_eq (length (formals_of s.table m)) (length types)) E5 at
-    (or_misfit (misfit s (formals_of s.table m) types args) (resulting receiver (type_meant s.table (result_of s.table m))))
+-- a call of a method of a class with arguments of these types
+abbrev pub called_with : Context → Place → ClassId → Ty → Trees → List Ty → Option MethodRef → Checked Ty
+called_with s at class receiver args types None = refuse_in E4 at class
+called_with s at class receiver args types (Some m) =
+    if nat_eq (length (formals_of s.table m)) (length types)
+    then or_misfit (misfit s (formals_of s.table m) types args) (resulting receiver (type_meant s.table (result_of s.table m)))
+    else refuse_in E5 at class
 
 abbrev pub call_checked : Context → Place → ClassId → Ty → List ℕ → Trees → List Ty → Checked Ty
-call_checked s at class receiver name args types = called_with s at receiver args types (method_of s.table class name)
+call_checked s at class receiver name args types = called_with s at class receiver args types (method_of s.table class name)
 
 -- the type of the variable of a `let` with an initial value of this type, if there is one
 abbrev pub initialized : Context → Place → Ty → Option Ty → Checked Ty
 initialized s at bound None = Ok bound
-initialized s at bound (Some given) = expect (conform s given bound) E17 at (Ok bound)
+initialized s at bound (Some given) = fits s given bound E17 at (Ok bound)
 
 abbrev pub bound_type : Context → Place → List ℕ → TypeRef → Option Ty → Checked Ty
 bound_type s at name declared given =
@@ -134,9 +150,9 @@ joined s (Some b) a = join_in s.table s.class b a
 
 -- the types of a comparison's operands fit
 abbrev pub compared : CompareOp → Ty → Ty → Place → Checked Ty
-compared op.Less a b at = expect (same_type a int_type) E14 at (expect (same_type b int_type) E14 at (Ok bool_type))
-compared op.LessEqual a b at = expect (same_type a int_type) E14 at (expect (same_type b int_type) E14 at (Ok bool_type))
-compared op.Equal a b at = if not (same_type a b) && (has_values a || has_values b) then refuse E15 at else Ok bool_type
+compared op.Less a b at = expect a int_type E14 at (expect b int_type E14 at (Ok bool_type))
+compared op.LessEqual a b at = expect a int_type E14 at (expect b int_type E14 at (Ok bool_type))
+compared op.Equal a b at = if not (same_type a b) && (has_values a || has_values b) then refuse_type E15 at b a else Ok bool_type
 
 -- The type of an expression in a context, with these variables in scope, or its first fault.
 abbrev mutual
@@ -149,8 +165,8 @@ abbrev mutual
       and_then (checked s o t) (λ a. and_then (all_checked s o [] ts) (λ types. and_then (static_class s class a) (λ c. call_checked s at c a name ts types)))
   checked s o (trees.If at t y n) =
       and_then (checked s o t) (λ a. and_then (checked s o y) (λ b. and_then (checked s o n) (λ c.
-      expect (same_type a bool_type) E9 (place_of t) (Ok (join_in s.table s.class b c)))))
-  checked s o (trees.While at t b) = and_then (checked s o t) (λ a. and_then (checked s o b) (λ c. expect (same_type a bool_type) E9 (place_of t) (Ok object_type)))
+      expect a bool_type E9 (place_of t) (Ok (join_in s.table s.class b c)))))
+  checked s o (trees.While at t b) = and_then (checked s o t) (λ a. and_then (checked s o b) (λ c. expect a bool_type E9 (place_of t) (Ok object_type)))
   checked s o (trees.Block at ts) = last_checked s o object_type ts
   checked s o (trees.Let at name declared init t) =
       and_then (maybe_checked s o init) (λ given. and_then (bound_type s at name declared given) (λ bound. checked s (bind name bound o) t))
@@ -158,10 +174,10 @@ abbrev mutual
   checked s o (trees.New at class) = named s class
   checked s o (trees.IsVoid at t) = and_then (checked s o t) (λ a. Ok bool_type)
   checked s o (trees.Arith at op a b) =
-      and_then (checked s o a) (λ x. and_then (checked s o b) (λ y. expect (same_type x int_type) E14 at (expect (same_type y int_type) E14 at (Ok int_type))))
-  checked s o (trees.Neg at t) = and_then (checked s o t) (λ a. expect (same_type a int_type) E14 at (Ok int_type))
+      and_then (checked s o a) (λ x. and_then (checked s o b) (λ y. expect x int_type E14 at (expect y int_type E14 at (Ok int_type))))
+  checked s o (trees.Neg at t) = and_then (checked s o t) (λ a. expect a int_type E14 at (Ok int_type))
   checked s o (trees.Compare at op a b) = and_then (checked s o a) (λ x. and_then (checked s o b) (λ y. compared op x y at))
-  checked s o (trees.Not at t) = and_then (checked s o t) (λ a. expect (same_type a bool_type) E16 at (Ok bool_type))
+  checked s o (trees.Not at t) = and_then (checked s o t) (λ a. expect a bool_type E16 at (Ok bool_type))
   checked s o (trees.Int at value) = Ok int_type
   checked s o (trees.Str at bytes) = Ok string_type
   checked s o (trees.Bool at value) = Ok bool_type
@@ -193,9 +209,9 @@ abbrev pub IsFirst : {X : Type 0} → Checked X → CheckError → Type 0
 IsFirst r error.Memory = Unit {0}
 IsFirst r (error.Fault f) = r ≡ Err f
 
--- Worked examples: `1 + true` is refused at its operator; a predicate is judged only after both branches, so `if 1 then x else 2 fi`
+-- Worked examples: `1 + true` is refused at its operator, where Bool was found and Int was due; a predicate is judged only after both branches, so `if 1 then x else 2 fi`
 -- with no x in scope is refused at x; a `let` brings its variable into scope.
-sum_of_bool : (s : Context) (p q r : Place) → checked s [] (trees.Arith p Add (trees.Int q 1) (trees.Bool r true)) ≡ refuse E14 p
+sum_of_bool : (s : Context) (p q r : Place) → checked s [] (trees.Arith p Add (trees.Int q 1) (trees.Bool r true)) ≡ refuse_type E14 p bool_type int_type
 sum_of_bool s p q r = refl
 
 branch_before_predicate : (t : List Class) (c : ClassId) (p q r u : Place)

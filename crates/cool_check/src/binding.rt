@@ -106,7 +106,9 @@ fn bound_type(
         return Err(CheckError::at(TypeKind::E11, declared.at));
     };
     match given {
-        Some(value) if !setting.conforms(value, bound) => Err(CheckError::at(TypeKind::E17, at)),
+        Some(value) if !setting.conforms(value, bound) => {
+            Err(CheckError::unfit(TypeKind::E17, at, value, bound))
+        }
         _ => Ok(bound),
     }
 }

@@ -14,7 +14,7 @@ ghost use Rattle.cool_check.specs.Contexts.{context};
 ghost use Rattle.cool_check.specs.Settings.{IsSound};
 
 use crate::expression::{type_of, types_of};
-use crate::fault::{CheckError, TypeKind};
+use crate::fault::{CheckError, TypeFault, TypeKind};
 use crate::setting::Setting;
 use cool_classes::{ClassId, MethodRef, Ty};
 use cool_pool::Column;
@@ -105,7 +105,7 @@ fn static_class(
             if setting.conforms(object, Ty::Class(found)) {
                 Ok(found)
             } else {
-                Err(CheckError::at(TypeKind::E8, class.at))
+                Err(CheckError::unfit(TypeKind::E8, class.at, object, Ty::Class(found)))
             }
         }
     }
@@ -125,35 +125,36 @@ fn type_of_result(
     ensures { IsAnswer (call_checked (context setting.now) called.now.at called.now.class called.now.object called.now.name.now (trees_of setting.now args.now) given.now) (IsType setting.now.table.now) (λ n. IsPlaced n called.now.at × AreTreesWithin n (trees_of setting.now args.now)) result }
 {
     let Some(method) = setting.method(called.class, called.name) else {
-        return Err(CheckError::at(TypeKind::E4, called.at));
+        return Err(CheckError::in_class(TypeKind::E4, called.at, called.class));
     };
     if setting.table.formal_count(method) as usize != args.len() {
-        return Err(CheckError::at(TypeKind::E5, called.at));
+        return Err(CheckError::in_class(TypeKind::E5, called.at, called.class));
     }
     match misfit(setting, method, args, given) {
-        Some(at) => Err(CheckError::at(TypeKind::E6, at)),
+        Some(fault) => Err(CheckError::Fault(fault)),
         None => Ok(resulting(called.object, setting.result(method))),
     }
 }
 
-/// The place of the first argument that does not conform to its formal.
+/// The fault of the first argument that does not conform to its formal.
 fn misfit(
     setting: &Setting<'_, '_>,
     method: MethodRef,
     args: &[NodeId],
     given: &[Ty],
-) -> Option<Place>
+) -> Option<TypeFault>
     requires sound { IsSound setting.now }
     requires has { HasMethod setting.now.table.now method }
     requires arguments { AreArguments setting.now args.now given.now }
     requires formals { length (formals_of setting.now.table.now method) ≡ length args.now }
     ensures misfit { result ≡ misfit (context setting.now) (formals_of setting.now.table.now method) given.now (trees_of setting.now args.now) }
-    ensures places { (n : ℕ) → AreTreesWithin n (trees_of setting.now args.now) → IfSome result (IsPlaced n) }
+    ensures places { (n : ℕ) → AreTreesWithin n (trees_of setting.now args.now) → IfSome result (λ fault. IsPlaced n fault.at) }
 {
     for index in 0..args.len() {
         let formal = setting.formal(method, index as u32);
         if !setting.conforms(given[index], formal) {
-            return Some(setting.body.node(args[index]).place());
+            let at = setting.body.node(args[index]).place();
+            return Some(TypeFault::unfit(TypeKind::E6, at, given[index], formal));
         }
     }
     None

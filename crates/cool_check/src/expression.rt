@@ -11,7 +11,7 @@ ghost use Rattle.cool_rules.specs.Conformance.{IsType};
 ghost use Rattle.cool_check.specs.Checks.{tree_of_node, trees_of, nodes_typed, parts_typed, all_typed, IsReady, IsAnswer, IsTypeOf};
 ghost use Rattle.cool_check.specs.Faults.{IsPlacedError, StandsAt};
 ghost use Rattle.cool_rules.specs.Rules.{same_type};
-ghost use Rattle.cool_check.specs.FirstFaults.{all_checked, last_checked, name_checked, is_self, IsFirst};
+ghost use Rattle.cool_check.specs.FirstFaults.{all_checked, last_checked, name_checked, is_self, unfit, IsFirst};
 ghost use Rattle.cool_check.specs.Contexts.{context};
 ghost use Rattle.cool_check.specs.Settings.{HaveTypes, IsSound};
 ghost use Rattle.cool_check.specs.declared.fault.CheckError.TheVariants as error;
@@ -181,13 +181,14 @@ fn type_of_control<'a>(
 fn expect_bool(setting: &Setting<'_, '_>, test: NodeId, found: Ty) -> Result<(), CheckError>
     requires below { test.0 < tree_size setting.now.body.now }
     ensures holds { IfOk result (λ u. same_type found bool_type ≡ true) }
-    ensures fails { IfErr result (λ e. (same_type found bool_type ≡ false) × (e ≡ error.Fault (record { kind = kind.E9; at = place_of (tree_at setting.now.body.now test) }))) }
+    ensures fails { IfErr result (λ e. (same_type found bool_type ≡ false) × (e ≡ error.Fault (unfit kind.E9 (place_of (tree_at setting.now.body.now test)) found bool_type))) }
     ensures places { (n : ℕ) → IsTreeWithin n (tree_at setting.now.body.now test) → IfErr result (IsPlacedError n) }
 {
     if is_class(found, BOOL) {
         return Ok(());
     }
-    Err(CheckError::at(TypeKind::E9, setting.body.node(test).place()))
+    let at = setting.body.node(test).place();
+    Err(CheckError::unfit(TypeKind::E9, at, found, Ty::Class(BOOL)))
 }
 
 /// Whether a type is this class.

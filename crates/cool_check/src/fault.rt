@@ -1,9 +1,12 @@
 //! Faults of typing (the Cool manual, sections 4 and 12).
 
-ghost use Rattle.std.specs.Prelude.{◌≡◌};
+ghost use Rattle.std.specs.Prelude.{◌≡◌, None, Some};
+ghost use Rattle.cool_classes.specs.declared.class_id.Ty.TheVariants.{Class as IsClass};
 ghost use Rattle.cool_check.specs.declared.fault.CheckError.TheVariants as error;
 ghost use Rattle.cool_check.specs.declared.fault.CheckAllError.TheVariants as all;
+ghost use Rattle.cool_check.specs.FirstFaults.{unfit};
 
+use cool_classes::{ClassId, Ty};
 use cool_syntax::{Listed, Place};
 use std::alloc::{AllocError, AllocFailed};
 
@@ -48,11 +51,31 @@ pub enum TypeKind {
     E18,
 }
 
-/// A fault, and the place where it stands.
+/// A fault, the place where it stands, and what did not fit there.
 #[derive(Clone, Copy, Debug, PartialEq, Eq)]
 pub struct TypeFault {
     pub kind: TypeKind,
     pub at: Place,
+    /// The type that was found, where one did not fit: of the value (E3), argument (E6), receiver (E8), predicate (E9), operand (E14, E16),
+    /// right operand (E15), initial value (E17) or body (E18). Of a dispatch (E4, E5) the class in which its method is looked for.
+    pub found: Option<Ty>,
+    /// The type that was due where one was found that did not fit: that of the variable (E3, E17), formal (E6) or result (E18), the class
+    /// after `@` (E8), Bool (E9, E16), Int (E14), or the type of the left operand (E15).
+    pub due: Option<Ty>,
+}
+
+impl TypeFault {
+    /// The fault that the first type was found where the second one was due.
+    pub(crate) fn unfit(kind: TypeKind, at: Place, found: Ty, due: Ty) -> TypeFault
+        ensures { result ≡ unfit kind at found due }
+    {
+        TypeFault {
+            kind,
+            at,
+            found: Some(found),
+            due: Some(due),
+        }
+    }
 }
 
 /// Why a feature was not found to be well typed.
@@ -67,9 +90,33 @@ pub enum CheckError {
 impl CheckError {
     /// A fault of this kind at this place.
     pub(crate) fn at(kind: TypeKind, at: Place) -> CheckError
-        ensures { result ≡ error.Fault (record { kind = kind; at = at }) }
+        ensures { result ≡ error.Fault (record { kind = kind; at = at; found = None; due = None }) }
     {
-        CheckError::Fault(TypeFault { kind, at })
+        CheckError::Fault(TypeFault {
+            kind,
+            at,
+            found: None,
+            due: None,
+        })
+    }
+
+    /// A fault of a dispatch whose method is looked for in this class.
+    pub(crate) fn in_class(kind: TypeKind, at: Place, class: ClassId) -> CheckError
+        ensures { result ≡ error.Fault (record { kind = kind; at = at; found = Some (IsClass class); due = None }) }
+    {
+        CheckError::Fault(TypeFault {
+            kind,
+            at,
+            found: Some(Ty::Class(class)),
+            due: None,
+        })
+    }
+
+    /// The fault that the first type was found where the second one was due.
+    pub(crate) fn unfit(kind: TypeKind, at: Place, found: Ty, due: Ty) -> CheckError
+        ensures { result ≡ error.Fault (unfit kind at found due) }
+    {
+        CheckError::Fault(TypeFault::unfit(kind, at, found, due))
     }
 }
 

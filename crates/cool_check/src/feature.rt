@@ -121,10 +121,11 @@ fn check_method<'a>(
     let mut locals = formal_scope(&setting, index, method)?;
     let mut types = Column::new(alloc, method.body.len())?;
     let found = type_of(&setting, &mut locals, &mut types, method.body.root())?;
-    if setting.conforms(found, setting.result(called)) {
+    let declared = setting.result(called);
+    if setting.conforms(found, declared) {
         Ok(NodeTypes::of(types.into_values()))
     } else {
-        Err(CheckError::at(TypeKind::E18, method.at))
+        Err(CheckError::unfit(TypeKind::E18, method.at, found, declared))
     }
 }
 
@@ -182,6 +183,6 @@ fn check_attribute<'a>(
     if setting.conforms(found, declared) {
         Ok(NodeTypes::of(types.into_values()))
     } else {
-        Err(CheckError::at(TypeKind::E17, attribute.at))
+        Err(CheckError::unfit(TypeKind::E17, attribute.at, found, declared))
     }
 }

@@ -10,7 +10,7 @@ ghost use Rattle.cool_check.specs.Checks.{tree_of_node, parts_typed, IsReady, Is
 ghost use Rattle.cool_check.specs.Faults.{StandsAt};
 ghost use Rattle.cool_rules.specs.Rules.{same_type};
 ghost use Rattle.cool_rules.specs.Typing.{has_values};
-ghost use Rattle.cool_check.specs.FirstFaults.{assigned, compared};
+ghost use Rattle.cool_check.specs.FirstFaults.{assigned, compared, unfit};
 ghost use Rattle.cool_check.specs.Contexts.{context};
 ghost use Rattle.cool_check.specs.declared.fault.CheckError.TheVariants as error;
 ghost use Rattle.cool_classes.specs.declared.class_id.Ty.TheVariants.{Class as IsClass};
@@ -86,19 +86,19 @@ fn assigned(
     if setting.conforms(given, declared) {
         Ok(given)
     } else {
-        Err(CheckError::at(TypeKind::E3, at))
+        Err(CheckError::unfit(TypeKind::E3, at, given, declared))
     }
 }
 
 /// Refuses an operand of another class than this with this fault.
 fn expect(found: Ty, class: ClassId, kind: TypeKind, at: Place) -> Result<(), CheckError>
     ensures holds { IfOk result (λ u. same_type found (IsClass class) ≡ true) }
-    ensures fails { IfErr result (λ e. (same_type found (IsClass class) ≡ false) × (e ≡ error.Fault (record { kind = kind; at = at }))) }
+    ensures fails { IfErr result (λ e. (same_type found (IsClass class) ≡ false) × (e ≡ error.Fault (unfit kind at found (IsClass class)))) }
 {
     if is_class(found, class) {
         Ok(())
     } else {
-        Err(CheckError::at(kind, at))
+        Err(CheckError::unfit(kind, at, found, Ty::Class(class)))
     }
 }
 
@@ -159,7 +159,7 @@ fn compared(op: CompareOp, first: Ty, second: Ty, at: Place) -> Result<Ty, Check
         }
         CompareOp::Equal => {
             if !same_type(first, second) && (has_values(first) || has_values(second)) {
-                return Err(CheckError::at(TypeKind::E15, at));
+                return Err(CheckError::unfit(TypeKind::E15, at, second, first));
             }
         }
     }

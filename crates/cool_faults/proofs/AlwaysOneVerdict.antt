@@ -26,6 +26,7 @@ use Rattle.cool_faults.specs.Verdicts.{IsOfClasses, IsOfTyping, place_of, standi
 use Rattle.cool_faults.proofs.FaultlessTables.{faultless_table, hierarchy_of}
 use Rattle.cool_faults.proofs.FilesRead.{lexed_all, parsed_all}
 use Rattle.cool_faults.proofs.FindingsInARow.{AllFound}
+use Rattle.cool_faults.proofs.OneOrder.{all_moved}
 use Rattle.cool_faults.proofs.OneVerdict.{one_list}
 use Rattle.cool_faults.proofs.OrderOfFaults.{classes_of_phase, classes_placed, some_mapped, typing_of_phase}
 use Rattle.cool_faults.proofs.OrderOfFaults as moved
@@ -34,10 +35,7 @@ use Rattle.cool_faults.proofs.SortedFaults.{Ordered, ordered}
 use Rattle.cool_faults.proofs.SyntaxFaults.{IsWhole}
 use Rattle.cool_faults.proofs.VerdictsOfPhases.{HaveNoFault, classes_refuse, files_whole, lexer_refuses, parser_refuses, table_accepted, trees_few, typing_refuses}
 
--- what holds of all holds of them in another order, and some are some
-all_moved : (P : Fault → Type 0) (xs ys : List Fault) → IsPermutation xs ys → AllByRecursion P xs → AllByRecursion P ys
-all_moved P xs ys moved h = recursion_from_All P ys (All-permutation P xs ys moved (All-from_recursion P xs h))
-
+-- some in another order are some
 some_moved : (xs ys : List Fault) → IsPermutation xs ys → xs ≢ [] → ys ≢ []
 some_moved [] ys moved some = absurd (some refl)
 some_moved (x ∷ xs) [] moved some = let long = length_permutation (x ∷ xs) [] moved in absurd (omega arith)

@@ -4,6 +4,7 @@ pub mod DefinitionsOfTrees
 mod EarlyRefusals
 mod EarlyVerdicts
 mod FaultlessTables
+mod FaultsInPlace
 pub mod FileSizes
 mod FilesRead
 pub mod FindingsInARow
@@ -15,6 +16,8 @@ mod OneStanding
 pub mod OneVerdict
 pub mod OrderOfFaults
 mod PlacedFaultLists
+mod PlacesOfTrees
+mod RisingFaults
 mod RowsOfFiles
 mod SlicesParsed
 mod SortedFaults

@@ -1,6 +1,10 @@
 -- Two lists in order of the same faults are one list, where no two faults have one standing.
 use Rattle.std.proofs.Common.{◌≡◌, ◌⊎◌, inl, inr, ℕ, ◌+◌, ◌<◌, ◌≤◌, List, [], ◌∷◌, sum_by, ap, sym, ◌∙◌, refl, subst, arith}
 use Rattle.std.proofs.lemmas.Bool.{cases_eq}
+use Rattle.std.specs.List.{AllByRecursion}
+use Rattle.std.specs.List.Sorted.{IsPermutation}
+use Rattle.std.proofs.lemmas.List.Elements.{All-from_recursion, recursion_from_All}
+use Rattle.std.proofs.lemmas.List.Sorted.{All-permutation}
 use Rattle.std.proofs.lemmas.List.Sums.{sum_by-cons}
 use Rattle.cool_syntax.specs.FaultOrder.{Standing, IsLessOr, IsNoLater, AreInOrder}
 use Rattle.lists.proofs.Numbers.{le_on}
@@ -121,20 +125,24 @@ none_and_some {X} x xs same =
     let some : sum_by (each {X = X}) (x ∷ xs) ≡ 1 + sum_by (each {X = X}) xs = sum_by-cons each x xs in
     omega (arith, none, some)
 
--- Two lists in order that have the same sums of whatever is counted are one list.
-pub one_order : {X : Type 0} (standing : X → Standing) → ((x y : X) → standing x ≡ standing y → x ≡ y) → (xs ys : List X) → AreInOrder standing xs → AreInOrder standing ys
-    → ((f : X → ℕ) → sum_by f xs ≡ sum_by f ys) → xs ≡ ys
-one_order standing apart [] [] a b same = refl
-one_order standing apart [] (y ∷ ys) a b same = absurd (none_and_some y ys same)
-one_order standing apart (x ∷ xs) [] a b same = absurd (none_and_some x xs (λ f. sym (same f)))
-one_order {X} standing apart (x ∷ xs) (y ∷ ys) a b same =
+-- what holds of all holds of them in another order
+pub all_moved : {X : Type 0} (P : X → Type 0) (xs ys : List X) → IsPermutation xs ys → AllByRecursion P xs → AllByRecursion P ys
+all_moved P xs ys moved h = recursion_from_All P ys (All-permutation P xs ys moved (All-from_recursion P xs h))
+
+-- Two lists in order that have the same sums of whatever is counted are one list, where of their items no two have one standing.
+pub one_order : {X : Type 0} (standing : X → Standing) (Is : X → Type 0) → ((x y : X) → Is x → Is y → standing x ≡ standing y → x ≡ y) → (xs ys : List X)
+    → AllByRecursion Is xs → AllByRecursion Is ys → AreInOrder standing xs → AreInOrder standing ys → ((f : X → ℕ) → sum_by f xs ≡ sum_by f ys) → xs ≡ ys
+one_order standing Is apart [] [] h g a b same = refl
+one_order standing Is apart [] (y ∷ ys) h g a b same = absurd (none_and_some y ys same)
+one_order standing Is apart (x ∷ xs) [] h g a b same = absurd (none_and_some x xs (λ f. sym (same f)))
+one_order {X} standing Is apart (x ∷ xs) (y ∷ ys) h g a b same =
     let there : 0 < sum_by (stands standing (standing y)) (x ∷ xs) =
     omega (arith, same (stands standing (standing y)), sum_by-cons (stands standing (standing y)) y ys, stands_so standing y) in
     let back : 0 < sum_by (stands standing (standing x)) (y ∷ ys) =
     omega (arith, same (stands standing (standing x)), sum_by-cons (stands standing (standing x)) x xs, stands_so standing x) in
     let first : x ≡ y =
-    apart x y (same_standing (standing x) (standing y) (first_no_later standing (standing y) x xs a there) (first_no_later standing (standing x) y ys b back)) in
+    apart x y h.0 g.0 (same_standing (standing x) (standing y) (first_no_later standing (standing y) x xs a there) (first_no_later standing (standing x) y ys b back)) in
     let rest : xs ≡ ys =
-    one_order standing apart xs ys (rest_in_order standing x xs a) (rest_in_order standing y ys b)
+    one_order standing Is apart xs ys h.1 g.1 (rest_in_order standing x xs a) (rest_in_order standing y ys b)
     (λ (f : X → ℕ). omega (arith, same f, sum_by-cons f x xs, sum_by-cons f y ys, ap f first)) in
     λ i. first i ∷ rest i

@@ -1,4 +1,4 @@
--- Two faults of one standing are one: a kind is known by its rank.
+-- Two faults of one standing that are found before typing are one: a kind is known by its rank.
 use Rattle.std.proofs.Common.{◌≡◌, ℕ, ◌+◌, ◌<◌, List, [], ◌∷◌, Some, slice_get, ap, sym, ◌∙◌, refl, arith}
 use Rattle.std.proofs.lemmas.Option.{same_Some, slice_get_within}
 use Rattle.cool_syntax.specs.declared.lexical.LexKind.{LexKind}
@@ -7,13 +7,10 @@ use Rattle.cool_syntax.specs.FaultOrder.{Standing}
 use Rattle.cool_classes.specs.declared.fault.ClassKind.{ClassKind}
 use Rattle.cool_classes.specs.declared.fault.ClassKind.TheVariants.{C1, C2, C3, C4, C5, C6, C7, F1, F2, F3, F4, F5, F6, F7, F8, F9}
 use Rattle.cool_classes.specs.FaultLists.{rank as class_rank}
-use Rattle.cool_check.specs.declared.fault.TypeKind.{TypeKind}
-use Rattle.cool_check.specs.declared.fault.TypeKind.TheVariants.{E1, E2, E3, E4, E5, E6, E7, E8, E9, E10, E11, E12, E13, E14, E15, E16, E17, E18}
-use Rattle.cool_check.specs.Faults.{rank as type_rank}
 use Rattle.cool_faults.specs.declared.fault.Fault.{Fault}
 use Rattle.cool_faults.specs.declared.fault.Fault.TheVariants.{Lex, Syntax, Class as OfClasses, Typing}
+use Rattle.cool_faults.specs.Untyped.{IsEarly}
 use Rattle.cool_faults.specs.Verdicts.{lex_rank, standing_of}
-use Rattle.cool_check.proofs.OrderOfKinds.{all_kinds}
 
 -- all kinds of lexical faults in their order; each stands at its rank
 abbrev lex_kinds : List LexKind
@@ -51,27 +48,6 @@ class_kind_at F7 = refl
 class_kind_at F8 = refl
 class_kind_at F9 = refl
 
--- each kind of typing fault stands at its rank
-type_kind_at : (k : TypeKind) → slice_get all_kinds (type_rank k) ≡ Some k
-type_kind_at E1 = refl
-type_kind_at E2 = refl
-type_kind_at E3 = refl
-type_kind_at E4 = refl
-type_kind_at E5 = refl
-type_kind_at E6 = refl
-type_kind_at E7 = refl
-type_kind_at E8 = refl
-type_kind_at E9 = refl
-type_kind_at E10 = refl
-type_kind_at E11 = refl
-type_kind_at E12 = refl
-type_kind_at E13 = refl
-type_kind_at E14 = refl
-type_kind_at E15 = refl
-type_kind_at E16 = refl
-type_kind_at E17 = refl
-type_kind_at E18 = refl
-
 -- what stands at one number in a list is one
 one_at : {X : Type 0} (all : List X) (m n : ℕ) (x y : X) → slice_get all m ≡ Some x → slice_get all n ≡ Some y → m ≡ n → x ≡ y
 one_at all m n x y a b e = same_Some x y (sym a ∙ ap (λ (k : ℕ). slice_get all k) e ∙ b)
@@ -83,15 +59,9 @@ one_lex_kind k l e = one_at lex_kinds (lex_rank k) (lex_rank l) k l (lex_kind_at
 one_class_kind : (k l : ClassKind) → class_rank k ≡ class_rank l → k ≡ l
 one_class_kind k l e = one_at class_kinds (class_rank k) (class_rank l) k l (class_kind_at k) (class_kind_at l) e
 
-one_type_kind : (k l : TypeKind) → type_rank k ≡ type_rank l → k ≡ l
-one_type_kind k l e = one_at all_kinds (type_rank k) (type_rank l) k l (type_kind_at k) (type_kind_at l) e
-
 -- the kinds of one phase come before those of the next
 few_lex_kinds : (k : LexKind) → lex_rank k < 8
 few_lex_kinds k = slice_get_within lex_kinds (lex_rank k) k (lex_kind_at k)
-
-few_class_kinds : (k : ClassKind) → class_rank k < 16
-few_class_kinds k = slice_get_within class_kinds (class_rank k) k (class_kind_at k)
 
 -- faults of one standing have one place and one rank
 place_same : (a b : Standing) → a ≡ b → a.at ≡ b.at
@@ -100,58 +70,39 @@ place_same a b e = ap (λ (s : Standing). s.at) e
 rank_same : (a b : Standing) → a ≡ b → a.rank ≡ b.rank
 rank_same a b e = ap (λ (s : Standing). s.rank) e
 
--- faults of one standing are one
-pub one_fault : (x y : Fault) → standing_of x ≡ standing_of y → x ≡ y
-one_fault (Lex f) (Lex g) e =
-    let at : f.at ≡ g.at = place_same _ _ e in
-    let kind = one_lex_kind f.kind g.kind (rank_same _ _ e) in
+-- faults before typing, of one standing, are one
+pub one_fault : (x y : Fault) → IsEarly x → IsEarly y → standing_of x ≡ standing_of y → x ≡ y
+one_fault (Typing f) y h g e = absurd h
+one_fault (Lex f) (Typing y) h g e = absurd g
+one_fault (Syntax f) (Typing y) h g e = absurd g
+one_fault (OfClasses f) (Typing y) h g e = absurd g
+one_fault (Lex f) (Lex y) h g e =
+    let at : f.at ≡ y.at = place_same _ _ e in
+    let kind = one_lex_kind f.kind y.kind (rank_same _ _ e) in
     λ i. Lex (record { kind = kind i; at = at i })
-one_fault (Lex f) (Syntax g) e =
+one_fault (Lex f) (Syntax y) h g e =
     let rank : lex_rank f.kind ≡ 8 = rank_same _ _ e in
     absurd (omega (arith, rank, few_lex_kinds f.kind))
-one_fault (Lex f) (OfClasses g) e =
-    let rank : lex_rank f.kind ≡ 9 + class_rank g.kind = rank_same _ _ e in
+one_fault (Lex f) (OfClasses y) h g e =
+    let rank : lex_rank f.kind ≡ 9 + class_rank y.kind = rank_same _ _ e in
     absurd (omega (arith, rank, few_lex_kinds f.kind))
-one_fault (Lex f) (Typing g) e =
-    let rank : lex_rank f.kind ≡ 25 + type_rank g.kind = rank_same _ _ e in
-    absurd (omega (arith, rank, few_lex_kinds f.kind))
-one_fault (Syntax f) (Lex g) e =
-    let rank : 8 ≡ lex_rank g.kind = rank_same _ _ e in
-    absurd (omega (arith, rank, few_lex_kinds g.kind))
-one_fault (Syntax f) (Syntax g) e =
-    let at : f.at ≡ g.at = place_same _ _ e in
+one_fault (Syntax f) (Lex y) h g e =
+    let rank : 8 ≡ lex_rank y.kind = rank_same _ _ e in
+    absurd (omega (arith, rank, few_lex_kinds y.kind))
+one_fault (Syntax f) (Syntax y) h g e =
+    let at : f.at ≡ y.at = place_same _ _ e in
     λ i. Syntax (record { at = at i })
-one_fault (Syntax f) (OfClasses g) e =
-    let rank : 8 ≡ 9 + class_rank g.kind = rank_same _ _ e in
+one_fault (Syntax f) (OfClasses y) h g e =
+    let rank : 8 ≡ 9 + class_rank y.kind = rank_same _ _ e in
     absurd (omega (arith, rank))
-one_fault (Syntax f) (Typing g) e =
-    let rank : 8 ≡ 25 + type_rank g.kind = rank_same _ _ e in
-    absurd (omega (arith, rank))
-one_fault (OfClasses f) (Lex g) e =
-    let rank : 9 + class_rank f.kind ≡ lex_rank g.kind = rank_same _ _ e in
-    absurd (omega (arith, rank, few_lex_kinds g.kind))
-one_fault (OfClasses f) (Syntax g) e =
+one_fault (OfClasses f) (Lex y) h g e =
+    let rank : 9 + class_rank f.kind ≡ lex_rank y.kind = rank_same _ _ e in
+    absurd (omega (arith, rank, few_lex_kinds y.kind))
+one_fault (OfClasses f) (Syntax y) h g e =
     let rank : 9 + class_rank f.kind ≡ 8 = rank_same _ _ e in
     absurd (omega (arith, rank))
-one_fault (OfClasses f) (OfClasses g) e =
-    let at : f.at ≡ g.at = place_same _ _ e in
-    let rank : 9 + class_rank f.kind ≡ 9 + class_rank g.kind = rank_same _ _ e in
-    let kind = one_class_kind f.kind g.kind (omega (arith, rank)) in
+one_fault (OfClasses f) (OfClasses y) h g e =
+    let at : f.at ≡ y.at = place_same _ _ e in
+    let rank : 9 + class_rank f.kind ≡ 9 + class_rank y.kind = rank_same _ _ e in
+    let kind = one_class_kind f.kind y.kind (omega (arith, rank)) in
     λ i. OfClasses (record { kind = kind i; at = at i })
-one_fault (OfClasses f) (Typing g) e =
-    let rank : 9 + class_rank f.kind ≡ 25 + type_rank g.kind = rank_same _ _ e in
-    absurd (omega (arith, rank, few_class_kinds f.kind))
-one_fault (Typing f) (Lex g) e =
-    let rank : 25 + type_rank f.kind ≡ lex_rank g.kind = rank_same _ _ e in
-    absurd (omega (arith, rank, few_lex_kinds g.kind))
-one_fault (Typing f) (Syntax g) e =
-    let rank : 25 + type_rank f.kind ≡ 8 = rank_same _ _ e in
-    absurd (omega (arith, rank))
-one_fault (Typing f) (OfClasses g) e =
-    let rank : 25 + type_rank f.kind ≡ 9 + class_rank g.kind = rank_same _ _ e in
-    absurd (omega (arith, rank, few_class_kinds g.kind))
-one_fault (Typing f) (Typing g) e =
-    let at : f.at ≡ g.at = place_same _ _ e in
-    let rank : 25 + type_rank f.kind ≡ 25 + type_rank g.kind = rank_same _ _ e in
-    let kind = one_type_kind f.kind g.kind (omega (arith, rank)) in
-    λ i. Typing (record { kind = kind i; at = at i })

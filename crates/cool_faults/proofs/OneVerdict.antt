@@ -1,11 +1,13 @@
 -- Files have one fault list, and one verdict: no files are both a program and refused, and no two programs.
 use Rattle.std.proofs.Common.{◌≡◌, ◌≢◌, ℕ, ◌+◌, List, [], ◌∷◌, map, ap, sym, ◌∙◌, refl, subst}
+use Rattle.std.specs.List.{AllByRecursion}
 use Rattle.std.specs.List.Sorted.{IsPermutation}
 use Rattle.std.proofs.lemmas.List.Sorted.{length_permutation, IsPermutation-refl, IsPermutation-sym, IsPermutation-trans, IsPermutation-map, sum_by-IsPermutation}
 use Rattle.std.proofs.Common.{arith}
 use Rattle.cool_syntax.specs.declared.file_tree.ClassDef.{ClassDef}
 use Rattle.cool_syntax.specs.declared.file_tree.FileTree.{FileTree}
 use Rattle.cool_syntax.specs.declared.token.Token.{Token}
+use Rattle.cool_syntax.specs.FaultOrder.{Standing}
 use Rattle.cool_syntax.specs.Grammar.{Parses, IsUnexpected}
 use Rattle.cool_lexer.proofs.OneReading.{one_cutting, one_first_fault, never_both}
 use Rattle.cool_parser.proofs.ParsingIsTheGrammar.{one_tree as one_file, file_or_fault, one_fault}
@@ -21,8 +23,10 @@ use Rattle.cool_faults.specs.declared.fault.Fault.TheVariants.{Lex, Syntax, Clas
 use Rattle.cool_faults.specs.Verdicts.{IsTree, AreTrees, LexFaults, SyntaxFaults, IsPhase, of_lexer, of_parser, of_classes, of_features, of_typing, AreFaultless, IsFaultList, faultless, faulty, IsRefused, IsAccepted, end_of, standing_of}
 use Rattle.cool_faults.specs.Verdicts as verdict
 use Rattle.cool_faults.proofs.AcceptedFiles.{accepted_list, accepted_meant}
-use Rattle.cool_faults.proofs.OneOrder.{one_order}
+use Rattle.cool_faults.specs.Untyped.{IsEarly}
+use Rattle.cool_faults.proofs.OneOrder.{all_moved, one_order}
 use Rattle.cool_faults.proofs.OneStanding.{one_fault as one_of_standing}
+use Rattle.cool_faults.proofs.RisingFaults.{IsIn, all_in, one_typing_fault}
 
 -- a list in another order than none is none
 pub none_moved : {X : Type 0} (xs : List X) → IsPermutation [] xs → xs ≡ []
@@ -207,14 +211,48 @@ one_phase files xs ys some_first some_second = by
         (subst (λ (vs : List FileTree). IsPermutation (map Typing (typing_faults (classes_meant (definitions ts)))) (map Typing (typing_faults (classes_meant (definitions vs))))) (trees_are ts us trees also)
         (IsPermutation-refl (map Typing (typing_faults (classes_meant (definitions ts)))))) moved turned
 
+-- the faults of all phases but typing are found before it
+lexical_early : (file : ℕ) (files : List (List ℕ)) (fs : List Fault) → LexFaults file files fs → AllByRecursion IsEarly fs
+lexical_early file files fs (verdict.none f) = tt
+lexical_early file files fs (verdict.good f bytes rest gs ts lexes more) = lexical_early (file + 1) rest gs more
+lexical_early file files fs (verdict.bad f bytes rest gs fault is more) = (tt, lexical_early (file + 1) rest gs more)
+
+syntactic_early : (file : ℕ) (files : List (List ℕ)) (fs : List Fault) → SyntaxFaults file files fs → AllByRecursion IsEarly fs
+syntactic_early file files fs (verdict.none f) = tt
+syntactic_early file files fs (verdict.good f bytes rest gs t is more) = syntactic_early (file + 1) rest gs more
+syntactic_early file files fs (verdict.bad f bytes rest gs ts fault lexes stops more) = (tt, syntactic_early (file + 1) rest gs more)
+
+classes_early : (fs : List ClassFault) → AllByRecursion IsEarly (map OfClasses fs)
+classes_early [] = tt
+classes_early (f ∷ fs) = (tt, classes_early fs)
+
 -- files have one fault list
 pub one_list : (files : List (List ℕ)) (xs ys : List Fault) → IsFaultList files xs → IsFaultList files ys → xs ≡ ys
 one_list files xs ys (faultless a) (faultless b) = refl
 one_list files xs ys (faultless a) (faulty gs some phase order) = absurd (some (nothing_found files gs a phase))
 one_list files xs ys (faulty fs some phase order) (faultless b) = absurd (some (nothing_found files fs b phase))
-one_list files xs ys (faulty fs some phase order) (faulty gs more other also) =
-    let moved : IsPermutation fs gs = one_phase files fs gs some more phase other in
-    one_order standing_of one_of_standing fs gs order also (λ (f : Fault → ℕ). sym (sum_by-IsPermutation f fs gs moved))
+one_list files xs ys (faulty fs some phase order) (faulty gs more other also) = by phase
+  where
+    moved : IsPermutation fs gs
+    moved = one_phase files fs gs some more phase other
+
+    -- where of the faults no two have one standing
+    apart : (Is : Fault → Type 0) → ((x y : Fault) → Is x → Is y → standing_of x ≡ standing_of y → x ≡ y) → AllByRecursion Is fs → fs ≡ gs
+    apart Is one all = one_order standing_of Is one fs gs all (all_moved Is fs gs moved all) order also (λ (f : Fault → ℕ). sym (sum_by-IsPermutation f fs gs moved))
+
+    early : AllByRecursion IsEarly fs → fs ≡ gs
+    early all = apart IsEarly one_of_standing all
+
+    by : IsPhase files fs → fs ≡ gs
+    by (of_lexer a) = early (lexical_early 0 files fs a)
+    by (of_parser a) = early (syntactic_early 0 files fs a)
+    by (of_classes ts cs trees found turned) = early (all_moved IsEarly (map OfClasses cs) fs turned (classes_early cs))
+    by (of_features ts trees none turned) =
+        early (all_moved IsEarly (map OfClasses (feature_phase (definitions ts))) fs turned (classes_early (feature_phase (definitions ts))))
+    by (of_typing ts trees none features turned) =
+        let all : List Fault = map Typing (typing_faults (classes_meant (definitions ts))) in
+        apart (λ (x : Fault). IsIn x all) (λ x y i j e. one_typing_fault files ts trees x y i j (ap (λ (s : Standing). s.at) e))
+        (all_moved (λ (x : Fault). IsIn x all) all fs turned (all_in all (λ (x : Fault). IsIn x all) (λ x i. i)))
 
 -- no files are both accepted and refused
 pub never_both_verdicts : (files : List (List ℕ)) (p : List Class) (faults : List Fault) → IsAccepted files p → IsRefused files faults → ⊥

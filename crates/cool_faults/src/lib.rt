@@ -22,6 +22,6 @@ pub use laws::{
     law_one_verdict_at_least, law_rows,
 };
 pub use lexing::lex_files;
-pub use text::fault_text;
+pub use text::{fault_text, fault_words};
 pub use typing::of_typing;
 pub use untyped_files::class_phase;

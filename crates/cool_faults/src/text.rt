@@ -23,7 +23,7 @@ pub fn fault_text(alloc: Global, names: &[String], fault: &Fault) -> Result<Vec<
 }
 
 /// The kind of a fault, and what it says.
-fn fault_words(fault: &Fault) -> &'static str
+pub fn fault_words(fault: &Fault) -> &'static str
     ensures { result.now ≡ fault_words fault.now }
 {
     match fault {

@@ -20,13 +20,13 @@ use Rattle.cool_rules.specs.Scopes.{Binding, found}
 use Rattle.cool_rules.specs.Typing.{has_values, object_type, int_type, bool_type}
 use Rattle.cool_check.specs.declared.fault.TypeFault.{TypeFault}
 use Rattle.cool_check.specs.declared.fault.TypeKind.{TypeKind}
-use Rattle.cool_check.specs.declared.fault.TypeKind.TheVariants.{E2, E3, E5, E8, E9, E10, E13, E14, E15, E16, E17}
+use Rattle.cool_check.specs.declared.fault.TypeKind.TheVariants.{E2, E3, E6, E8, E9, E10, E13, E14, E15, E16, E17}
 use Rattle.cool_check.specs.Contexts.{Context}
-use Rattle.cool_check.specs.FirstFaults.{Checked, and_then, expect, refuse, is_self, bind, conform, or_unknown, name_checked, assigned, or_no_type, named, static_among, static_class, misfit, resulting, or_misfit, called_with, call_checked, initialized, bound_type, branch_among, branch_class, joined, compared, checked, all_checked, last_checked, maybe_checked, cases_checked}
+use Rattle.cool_check.specs.FirstFaults.{Checked, and_then, unfit, expect, fits, refuse, refuse_type, is_self, bind, conform, or_unknown, name_checked, assigned, or_no_type, named, static_among, static_class, misfit, resulting, or_misfit, called_with, call_checked, initialized, bound_type, branch_among, branch_class, joined, compared, checked, all_checked, last_checked, maybe_checked, cases_checked}
 use Rattle.cool_session.proofs.RenamedTrees.{renamed_type, renamed_tree, renamed_trees, renamed_maybe, renamed_cases}
 
 abbrev pub renamed_fault : (Place → Place) → TypeFault → TypeFault
-renamed_fault f fault = record { kind = fault.kind; at = f fault.at }
+renamed_fault f fault = record { kind = fault.kind; at = f fault.at; found = fault.found; due = fault.due }
 
 abbrev pub renamed_result : {X : Type 0} → (Place → Place) → Checked X → Checked X
 renamed_result f (Ok x) = Ok x
@@ -51,11 +51,17 @@ pub then_renamed : {X Y : Type 0} (f : Place → Place) (r r' : Checked X) (g g'
 then_renamed {X} f (Ok x) r' g g' is each = ap (λ (q : Checked X). and_then q g') is ∙ each x
 then_renamed {X} f (Err fault) r' g g' is each = ap (λ (q : Checked X). and_then q g') is
 
-pub expect_renamed : {X : Type 0} (f : Place → Place) (b b' : Bool) (kind : TypeKind) (at at' : Place) (r r' : Checked X) → b' ≡ b → at' ≡ f at
-    → r' ≡ renamed_result f r → expect b' kind at' r' ≡ renamed_result f (expect b kind at r)
-expect_renamed f true b' kind at at' r r' test there is = ap (λ (t : Bool). expect t kind at' r') test ∙ is
-expect_renamed {X} f false b' kind at at' r r' test there is =
-    ap (λ (t : Bool). expect t kind at' r') test ∙ ap (λ (p : Place). refuse {X = X} kind p) there
+-- a test, and the fault where it does not hold
+pub test_renamed : {X : Type 0} (f : Place → Place) (b b' : Bool) (fault fault' : TypeFault) (r r' : Checked X) → b' ≡ b → fault' ≡ renamed_fault f fault
+    → r' ≡ renamed_result f r → (if b' then r' else Err fault') ≡ renamed_result f (if b then r else Err fault)
+test_renamed f true b' fault fault' r r' test there is = ap (λ (t : Bool). if t then r' else Err fault') test ∙ is
+test_renamed f false b' fault fault' r r' test there is = ap (λ (t : Bool). if t then r' else Err fault') test ∙ ap (λ (e : TypeFault). Err e) there
+
+expect_renamed : {X : Type 0} (f : Place → Place) (found due : Ty) (kind : TypeKind) (at at' : Place) (r r' : Checked X) → at' ≡ f at
+    → r' ≡ renamed_result f r → expect found due kind at' r' ≡ renamed_result f (expect found due kind at r)
+expect_renamed f found due kind at at' r r' there is =
+    test_renamed f (same_type found due) (same_type found due) (unfit kind at found due) (unfit kind at' found due) r r' refl
+    (ap (λ (p : Place). unfit kind p found due) there) is
 
 if_renamed : {X : Type 0} (f : Place → Place) (b : Bool) (x x' y y' : Checked X) → x' ≡ renamed_result f x → y' ≡ renamed_result f y
     → (if b then x' else y') ≡ renamed_result f (if b then x else y)
@@ -91,14 +97,14 @@ module _ (f : Place → Place) where
   no_type_renamed None at = refl
   no_type_renamed (Some a) at = refl
 
-  misfit_found_renamed : (o : Option Place) (result : Ty) → or_misfit (option_map f o) result ≡ renamed_result f (or_misfit o result)
+  misfit_found_renamed : (o : Option TypeFault) (result : Ty) → or_misfit (option_map (renamed_fault f) o) result ≡ renamed_result f (or_misfit o result)
   misfit_found_renamed None result = refl
-  misfit_found_renamed (Some at) result = refl
+  misfit_found_renamed (Some fault) result = refl
 
-  found_or_later : (b b' : Bool) (o o' : Option Place) (at at' : Place) → b' ≡ b → o' ≡ option_map f o → at' ≡ f at
-      → (if b' then o' else Some at') ≡ option_map f (if b then o else Some at)
-  found_or_later true b' o o' at at' test later here = ap (λ (t : Bool). if t then o' else Some at') test ∙ later
-  found_or_later false b' o o' at at' test later here = ap (λ (t : Bool). if t then o' else Some at') test ∙ ap Some here
+  found_or_later : (b b' : Bool) (o o' : Option TypeFault) (fault fault' : TypeFault) → b' ≡ b → o' ≡ option_map (renamed_fault f) o → fault' ≡ renamed_fault f fault
+      → (if b' then o' else Some fault') ≡ option_map (renamed_fault f) (if b then o else Some fault)
+  found_or_later true b' o o' fault fault' test later here = ap (λ (t : Bool). if t then o' else Some fault') test ∙ later
+  found_or_later false b' o o' fault fault' test later here = ap (λ (t : Bool). if t then o' else Some fault') test ∙ ap Some here
 
   branch_renamed : (at : Place) (earlier : List ClassId) (o : Option Ty)
       → branch_among (f at) earlier o ≡ renamed_result f (branch_among at earlier o)
@@ -108,15 +114,18 @@ module _ (f : Place → Place) where
 
   compared_renamed : (o : CompareOp) (a b : Ty) (at : Place) → compared o a b (f at) ≡ renamed_result f (compared o a b at)
   compared_renamed op.Less a b at =
-      expect_renamed f (same_type a int_type) (same_type a int_type) E14 at (f at) _ _ refl refl
-      (expect_renamed f (same_type b int_type) (same_type b int_type) E14 at (f at) (Ok bool_type) (Ok bool_type) refl refl refl)
+      expect_renamed f a int_type E14 at (f at) _ _ refl (expect_renamed f b int_type E14 at (f at) (Ok bool_type) (Ok bool_type) refl refl)
   compared_renamed op.LessEqual a b at =
-      expect_renamed f (same_type a int_type) (same_type a int_type) E14 at (f at) _ _ refl refl
-      (expect_renamed f (same_type b int_type) (same_type b int_type) E14 at (f at) (Ok bool_type) (Ok bool_type) refl refl refl)
+      expect_renamed f a int_type E14 at (f at) _ _ refl (expect_renamed f b int_type E14 at (f at) (Ok bool_type) (Ok bool_type) refl refl)
   compared_renamed op.Equal a b at =
-      if_renamed f (not (same_type a b) && (has_values a || has_values b)) (refuse E15 at) (refuse E15 (f at)) (Ok bool_type) (Ok bool_type) refl refl
+      if_renamed f (not (same_type a b) && (has_values a || has_values b)) (refuse_type E15 at b a) (refuse_type E15 (f at) b a) (Ok bool_type) (Ok bool_type) refl refl
 
   module _ (s s' : Context) (agree : Agree s s') where
+    fits_renamed : {X : Type 0} (found due : Ty) (kind : TypeKind) (at : Place) (r r' : Checked X) → r' ≡ renamed_result f r
+        → fits s' found due kind (f at) r' ≡ renamed_result f (fits s found due kind at r)
+    fits_renamed found due kind at r r' is =
+        test_renamed f (conform s found due) (conform s' found due) (unfit kind at found due) (unfit kind (f at) found due) r r' (agree.conforms found due) refl is
+
     name_renamed : (o : List Binding) (at : Place) (name : List ℕ) → name_checked s' o (f at) name ≡ renamed_result f (name_checked s o at name)
     name_renamed o at name =
         ap (λ (bs : List Binding). if is_self name then Ok SelfType else or_unknown (option_or (found o name) (found bs name))
@@ -130,8 +139,7 @@ module _ (f : Place → Place) where
     assigned_renamed o at name given =
         if_renamed f (is_self name) (refuse E2 at) (refuse E2 (f at)) _ _ refl
         (then_renamed f (name_checked s o at name) (name_checked s' o (f at) name) _ _ (name_renamed o at name)
-        (λ declared. expect_renamed f (conform s given declared) (conform s' given declared) E3 at (f at) (Ok given) (Ok given)
-        (agree.conforms given declared) refl refl))
+        (λ declared. fits_renamed given declared E3 at (Ok given) (Ok given) refl))
 
     named_renamed : (r : TypeRef) → named s' (renamed_type f r) ≡ renamed_result f (named s r)
     named_renamed r = ap (λ (o : Option Ty). or_no_type o (f r.at)) (agree.types r.name) ∙ no_type_renamed (type_of_name s.table r.name) r.at
@@ -140,29 +148,28 @@ module _ (f : Place → Place) where
     among_renamed at receiver None = refl
     among_renamed at receiver (Some SelfType) = refl
     among_renamed at receiver (Some (IsClass c)) =
-        expect_renamed f (conform s receiver (IsClass c)) (conform s' receiver (IsClass c)) E8 at (f at) (Ok c) (Ok c)
-        (agree.conforms receiver (IsClass c)) refl refl
+        fits_renamed receiver (IsClass c) E8 at (Ok c) (Ok c) refl
 
     static_renamed : (r : TypeRef) (receiver : Ty) → static_class s' (renamed_type f r) receiver ≡ renamed_result f (static_class s r receiver)
     static_renamed r receiver = ap (static_among s' (f r.at) receiver) (agree.types r.name)
         ∙ among_renamed r.at receiver (type_of_name s.table r.name)
 
     misfit_renamed : (names : List (List ℕ)) (types : List Ty) (args : Trees)
-        → misfit s' names types (renamed_trees f args) ≡ option_map f (misfit s names types args)
+        → misfit s' names types (renamed_trees f args) ≡ option_map (renamed_fault f) (misfit s names types args)
     misfit_renamed [] types args = refl
     misfit_renamed (n ∷ ns) [] args = refl
     misfit_renamed (n ∷ ns) (a ∷ types) Last = refl
     misfit_renamed (n ∷ ns) (a ∷ types) (More t ts) =
         found_or_later (conform s a (type_meant s.table n)) (conform s' a (type_meant s'.table n)) (misfit s ns types ts)
-        (misfit s' ns types (renamed_trees f ts)) (place_of t) (place_of (renamed_tree f t))
-        (ap (conform s' a) (agree.meant n) ∙ agree.conforms a (type_meant s.table n)) (misfit_renamed ns types ts) (place_renamed t)
+        (misfit s' ns types (renamed_trees f ts)) (unfit E6 (place_of t) a (type_meant s.table n)) (unfit E6 (place_of (renamed_tree f t)) a (type_meant s'.table n))
+        (ap (conform s' a) (agree.meant n) ∙ agree.conforms a (type_meant s.table n)) (misfit_renamed ns types ts)
+        (λ i. unfit E6 (place_renamed t i) a (agree.meant n i))
 
-    called_renamed : (at : Place) (receiver : Ty) (args : Trees) (types : List Ty) (o : Option MethodRef)
-        → called_with s' (f at) receiver (renamed_trees f args) types o ≡ renamed_result f (called_with s at receiver args types o)
-    called_renamed at receiver args types None = refl
-    called_renamed at receiver args types (Some m) =
-        expect_renamed f (nat_eq (length (formals_of s.table m)) (length types)) (nat_eq (length (formals_of s'.table m)) (length types)) E5 at
-        (f at) _ _
+    called_renamed : (at : Place) (class : ClassId) (receiver : Ty) (args : Trees) (types : List Ty) (o : Option MethodRef)
+        → called_with s' (f at) class receiver (renamed_trees f args) types o ≡ renamed_result f (called_with s at class receiver args types o)
+    called_renamed at class receiver args types None = refl
+    called_renamed at class receiver args types (Some m) =
+        test_renamed f (nat_eq (length (formals_of s.table m)) (length types)) (nat_eq (length (formals_of s'.table m)) (length types)) _ _ _ _
         (ap (λ (ns : List (List ℕ)). nat_eq (length ns) (length types)) (agree.formals m)) refl
         ((λ i. or_misfit (misfit s' (agree.formals m i) types (renamed_trees f args)) (resulting receiver (type_meant s'.table (agree.results m i))))
         ∙ ((λ i. or_misfit (misfit_renamed (formals_of s.table m) types args i) (resulting receiver (agree.meant (result_of s.table m) i)))
@@ -172,13 +179,13 @@ module _ (f : Place → Place) where
         → call_checked s' (f at) class receiver name (renamed_trees f args) types ≡ renamed_result f
         (call_checked s at class receiver name args types)
     call_renamed at class receiver name args types =
-        ap (called_with s' (f at) receiver (renamed_trees f args) types) (agree.methods class name)
-        ∙ called_renamed at receiver args types (method_of s.table class name)
+        ap (called_with s' (f at) class receiver (renamed_trees f args) types) (agree.methods class name)
+        ∙ called_renamed at class receiver args types (method_of s.table class name)
 
     init_renamed : (at : Place) (bound : Ty) (o : Option Ty) → initialized s' (f at) bound o ≡ renamed_result f (initialized s at bound o)
     init_renamed at bound None = refl
     init_renamed at bound (Some given) =
-        expect_renamed f (conform s given bound) (conform s' given bound) E17 at (f at) (Ok bound) (Ok bound) (agree.conforms given bound) refl refl
+        fits_renamed given bound E17 at (Ok bound) (Ok bound) refl
 
     bound_renamed : (at : Place) (name : List ℕ) (declared : TypeRef) (given : Option Ty)
         → bound_type s' (f at) name (renamed_type f declared) given ≡ renamed_result f (bound_type s at name declared given)
@@ -218,13 +225,13 @@ module _ (f : Place → Place) where
           then_renamed f (checked s o t) (checked s' o (renamed_tree f t)) _ _ (checked_renamed t o)
           (λ a. then_renamed f (checked s o y) (checked s' o (renamed_tree f y)) _ _ (checked_renamed y o)
           (λ b. then_renamed f (checked s o n) (checked s' o (renamed_tree f n)) _ _ (checked_renamed n o)
-          (λ c. expect_renamed f (same_type a bool_type) (same_type a bool_type) E9 (place_of t) (place_of (renamed_tree f t)) _ _ refl (place_renamed t)
+          (λ c. expect_renamed f a bool_type E9 (place_of t) (place_of (renamed_tree f t)) _ _ (place_renamed t)
           (ap Ok (agree.joins b c)))))
       checked_renamed (trees.While at t b) o =
           then_renamed f (checked s o t) (checked s' o (renamed_tree f t)) _ _ (checked_renamed t o)
           (λ a. then_renamed f (checked s o b) (checked s' o (renamed_tree f b)) _ _ (checked_renamed b o)
-          (λ c. expect_renamed f (same_type a bool_type) (same_type a bool_type) E9 (place_of t) (place_of (renamed_tree f t)) (Ok object_type) (Ok object_type)
-          refl (place_renamed t) refl))
+          (λ c. expect_renamed f a bool_type E9 (place_of t) (place_of (renamed_tree f t)) (Ok object_type) (Ok object_type)
+          (place_renamed t) refl))
       checked_renamed (trees.Block at ts) o = last_renamed ts o object_type
       checked_renamed (trees.Let at name declared init t) o =
           then_renamed f (maybe_checked s o init) (maybe_checked s' o (renamed_maybe f init)) _ _ (maybe_renamed init o)
@@ -238,17 +245,16 @@ module _ (f : Place → Place) where
       checked_renamed (trees.Arith at op a b) o =
           then_renamed f (checked s o a) (checked s' o (renamed_tree f a)) _ _ (checked_renamed a o)
           (λ x. then_renamed f (checked s o b) (checked s' o (renamed_tree f b)) _ _ (checked_renamed b o)
-          (λ y. expect_renamed f (same_type x int_type) (same_type x int_type) E14 at (f at) _ _ refl refl
-          (expect_renamed f (same_type y int_type) (same_type y int_type) E14 at (f at) (Ok int_type) (Ok int_type) refl refl refl)))
+          (λ y. expect_renamed f x int_type E14 at (f at) _ _ refl (expect_renamed f y int_type E14 at (f at) (Ok int_type) (Ok int_type) refl refl)))
       checked_renamed (trees.Neg at t) o =
           then_renamed f (checked s o t) (checked s' o (renamed_tree f t)) _ _ (checked_renamed t o)
-          (λ a. expect_renamed f (same_type a int_type) (same_type a int_type) E14 at (f at) (Ok int_type) (Ok int_type) refl refl refl)
+          (λ a. expect_renamed f a int_type E14 at (f at) (Ok int_type) (Ok int_type) refl refl)
       checked_renamed (trees.Compare at op a b) o =
           then_renamed f (checked s o a) (checked s' o (renamed_tree f a)) _ _ (checked_renamed a o)
           (λ x. then_renamed f (checked s o b) (checked s' o (renamed_tree f b)) _ _ (checked_renamed b o) (λ y. compared_renamed op x y at))
       checked_renamed (trees.Not at t) o =
           then_renamed f (checked s o t) (checked s' o (renamed_tree f t)) _ _ (checked_renamed t o)
-          (λ a. expect_renamed f (same_type a bool_type) (same_type a bool_type) E16 at (f at) (Ok bool_type) (Ok bool_type) refl refl refl)
+          (λ a. expect_renamed f a bool_type E16 at (f at) (Ok bool_type) (Ok bool_type) refl refl)
       checked_renamed (trees.Int at value) o = refl
       checked_renamed (trees.Str at bytes) o = refl
       checked_renamed (trees.Bool at value) o = refl

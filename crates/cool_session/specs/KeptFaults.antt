@@ -1,6 +1,6 @@
--- What is kept of the checks of features for a check after edits: that a feature is typed, or else the kind of its fault and at which of its
--- tokens the fault stands.
-use Rattle.std.specs.Prelude.{◌≡◌, refl, ℕ, suc, ◌<◌, List, [], ◌∷◌, ◌++◌, map, length, get_or, Option, Some, None, IfSome, Ok, codes}
+-- What is kept of the checks of features for a check after edits: that a feature is typed, or else the kind of its fault, at which of its
+-- tokens the fault stands, and which types it has.
+use Rattle.std.specs.Prelude.{◌≡◌, refl, ℕ, suc, ◌<◌, List, [], ◌∷◌, ◌++◌, map, length, get_or, Option, Some, None, IfSome, Ok, Err, codes}
 use Rattle.std.specs.List.Sorted.{IsPermutation}
 use Rattle.std.proofs.Common.{arith}
 use Rattle.cool_syntax.specs.declared.place.Place.{Place}
@@ -24,10 +24,14 @@ use Rattle.cool_session.specs.declared.base.KeptFault.{KeptFault}
 abbrev pub place_of_token : List Token → ℕ → Place
 place_of_token tokens k = get_or (map (λ (t : Token). t.at) tokens) k (record { file = 0; line = 0; byte = 0 })
 
+-- the fault that is kept, at a place
+abbrev pub fault_at : Place → KeptFault → TypeFault
+fault_at at kept = record { kind = kept.kind; at = at; found = kept.found; due = kept.due }
+
 -- the result of the check of a feature of these tokens, by what is kept of it
 abbrev pub result_kept : List Token → Option KeptFault → Checked (Unit {0})
 result_kept tokens None = Ok tt
-result_kept tokens (Some kept) = refuse kept.kind (place_of_token tokens kept.token)
+result_kept tokens (Some kept) = Err (fault_at (place_of_token tokens kept.token) kept)
 
 -- This is to be kept of a feature of these tokens, whose check has this result.
 pub record IsKeptOf (tokens : List Token) (result : Checked (Unit {0})) (kept : Option KeptFault) : Type 0 where
@@ -65,7 +69,7 @@ AreKeptOf _ _ _ = ⊥
 -- the fault of a feature of these tokens, by what is kept of it
 abbrev pub fault_kept : List Token → Option KeptFault → List TypeFault
 fault_kept run None = []
-fault_kept run (Some kept) = record { kind = kept.kind; at = place_of_token run kept.token } ∷ []
+fault_kept run (Some kept) = fault_at (place_of_token run kept.token) kept ∷ []
 
 -- the faults of features of these tokens
 abbrev pub faults_kept : List (List Token) → List (Option KeptFault) → List TypeFault
@@ -81,5 +85,5 @@ pub record AreFaultsOf (found : List TypeFault) (faults : List Fault) : Type 0 w
   pub order : AreInOrder standing_of types
 
 -- Worked example: of `x;` where x is not in scope, E1 at the token 0 is kept.
-fault_at_x : (p q : Place) → IsKeptOf (object (codes "x") p ∷ symbol sign.Semi q ∷ []) (refuse E1 p) (Some (record { kind = E1; token = 0 }))
+fault_at_x : (p q : Place) → IsKeptOf (object (codes "x") p ∷ symbol sign.Semi q ∷ []) (refuse E1 p) (Some (record { kind = E1; token = 0; found = None; due = None }))
 fault_at_x p q = record { within = omega arith; is = refl }

@@ -6,13 +6,16 @@ ghost use Rattle.std.proofs.Props.{props};
 ghost use Rattle.cool_session.specs.KeptChecks.{HasFewTokens, IsBase};
 
 use cool_check::TypeKind;
+use cool_classes::Ty;
 use cool_faults::Untyped;
 
-/// A fault of a feature: its kind, and the position of its token among those of the feature.
+/// A fault of a feature: its kind, the position of its token among those of the feature, and the types that were found and due.
 #[derive(Clone, Copy)]
 pub(crate) struct KeptFault {
     pub(crate) kind: TypeKind,
     pub(crate) token: u32,
+    pub(crate) found: Option<Ty>,
+    pub(crate) due: Option<Ty>,
 }
 
 /// Files that came to be typed, and the fault of each of their features, where it has one.

@@ -53,6 +53,8 @@ fn kept_faults(
                 faults.push(TypeFault {
                     kind: fault.kind,
                     at: tokens[fault.token as usize].at,
+                    found: fault.found,
+                    due: fault.due,
                 })?;
             }
             None => {}

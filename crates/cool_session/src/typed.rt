@@ -35,6 +35,8 @@ pub(crate) fn typed<K: Typer>(
         Err(CheckError::Fault(fault)) => Ok(Some(KeptFault {
             kind: fault.kind,
             token: position(tokens, fault.at),
+            found: fault.found,
+            due: fault.due,
         })),
         Err(CheckError::Memory) => Err(AllocError),
     }

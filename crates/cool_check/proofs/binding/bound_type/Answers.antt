@@ -22,7 +22,7 @@ pub returns-in-Some-given : goal.returns-in-Some-given
 returns-in-Some-given c = record {
   good = search rules;
   typed = search rules;
-  first = simp (c.at-in-Some-given.ensures, sym c.is_self.ensures, c.if-is_self.false, sym c.type_named.ensures.named, c.in-Some.is, c.in-Some-given.is, sym c.conforms.ensures, c.if-not-conforms.true) refl;
+  first = simp (c.unfit.ensures, sym c.is_self.ensures, c.if-is_self.false, sym c.type_named.ensures.named, c.in-Some.is, c.in-Some-given.is, sym c.conforms.ensures, c.if-not-conforms.true) refl;
   places = search rules;
 }
 

@@ -4,6 +4,7 @@ use Rattle.cool_syntax.specs.Tree.{place_of}
 use Rattle.cool_syntax.specs.NodeLists.{all_trees}
 use Rattle.cool_syntax.specs.TokenFacts.{IsPlaced}
 use Rattle.cool_classes.specs.Features.{formals_of}
+use Rattle.cool_check.specs.declared.fault.TypeFault.{TypeFault}
 use Rattle.cool_check.specs.Contexts.{context}
 use Rattle.cool_check.proofs.Misfits.{misfit_later}
 use Rattle.cool_check.proofs.PlacesOfParts.{tree_within, place_within}
@@ -13,8 +14,8 @@ pub returns-then-not-conforms-clause-places : goal.returns-then-not-conforms-cla
 returns-then-not-conforms-clause-places c = λ n h.
     let t = c.args.setting.now.body.now in
     let placed = place_within n _ (tree_within n t c.args.args.now c.loop-index.index _ (omega arith) h) in
-    let same = ap place_of c.node.ensures.tree ∙ sym (c.place.ensures (all_trees t)) in
-    subst (IsPlaced n) same placed
+    let there = ap place_of c.node.ensures.tree ∙ sym (c.place-at.ensures (all_trees t)) in
+    subst (IsPlaced n) (there ∙ sym (ap (λ (fault : TypeFault). fault.at) c.unfit.ensures)) placed
 
 pub loop-index-preserved : goal.loop-index-preserved
 loop-index-preserved c =
