@@ -1,3 +1,2 @@
-mod FilesRead
 mod FreshDevices
 mod TreesOfTokens

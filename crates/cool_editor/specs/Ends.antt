@@ -1,7 +1,6 @@
 -- How a call ends: the lines of the marks of the files are written, or the files are no class table, or not read, or a write fails.
-use Rattle.std.specs.Prelude.{◌≡◌, ℕ, ◌-◌, ◌<◌, ◌≤◌, ◌⊎◌, List, [], ◌∷◌, ◌++◌, map, length, codes, Option, Some, None}
+use Rattle.std.specs.Prelude.{◌≡◌, ℕ, List, [], ◌∷◌, ◌++◌, map, codes, Option, Some, None}
 use Rattle.std.specs.Global.{Vec}
-use Rattle.cool_syntax.specs.declared.TheConstants.{MOST_FILES, MOST_SOURCE_BYTES}
 use Rattle.cool_syntax.specs.declared.token.Token.{Token}
 use Rattle.cool_syntax.specs.declared.file_tree.FileTree.{FileTree}
 use Rattle.cool_syntax.specs.Grammar.{Parses}
@@ -9,19 +8,18 @@ use Rattle.cool_lexer.specs.declared.lexer.Lexed.{Lexed}
 use Rattle.cool_classes.specs.Definitions.{definitions}
 use Rattle.cool_faults.specs.declared.fault.Fault.{Fault}
 use Rattle.cool_faults.specs.declared.fault.Untyped.{Untyped}
-use Rattle.cool_faults.specs.Files.{total}
 use Rattle.cool_faults.specs.Untyped.{IsRefusedEarly, IsUntyped}
 use Rattle.cool_names.specs.declared.mark.Mark.{Mark}
 use Rattle.cool_names.specs.Programs.{program_marks}
 use Rattle.cool_names.specs.WrittenNames.{names_in, spot_of}
 use Rattle.cool_ports.specs.Counts.{Rose}
-use Rattle.cool_ports.specs.ShelfFiles.{FileMap, IsMissing, IsLonger, AreHeld}
 use Rattle.cool_ports.specs.SinkBytes.{appended, GotPrefix}
 use Rattle.cool_ports.specs.SinkPuts.{PutFront, pieces_of}
-use Rattle.cool_editor.specs.Devices.{ShelfUse, IsUnused, AreRead, SinkUse}
+use Rattle.cool_sources.specs.Devices.{ShelfUse, IsUnused, AreRead, SinkUse}
+use Rattle.cool_sources.specs.Reading.{AreUnread}
+use Rattle.cool_sources.specs.declared.status.Status.{Status}
+use Rattle.cool_sources.specs.declared.status.Status.TheVariants.{Done, Refused, Usage, WriteFault, Memory, FileFault}
 use Rattle.cool_editor.specs.Lines.{mark_lines}
-use Rattle.cool_editor.specs.declared.status.Status.{Status}
-use Rattle.cool_editor.specs.declared.status.Status.TheVariants.{Done, Refused, Usage, WriteFault, Memory, FileFault}
 
 -- the tokens of each file are the tree that has its place
 abbrev pub AreTrees : List Lexed → List FileTree → Type 0
@@ -74,36 +72,6 @@ pub record IsRefused (shelf : ShelfUse) (names : List (List ℕ)) : Type 0 where
   pub read : AreRead shelf names contents
   pub none : AreNoTable contents
 
--- why the shelf refuses the file of this name, which may have so many bytes: it is missing, or longer, or was not read
-abbrev pub IsCause : Option FileMap → ℕ → ℕ → List ℕ → ℕ → Type 0
-IsCause files before after name most = IsMissing files name before after ⊎ (IsLonger files name most before after ⊎ Rose before after)
-
--- The files in front of one were read, and the shelf, which was last asked for that one, refuses it.
-pub record IsStop (shelf : ShelfUse) (names : List (List ℕ)) : Type 0 where
-  pub front : List (List ℕ)
-  pub name : List ℕ
-  pub rest : List (List ℕ)
-  pub contents : List (List ℕ)
-  pub stands : names ≡ front ++ name ∷ rest
-  pub held : AreHeld shelf.files front contents
-  pub asked : shelf.asked_after ≡ shelf.asked_before ++ (front ++ name ∷ [])
-  pub gave : shelf.gave_after ≡ shelf.gave_before ++ contents
-  pub within : total contents ≤ MOST_SOURCE_BYTES
-  pub cause : IsCause shelf.files shelf.faults_before shelf.faults_after name (MOST_SOURCE_BYTES - total contents)
-
--- the files of these names are too many, and none was asked for, or one of them was refused
-abbrev pub AreUnread : ShelfUse → List (List ℕ) → Type 0
-AreUnread shelf names = ((MOST_FILES < length names) × IsUnused shelf) ⊎ ((length names ≤ MOST_FILES) × IsStop shelf names)
-
--- why there is no text of the files of these names
-abbrev pub IsUntold : ShelfUse → List (List ℕ) → Status → Type 0
-IsUntold shelf names Usage = (names ≡ []) × IsUnused shelf
-IsUntold shelf names FileFault = AreUnread shelf names
-IsUntold shelf names Memory = Unit {0}
-IsUntold shelf names Done = ⊥
-IsUntold shelf names Refused = ⊥
-IsUntold shelf names WriteFault = ⊥
-
 -- the note of a call that ends so
 abbrev pub note_of : Status → List ℕ
 note_of Usage = codes "cool_editor: bad command line\n"
@@ -147,12 +115,3 @@ pub record IsCutShort (shelf : ShelfUse) (names : List (List ℕ)) (out : SinkUs
   pub are : AreMarks contents marks
   pub got : GotPrefix out.held_before (mark_lines marks) out.held_after
   pub put : PutFront out.puts_before (pieces_of 4096 (mark_lines marks)) out.puts_after
-
--- the exit status of a call that ends so
-abbrev pub code_of : Status → ℕ
-code_of Done = 0
-code_of Refused = 1
-code_of Usage = 2
-code_of WriteFault = 8
-code_of Memory = 9
-code_of FileFault = 10

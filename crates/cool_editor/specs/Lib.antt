@@ -1,4 +1,3 @@
-pub mod Devices
 pub mod Ends
 pub mod Lines
 pub mod Processes

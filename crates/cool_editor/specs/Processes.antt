@@ -1,17 +1,12 @@
 -- How a process ends: which names its shelf was asked for, which files it gave, and what its output took, each from the start on.
-use Rattle.std.specs.Prelude.{◌≡◌, ℕ, ◌+◌, ◌<◌, ◌⊎◌, List, [], length, Option, Some}
-use Rattle.cool_syntax.specs.declared.TheConstants.{MOST_FILES}
+use Rattle.std.specs.Prelude.{◌≡◌, ℕ, List, [], Option, Some}
 use Rattle.cool_names.specs.declared.mark.Mark.{Mark}
 use Rattle.cool_ports.specs.SinkBytes.{GotPrefix}
+use Rattle.cool_sources.specs.GivenFiles.{GaveAll}
 use Rattle.cool_editor.specs.Ends.{AreMarks, AreNoTable}
 use Rattle.cool_editor.specs.Lines.{mark_lines}
 
--- the shelf was asked for the files of these names, each once, in order, and gave each
-pub record GaveAll (names asked gave : List (List ℕ)) : Type 0 where
-  pub asked_all : asked ≡ names
-  pub gave_each : length gave ≡ length names
-
--- It gave all, and the output took the lines of the marks of what it gave, and nothing else.
+-- The shelf gave all files, and the output took the lines of the marks of what it gave, and nothing else.
 pub record HasListed (names asked gave : List (List ℕ)) (held : Option (List ℕ)) : Type 0 where
   pub all : GaveAll names asked gave
   pub marks : List Mark
@@ -29,7 +24,3 @@ pub record WasCutShort (names asked gave : List (List ℕ)) (held : Option (List
   pub marks : List Mark
   pub are : AreMarks gave marks
   pub got : GotPrefix (Some []) (mark_lines marks) held
-
--- The names are too many, and it was asked for none; or it was asked for one file more than it gave.
-abbrev pub WereUnread : List (List ℕ) → List (List ℕ) → List (List ℕ) → Type 0
-WereUnread names asked gave = ((MOST_FILES < length names) × (asked ≡ [])) ⊎ (length asked ≡ length gave + 1)

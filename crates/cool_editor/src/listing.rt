@@ -6,14 +6,15 @@ ghost use Rattle.cool_faults.specs.Files.{bytes_of, total};
 ghost use Rattle.cool_ports.specs.Counts.{Rose};
 ghost use Rattle.cool_ports.specs.ShelfFiles.{AskedFront};
 ghost use Rattle.cool_ports.specs.SinkBytes.{appended};
-ghost use Rattle.cool_editor.specs.Devices.{shelf_use, sink_use, GotNothing};
-ghost use Rattle.cool_editor.specs.Ends.{AreUnread, IsCutShort, IsListed, IsNoteCut, IsRefused, IsText, IsTextOf, IsUntold, note_of, puts_of};
+ghost use Rattle.cool_sources.specs.Devices.{shelf_use, sink_use, GotNothing};
+ghost use Rattle.cool_sources.specs.Reading.{AreUnread, IsUntold};
+ghost use Rattle.cool_editor.specs.Ends.{IsCutShort, IsListed, IsNoteCut, IsRefused, IsText, IsTextOf, note_of, puts_of};
 
 use crate::files::file_marks;
 use crate::line::lines;
-use crate::reading::read_files;
-use crate::status::{BAD_COMMAND_LINE, FILES_NOT_READ, NO_CLASS_TABLE, Status, tell};
+use crate::note::{BAD_COMMAND_LINE, FILES_NOT_READ, NO_CLASS_TABLE};
 use cool_ports::{Failed, Shelf, Sink, put_pieces};
+use cool_sources::{Status, read_files, tell};
 use cool_syntax::MOST_FILES;
 use std::alloc::{AllocError, Global};
 

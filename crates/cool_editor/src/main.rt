@@ -7,13 +7,13 @@
 mod files;
 mod line;
 mod listing;
+mod note;
 mod process;
-mod reading;
-mod status;
 
 use cool_ports::StdSink;
+use cool_sources::{Status, tell};
+use note::BAD_COMMAND_LINE;
 use process::list_over_system;
-use status::{BAD_COMMAND_LINE, Status, tell};
 use std::alloc::Global;
 use std::io::ErrorKind;
 use std::process::ExitCode;

@@ -2,12 +2,13 @@
 
 ghost use Rattle.std.specs.Prelude.{◌≡◌, ◌≢◌, ◌⊎◌, [], map, string_bytes, Some};
 ghost use Rattle.cool_ports.specs.ShelfFiles.{AskedFront};
+ghost use Rattle.cool_sources.specs.GivenFiles.{WereUnread};
 ghost use Rattle.cool_editor.specs.Ends.{note_of};
-ghost use Rattle.cool_editor.specs.Processes.{HasListed, HasRefused, WasCutShort, WereUnread};
+ghost use Rattle.cool_editor.specs.Processes.{HasListed, HasRefused, WasCutShort};
 
 use crate::listing::list_names;
-use crate::status::Status;
 use cool_ports::{FileShelf, Shelf, Sink, StdSink};
+use cool_sources::Status;
 use std::alloc::Global;
 use std::io::Write;
 use std::rt::Files;

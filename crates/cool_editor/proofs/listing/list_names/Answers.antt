@@ -4,10 +4,12 @@ use Rattle.std.specs.Prelude.{string_bytes}
 use Rattle.cool_ports.specs.SinkBytes.{appended, GotPrefix}
 use Rattle.cool_ports.specs.SinkPuts.{PutFront, pieces_of}
 use Rattle.cool_ports.proofs.GettingBytes.{appended-nil}
-use Rattle.cool_editor.specs.Devices.{shelf_use}
-use Rattle.cool_editor.specs.Ends.{IsTextOf, IsUntold}
-use Rattle.cool_editor.specs.declared.status.Status.{Status}
-use Rattle.cool_editor.specs.declared.status.Status.TheVariants.{FileFault, Refused, Usage}
+use Rattle.cool_sources.specs.Devices.{shelf_use}
+use Rattle.cool_sources.specs.Reading.{IsUntold}
+use Rattle.cool_sources.proofs.NotesTold.{told}
+use Rattle.cool_editor.specs.Ends.{IsTextOf, note_of, puts_of}
+use Rattle.cool_sources.specs.declared.status.Status.{Status}
+use Rattle.cool_sources.specs.declared.status.Status.TheVariants.{FileFault, Refused, Usage}
 use Rattle.cool_editor.proofs.listing.list_names.Goals as goal
 
 -- the lines were written
@@ -62,7 +64,23 @@ returns-in-Ok-None-clause-note_cut g c less =
 pub returns-in-Ok-None-clause-asked : goal.returns-in-Ok-None-clause-asked
 returns-in-Ok-None-clause-asked g c = c.names_text.ensures.asked
 
+pub returns-in-Ok-None-clause-note : goal.returns-in-Ok-None-clause-note
+returns-in-Ok-None-clause-note g c other =
+    c.tell.ensures.note other ∙ ap (appended (g.E.Sink.held c.args.notes.now)) (told note_of Refused c.tell.result c.tell.ensures.statuses other)
+
+pub returns-in-Ok-None-clause-put : goal.returns-in-Ok-None-clause-put
+returns-in-Ok-None-clause-put g c other =
+    c.tell.ensures.put ∙ ap (λ (lines : List (List ℕ)). g.E.Sink.puts c.args.notes.now ++ lines) (told puts_of Refused c.tell.result c.tell.ensures.statuses other)
+
 -- there is no name
+pub returns-in-Usage-clause-note : goal.returns-in-Usage-clause-note
+returns-in-Usage-clause-note g c other =
+    c.tell-in-Usage.ensures.note other ∙ ap (appended (g.E.Sink.held c.args.notes.now)) (told note_of Usage c.tell-in-Usage.result c.tell-in-Usage.ensures.statuses other)
+
+pub returns-in-Usage-clause-put : goal.returns-in-Usage-clause-put
+returns-in-Usage-clause-put g c other =
+    c.tell-in-Usage.ensures.put ∙ ap (λ (lines : List (List ℕ)). g.E.Sink.puts c.args.notes.now ++ lines) (told puts_of Usage c.tell-in-Usage.result c.tell-in-Usage.ensures.statuses other)
+
 pub returns-in-Usage-clause-note_cut : goal.returns-in-Usage-clause-note_cut
 returns-in-Usage-clause-note_cut g c less = record {
   due = Usage;
@@ -77,6 +95,14 @@ returns-in-Usage-clause-note_cut g c less = record {
 }
 
 -- a file was not read
+pub returns-in-FileFault-clause-note : goal.returns-in-FileFault-clause-note
+returns-in-FileFault-clause-note g c other =
+    c.tell-in-FileFault.ensures.note other ∙ ap (appended (g.E.Sink.held c.args.notes.now)) (told note_of FileFault c.tell-in-FileFault.result c.tell-in-FileFault.ensures.statuses other)
+
+pub returns-in-FileFault-clause-put : goal.returns-in-FileFault-clause-put
+returns-in-FileFault-clause-put g c other =
+    c.tell-in-FileFault.ensures.put ∙ ap (λ (lines : List (List ℕ)). g.E.Sink.puts c.args.notes.now ++ lines) (told puts_of FileFault c.tell-in-FileFault.result c.tell-in-FileFault.ensures.statuses other)
+
 pub returns-in-FileFault-clause-note_cut : goal.returns-in-FileFault-clause-note_cut
 returns-in-FileFault-clause-note_cut g c less = record {
   due = FileFault;

@@ -1,5 +1,6 @@
 -- What holds of devices that did nothing before.
-use Rattle.cool_editor.proofs.FreshDevices.{after_none, has_listed, has_refused, were_unread, was_cut_short}
+use Rattle.cool_sources.proofs.FreshShelves.{after_none, were_unread}
+use Rattle.cool_editor.proofs.FreshDevices.{has_listed, has_refused, was_cut_short}
 use Rattle.cool_editor.proofs.process.list_over_system.Goals as goal
 
 pub returns-clause-listed : goal.returns-clause-listed

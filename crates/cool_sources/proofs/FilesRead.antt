@@ -9,8 +9,8 @@ use Rattle.std.specs.Global.{Global, Vec}
 use Rattle.std.proofs.lemmas.List.{at_drop_more, map_more, map_push, map-append}
 use Rattle.cool_ports.specs.ShelfFiles.{FileMap, MayHold, IsMissing, IsLonger, AreHeld, AskedFront}
 use Rattle.cool_faults.specs.Files.{bytes_of, total}
-use Rattle.cool_editor.specs.Devices.{ShelfUse}
-use Rattle.cool_editor.specs.Ends.{IsCause, IsStop}
+use Rattle.cool_sources.specs.Devices.{ShelfUse}
+use Rattle.cool_sources.specs.Reading.{IsCause, IsStop}
 use Rattle.cool_faults.proofs.FileSizes.{total-push}
 use Rattle.cool_ports.proofs.FilesHeld.{held_more}
 

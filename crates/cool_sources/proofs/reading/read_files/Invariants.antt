@@ -3,7 +3,7 @@ use Rattle.std.proofs.Common.{◌≡◌, ◌+◌, ◌++◌, length, map, take}
 use Rattle.std.specs.Prelude.{string_bytes}
 use Rattle.cool_syntax.specs.declared.TheConstants.{MOST_SOURCE_BYTES}
 use Rattle.cool_faults.specs.Files.{bytes_of, total}
-use Rattle.cool_editor.proofs.reading.read_files.Given as goal
+use Rattle.cool_sources.proofs.reading.read_files.Given as goal
 use Rattle.cool_ports.specs.ShelfFiles.{AreHeld}
 
 abbrev pub invariant-loop-index : goal.invariant-loop-index

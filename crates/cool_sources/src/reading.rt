@@ -3,8 +3,8 @@
 ghost use Rattle.std.specs.Prelude.{◌≡◌, ◌≤◌, ◌⊎◌, length, map, string_bytes, IfOk, IfErr, OnOk, OnErr};
 ghost use Rattle.cool_syntax.specs.declared.TheConstants.{MOST_SOURCE_BYTES};
 ghost use Rattle.cool_faults.specs.Files.{bytes_of, total};
-ghost use Rattle.cool_editor.specs.Devices.{shelf_use, AreRead};
-ghost use Rattle.cool_editor.specs.Ends.{IsStop};
+ghost use Rattle.cool_sources.specs.Devices.{shelf_use, AreRead};
+ghost use Rattle.cool_sources.specs.Reading.{IsStop};
 ghost use Rattle.cool_ports.specs.ShelfFiles.{AskedFront};
 
 use crate::status::Status;

@@ -1,9 +1,9 @@
-//! How a call ends, and the notes.
+//! How a call ends, and its note.
 
 ghost use Rattle.std.specs.Prelude.{◌≡◌, ◌≢◌, ◌<◌, ◌≤◌, ◌⊎◌, [], ◌∷◌, ◌++◌, length};
 ghost use Rattle.cool_ports.specs.Counts.{Rose};
 ghost use Rattle.cool_ports.specs.SinkBytes.{appended, GotPrefix};
-ghost use Rattle.cool_editor.specs.Ends.{code_of, note_of};
+ghost use Rattle.cool_sources.specs.Statuses.{code_of};
 
 use cool_ports::{Failed, Sink};
 use std::alloc::{AllocError, AllocFailed};
@@ -11,11 +11,11 @@ use std::alloc::{AllocError, AllocFailed};
 /// How a call ends, as for `cool`.
 #[derive(Clone, Copy, Debug, PartialEq, Eq)]
 pub enum Status {
-    /// The names were listed.
+    /// What was asked for was written.
     Done = 0,
-    /// The files are no class table.
+    /// The files have faults.
     Refused = 1,
-    /// The words name no file.
+    /// The words are no command line, or name no file.
     Usage = 2,
     /// A write failed.
     WriteFault = 8,
@@ -27,7 +27,7 @@ pub enum Status {
 
 impl From<AllocError> for Status {
     ghost use Rattle.std.specs.Prelude.{◌≡◌};
-    ghost use Rattle.cool_editor.specs.declared.status.Status.TheVariants as ends;
+    ghost use Rattle.cool_sources.specs.declared.status.Status.TheVariants as ends;
 
     ghost from_gives = { λ _ e. e ≡ ends.Memory };
 
@@ -38,7 +38,7 @@ impl From<AllocError> for Status {
 
 impl<T: Drop> From<AllocFailed<T>> for Status {
     ghost use Rattle.std.specs.Prelude.{◌≡◌};
-    ghost use Rattle.cool_editor.specs.declared.status.Status.TheVariants as ends;
+    ghost use Rattle.cool_sources.specs.declared.status.Status.TheVariants as ends;
 
     ghost from_gives = { λ _ e. e ≡ ends.Memory };
 
@@ -56,22 +56,12 @@ impl Status {
     }
 }
 
-/// Of words that name no file.
-pub const BAD_COMMAND_LINE: &[u8] = b"cool_editor: bad command line\n";
-
-/// Of files that are no class table.
-pub const NO_CLASS_TABLE: &[u8] = b"cool_editor: no class table\n";
-
-/// Of files that are too many, or of which one was not read.
-pub const FILES_NOT_READ: &[u8] = b"cool_editor: files not read\n";
-
-/// Writes the note of a status at once and answers it, or that the write failed.
+/// Writes the note of a status at once and answers the status, or that the write failed.
 pub fn tell<E: Sink>(notes: &mut E, status: Status, note: &[u8]) -> Status
     requires some { 0 < length note.now }
-    requires of_status { note.now ≡ note_of status }
     requires other { status ≢ Status.WriteFault }
     ensures statuses { (result ≡ status) ⊎ (result ≡ Status.WriteFault) }
-    ensures note { result ≢ Status.WriteFault → E.held notes.new ≡ appended (E.held notes.old) (note_of result) }
+    ensures note { result ≢ Status.WriteFault → E.held notes.new ≡ appended (E.held notes.old) note.now }
     ensures no_fault { result ≢ Status.WriteFault → E.faults notes.new ≡ E.faults notes.old }
     ensures write_fault { result ≡ Status.WriteFault → Rose (E.faults notes.old) (E.faults notes.new) }
     ensures prefix { E.faults notes.old < E.faults notes.new → GotPrefix (E.held notes.old) note.now (E.held notes.new) }

@@ -1,10 +1,10 @@
 -- One more file was read, or one was refused.
 use Rattle.std.proofs.Common.{◌≡◌, ◌∙◌, rules, ap, inr, length, refl, arith}
 use Rattle.std.specs.Prelude.{Err}
-use Rattle.cool_editor.specs.Devices.{shelf_use}
-use Rattle.cool_editor.specs.declared.status.Status.TheVariants.{Memory}
-use Rattle.cool_editor.proofs.FilesRead.{asked_part, asked_turn, cause_of, gave_turn, held_turn, stop_at, total_turn}
-use Rattle.cool_editor.proofs.reading.read_files.Goals as goal
+use Rattle.cool_sources.specs.Devices.{shelf_use}
+use Rattle.cool_sources.specs.declared.status.Status.TheVariants.{Memory}
+use Rattle.cool_sources.proofs.FilesRead.{asked_part, asked_turn, cause_of, gave_turn, held_turn, stop_at, total_turn}
+use Rattle.cool_sources.proofs.reading.read_files.Goals as goal
 use Rattle.std.proofs.lemmas.List.{length_push}
 
 -- a file was refused

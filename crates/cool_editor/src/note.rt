@@ -1,0 +1,10 @@
+//! The notes.
+
+/// Of words that name no file.
+pub const BAD_COMMAND_LINE: &[u8] = b"cool_editor: bad command line\n";
+
+/// Of files that are no class table.
+pub const NO_CLASS_TABLE: &[u8] = b"cool_editor: no class table\n";
+
+/// Of files that are too many, or of which one was not read.
+pub const FILES_NOT_READ: &[u8] = b"cool_editor: files not read\n";

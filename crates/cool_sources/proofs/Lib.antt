@@ -1,0 +1,3 @@
+mod FilesRead
+pub mod FreshShelves
+pub mod NotesTold

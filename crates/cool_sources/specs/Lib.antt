@@ -1,0 +1,4 @@
+pub mod Devices
+pub mod GivenFiles
+pub mod Reading
+pub mod Statuses
