@@ -1,0 +1,294 @@
+//! Forms of other languages, and those of Cool for them.
+
+use crate::candidate::{Candidates, Reason};
+use crate::kind::{Kind, kind_of};
+use crate::lexeme::{line_length, part};
+use std::alloc::AllocError;
+
+/// How many lexemes behind `elif` its `fi` is looked for.
+const LOOKED_AHEAD: usize = 200;
+
+/// How many lexemes the formals of a method have at most that are looked at.
+const LOOKED_AT_FORMALS: usize = 40;
+
+impl<'a> Candidates<'a> {
+    /// All forms that fit a fault at a position.
+    pub(crate) fn add_forms(&mut self, index: usize) -> Result<(), AllocError> {
+        let word = self.word(index);
+        let last = self.word_before(index, 1);
+        let next = self.word(index.saturating_add(1));
+        match word {
+            b"and" => self.add_both(index, 1)?,
+            b"or" => self.add_either(index, 1)?,
+            b"&" => self.add_both(index, 2)?,
+            b"|" => self.add_either(index, 2)?,
+            b"%" | b"mod" => self.add_remainder(index)?,
+            b">" => self.add_turned(index)?,
+            b"!" if next == b"=".as_slice() => self.add_unequal(index)?,
+            b"'" => self.add_quoted(index)?,
+            b"elif" | b"elsif" | b"elseif" => self.add_else_if(index)?,
+            b"=" | b"+" | b"-" => self.add_changed(index)?,
+            b"(" if kind_of(last) == Kind::Type => self.add_new(index)?,
+            b"<-" if self.word_before(index, 2) == b".".as_slice() => self.add_setter(index)?,
+            _ => {}
+        }
+        if last == b"return".as_slice() {
+            self.add_returned(index)?;
+        }
+        if kind_of(word) == Kind::Type && !wants_type(last) {
+            self.add_object(index)?;
+        }
+        if kind_of(word) == Kind::Type && kind_of(next) == Kind::Object {
+            self.add_declaration(index)?;
+        } else if kind_of(last) == Kind::Type && kind_of(word) == Kind::Object {
+            self.add_declaration(index.saturating_sub(1))?;
+        }
+        Ok(())
+    }
+
+    /// `a and b` as `if a then b else false fi`, with a sign of so many lexemes.
+    fn add_both(&mut self, index: usize, many: usize) -> Result<(), AllocError> {
+        let said = Reason::Said("Cool has no `and`: `if a then b else false fi`");
+        self.add_choice(said, index, many, b" then ", b" else false fi")
+    }
+
+    /// `a or b` as `if a then true else b fi`.
+    fn add_either(&mut self, index: usize, many: usize) -> Result<(), AllocError> {
+        let said = Reason::Said("Cool has no `or`: `if a then true else b fi`");
+        self.add_choice(said, index, many, b" then true else ", b" fi")
+    }
+
+    /// `if` in front of the expression around a sign, and these in the place of the sign and behind the expression.
+    fn add_choice(
+        &mut self,
+        said: Reason,
+        index: usize,
+        many: usize,
+        middle: &[u8],
+        last: &[u8],
+    ) -> Result<(), AllocError> {
+        let behind = index.saturating_add(many);
+        let start = self.expression_start(index);
+        let end = self.expression_end(behind);
+        let text = self.joined(&[
+            b"if ",
+            self.between(start, index),
+            middle,
+            self.between(behind, end),
+            last,
+        ])?;
+        let from = self.lexeme(start).start;
+        let to = self.before(end, 1).end;
+        self.put(said, from, to, &text)
+    }
+
+    /// `a % b` as `a - a / b * b`.
+    fn add_remainder(&mut self, index: usize) -> Result<(), AllocError> {
+        let start = self.operand_start(index);
+        let behind = index.saturating_add(1);
+        let end = self.operand_end(behind);
+        let left = self.between(start, index);
+        let right = self.between(behind, end);
+        let text = self.joined(&[left, b" - ", left, b" / ", right, b" * ", right])?;
+        let from = self.lexeme(start).start;
+        let to = self.before(end, 1).end;
+        self.put(
+            Reason::Said("Cool has no remainder: `a - a / b * b`"),
+            from,
+            to,
+            &text,
+        )
+    }
+
+    /// `a > b` as `b < a`.
+    fn add_turned(&mut self, index: usize) -> Result<(), AllocError> {
+        let next = index.saturating_add(1);
+        let (behind, sign): (usize, &'static [u8]) = if self.word(next) == b"=".as_slice() {
+            (index.saturating_add(2), b" <= ")
+        } else {
+            (next, b" < ")
+        };
+        let said = Reason::Said("there is no `>`: the sides are turned");
+        let ends = [self.operand_end(behind), self.expression_end(behind)];
+        let starts = [self.operand_start(index), self.expression_start(index)];
+        for start in starts {
+            for end in ends {
+                let mut text = Vec::from_slice(self.alloc, self.between(behind, end))?;
+                text.extend_from_slice(sign)?;
+                text.extend_from_slice(self.between(start, index))?;
+                let from = self.lexeme(start).start;
+                self.put(said, from, self.before(end, 1).end, &text)?;
+            }
+        }
+        Ok(())
+    }
+
+    /// `a != b` as `not a = b`.
+    fn add_unequal(&mut self, index: usize) -> Result<(), AllocError> {
+        let start = self.expression_start(index);
+        let from = self.lexeme(start).start;
+        let first = self.splice(from, from, b"not ")?;
+        let sign = self.lexeme(index);
+        let second = self.splice(sign.start, sign.end, b"")?;
+        self.put_two(Reason::Said("there is no `!=`: `not a = b`"), first, second)
+    }
+
+    /// A string in single quotes.
+    fn add_quoted(&mut self, index: usize) -> Result<(), AllocError> {
+        let here = self.lexeme(index);
+        let rest = part(self.bytes, here.end, self.bytes.len());
+        for offset in 0..line_length(rest) {
+            if rest[offset] == b'\'' {
+                let other = here.end.saturating_add(offset);
+                let first = self.splice(here.start, here.end, b"\"")?;
+                let second = self.splice(other, other.saturating_add(1), b"\"")?;
+                return self.put_two(Reason::Said("a string stands in `\"`"), first, second);
+            }
+        }
+        Ok(())
+    }
+
+    /// `elif` as `else if`, with a `fi` more.
+    fn add_else_if(&mut self, index: usize) -> Result<(), AllocError> {
+        let here = self.lexeme(index);
+        let mut depth: usize = 0;
+        for there in index..index.saturating_add(LOOKED_AHEAD) {
+            match self.word(there) {
+                b"if" => depth = depth.saturating_add(1),
+                b"fi" if depth == 0 => {
+                    let end = self.lexeme(there).end;
+                    let first = self.splice(here.start, here.end, b"else if")?;
+                    let second = self.splice(end, end, b" fi")?;
+                    return self.put_two(
+                        Reason::Said("`else if .. fi`: each `if` has its own `fi`"),
+                        first,
+                        second,
+                    );
+                }
+                b"fi" => depth = depth.saturating_sub(1),
+                _ => {}
+            }
+        }
+        Ok(())
+    }
+
+    /// `x += a` as `x <- x + a`, and `x++` as `x <- x + 1`.
+    fn add_changed(&mut self, index: usize) -> Result<(), AllocError> {
+        let name = self.before(index, 2);
+        let sign = self.before(index, 1);
+        let here = self.lexeme(index);
+        let is_sum = matches!(self.text(sign), b"+" | b"-" | b"*" | b"/");
+        if kind_of(self.text(name)) != Kind::Object || !is_sum {
+            return Ok(());
+        }
+        let word = self.text(name);
+        if self.text(here) == b"=".as_slice() {
+            let text = self.joined(&[word, b" <- ", word, b" ", self.text(sign)])?;
+            let said = Reason::Said("a sum is given by `x <- x + a`");
+            self.put(said, name.start, here.end, &text)
+        } else {
+            let text = self.joined(&[word, b" <- ", word, b" ", self.text(sign), b" 1"])?;
+            let said = Reason::Said("a variable is counted by `x <- x + 1`");
+            self.put(said, name.start, here.end, &text)
+        }
+    }
+
+    /// `new C(..)` as `(new C).f(..)`, where a method gives its own object, and as `new C`.
+    fn add_new(&mut self, index: usize) -> Result<(), AllocError> {
+        let Some(close) = self.closing(index) else {
+            return Ok(());
+        };
+        let class = self.before(index, 1);
+        let start = self.before(index, 2).start;
+        let end = self.lexeme(close).end;
+        let given = part(self.bytes, self.lexeme(index).start, end);
+        let said = Reason::Said("`new` takes no arguments: a method of the new object does");
+        for there in 1..self.lexemes.len() {
+            let is_method = is_self_type(self.word(there), self.text(class))
+                && self.word_before(there, 1) == b":".as_slice();
+            let (true, Some(name)) = (is_method, self.method_before(there)) else {
+                continue;
+            };
+            let text = self.joined(&[b"(new ", self.text(class), b").", name, given])?;
+            self.put(said, start, end, &text)?;
+        }
+        self.put(
+            Reason::Said("`new` takes no arguments"),
+            class.end,
+            end,
+            b"",
+        )
+    }
+
+    /// The name of the method whose result type stands at a position.
+    fn method_before(&self, index: usize) -> Option<&'a [u8]> {
+        for back in 2..LOOKED_AT_FORMALS {
+            let there = index.checked_sub(back)?;
+            match self.word(there) {
+                b"(" => return Some(self.word_before(there, 1)),
+                b";" | b"{" | b"}" => return None,
+                _ => {}
+            }
+        }
+        None
+    }
+
+    /// `C.f()` as `(new C).f()`, and else `new` in front of a class.
+    fn add_object(&mut self, index: usize) -> Result<(), AllocError> {
+        let class = self.lexeme(index);
+        if self.word(index.saturating_add(1)) == b".".as_slice() {
+            let text = self.joined(&[b"(new ", self.text(class), b")"])?;
+            let said = Reason::Said("a method is one of an object: `(new C).f()`");
+            self.put_at(said, class, &text)?;
+        }
+        self.put(Reason::Missing, class.start, class.start, b"new ")
+    }
+
+    /// `a.x <- b` as `a.set_x(b)`.
+    fn add_setter(&mut self, index: usize) -> Result<(), AllocError> {
+        let name = self.before(index, 1);
+        let behind = index.saturating_add(1);
+        let end = self.expression_end(behind);
+        let given = self.between(behind, end);
+        let text = self.joined(&[b"set_", self.text(name), b"(", given, b")"])?;
+        let said = Reason::Said(
+            "an attribute is given a value in its own class and in those below it alone",
+        );
+        self.put(said, name.start, self.before(end, 1).end, &text)
+    }
+
+    /// `return` in front of the last expression.
+    fn add_returned(&mut self, index: usize) -> Result<(), AllocError> {
+        let last = self.before(index, 1);
+        let here = self.lexeme(index);
+        let said = Reason::Said("there is no `return`: the last expression is the value");
+        self.put(said, last.start, here.start, b"")?;
+        let end = self.expression_end(index);
+        if self.word(end) == b";".as_slice() {
+            let semicolon = self.lexeme(end);
+            let first = self.splice(last.start, here.start, b"")?;
+            let second = self.splice(semicolon.start, semicolon.end, b"")?;
+            self.put_two(said, first, second)?;
+        }
+        Ok(())
+    }
+
+    /// `C x` as `x : C`.
+    fn add_declaration(&mut self, index: usize) -> Result<(), AllocError> {
+        let class = self.lexeme(index);
+        let name = self.lexeme(index.saturating_add(1));
+        let text = self.joined(&[self.text(name), b" : ", self.text(class)])?;
+        let said = Reason::Said("a type stands behind its name: `x : C`");
+        self.put(said, class.start, name.end, &text)
+    }
+}
+
+/// Whether a type is that of the object itself, or this class.
+fn is_self_type(word: &[u8], class: &[u8]) -> bool {
+    word == b"SELF_TYPE".as_slice() || word == class
+}
+
+/// Whether a type stands behind a word.
+pub(crate) fn wants_type(word: &[u8]) -> bool {
+    matches!(word, b":" | b"new" | b"@" | b"inherits" | b"class")
+}

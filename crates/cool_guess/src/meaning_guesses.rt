@@ -1,0 +1,582 @@
+//! Candidates for faults of classes, features and typing, by the lexemes around and the names of all files.
+
+use crate::candidate::{Candidate, Candidates, Reason};
+use crate::definition::{is_class, parent_around};
+use crate::fitting::fitting;
+use crate::kind::{is_number, is_type_name};
+use crate::lexeme::Lexeme;
+use crate::names::{BASIC_CLASSES, MOST_NAMES, class_names, names_near, type_name};
+use crate::nearness::{are_near, distance};
+use crate::signs::{NAMES, TYPES};
+use cool_check::{TypeFault, TypeKind};
+use cool_classes::ClassKind;
+use cool_faults::Fault;
+use std::alloc::{AllocError, Global};
+
+/// How many lexemes of a declaration are looked at.
+const LOOKED_ALONG: usize = 64;
+
+/// How many words that fit beside a fault of typing are tried for a place.
+const MOST_BESIDE: usize = 6;
+
+/// The candidates for a fault at a position of a text, the likeliest first. `Err` comes only for want of memory.
+pub fn meaning_candidates(
+    alloc: Global,
+    files: &[Vec<u8>],
+    fault: &Fault,
+    bytes: &[u8],
+    lexemes: &[Lexeme],
+    index: usize,
+) -> Result<Vec<Candidate>, AllocError> {
+    let mut found = Candidates::new(alloc, bytes, lexemes);
+    match fault {
+        Fault::Class(fault) => found.add_for_class(files, fault.kind, index)?,
+        Fault::Typing(fault) => {
+            found.add_for_typing(files, fault, index)?;
+            found.add_beside(index)?;
+        }
+        _ => {}
+    }
+    let Candidates { all, .. } = found;
+    Ok(all)
+}
+
+impl<'a> Candidates<'a> {
+    fn add_for_class(
+        &mut self,
+        files: &[Vec<u8>],
+        kind: ClassKind,
+        index: usize,
+    ) -> Result<(), AllocError> {
+        match kind {
+            ClassKind::C2 | ClassKind::C3 | ClassKind::C4 | ClassKind::C5 => {
+                self.add_near_after(files, index, 4)?;
+                self.add_parents(index)
+            }
+            ClassKind::C6 => self.add_main_class(),
+            ClassKind::F2 => self.add_no_attribute(index),
+            ClassKind::F5 => self.add_own_class(index),
+            ClassKind::F6 => {
+                self.add_near_after(files, index, 1)?;
+                self.add_types(files, self.lexeme(index))
+            }
+            ClassKind::F7 => self.add_all_declared(files, index),
+            ClassKind::F8 => self.add_main_method(index),
+            _ => Ok(()),
+        }
+    }
+
+    fn add_for_typing(
+        &mut self,
+        files: &[Vec<u8>],
+        fault: &TypeFault,
+        index: usize,
+    ) -> Result<(), AllocError> {
+        match fault.kind {
+            TypeKind::E1 => {
+                self.add_unknown(index)?;
+                self.add_near(files, index)?;
+                self.add_attribute(files, index)
+            }
+            TypeKind::E4 => {
+                self.add_heir(index)?;
+                self.add_calls(index)?;
+                self.add_near(files, index)
+            }
+            TypeKind::E5 => self.add_arguments(index),
+            TypeKind::E7 | TypeKind::E8 | TypeKind::E11 | TypeKind::E12 => {
+                self.add_near_after(files, index, 1)?;
+                self.add_types(files, self.lexeme(index))
+            }
+            _ => self.add_for_value(files, fault, index),
+        }
+    }
+
+    /// Candidates for a value whose type does not fit.
+    fn add_for_value(
+        &mut self,
+        files: &[Vec<u8>],
+        fault: &TypeFault,
+        index: usize,
+    ) -> Result<(), AllocError> {
+        match fault.kind {
+            TypeKind::E14 | TypeKind::E15 | TypeKind::E16 => {
+                self.add_joined(index)?;
+                self.add_constants(index.saturating_sub(2), 5)?;
+                self.add_near(files, index)
+            }
+            TypeKind::E9 => {
+                self.add_compared(index)?;
+                self.add_constants(index, 8)
+            }
+            TypeKind::E3 | TypeKind::E6 => {
+                self.add_constants(index, 8)?;
+                self.add_found(files, fault, index)
+            }
+            TypeKind::E17 | TypeKind::E18 => {
+                self.add_constants(index, 24)?;
+                self.add_found(files, fault, index)?;
+                self.add_declared(files, index)
+            }
+            _ => Ok(()),
+        }
+    }
+
+    /// What fits by what stands beside the fault: in the place of a lexeme, and between two; and each lexeme taken out.
+    fn add_beside(&mut self, index: usize) -> Result<(), AllocError> {
+        for there in [
+            index,
+            index.saturating_add(1),
+            index.saturating_sub(1),
+            index.saturating_sub(2),
+        ] {
+            self.add_fitting(there)?;
+            self.add_parted(there, 0)?;
+        }
+        self.add_around(index, 0)?;
+        self.is_guess = true;
+        for there in [index, index.saturating_sub(1), index.saturating_add(1)] {
+            self.add_extra(there, 0)?;
+        }
+        self.is_guess = false;
+        Ok(())
+    }
+
+    /// What fits in the place of the lexeme at a position, and in front of it.
+    fn add_fitting(&mut self, index: usize) -> Result<(), AllocError> {
+        let here = self.lexeme(index);
+        let others = fitting(self.alloc, self.bytes, self.lexemes, index, true)?;
+        self.is_guess = true;
+        for fit in others.iter().take(MOST_BESIDE) {
+            self.put_at(Reason::Other, here, fit.word)?;
+        }
+        let more = fitting(self.alloc, self.bytes, self.lexemes, index, false)?;
+        for fit in more.iter().take(MOST_BESIDE) {
+            self.insert(index, fit.word)?;
+        }
+        self.is_guess = false;
+        Ok(())
+    }
+
+    /// `a = null` as `isvoid a`, and `super` as `self@Parent`.
+    fn add_unknown(&mut self, index: usize) -> Result<(), AllocError> {
+        let here = self.lexeme(index);
+        match self.text(here) {
+            b"null" | b"nil" | b"NULL" | b"void" | b"None"
+                if self.word_before(index, 1) == b"=".as_slice() => {
+                let sign = index.saturating_sub(1);
+                let start = self.operand_start(sign);
+                let text = self.joined(&[b"isvoid ", self.between(start, sign)])?;
+                let said = Reason::Said("there is no word for void: `isvoid x` asks for it");
+                self.put(said, self.lexeme(start).start, here.end, &text)
+            }
+            b"super" => {
+                let parent = parent_around(self.bytes, self.lexemes, index);
+                let text = self.joined(&[b"self@", parent])?;
+                let said = Reason::Said("`self@Parent.f()` calls the method of the class Parent");
+                self.put_at(said, here, &text)
+            }
+            _ => Ok(()),
+        }
+    }
+
+    /// An attribute of this name, in front of the features of the class.
+    fn add_attribute(&mut self, files: &[Vec<u8>], index: usize) -> Result<(), AllocError> {
+        let name = self.word(index);
+        for back in 0..index.saturating_add(1) {
+            let there = index.saturating_sub(back);
+            if is_class(self.word(there)) {
+                for open in [there.saturating_add(2), there.saturating_add(4)] {
+                    if self.word(open) == b"{".as_slice() {
+                        return self.put_attribute(files, self.lexeme(open).end, name);
+                    }
+                }
+                return Ok(());
+            }
+        }
+        Ok(())
+    }
+
+    /// An attribute of this name at a byte, of each type.
+    fn put_attribute(
+        &mut self,
+        files: &[Vec<u8>],
+        at: usize,
+        name: &[u8],
+    ) -> Result<(), AllocError> {
+        for class in ["Int", "String", "Bool"] {
+            self.put_typed(at, name, class.as_bytes())?;
+        }
+        let classes = class_names(self.alloc, files, MOST_NAMES)?;
+        for class in classes.as_slice() {
+            self.put_typed(at, name, class)?;
+        }
+        Ok(())
+    }
+
+    /// An attribute of this name and type at a byte.
+    fn put_typed(&mut self, at: usize, name: &[u8], class: &[u8]) -> Result<(), AllocError> {
+        let text = self.joined(&[b"\n  ", name, b" : ", class, b";"])?;
+        self.put(
+            Reason::Said("the name is declared as an attribute"),
+            at,
+            at,
+            &text,
+        )
+    }
+
+    /// `f(a)` as `a.f()`, and `a.equals(b)` as `a = b`.
+    fn add_calls(&mut self, index: usize) -> Result<(), AllocError> {
+        let here = self.lexeme(index);
+        let open = index.saturating_add(1);
+        let Some(close) = self.closing(open) else {
+            return Ok(());
+        };
+        let behind = open.saturating_add(1);
+        let given = self.between(behind, close);
+        let end = self.lexeme(close).end;
+        if self.word_before(index, 1) != b".".as_slice() {
+            let text = self.joined(&[given, b".", self.text(here), b"()"])?;
+            let said = Reason::Said("a method stands behind its object: `a.f()`");
+            return self.put(said, here.start, end, &text);
+        }
+        if matches!(self.text(here), b"equals" | b"compareTo" | b"eq") {
+            let text = self.joined(&[b" = ", given])?;
+            let said = Reason::Said("`=` compares");
+            return self.put(said, self.before(index, 1).start, end, &text);
+        }
+        Ok(())
+    }
+
+    /// Other arguments of the call at a position: one more that fits, at each place, or none.
+    fn add_arguments(&mut self, index: usize) -> Result<(), AllocError> {
+        let open = index.saturating_add(1);
+        let Some(close) = self.closing(open) else {
+            return Ok(());
+        };
+        let start = self.lexeme(open).end;
+        let said = Reason::Said("the call has as many arguments as the method has formals");
+        for there in [open.saturating_add(1), close] {
+            let fits = fitting(self.alloc, self.bytes, self.lexemes, there, false)?;
+            self.is_guess = true;
+            for fit in fits.as_slice() {
+                self.insert(there, fit.word)?;
+            }
+            self.add_around(there, 0)?;
+        }
+        self.put(said, start, self.lexeme(close).start, b"")
+    }
+
+    /// A predicate that is a number, compared with 0; an assignment, as a comparison.
+    fn add_compared(&mut self, index: usize) -> Result<(), AllocError> {
+        let start = self.expression_start(index);
+        let end = self.expression_end(index);
+        for there in start..end {
+            if self.word(there) == b"<-".as_slice() {
+                let said = Reason::Said("`=` compares: `<-` gives a value");
+                self.put_at(said, self.lexeme(there), b"=")?;
+            }
+        }
+        let from = self.lexeme(start).start;
+        let to = self.before(end, 1).end;
+        let first = self.splice(from, from, b"not ")?;
+        let second = self.splice(to, to, b" = 0")?;
+        self.put_two(Reason::Said("a number is compared with 0"), first, second)
+    }
+
+    /// The type that was found in the place of the declared one: of the variable, or else of the feature at a position.
+    fn add_found(
+        &mut self,
+        files: &[Vec<u8>],
+        fault: &TypeFault,
+        index: usize,
+    ) -> Result<(), AllocError> {
+        let Some(found) = fault.found else {
+            return Ok(());
+        };
+        let name = type_name(self.alloc, files, found)?;
+        let said = Reason::Said("the declared type is that of the value");
+        if let Some(declared) = self.declared(fault.kind, index) {
+            self.put_at(said, declared, &name)?;
+        }
+        Ok(())
+    }
+
+    /// The type in the declaration of the variable that is assigned at a position, or in the declaration that begins there.
+    fn declared(&self, kind: TypeKind, index: usize) -> Option<Lexeme> {
+        if kind != TypeKind::E3 {
+            return self.type_behind(index);
+        }
+        let name = self.word_before(index, 1);
+        let name = if self.word(index) == b"<-".as_slice() {
+            name
+        } else {
+            self.word(index)
+        };
+        for back in 1..index.saturating_add(1) {
+            let there = index.saturating_sub(back);
+            let is_it = self.word(there) == name
+                && self.word(there.saturating_add(1)) == b":".as_slice();
+            if is_it {
+                return Some(self.lexeme(there.saturating_add(2)));
+            }
+        }
+        None
+    }
+
+    /// The type behind the first colon outside of parentheses, from a position on.
+    fn type_behind(&self, index: usize) -> Option<Lexeme> {
+        let mut depth: usize = 0;
+        for offset in 0..LOOKED_ALONG {
+            let there = index.saturating_add(offset);
+            match self.word(there) {
+                b"(" => depth = depth.saturating_add(1),
+                b")" => depth = depth.saturating_sub(1),
+                b"{" | b"<-" | b";" => return None,
+                b":" if depth == 0 => return Some(self.lexeme(there.saturating_add(1))),
+                _ => {}
+            }
+        }
+        None
+    }
+
+    /// Names near to the one at a position, and what Cool has for it.
+    fn add_near(&mut self, files: &[Vec<u8>], index: usize) -> Result<(), AllocError> {
+        let here = self.lexeme(index);
+        let word = self.text(here);
+        self.put_ours(here, &NAMES)?;
+        self.put_ours(here, &TYPES)?;
+        let names = names_near(self.alloc, files, word)?;
+        for apart in 0..4 {
+            for name in names.as_slice() {
+                if distance(word, name) == apart && self.all.len() < MOST_NAMES {
+                    self.put_at(Reason::Other, here, name)?;
+                }
+            }
+        }
+        Ok(())
+    }
+
+    /// The same for each type among so many lexemes from a position on.
+    fn add_near_after(
+        &mut self,
+        files: &[Vec<u8>],
+        index: usize,
+        many: usize,
+    ) -> Result<(), AllocError> {
+        for offset in 0..many {
+            let there = index.saturating_add(offset);
+            if is_type_name(self.word(there)) {
+                self.add_near(files, there)?;
+            }
+        }
+        Ok(())
+    }
+
+    /// The class around inherits from IO.
+    fn add_heir(&mut self, index: usize) -> Result<(), AllocError> {
+        for back in 0..index.saturating_add(1) {
+            let there = index.saturating_sub(back);
+            if is_class(self.word(there)) {
+                if self.word(there.saturating_add(2)) == b"{".as_slice() {
+                    let name = self.lexeme(there.saturating_add(1));
+                    let said = Reason::Said(
+                        "the methods of IO are those of classes that inherit from it",
+                    );
+                    self.put(said, name.end, name.end, b" inherits IO")?;
+                }
+                return Ok(());
+            }
+        }
+        Ok(())
+    }
+
+    /// A class near the fault inherits from Object, or from IO.
+    fn add_parents(&mut self, index: usize) -> Result<(), AllocError> {
+        for offset in 0..4 {
+            let there = index.saturating_add(offset);
+            if self.word_before(there, 1) == b"inherits".as_slice() {
+                let parent = self.lexeme(there);
+                let said = Reason::Said("the class inherits from Object alone");
+                self.put(said, self.before(there, 2).end, parent.end, b"")?;
+                self.put_at(Reason::Other, parent, b"IO")?;
+                self.put_at(Reason::Other, parent, b"Object")?;
+            }
+        }
+        Ok(())
+    }
+
+    /// A class of a name near to it, or one that has a method main, is Main.
+    fn add_main_class(&mut self) -> Result<(), AllocError> {
+        let said = Reason::Said("a program begins in a class Main");
+        let mut class = Lexeme { start: 0, end: 0 };
+        for index in 1..self.lexemes.len() {
+            let word = self.word(index);
+            if is_class(self.word_before(index, 1)) {
+                class = self.lexeme(index);
+                if are_near(word, b"Main") || word == b"MAIN".as_slice() {
+                    self.put_at(said, class, b"Main")?;
+                }
+            }
+            let open = self.word(index.saturating_add(1));
+            if word == b"main".as_slice()
+                && open == b"(".as_slice()
+                && self.all.len() < MOST_NAMES
+            {
+                self.put_at(said, class, b"Main")?;
+            }
+        }
+        Ok(())
+    }
+
+    /// A method of Main is main, or has no formals.
+    fn add_main_method(&mut self, index: usize) -> Result<(), AllocError> {
+        for there in index..self.lexemes.len() {
+            let name = self.lexeme(there);
+            let open = there.saturating_add(1);
+            if self.word(open) != b"(".as_slice() || self.all.len() >= MOST_NAMES {
+                continue;
+            }
+            let word = self.text(name);
+            if word == b"main".as_slice() {
+                self.add_no_formals(open)?;
+            } else if are_near(word, b"main") || word == b"Main".as_slice() {
+                let said = Reason::Said("a program begins in the method main");
+                self.put_at(said, name, b"main")?;
+            }
+        }
+        Ok(())
+    }
+
+    /// No formals between the parenthesis at a position and the next one.
+    fn add_no_formals(&mut self, open: usize) -> Result<(), AllocError> {
+        for later in open..open.saturating_add(LOOKED_ALONG) {
+            if self.word(later) == b")".as_slice() {
+                let start = self.lexeme(open).end;
+                let end = self.lexeme(later).start;
+                return self.put(Reason::Said("main has no formals"), start, end, b"");
+            }
+        }
+        Ok(())
+    }
+
+    /// Other types in the declaration that begins at a position.
+    fn add_declared(&mut self, files: &[Vec<u8>], index: usize) -> Result<(), AllocError> {
+        match self.type_behind(index) {
+            Some(declared) => self.add_types(files, declared),
+            None => Ok(()),
+        }
+    }
+
+    /// No attribute at a position.
+    fn add_no_attribute(&mut self, index: usize) -> Result<(), AllocError> {
+        let end = self.lexeme(self.expression_end(index)).end;
+        let said = Reason::Said("the attribute that is there is used");
+        self.put(said, self.before(index, 1).end, end, b"")
+    }
+
+    /// The class around in the place of the type at a position.
+    fn add_own_class(&mut self, index: usize) -> Result<(), AllocError> {
+        for back in 1..index.saturating_add(1) {
+            let there = index.saturating_sub(back);
+            if is_class(self.word(there)) {
+                let class = self.word(there.saturating_add(1));
+                return self.put_at(Reason::Other, self.lexeme(index), class);
+            }
+        }
+        Ok(())
+    }
+
+    /// Other types for each formal, and for the result, of the method at a position.
+    fn add_all_declared(&mut self, files: &[Vec<u8>], index: usize) -> Result<(), AllocError> {
+        for offset in 0..LOOKED_ALONG {
+            let there = index.saturating_add(offset);
+            match self.word(there) {
+                b"{" | b";" => return Ok(()),
+                b":" => self.add_types(files, self.lexeme(there.saturating_add(1)))?,
+                _ => {}
+            }
+        }
+        Ok(())
+    }
+
+    /// All types in the place of one, at most so many.
+    fn add_types(&mut self, files: &[Vec<u8>], declared: Lexeme) -> Result<(), AllocError> {
+        let said = Reason::Said("the declared type is another");
+        self.put_each(said, declared, &BASIC_CLASSES)?;
+        let names = class_names(self.alloc, files, MOST_NAMES)?;
+        for name in names.as_slice() {
+            self.put_at(said, declared, name)?;
+        }
+        self.put_at(said, declared, b"SELF_TYPE")
+    }
+
+    /// Constants of the other type, and methods that take or give it, among so many lexemes from a position on and in front of it.
+    fn add_constants(&mut self, index: usize, many: usize) -> Result<(), AllocError> {
+        for offset in 0..many {
+            let there = index.saturating_add(offset);
+            if matches!(self.word(there), b";" | b"}") {
+                break;
+            }
+            self.add_constant(there)?;
+        }
+        for back in 1..4 {
+            if let Some(there) = index.checked_sub(back) {
+                if matches!(self.word(there), b"out_string" | b"out_int") {
+                    self.add_constant(there)?;
+                }
+            }
+        }
+        Ok(())
+    }
+
+    /// A constant of the other type, or a method that takes or gives it.
+    fn add_constant(&mut self, index: usize) -> Result<(), AllocError> {
+        let there = self.lexeme(index);
+        match self.text(there) {
+            [b'"', inner @ .., b'"'] if is_number(inner) => {
+                let said = Reason::Said("a number stands without quotes");
+                self.put_at(said, there, inner)
+            }
+            [b'0'..=b'9', ..] => {
+                let text = self.joined(&[b"\"", self.text(there), b"\""])?;
+                self.put_at(Reason::Said("a string stands in quotes"), there, &text)
+            }
+            b"in_string" => self.put_at(Reason::Other, there, b"in_int"),
+            b"in_int" => self.put_at(Reason::Other, there, b"in_string"),
+            b"out_string" => self.put_at(Reason::Other, there, b"out_int"),
+            b"out_int" => self.put_at(Reason::Other, there, b"out_string"),
+            _ => Ok(()),
+        }
+    }
+
+    /// `a + b` as `a.concat(b)`.
+    fn add_joined(&mut self, index: usize) -> Result<(), AllocError> {
+        if self.word(index) != b"+".as_slice() {
+            return Ok(());
+        }
+        let mut depth: usize = 0;
+        for later in index.saturating_add(1)..self.lexemes.len() {
+            match self.word(later) {
+                b"(" => depth = depth.saturating_add(1),
+                b")" | b"+" | b";" | b"," | b"}" | b"fi" | b"then" | b"in" if depth == 0 => {
+                    return self.put_joined(index, later);
+                }
+                b")" => depth = depth.saturating_sub(1),
+                _ => {}
+            }
+        }
+        Ok(())
+    }
+
+    /// `.concat(` in the place of the sign at a position, and `)` in front of the lexeme at a later one.
+    fn put_joined(&mut self, sign: usize, end: usize) -> Result<(), AllocError> {
+        let start = self.before(sign, 1).end;
+        let next = self.lexeme(sign.saturating_add(1)).start;
+        let close = self.before(end, 1).end;
+        let first = self.splice(start, next, b".concat(")?;
+        let second = self.splice(close, close, b")")?;
+        let said = Reason::Said("strings are joined by `a.concat(b)`");
+        self.put_two(said, first, second)
+    }
+}

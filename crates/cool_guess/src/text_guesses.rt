@@ -1,0 +1,519 @@
+//! Candidates for faults of lexemes and syntax, by the lexemes around.
+
+use crate::candidate::{Candidate, Candidates, Reason, ends_word, is_blank};
+use crate::extents::begins_expression;
+use crate::fitting::{fitting, is_known, words_around};
+use crate::forms::wants_type;
+use crate::kind::{KEYWORDS, Kind, is_one_of, kind_of};
+use crate::lexeme::{Lexeme, line_length, part};
+use crate::nearness::are_near;
+use crate::signs::{PAIRS, TYPES, WORDS};
+use std::alloc::{AllocError, Global};
+
+/// What is tried in front of a fault and in its place, the likeliest first.
+static PIECES: [&str; 18] = [
+    ";", "fi", "in", ")", "}", "pool", "esac", "then", "loop", "of", "else", "(", ":", "<-", "=>",
+    ",", ".", "{",
+];
+
+/// What is tried after these: it is told only where the files are a program then.
+static GUESSES: [&str; 30] = [
+    "=", "+", "<", "-", "*", "/", "<=", "@", "let", "if", "while", "case", "new", "not", "isvoid",
+    "~", "inherits", "class", "0", "1", "true", "false", "self", "\"\"", "Main", "Int", "String",
+    "Bool", "Object", "IO",
+];
+
+/// Several at once.
+static PHRASES: [&str; 10] = [
+    " : Int",
+    " : String",
+    " : Bool",
+    " : Object",
+    " : SELF_TYPE",
+    " else 0 fi",
+    " else 0",
+    "()",
+    " fi fi",
+    "; }",
+];
+
+/// Words and signs that end an operand or what a word began.
+static CLOSERS: [&str; 2] = [")", "}"];
+
+/// Words that begin an expression or a definition, or stand in front of one.
+static OPENERS: [&str; 11] = [
+    "if", "while", "case", "let", "(", "{", "new", "not", "class", "isvoid", "~",
+];
+
+/// How many lexemes in front of the fault are looked at.
+const LOOKED_BACK: usize = 4;
+
+/// How many lexemes in front of the fault may be those behind a word that is missing.
+const LOOKED_FAR: usize = 40;
+
+/// What may be missing in the middle of a word that is two.
+static PARTING: [&str; 10] = [" ", "(", ".", ", ", " : ", "; ", ") ", " + ", " - ", " = "];
+
+/// The longest words that are parted.
+const MOST_LETTERS: usize = 40;
+
+/// The most braces, words and signs of a line that a string may have swallowed.
+const MOST_SWALLOWED: usize = 6;
+
+/// The candidates for the fault at a position of a text, the likeliest first. `Err` comes only for want of memory.
+pub fn text_candidates(
+    alloc: Global,
+    bytes: &[u8],
+    lexemes: &[Lexeme],
+    index: usize,
+) -> Result<Vec<Candidate>, AllocError> {
+    let mut found = Candidates::new(alloc, bytes, lexemes);
+    found.add_words(index)?;
+    found.add_forms(index)?;
+    found.add_commented(index)?;
+    found.add_closed(index)?;
+    found.add_names(index)?;
+    found.add_keywords(index)?;
+    found.add_doubled(index, 0, LOOKED_BACK)?;
+    found.add_exchanged(index)?;
+    found.add_missing(index, 0)?;
+    found.add_braces(index)?;
+    found.add_extra(index, 0)?;
+    for back in 1..LOOKED_BACK {
+        found.add_missing(index, back)?;
+    }
+    found.add_doubled(index, LOOKED_BACK, LOOKED_FAR)?;
+    found.add_openers(index)?;
+    for back in 0..LOOKED_BACK {
+        found.add_others(index, back)?;
+    }
+    for back in 0..LOOKED_BACK {
+        found.add_parted(index, back)?;
+    }
+    found.add_around(index, 0)?;
+    found.add_around(index, 1)?;
+    found.add_phrases(index)?;
+    for back in 1..LOOKED_BACK {
+        found.add_extra(index, back)?;
+    }
+    let Candidates { all, .. } = found;
+    Ok(all)
+}
+
+impl<'a> Candidates<'a> {
+    /// Signs and words of other languages.
+    fn add_words(&mut self, index: usize) -> Result<(), AllocError> {
+        self.put_pairs(index, &PAIRS)?;
+        self.put_pairs(index.saturating_add(1), &PAIRS)?;
+        self.put_words(self.lexeme(index), &WORDS)?;
+        self.put_words(self.before(index, 1), &WORDS)
+    }
+
+    /// What a table has for the lexeme at a position and the one before it.
+    fn put_pairs(
+        &mut self,
+        index: usize,
+        table: &[(&str, &str, &str, &'static str)],
+    ) -> Result<(), AllocError> {
+        let first = self.before(index, 1);
+        let second = self.lexeme(index);
+        for (one, other, text, said) in table {
+            if one.as_bytes() == self.text(first) && other.as_bytes() == self.text(second) {
+                self.put_pair(Reason::Said(said), first, second, text.as_bytes())?;
+            }
+        }
+        Ok(())
+    }
+
+    /// A text in the place of two lexemes: where it is the second, the first is taken out.
+    fn put_pair(
+        &mut self,
+        said: Reason,
+        first: Lexeme,
+        second: Lexeme,
+        text: &[u8],
+    ) -> Result<(), AllocError> {
+        if text == self.text(second) {
+            self.put(said, first.start, first.end, b"")
+        } else {
+            self.put(said, first.start, second.end, text)
+        }
+    }
+
+    /// What a table has for a lexeme.
+    fn put_words(
+        &mut self,
+        place: Lexeme,
+        table: &[(&str, &str, &'static str)],
+    ) -> Result<(), AllocError> {
+        for (word, text, said) in table {
+            if word.as_bytes() == self.text(place) {
+                self.put_at(Reason::Said(said), place, text.as_bytes())?;
+            }
+        }
+        Ok(())
+    }
+
+    /// Comments that are not closed, and comments of other languages over several lines.
+    fn add_commented(&mut self, index: usize) -> Result<(), AllocError> {
+        let here = self.lexeme(index);
+        let last = self.before(index, 1);
+        match (self.text(last), self.text(here)) {
+            (b"/", b"*") => self.add_comment(index),
+            (_, b"/") if self.word(index.saturating_add(1)) == b"*".as_slice() => {
+                self.add_comment(index.saturating_add(1))
+            }
+            (_, b"(") if self.word(index.saturating_add(1)) == b"*".as_slice() => {
+                let line = line_length(part(self.bytes, here.start, self.bytes.len()));
+                let stop = here.start.saturating_add(line);
+                let said = Reason::Said("each `(*` wants a `*)`");
+                self.put(said, stop, stop, b" *)")?;
+                let end = self.bytes.len();
+                self.put(said, end, end, b" *)\n")
+            }
+            (_, b"*") => {
+                let said = Reason::Said("no `(*` is open here");
+                self.put(said, here.start, here.end.saturating_add(1), b"")
+            }
+            _ => Ok(()),
+        }
+    }
+
+    /// `/* .. */` as `(* .. *)`.
+    fn add_comment(&mut self, index: usize) -> Result<(), AllocError> {
+        for later in index.saturating_add(1)..self.lexemes.len() {
+            let end = self.lexeme(later.saturating_add(1));
+            if self.word(later) == b"*".as_slice() && self.text(end) == b"/".as_slice() {
+                let first = self.splice(
+                    self.before(index, 1).start,
+                    self.lexeme(index).end,
+                    b"(*",
+                )?;
+                let second = self.splice(self.lexeme(later).start, end.end, b"*)")?;
+                let said = Reason::Said("a comment stands in `(*` and `*)`");
+                return self.put_two(said, first, second);
+            }
+        }
+        Ok(())
+    }
+
+    /// A string that is closed at the end of its line, or in front of the signs that end it.
+    fn add_closed(&mut self, index: usize) -> Result<(), AllocError> {
+        let here = self.lexeme(index);
+        if !matches!(self.text(here), [b'"', ..]) {
+            return Ok(());
+        }
+        let said = Reason::Said("the string is closed");
+        let mut place = here.end;
+        for _ in 0..MOST_SWALLOWED {
+            self.put(said, place, place, b"\"")?;
+            let before = place.saturating_sub(1);
+            let is_sign = matches!(
+                part(self.bytes, before, place),
+                b")" | b";" | b" " | b"}" | b"," | b"\r"
+            );
+            if !is_sign || before <= here.start {
+                break;
+            }
+            place = before;
+        }
+        self.put(said, here.end, here.end, b"\")")?;
+        let said = Reason::Said("a string goes on behind a `\\` at the end of its line");
+        self.put(said, here.end, here.end, b"\\")
+    }
+
+    /// Types that begin with a small letter, and other names that begin with a capital one.
+    fn add_names(&mut self, index: usize) -> Result<(), AllocError> {
+        let here = self.lexeme(index);
+        let word = self.text(here);
+        self.put_ours(here, &TYPES)?;
+        let mut text = Vec::from_slice(self.alloc, word)?;
+        let said = match (kind_of(word), text.first_mut()) {
+            (Kind::Object, Some(first)) => {
+                *first = first.to_ascii_uppercase();
+                Reason::Said("a type begins with a capital letter")
+            }
+            (Kind::Type, Some(first)) => {
+                *first = first.to_ascii_lowercase();
+                Reason::Said("the name of a feature or variable begins with a small letter")
+            }
+            _ => return Ok(()),
+        };
+        self.put_at(said, here, &text)
+    }
+
+    /// Keywords near to the lexeme at the fault and to the one before it, and `new C()`.
+    fn add_keywords(&mut self, index: usize) -> Result<(), AllocError> {
+        self.put_near(self.lexeme(index), &KEYWORDS)?;
+        self.put_near(self.before(index, 1), &KEYWORDS)
+    }
+
+    /// Those of a table that are near to a lexeme.
+    fn put_near(&mut self, place: Lexeme, table: &[&str]) -> Result<(), AllocError> {
+        for known in table {
+            if are_near(self.text(place), known.as_bytes()) {
+                self.put_at(Reason::Other, place, known.as_bytes())?;
+            }
+        }
+        Ok(())
+    }
+
+    /// A lexeme that stands twice, among those so many before the fault.
+    fn add_doubled(&mut self, index: usize, from: usize, to: usize) -> Result<(), AllocError> {
+        for back in from..to {
+            let second = self.before(index, back);
+            let first = self.before(index, back.saturating_add(1));
+            if self.text(first) == self.text(second) && first.end > first.start {
+                self.put_at(Reason::Extra, second, b"")?;
+            }
+        }
+        Ok(())
+    }
+
+    /// Several expressions in the braces of a method, or behind `then`, `else`, `loop`, `in`.
+    fn add_braces(&mut self, index: usize) -> Result<(), AllocError> {
+        if self.word(index) != b";".as_slice() {
+            return Ok(());
+        }
+        let (Some(open), Some(close)) = (self.opened(index), self.closed(index)) else {
+            return Ok(());
+        };
+        let last = self.word_before(close, 1);
+        let text: &'static [u8] = if last == b";".as_slice() {
+            b"} "
+        } else {
+            b"; } "
+        };
+        let open = self.lexeme(open).end;
+        let close = self.lexeme(close).start;
+        let first = self.splice(open, open, b" {")?;
+        let second = self.splice(close, close, text)?;
+        let said = Reason::Said(
+            "several expressions stand in braces of their own, each ended by `;`",
+        );
+        self.put_two(said, first, second)
+    }
+
+    /// The nearest brace, or word that has an expression behind it, that is open at a position.
+    fn opened(&self, index: usize) -> Option<usize> {
+        let mut depth: usize = 0;
+        for back in 1..index.saturating_add(1) {
+            match self.word_before(index, back) {
+                b"}" | b")" | b"fi" | b"pool" | b"esac" => depth = depth.saturating_add(1),
+                b"{" | b"then" | b"else" | b"loop" | b"in" if depth == 0 => {
+                    return index.checked_sub(back);
+                }
+                b"{" | b"(" | b"if" | b"while" | b"case" => depth = depth.saturating_sub(1),
+                _ => {}
+            }
+        }
+        None
+    }
+
+    /// The brace or word that closes what is open at a position.
+    fn closed(&self, index: usize) -> Option<usize> {
+        let mut depth: usize = 0;
+        for later in index..self.lexemes.len() {
+            match self.word(later) {
+                b"}" | b"fi" | b"pool" | b"else" | b")" if depth == 0 => return Some(later),
+                b"{" | b"(" | b"if" | b"while" | b"case" => depth = depth.saturating_add(1),
+                b"}" | b")" | b"fi" | b"pool" | b"esac" => depth = depth.saturating_sub(1),
+                _ => {}
+            }
+        }
+        None
+    }
+
+    /// Two lexemes beside each other, exchanged: the one at the fault and the next, and then those before it.
+    fn add_exchanged(&mut self, index: usize) -> Result<(), AllocError> {
+        let next = index.saturating_add(1);
+        for back in 0..LOOKED_BACK {
+            let second = self.before(next, back);
+            let first = self.before(next, back.saturating_add(1));
+            let text = self.exchanged(first, second)?;
+            self.put(
+                Reason::Said("two are exchanged"),
+                first.start,
+                second.end,
+                &text,
+            )?;
+        }
+        Ok(())
+    }
+
+    /// The second of two lexemes and then the first, with what stands between them, and no word joined to the one before it.
+    fn exchanged(&self, first: Lexeme, second: Lexeme) -> Result<Vec<u8>, AllocError> {
+        let mut text = Vec::new(self.alloc);
+        let in_front = part(self.bytes, first.start.saturating_sub(1), first.start);
+        if ends_word(in_front) && ends_word(self.text(second)) {
+            text.push(b' ')?;
+        }
+        text.extend_from_slice(self.text(second))?;
+        let between = part(self.bytes, first.end, second.start);
+        text.extend_from_slice(between)?;
+        if between.is_empty() && ends_word(self.text(first)) {
+            text.push(b' ')?;
+        }
+        text.extend_from_slice(self.text(first))?;
+        Ok(text)
+    }
+
+    /// What may be missing in front of the lexeme so many before the fault.
+    fn add_missing(&mut self, index: usize, back: usize) -> Result<(), AllocError> {
+        let Some(there) = index.checked_sub(back) else {
+            return Ok(());
+        };
+        let fits = fitting(self.alloc, self.bytes, self.lexemes, there, false)?;
+        for fit in fits.as_slice() {
+            self.is_guess = kind_of(fit.word) != Kind::Fixed;
+            self.insert(there, fit.word)?;
+        }
+        self.is_guess = false;
+        self.insert_each(there, &PIECES)?;
+        self.is_guess = true;
+        self.insert_each(there, &GUESSES)?;
+        self.is_guess = false;
+        Ok(())
+    }
+
+    /// Adds one with each of these words in front of the lexeme at a position.
+    fn insert_each(&mut self, index: usize, words: &[&str]) -> Result<(), AllocError> {
+        for word in words {
+            self.insert(index, word.as_bytes())?;
+        }
+        Ok(())
+    }
+
+    /// Adds one with a word in front of the lexeme at a position: behind the one before it, or right in front of it where it opens something.
+    pub(crate) fn insert(&mut self, index: usize, word: &[u8]) -> Result<(), AllocError> {
+        let here = self.lexeme(index);
+        let is_opener = is_opener(word);
+        let place = if is_opener {
+            here.start
+        } else {
+            self.before(index, 1).end
+        };
+        let in_front = part(self.bytes, place.saturating_sub(1), place);
+        let behind = part(self.bytes, place, place.saturating_add(1));
+        let is_name = ends_word(word);
+        let is_close = matches!(word, b";" | b")" | b"," | b"." | b"(" | b"@" | b"~");
+        let is_apart = if is_opener {
+            ends_word(in_front) && is_name
+        } else {
+            !is_close && !is_blank(in_front)
+        };
+        let mut text = Vec::new(self.alloc);
+        if is_apart {
+            text.push(b' ')?;
+        }
+        text.extend_from_slice(word)?;
+        if !is_close && !is_blank(behind) && !is_end(behind) {
+            text.push(b' ')?;
+        }
+        self.put(Reason::Missing, place, place, &text)
+    }
+
+    /// Words that open something, in front of the expressions before the fault.
+    fn add_openers(&mut self, index: usize) -> Result<(), AllocError> {
+        for back in 1..LOOKED_FAR {
+            let Some(there) = index.checked_sub(back) else {
+                return Ok(());
+            };
+            if begins_expression(self.word_before(there, 1)) {
+                self.insert_each(there, &OPENERS)?;
+            }
+            if kind_of(self.word_before(there, 1)) != Kind::Fixed {
+                self.insert_each(there, &CLOSERS)?;
+            }
+        }
+        Ok(())
+    }
+
+    /// What may be meant in the place of the lexeme so many before the fault.
+    fn add_others(&mut self, index: usize, back: usize) -> Result<(), AllocError> {
+        let Some(there) = index.checked_sub(back) else {
+            return Ok(());
+        };
+        let here = self.lexeme(there);
+        let fits = fitting(self.alloc, self.bytes, self.lexemes, there, true)?;
+        self.is_guess = true;
+        for fit in fits.as_slice() {
+            self.put_at(Reason::Other, here, fit.word)?;
+        }
+        self.put_each(Reason::Other, here, &PIECES)?;
+        self.put_each(Reason::Other, here, &GUESSES)?;
+        self.is_guess = false;
+        Ok(())
+    }
+
+    /// Names and constants that stand nearby, in front of the lexeme so many before the fault, and in its place.
+    pub(crate) fn add_around(&mut self, index: usize, back: usize) -> Result<(), AllocError> {
+        let Some(there) = index.checked_sub(back) else {
+            return Ok(());
+        };
+        let here = self.lexeme(there);
+        let is_type = wants_type(self.word_before(there, 1));
+        let words = words_around(self.alloc, self.bytes, self.lexemes, there, is_type)?;
+        self.is_guess = true;
+        for word in words.as_slice() {
+            self.insert(there, word)?;
+        }
+        for word in words.as_slice() {
+            self.put_at(Reason::Other, here, word)?;
+        }
+        self.is_guess = false;
+        Ok(())
+    }
+
+    /// A name that is two, with what may be missing between them.
+    pub(crate) fn add_parted(&mut self, index: usize, back: usize) -> Result<(), AllocError> {
+        let here = self.before(index, back);
+        let word = self.text(here);
+        for length in 1..word.len().min(MOST_LETTERS) {
+            let (front, behind) = word.split_at(length);
+            if is_known(self.bytes, self.lexemes, front)
+                && is_known(self.bytes, self.lexemes, behind)
+            {
+                let place = here.start.saturating_add(length);
+                self.put_parts(place, here.end)?;
+            }
+        }
+        Ok(())
+    }
+
+    /// What may be missing at a byte in the middle of a word, or be meant in the place of the rest of it.
+    fn put_parts(&mut self, place: usize, end: usize) -> Result<(), AllocError> {
+        self.is_guess = true;
+        let middle = Lexeme {
+            start: place,
+            end: place,
+        };
+        self.put_each(Reason::Missing, middle, &PARTING)?;
+        let rest = Lexeme { start: place, end };
+        self.put_each(Reason::Other, rest, &PARTING)?;
+        self.is_guess = false;
+        Ok(())
+    }
+
+    /// The lexeme so many before the fault may be one too many.
+    pub(crate) fn add_extra(&mut self, index: usize, back: usize) -> Result<(), AllocError> {
+        let there = self.before(index, back);
+        self.put_at(Reason::Extra, there, b"")
+    }
+
+    /// Several words that may be missing in front of the fault.
+    fn add_phrases(&mut self, index: usize) -> Result<(), AllocError> {
+        let end = self.before(index, 1).end;
+        self.put_each(Reason::Missing, Lexeme { start: end, end }, &PHRASES)
+    }
+}
+
+/// Whether a word belongs to what stands behind it.
+fn is_opener(word: &[u8]) -> bool {
+    is_one_of(&OPENERS, word)
+}
+
+/// Whether a byte is a sign that stands right behind a word.
+fn is_end(byte: &[u8]) -> bool {
+    matches!(byte, b";" | b")" | b"," | b".")
+}
