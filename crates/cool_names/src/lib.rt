@@ -19,4 +19,5 @@ pub use laws::{
     law_declared_type, law_marks_are_names, law_program_uses_told, law_seen_type, law_uses_told,
 };
 pub use mark::{Mark, Meaning, Role, Target};
+pub use meaning::method_meaning;
 pub use program::program_marks;

@@ -51,7 +51,7 @@ pub(crate) fn variable_meaning(
 }
 
 /// The meaning of a method. `Err` comes only for want of memory.
-pub(crate) fn method_meaning(
+pub fn method_meaning(
     alloc: Global,
     table: &ClassTable,
     method: MethodRef,

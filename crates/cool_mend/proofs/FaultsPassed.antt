@@ -1,0 +1,40 @@
+-- Faults after an edit, of which one more is passed.
+use Rattle.std.proofs.Common.{◌≡◌, ℕ, ◌+◌, ◌<◌, ◌≤◌, List, [], ◌∷◌, ◌++◌, length, get_or, map, take, drop, nat_eq, true, subst, sym, ap, append_assoc, arith, ◌∙◌}
+use Rattle.std.proofs.lemmas.Bool.{eqb-true}
+use Rattle.std.proofs.lemmas.List.{map-append, map_push, take_all, take_more}
+use Rattle.cool_syntax.specs.FaultOrder.{Standing}
+use Rattle.cool_faults.specs.declared.fault.Fault.{Fault}
+use Rattle.cool_faults.specs.Verdicts.{standing_of}
+use Rattle.cool_mend.specs.declared.edit.Edit.{Edit}
+use Rattle.cool_mend.specs.Mends.{IsPart, line_ends, moved_standing, others, taken}
+use Rattle.cool_mend.proofs.PartsOfLists.{part_kept}
+
+-- the next one is this
+pub next_kept : (after : List Fault) (found : ℕ) (f d : Fault) (m : Standing) (earlier : List Standing) → found < length after → f ≡ get_or after found d → standing_of f ≡ m
+    → IsPart (map standing_of (take found after)) earlier → IsPart (map standing_of (take (found + 1) after)) (earlier ++ m ∷ [])
+next_kept after found f d m earlier within is same part =
+    subst (λ (l : List Standing). IsPart l (earlier ++ m ∷ []))
+    (sym (ap (map standing_of) (take_more after found d within) ∙ map_push standing_of (take found after) (get_or after found d) ∙ ap (λ (s : Standing). map standing_of (take found after) ++ s ∷ []) (ap standing_of (sym is) ∙ same)))
+    (part_kept m (map standing_of (take found after)) earlier part)
+
+-- one more of the faults is moved
+pub moved_more : (move : Fault → Standing) (earlier : List Standing) (faults : List Fault) (i : ℕ) (f d : Fault) → i < length faults → f ≡ get_or faults i d
+    → (earlier ++ map move (take i faults)) ++ move f ∷ [] ≡ earlier ++ map move (take (i + 1) faults)
+moved_more move earlier faults i f d within is =
+    append_assoc earlier (map move (take i faults)) (move f ∷ [])
+    ∙ ap (λ (l : List Standing). earlier ++ l) (ap (λ (x : Fault). map move (take i faults) ++ move x ∷ []) is ∙ sym (map_push move (take i faults) (get_or faults i d)) ∙ ap (map move) (sym (take_more faults i d within)))
+
+-- the faults that were passed are all, and are among those in front of a number and behind it
+pub all_passed : (move : Fault → Standing) (front back after : List Fault) (k n : ℕ) → length back ≤ n → nat_eq k (length after) ≡ true → IsPart (map standing_of (take k after)) (map move front ++ map move (take n back))
+    → IsPart (map standing_of after) (map move (front ++ back))
+all_passed move front back after k n whole all part =
+    subst (λ (l : List Fault). IsPart (map standing_of l) (map move (front ++ back))) (take_all k after (omega (arith, eqb-true k (length after) all)))
+    (subst (λ (l : List Standing). IsPart (map standing_of (take k after)) l)
+    (ap (λ (l : List Fault). map move front ++ map move l) (take_all n back whole) ∙ sym (map-append move front back)) part)
+
+-- so they are the other ones
+pub are_others : (files : List (List ℕ)) (e : Edit) (number : ℕ) (before after : List Fault) (more less : ℕ) → more ≡ line_ends e.text.items → less ≡ line_ends (taken e files)
+    → IsPart (map standing_of after) (map (moved_standing e more less) (take number before ++ drop (number + 1) before)) → IsPart (map standing_of after) (others files e number before)
+are_others files e number before after more less is_more is_less =
+    subst (λ (m : Fault → Standing). IsPart (map standing_of after) (map m (take number before ++ drop (number + 1) before)))
+    (ap (λ (m : ℕ). moved_standing e m less) is_more ∙ ap (moved_standing e (line_ends e.text.items)) is_less)

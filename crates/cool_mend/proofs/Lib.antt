@@ -1,0 +1,4 @@
+pub mod FilesEdited
+pub mod PartsOfLists
+pub mod MendsTold
+pub mod FaultsPassed

@@ -1,0 +1,15 @@
+-- A list without some of its items, to which one more comes.
+use Rattle.std.proofs.Common.{List, [], ◌∷◌, ◌++◌}
+use Rattle.cool_mend.specs.Mends.{IsPart, none, kept, left}
+
+-- the item that comes is left out
+pub part_left : {X : Type 0} (y : X) (xs ys : List X) → IsPart xs ys → IsPart xs (ys ++ y ∷ [])
+part_left y _ _ none = left y [] [] none
+part_left y _ _ (kept x xs ys p) = kept x xs (ys ++ y ∷ []) (part_left y xs ys p)
+part_left y _ _ (left z xs ys p) = left z xs (ys ++ y ∷ []) (part_left y xs ys p)
+
+-- the item that comes is kept
+pub part_kept : {X : Type 0} (y : X) (xs ys : List X) → IsPart xs ys → IsPart (xs ++ y ∷ []) (ys ++ y ∷ [])
+part_kept y _ _ none = kept y [] [] none
+part_kept y _ _ (kept x xs ys p) = kept x (xs ++ y ∷ []) (ys ++ y ∷ []) (part_kept y xs ys p)
+part_kept y _ _ (left z xs ys p) = left z (xs ++ y ∷ []) (ys ++ y ∷ []) (part_kept y xs ys p)

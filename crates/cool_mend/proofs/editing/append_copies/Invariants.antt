@@ -1,0 +1,7 @@
+-- The copies so far with those of the files that are left are all.
+use Rattle.std.proofs.Common.{◌≡◌, ◌++◌, drop}
+use Rattle.cool_faults.specs.Files.{bytes_of}
+use Rattle.cool_mend.proofs.editing.append_copies.Given as goal
+
+abbrev pub invariant-loop-index : goal.invariant-loop-index
+invariant-loop-index l = bytes_of l.all.items ++ bytes_of (drop l.index l.files) ≡ bytes_of l.initial.all.items ++ bytes_of l.files

@@ -1,0 +1,13 @@
+-- The faults so far, moved, hold those that were passed since the start.
+use Rattle.std.proofs.Common.{◌++◌, ◌≤◌, List, length, map, take}
+use Rattle.cool_syntax.specs.FaultOrder.{Standing}
+use Rattle.cool_faults.specs.Verdicts.{standing_of}
+use Rattle.cool_mend.specs.Mends.{IsPart, moved_standing}
+use Rattle.cool_mend.proofs.mended.passed.Given as goal
+
+abbrev pub invariant-loop-index : goal.invariant-loop-index
+invariant-loop-index l = record {
+  bound : l.found ≤ length l.after;
+  part : (earlier : List Standing) → IsPart (map standing_of (take l.initial.found l.after)) earlier
+      → IsPart (map standing_of (take l.found l.after)) (earlier ++ map (moved_standing l.edit l.lines.more l.lines.less) (take l.index l.faults));
+}

@@ -1,0 +1,97 @@
+-- What explanations of faults tell.
+use Rattle.std.specs.Prelude.{◌≡◌, ℕ, suc, List, [], ◌∷◌, ◌++◌, map, Option, Some, None, IfSome}
+use Rattle.std.specs.List.{AllByRecursion}
+use Rattle.std.specs.Global.{Vec}
+use Rattle.cool_classes.specs.declared.class_id.ClassId.{ClassId}
+use Rattle.cool_classes.specs.declared.class_id.Ty.{Ty}
+use Rattle.cool_classes.specs.declared.class_id.Ty.TheVariants.{Class as IsClass, SelfType}
+use Rattle.cool_classes.specs.declared.method.MethodRef.{MethodRef}
+use Rattle.cool_classes.specs.Chains.{Class, IsChain, name_of}
+use Rattle.cool_classes.specs.Features.{implementation}
+use Rattle.cool_classes.specs.Names.{self_type}
+use Rattle.cool_faults.specs.declared.fault.Fault.{Fault}
+use Rattle.cool_faults.specs.declared.fault.Fault.TheVariants.{Lex, Syntax, Class as OfClasses, Typing}
+use Rattle.cool_faults.specs.declared.fault.Untyped.{Untyped}
+use Rattle.cool_faults.specs.Untyped.{IsUntyped}
+use Rattle.cool_faults.specs.Verdicts.{IsFaultList}
+use Rattle.cool_names.specs.Meanings.{method_meaning}
+use Rattle.cool_mend.specs.declared.explanation.Explanation.{Explanation}
+use Rattle.cool_mend.specs.declared.explanation.Mend.{Mend}
+use Rattle.cool_mend.specs.declared.explanation.Methods.{Methods}
+use Rattle.cool_mend.specs.declared.explanation.Types.{Types}
+use Rattle.cool_mend.specs.Edits.{IsEdit}
+use Rattle.cool_mend.specs.Mends.{Mends}
+
+-- the files are this class table
+abbrev pub IsTableOf : List (List ℕ) → List Class → Type 0
+IsTableOf files p = (u : Untyped) × IsUntyped files u × (u.classes ≡ p)
+
+-- how a type is written
+abbrev pub type_text : List Class → Ty → List ℕ
+type_text p SelfType = self_type
+type_text p (IsClass c) = name_of p c
+
+-- the type that was found and the one that was due, of a fault of typing that tells them
+abbrev pub found_type : Fault → Option Ty
+found_type (Lex f) = None
+found_type (Syntax f) = None
+found_type (OfClasses f) = None
+found_type (Typing f) = f.found
+
+abbrev pub due_type : Fault → Option Ty
+due_type (Lex f) = None
+due_type (Syntax f) = None
+due_type (OfClasses f) = None
+due_type (Typing f) = f.due
+
+-- these are the types of a fault in a class table, as they are written
+pub record AreTypes (p : List Class) (fault : Fault) (told : Types) : Type 0 where
+  pub found : Ty
+  pub due : Ty
+  pub is_found : found_type fault ≡ Some found
+  pub is_due : due_type fault ≡ Some due
+  pub found_text : told.found.items ≡ type_text p found
+  pub due_text : told.due.items ≡ type_text p due
+
+-- a method that a class has, by its name and its signature
+pub record IsMethod (p : List Class) (c : ClassId) (text : List ℕ) : Type 0 where
+  pub name : List ℕ
+  pub method : MethodRef
+  pub nearest : (chain : List ClassId) → IsChain p (Some c) chain → implementation p chain name ≡ Some method
+  pub written : text ≡ name ++ (method_meaning p method).declared
+
+-- these are methods of the class in which a fault of typing looked for one
+pub record AreMethods (p : List Class) (fault : Fault) (class : List ℕ) (methods : List (Vec ℕ)) : Type 0 where
+  pub id : ClassId
+  pub looked : found_type fault ≡ Some (IsClass id)
+  pub named : class ≡ name_of p id
+  pub each : AllByRecursion (λ (m : Vec ℕ). IsMethod p id m.items) methods
+
+-- what is told of types and of methods is so in the class table that the files are
+abbrev pub HaveTypes : List (List ℕ) → Fault → Types → Type 0
+HaveTypes files fault told = (p : List Class) × IsTableOf files p × AreTypes p fault told
+
+abbrev pub HaveMethods : List (List ℕ) → Fault → Methods → Type 0
+HaveMethods files fault told = (p : List Class) × IsTableOf files p × AreMethods p fault told.class.items told.all.items
+
+-- so is what an explanation tells of them
+pub record IsTold (files : List (List ℕ)) (x : Explanation) : Type 0 where
+  pub types : IfSome x.types (HaveTypes files x.fault)
+  pub methods : IfSome x.methods (HaveMethods files x.fault)
+
+-- a mend that is told is an edit of the files, and mends the fault of this number
+pub record IsMend (files : List (List ℕ)) (faults : List Fault) (number : ℕ) (m : Mend) : Type 0 where
+  pub edit : IsEdit files m.edit
+  pub mends : Mends files faults number m.edit
+
+-- so is each of these explanations, of which the first is of the fault of this number
+abbrev pub AreMends : List (List ℕ) → List Fault → ℕ → List Explanation → Type 0
+AreMends files faults number [] = Unit {0}
+AreMends files faults number (x ∷ xs) = IfSome x.mend (IsMend files faults number) × AreMends files faults (suc number) xs
+
+-- There is an explanation for each fault of the fault list of the files, in its order; each tells types and methods that are so, and each mend that is
+-- told mends.
+pub record AreExplained (files : List (List ℕ)) (all : List Explanation) : Type 0 where
+  pub list : IsFaultList files (map (λ x. x.fault) all)
+  pub told : AllByRecursion (IsTold files) all
+  pub mends : AreMends files (map (λ x. x.fault) all) 0 all

@@ -1,0 +1,4 @@
+pub mod Edits
+pub mod Explanations
+pub mod Mends
+pub mod Noticed

@@ -1,0 +1,167 @@
+//! Explaining the faults of files.
+
+ghost use Rattle.std.specs.Prelude.{◌≡◌, ◌≢◌, ◌<◌, ◌≤◌, [], IfOk, IfSome, length, map};
+ghost use Rattle.std.specs.List.{AllByRecursion};
+ghost use Rattle.cool_syntax.specs.declared.TheConstants.{MOST_FILES, MOST_SOURCE_BYTES};
+ghost use Rattle.cool_syntax.specs.TokenFacts.{IsPlaced};
+ghost use Rattle.cool_faults.specs.Files.{bytes_of, total};
+ghost use Rattle.cool_faults.specs.Verdicts.{place_of};
+ghost use Rattle.cool_mend.specs.Noticed.{AreNoticed};
+ghost use Rattle.cool_mend.specs.Explanations.{AreExplained, AreMends, IsMend, IsTableOf, IsTold};
+
+use crate::explanation::{Explained, Explanation, Mend, Notice};
+use crate::noticing::notices;
+use crate::search::{Found, Search};
+use crate::trial::{fault_list, mends};
+use crate::types::{class_table, fault_methods, fault_types};
+use cool_classes::ClassTable;
+use cool_faults::Fault;
+use cool_guess::{Lexeme, advice, index_at, lexemes, other_definition, part};
+use std::alloc::{AllocError, Global};
+
+/// What is told of files: an explanation of each of their faults, in the order of the fault list, with an edit that was tried and mends it, where one
+/// was found. There are at most 64 files, and they have at most 1,048,576 bytes together. `Err` comes only for want of memory.
+pub fn explain(alloc: Global, files: &[Vec<u8>]) -> Result<Explained, AllocError>
+    requires few { length files.now ≤ MOST_FILES }
+    requires small { total (bytes_of files.now) ≤ MOST_SOURCE_BYTES }
+    ensures explained { IfOk result (λ told. AreExplained (bytes_of files.now) told.explanations.items) }
+    // Each fault stands in one of the files, where there are any.
+    ensures placed { 0 < length (bytes_of files.now)
+        → IfOk result (λ told. AllByRecursion (λ x. IsPlaced (length (bytes_of files.now)) (place_of x.fault)) told.explanations.items) }
+    // Notices are told of a program alone.
+    ensures noticed { IfOk result (λ told. AreNoticed (bytes_of files.now) told.notices.items) }
+    ensures quiet { IfOk result (λ told. told.notices.items ≢ [] → told.explanations.items ≡ []) }
+{
+    let faults = fault_list(alloc, files)?;
+    let classes = class_table(alloc, files)?;
+    let explanations = explanations(alloc, files, &classes, &faults)?;
+    let notices = noticed(alloc, files, &classes, &faults)?;
+    Ok(Explained {
+        explanations,
+        notices,
+    })
+}
+
+/// The notices of files with this class table and these faults: none where there is a fault. `Err` comes only for want of memory.
+fn noticed(
+    alloc: Global,
+    files: &[Vec<u8>],
+    classes: &Option<ClassTable>,
+    faults: &[Fault],
+) -> Result<Vec<Notice>, AllocError>
+    requires classes { IfSome classes.now (IsTableOf (bytes_of files.now)) }
+    ensures noticed { IfOk result (λ notices. AreNoticed (bytes_of files.now) notices.items) }
+    ensures quiet { IfOk result (λ notices. notices.items ≢ [] → faults.now ≡ []) }
+{
+    match classes {
+        Some(table) if faults.is_empty() => notices(alloc, files, table),
+        _ => Ok(Vec::new(alloc)),
+    }
+}
+
+/// The explanations of these faults of files. `Err` comes only for want of memory.
+fn explanations(
+    alloc: Global,
+    files: &[Vec<u8>],
+    classes: &Option<ClassTable>,
+    faults: &[Fault],
+) -> Result<Vec<Explanation>, AllocError>
+    requires few { length files.now ≤ MOST_FILES }
+    requires small { total (bytes_of files.now) ≤ MOST_SOURCE_BYTES }
+    requires classes { IfSome classes.now (IsTableOf (bytes_of files.now)) }
+    ensures each { IfOk result (λ all. map (λ x. x.fault) all.items ≡ faults.now) }
+    ensures told { IfOk result (λ all. AllByRecursion (IsTold (bytes_of files.now)) all.items) }
+    ensures mends { IfOk result (λ all. AreMends (bytes_of files.now) faults.now 0 all.items) }
+{
+    let mut search = Search::new(alloc, files, faults);
+    let mut all = Vec::new(alloc);
+    for number in 0..faults.len() {
+        let found = search.find(number)?;
+        let mend = tried(alloc, files, faults, number, found)?;
+        all.push(explanation(alloc, files, classes, &faults[number], mend)?)?;
+    }
+    Ok(all)
+}
+
+/// The explanation of a fault, with this mend. `Err` comes only for want of memory.
+fn explanation(
+    alloc: Global,
+    files: &[Vec<u8>],
+    classes: &Option<ClassTable>,
+    fault: &Fault,
+    mend: Option<Mend>,
+) -> Result<Explanation, AllocError>
+    requires classes { IfSome classes.now (IsTableOf (bytes_of files.now)) }
+    ensures fault { IfOk result (λ x. x.fault ≡ fault.now) }
+    ensures told { IfOk result (IsTold (bytes_of files.now)) }
+    ensures mend { IfOk result (λ x. x.mend ≡ mend) }
+{
+    let at = fault.place();
+    let bytes: &[u8] = match files.get(at.file as usize) {
+        Some(file) => file.as_slice(),
+        None => b"",
+    };
+    let all = lexemes(alloc, bytes)?;
+    let index = index_at(&all, at.byte as usize);
+    let here = lexeme_at(&all, index, bytes.len());
+    let word = part(bytes, here.start, here.end);
+    Ok(Explanation {
+        fault: *fault,
+        here,
+        before: match index.checked_sub(1) {
+            Some(last) => lexeme_at(&all, last, bytes.len()),
+            None => Lexeme { start: 0, end: 0 },
+        },
+        types: fault_types(alloc, classes, fault)?,
+        methods: fault_methods(alloc, classes, fault, word)?,
+        other: other_definition(alloc, files, fault)?,
+        said: besides(alloc, advice(alloc, bytes, &all, index)?, &mend)?,
+        mend,
+    })
+}
+
+/// What is said, but for the words of a mend. `Err` comes only for want of memory.
+fn besides(
+    alloc: Global,
+    said: Vec<Vec<u8>>,
+    mend: &Option<Mend>,
+) -> Result<Vec<Vec<u8>>, AllocError> {
+    let Some(mend) = mend else {
+        return Ok(said);
+    };
+    let mut others = Vec::new(alloc);
+    for words in said {
+        if words.as_slice() != mend.words.as_slice() {
+            others.push(words)?;
+        }
+    }
+    Ok(others)
+}
+
+/// The lexeme of this number, or an empty one at the end of the file.
+fn lexeme_at(lexemes: &[Lexeme], index: usize, end: usize) -> Lexeme {
+    match lexemes.get(index) {
+        Some(lexeme) => *lexeme,
+        None => Lexeme { start: end, end },
+    }
+}
+
+/// What was found for the fault of this number, where it mends it. `Err` comes only for want of memory.
+fn tried(
+    alloc: Global,
+    files: &[Vec<u8>],
+    faults: &[Fault],
+    number: usize,
+    found: Option<Found>,
+) -> Result<Option<Mend>, AllocError>
+    ensures { IfOk result (λ told. IfSome told (IsMend (bytes_of files.now) faults.now number)) }
+{
+    let Some(Found { edit, words }) = found else {
+        return Ok(None);
+    };
+    if mends(alloc, files, faults, number, &edit)? {
+        Ok(Some(Mend { edit, words }))
+    } else {
+        Ok(None)
+    }
+}

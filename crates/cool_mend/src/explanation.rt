@@ -1,0 +1,66 @@
+//! Explanations.
+
+use crate::edit::Edit;
+use cool_faults::Fault;
+use cool_guess::Lexeme;
+use cool_syntax::Place;
+
+/// What is told of files.
+#[derive(Drop)]
+pub struct Explained {
+    /// An explanation of each fault of their fault list, in its order.
+    pub explanations: Vec<Explanation>,
+    /// Where they are a program: what is likely a mistake all the same, in the order of the text.
+    pub notices: Vec<Notice>,
+}
+
+/// A fault, what is known of it, and an edit that mends it, where one was found.
+#[derive(Drop)]
+pub struct Explanation {
+    pub fault: Fault,
+    /// The lexeme at the fault, in bytes of its file; empty at the end of the file.
+    pub here: Lexeme,
+    /// The lexeme before it; empty at the beginning of the file.
+    pub before: Lexeme,
+    /// The type that was found and the one that was due, where types do not fit.
+    pub types: Option<Types>,
+    /// Methods of the class in which the fault looked for one.
+    pub methods: Option<Methods>,
+    /// Where the other definition stands of what is defined twice.
+    pub other: Option<Place>,
+    /// What else is said.
+    pub said: Vec<Vec<u8>>,
+    pub mend: Option<Mend>,
+}
+
+/// The names of two types that do not fit.
+#[derive(Drop)]
+pub struct Types {
+    pub found: Vec<u8>,
+    pub due: Vec<u8>,
+}
+
+/// Methods of a class.
+#[derive(Drop)]
+pub struct Methods {
+    /// The name of the class.
+    pub class: Vec<u8>,
+    /// Each by its name and signature, as `concat(String):String`.
+    pub all: Vec<Vec<u8>>,
+}
+
+/// An edit that was tried, and what is said of it.
+#[derive(Drop)]
+pub struct Mend {
+    pub edit: Edit,
+    pub words: Vec<u8>,
+}
+
+/// What is legal, and likely a mistake.
+#[derive(Drop)]
+pub struct Notice {
+    pub at: Place,
+    /// Where the lexeme there ends.
+    pub end: usize,
+    pub words: Vec<u8>,
+}
