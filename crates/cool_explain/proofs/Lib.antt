@@ -1,0 +1,4 @@
+mod AnswersWritten
+mod FreshDevices
+mod LinesChanged
+mod LinesOfBytes

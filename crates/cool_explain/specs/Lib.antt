@@ -1,0 +1,10 @@
+pub mod Changes
+pub mod CommandLine
+pub mod Cures
+pub mod Ends
+pub mod Facts
+pub mod Lines
+pub mod Processes
+pub mod Shown
+pub mod SourceLines
+pub mod Texts
