@@ -33,7 +33,7 @@ def take_options(words, options):
 
 
 def own_program(name="cool"):
-    """The program of the repository, or `cool_editor`, which is proved and built first where it must be."""
+    """The program of the repository, or another one of it, which is proved and built first where it must be."""
     found = subprocess.run([os.path.join(HERE, "..", "release", "program"), name], stdout=subprocess.PIPE, check=False)
     if found.returncode:
         sys.exit(125)
