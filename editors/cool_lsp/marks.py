@@ -1,11 +1,9 @@
 """Where the names of a program stand, what each is and which definition it means: the lines of `cool_editor` (docs/editor.md)."""
-import os
 import re
-import subprocess
-import tempfile
 from collections import namedtuple
 
 from . import program
+from .inquiry import Inquiry
 
 LINE = re.compile(rb"(\d+):\d+:(\d+) (\w+) (\S+) (\S+) (?:(\d+):\d+:(\d+)|[-?])\n")
 
@@ -35,18 +33,10 @@ class Marks:
         return self.program
 
     def ask(self, files):
-        if None in files.values() or not self.find():
+        if not self.find():
             return None
-        with tempfile.TemporaryDirectory(prefix="cool-lsp-") as room:
-            for number, data in enumerate(files.values()):
-                with open(os.path.join(room, "%d.cl" % number), "wb") as file:
-                    file.write(data)
-            try:
-                done = subprocess.run([self.program] + ["%d.cl" % number for number in range(len(files))], cwd=room, stdin=subprocess.DEVNULL,
-                                      stdout=subprocess.PIPE, stderr=subprocess.DEVNULL, timeout=self.seconds)
-            except (OSError, subprocess.TimeoutExpired):
-                return None
-        return read(list(files), done.stdout) if done.returncode == 0 else None
+        status, lines = Inquiry([self.program], self.seconds).answer(files) or (None, b"")
+        return read(list(files), lines) if status == 0 else None
 
 
 def read(paths, lines):

@@ -16,8 +16,8 @@ class Missing(Exception):
 
 
 def find(named, seconds, name="cool"):
-    """The path of the program of this name: the one that is named, by a word or by COOL or COOL_EDITOR in the environment, else the one installed beside
-    the server, else that of the repository in which the server stands (on Windows the one of release/), else the one on PATH."""
+    """The path of the program of this name: the one that is named, by a word or by COOL, COOL_EDITOR or COOL_EXPLAIN in the environment, else the one
+    installed beside the server, else that of the repository in which the server stands (on Windows the one of release/), else the one on PATH."""
     named = named or os.environ.get(name.upper())
     if named:
         return named
@@ -27,7 +27,7 @@ def find(named, seconds, name="cool"):
     if os.access(os.path.join(HERE, "release", "program"), os.X_OK):
         return of_repository([os.path.join(HERE, "release", "program"), name], seconds)
     beside = os.path.join(HERE, name)
-    found = beside if os.path.isfile(beside) and os.access(beside, os.X_OK) else shutil.which(name)
+    found = beside if os.path.isfile(beside) and os.access(beside, os.X_OK) else shutil.which(name) or shutil.which(name.replace("_", "-"))
     if not found:
         option = "--cool or " if name == "cool" else ""
         raise Missing("there is no program `%s`: install it by ./install, or name it by %s%s" % (name, option, name.upper()))
@@ -51,10 +51,10 @@ def of_repository(words, seconds):
     return os.fsdecode(said.rstrip(b"\n"))
 
 
-def start(words):
+def start(words, folder=None, notes=subprocess.PIPE):
     """A process in a group of its own, so that it is killed with all that it started."""
     try:
-        return subprocess.Popen(words, stdin=subprocess.PIPE, stdout=subprocess.PIPE, stderr=subprocess.PIPE,
+        return subprocess.Popen(words, cwd=folder, stdin=subprocess.PIPE, stdout=subprocess.PIPE, stderr=notes,
                                 env={**os.environ, **ENVIRONMENT}, start_new_session=True)
     except OSError as error:
         raise Missing("%s does not start: %s" % (words[0], error.strerror)) from None

@@ -1,11 +1,13 @@
-"""What each message of an editor does. One thread reads; another checks, tells what it found, and then answers what asks about that."""
+"""What each message of an editor does. One thread reads; another checks, tells what it found, and then answers what asks about that; a third has faults
+explained (explainer), and then the second one tells them with their ranges."""
 import queue
 import threading
 import traceback
 
-from .answers import Answers
+from .answers import QUICKFIX, Answers
 from .classes import Classes, Refused
 from .diagnostics import Checker
+from .explainer import Explainer
 from .files import Document, Files, is_path, to_path
 from .marks import Marks
 from .meanings import Meanings
@@ -24,9 +26,10 @@ class Server:
         self.files = Files()
         self.programs = Programs(self.files)
         self.session = Session(named, seconds)
-        self.checker = Checker(self.files, self.programs, self.session)
-        self.told = {}  # URI: (version, diagnostics)
         self.changed = threading.Event()
+        self.explainer = Explainer(seconds, self.changed.set)
+        self.checker = Checker(self.files, self.programs, self.session, self.explainer)
+        self.told = {}  # URI: (version, diagnostics)
         self.asked = queue.SimpleQueue()  # requests about what was told: (id, what answers, parameters)
         self.watches = self.down = self.gone = False
         self.methods = {
@@ -40,7 +43,7 @@ class Server:
             "workspace/didChangeWatchedFiles": self.files_changed,
             "workspace/didChangeWorkspaceFolders": self.folders_changed,
         }
-        answers, classes = Answers(self.files, self.programs, self.told), Classes(self.files, self.programs)
+        answers, classes = Answers(self.files, self.programs, self.checker, self.told), Classes(self.files, self.programs)
         meanings = Meanings(self.files, self.programs, Marks(seconds))
         self.questions = {
             "textDocument/hover": first(answers.hover, meanings.hover),
@@ -49,7 +52,9 @@ class Server:
             "textDocument/references": first(meanings.references, classes.references),
             "textDocument/completion": first(meanings.completion, classes.completion),
             "textDocument/rename": first(meanings.rename, classes.rename),
+            "textDocument/codeAction": answers.actions,
         }
+        self.waiting = {"textDocument/hover": answers.waits, "textDocument/codeAction": answers.waits}
 
     def run(self):
         """Serves up to `exit`, or to the end of the input; the status to end with."""
@@ -63,6 +68,7 @@ class Server:
             log("the editor is gone: %s" % error)
         self.gone = True
         self.session.close()
+        self.explainer.close()
         return 0 if self.down else 1
 
     def take(self, message):
@@ -102,6 +108,7 @@ class Server:
         folders = {"workspaceFolders": {"supported": True, "changeNotifications": True}}
         answers = {name + "Provider": True for name in ("hover", "documentSymbol", "definition", "references", "rename")}
         answers["completionProvider"] = {"triggerCharacters": ["."]}
+        answers["codeActionProvider"] = {"codeActionKinds": [QUICKFIX]}
         return {"capabilities": {"textDocumentSync": sync, "workspace": folders, **answers}, "serverInfo": {"name": "cool-lsp"}}
 
     def initialized(self, _):
@@ -140,10 +147,11 @@ class Server:
     # The thread that checks.
 
     def check(self):
+        questions = []
         while not self.gone:
             self.changed.wait(None if self.watches else LOOK_AGAIN)
             self.changed.clear()
-            questions = [self.asked.get() for _ in range(self.asked.qsize())]
+            questions += [self.asked.get() for _ in range(self.asked.qsize())]
             try:
                 self.files.look(self.documents)
                 self.tell(self.checker.all())
@@ -151,8 +159,17 @@ class Server:
                 log("nothing can be told: %s" % error)
             except Exception:  # a defect of the server costs one check, and not the server
                 log(traceback.format_exc())
-            for number, method, params in questions:
-                self.reply(number, method, params)
+            late = []
+            for question in questions:
+                if self.waits(*question[1:]):
+                    late.append(question)
+                else:
+                    self.reply(*question)
+            questions = late
+
+    def waits(self, method, params):
+        """Whether a question is answered later, since it is about what is still being asked for."""
+        return method in self.waiting and outcome(method, self.waiting[method], params).get("result") is True
 
     def reply(self, number, method, params):
         try:

@@ -151,20 +151,4 @@ def classes_complete_a_word(room, words):
     client.end()
 
 
-def faults_have_their_cures(room, words):
-    """By the document itself."""
-    client = Client(room, words.cool)
-    client.open(room / "a.cl", "class Main { x : Int <- true; main() : Object { 0 }; };\n")
-    params = {"textDocument": {"uri": (room / "a.cl").as_uri()}, "position": {"line": 0, "character": 13}}
-    said = client.request("textDocument/hover", params)["result"]["contents"]["value"]
-    row = next(line for line in (HERE.parent / "docs" / "faults.md").read_text().splitlines() if line.startswith("| `E17:"))
-    expect("cure", all(part.strip(" `") in said for part in row.split("|")[1:4]), True)
-    params["position"]["character"] = 22
-    expect("beside it", client.request("textDocument/hover", params)["result"], None)
-    kinds = re.findall(r"(?m)^\| `([LSCFE]\d+): ", (HERE.parent / "docs" / "faults.md").read_text())
-    said = subprocess.run(["python3", "-Bc", "from cool_lsp import cures; print(*cures.read())"], cwd=HERE, stdout=subprocess.PIPE).stdout.decode()
-    expect("kinds", said.split(), kinds)
-    client.end()
-
-
-TESTS = [outlines_are_what_is_compiled, outline_of_a_file_with_a_fault, classes_are_found, a_class_is_renamed, classes_complete_a_word, faults_have_their_cures]
+TESTS = [outlines_are_what_is_compiled, outline_of_a_file_with_a_fault, classes_are_found, a_class_is_renamed, classes_complete_a_word]

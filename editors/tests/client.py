@@ -23,9 +23,10 @@ def expect(what, told, wanted):
 
 
 class Client:
-    def __init__(self, root, program, *words, log=subprocess.DEVNULL, watches=False, command=(HERE / "cool-lsp",)):
+    def __init__(self, root, program, *words, log=subprocess.DEVNULL, watches=False, command=(HERE / "cool-lsp",), explain=""):
         call = [*command, *(["--cool", program] if program else []), *words]
-        self.server = subprocess.Popen(call, env={**os.environ, "COOL": ""}, stdin=subprocess.PIPE, stdout=subprocess.PIPE, stderr=log)
+        environment = {**os.environ, "COOL": "", "COOL_EXPLAIN": explain, "TMPDIR": str(root)}  # so that nothing is left of a server that is killed
+        self.server = subprocess.Popen(call, env=environment, stdin=subprocess.PIPE, stdout=subprocess.PIPE, stderr=log)
         self.told, self.versions, self.numbers, self.inbox, self.came = {}, {}, 0, queue.Queue(), None
         threading.Thread(target=self.read, daemon=True).start()
         capabilities = {"workspace": {"didChangeWatchedFiles": {"dynamicRegistration": watches}}}
@@ -116,17 +117,29 @@ class Client:
         """What else is told of a file."""
         return [n["message"] for n in self.told.get(path.as_uri(), (None, []))[1] if n["severity"] > 1]
 
-    def sessions(self):
+    def processes(self):
         """The processes that the server started."""
         return [int(word) for children in Path("/proc/%d/task" % self.server.pid).glob("*/children") for word in children.read_text().split()]
 
+    def sessions(self):
+        """Those of them that tell faults."""
+        return [process for process in self.processes() if b"\0session\0" in call_of(process)]
+
     def end(self):
-        """Says goodbye, and expects that the server and its session end."""
-        sessions = self.sessions()
+        """Says goodbye, and expects that the server and what it started end."""
+        processes = self.processes()
         self.request("shutdown", None)
         self.notify("exit", None)
         expect("status", self.server.wait(timeout=WITHIN), 0)
-        ended(sessions)
+        ended(processes)
+
+
+def call_of(process):
+    """The words of a process, or nothing where it has just ended."""
+    try:
+        return Path("/proc/%d/cmdline" % process).read_bytes()
+    except OSError:
+        return b""
 
 
 def ended(processes):
@@ -134,7 +147,7 @@ def ended(processes):
     end = time.monotonic() + 10
     while any(os.path.exists("/proc/%d/exe" % process) for process in processes):
         if time.monotonic() > end:
-            raise AssertionError("a session is left")
+            raise AssertionError("a process is left")
         time.sleep(0.01)
 
 

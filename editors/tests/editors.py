@@ -8,10 +8,11 @@ import xml.etree.ElementTree
 import zipfile
 
 from .client import HERE, NotTried, expect
+from .explanations import FAULT as TOLD
+from .explanations import FAULTY, explained_by
 
-FAULTY = 'class Main {\n  s : String <- "ä𝒙"; t : Int <- true;\n  main() : Object { 0 };\n};\nclass Late { m : Main; };\n'
-TOLD = "initial value does not conform"
-CURE = "To mend it: the value is of the declared class or of one below it."
+FACTS = "- found Bool, and due is Int  To mend it: the value is of the declared class or of one below it.  Tried, as an edit (code action): `1` for `true`."
+MENDED = 'mended:   s : String <- "ä𝒙"; t : Int <- 1;'
 SECONDS = 120
 VIM = ["--cmd", "set runtimepath^=%s" % str(HERE / "vim").replace(" ", "\\ "), "--cmd", "filetype plugin on", "--cmd", "syntax on"]
 
@@ -23,7 +24,8 @@ def said_in(room, words, call, **environment):
     folder = room / "a b é"
     folder.mkdir(exist_ok=True)
     (folder / "m.cl").write_text(FAULTY)
-    given = {"COOL": words.cool, "COOL_SAID": str(room / "said"), "COOL_FILE": str(folder / "m.cl"), "HOME": str(room), "LC_ALL": "C.UTF-8"}
+    given = {"COOL": words.cool, "COOL_EXPLAIN": explained_by(room), "COOL_SAID": str(room / "said"), "COOL_FILE": str(folder / "m.cl")}
+    given.update({"HOME": str(room), "LC_ALL": "C.UTF-8"})
     environment = {**os.environ, **given, **environment}
     call = [folder / "m.cl" if word == "FILE" else word for word in call]
     done = subprocess.run(call, env=environment, cwd=room, timeout=SECONDS, stdin=subprocess.DEVNULL, stdout=subprocess.PIPE, stderr=subprocess.STDOUT)
@@ -36,7 +38,8 @@ def said_in(room, words, call, **environment):
 def neovim(room, words):
     call = ["nvim", "--clean", "--headless", *VIM, "FILE", "-c", "luafile %s" % (HERE / "tests" / "neovim.lua")]
     said, version = said_in(room, words, call)
-    expect("Neovim", said, ["2:26-27 " + TOLD, "1 told", CURE, "definition: 1:7", "0 told", "make: 2 E17: " + TOLD, "coolKeyword coolString"])
+    expect("Neovim", said, ["2:26-27 " + TOLD, "1 told", *FACTS.split("  "), "definition: 1:7", MENDED, "0 told",
+                            "make: 2 E17: " + TOLD, "coolKeyword coolString"])
     said, _ = said_in(room, words, call, COOL="/nowhere/cool", COOL_ONCE="1")
     expect("no program", said[0], "1:0-0 not checked: /nowhere/cool does not start: No such file or directory")
     later = "lua vim.lsp.start = function(config) vim.lsp.buf_attach_client(0, vim.lsp.start_client(config)) end"  # as from 0.8 on
@@ -66,7 +69,7 @@ def emacs(room, words):
     if shutil.which("emacs") and subprocess.run(eglot, stderr=subprocess.DEVNULL).returncode:
         raise NotTried("eglot is not installed")
     said, version = said_in(room, words, call, COOL_MODE=str(HERE / "emacs" / "cool-mode.el"), COOL_MAKE="'%s' check m.cl" % words.cool)
-    expect("Emacs", said, ["cool-mode", "2:22-23 cool [E17]: " + TOLD, "1 told", "0 told", "definition: line 1", "outline: (Method Class Field)",
+    expect("Emacs", said, ["cool-mode", "2:22-23 cool [E17]: " + TOLD, "1 told", MENDED, "0 told", "definition: line 1", "outline: (Method Class Field)",
                            "font-lock-keyword-face font-lock-string-face", "next error: m.cl, line 2"])
     return version
 
@@ -111,8 +114,9 @@ def vscode_extension(room, words):
         raise NotTried("node is not installed")
     (room / "m.cl").write_text(FAULTY)
     call = ["node", HERE / "tests" / "vscode.cjs", package(room), words.cool, room / "m.cl"]
-    said = subprocess.run(call, timeout=SECONDS, stdout=subprocess.PIPE, check=True).stdout.decode().splitlines()
-    expect("VS Code", said, ["1:23-1:24 E17 %s 0" % TOLD, "To mend it: the value is of the declared class or of one below it.", "definition 0:6-0:10",
+    environment = {**os.environ, "COOL_EXPLAIN": explained_by(room)}
+    said = subprocess.run(call, timeout=SECONDS, stdout=subprocess.PIPE, check=True, env=environment).stdout.decode().splitlines()
+    expect("VS Code", said, ["1:23-1:24 E17 %s 0" % TOLD, FACTS, "mend `1` for `true` quickfix true 1 1:34-1:38 1", "definition 0:6-0:10",
                              "references 0:6-0:10 4:17-4:21", "Main 4 0:0-3:1 s 7 t 7 main 5", "Late 4 4:0-4:24 m 7",
                              "completion Main", "rename 4:6-4:10 Later", "refused: the name of a class", "0 told; 0 problems"])
     return "with a stand-in of its interface, on node " + subprocess.run(["node", "--version"], stdout=subprocess.PIPE).stdout.decode().strip()

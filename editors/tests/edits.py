@@ -1,4 +1,4 @@
-"""Random edits, after each of which what is told must be what `check` says, and ranges against where a new line moves a fault."""
+"""Random edits, after each of which what is told must be what `check` says."""
 import random
 import re
 
@@ -104,29 +104,4 @@ def place(text, position):
     return sum(len(before) + 1 for before in lines[: position["line"]]) + column
 
 
-def ranges_are_those_of_the_tokens(room, words):
-    """A new line before the range of a fault moves the fault by a line, and one behind the range does not."""
-    rnd, compared = random.Random(words.seed), 0
-    path = room / "one.cl"
-    whole = (EXAMPLES / "shapes.cl").read_text().replace('"', '"é𝒙', 9)
-    client, text = Client(room, words.cool), whole
-    client.open(path, whole)
-
-    def lines(changed):
-        path.write_bytes(changed.encode())
-        return [fault[0] for fault in due(words.cool, [path], room)[path]]
-
-    for _ in range(words.edits // 3):
-        text = whole if rnd.random() < 0.2 else edit(rnd, text)
-        for number, note in enumerate(client.change(path, text)):
-            start, end = (place(text, note["range"][side]) for side in ("start", "end"))
-            if note["severity"] == 1 and note["code"] not in ("C6", "L3") and start < end:  # of L3, a new line would end the string
-                line = note["range"]["start"]["line"] + 1
-                expect("new line before %s of %r" % (note, text), lines(text[:start] + "\n" + text[start:])[number], line + 1)
-                expect("new line behind %s of %r" % (note, text), lines(text[:end] + "\n" + text[end:])[number], line)
-                compared += 1
-    client.end()
-    return "%d ranges" % compared
-
-
-TESTS = [random_edits_agree_with_check, pieces_have_the_faults_of_the_file, ranges_are_those_of_the_tokens]
+TESTS = [random_edits_agree_with_check, pieces_have_the_faults_of_the_file]

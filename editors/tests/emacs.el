@@ -5,10 +5,17 @@
 (setq eglot-sync-connect 30 eglot-connect-timeout 30)
 (defvar said nil)
 
+(defun told (count)
+  "Whether so many are told, each with its range, which is explained later than it is told."
+  (let ((found (flymake-diagnostics)))
+    (and (= count (length found))
+         (seq-every-p (lambda (it) (= 1 (- (flymake-diagnostic-end it) (flymake-diagnostic-beg it)))) found))))
+
 (defun wait (count)
   (let ((end (+ 30 (float-time))))
-    (while (and (/= count (length (flymake-diagnostics))) (< (float-time) end))
-      (accept-process-output nil 0.05)))
+    (while (and (not (told count)) (< (float-time) end))
+      (accept-process-output nil 0.05)
+      (flymake-start)))
   (dolist (found (flymake-diagnostics))
     (save-excursion
       (goto-char (flymake-diagnostic-beg found))
@@ -23,8 +30,10 @@
 (flymake-mode 1)
 (flymake-start)  ; as a timer does, which needs an idle user
 (wait 1)
-(search-forward " <- true")
-(replace-match "")
+(search-forward "t : Int")
+(goto-char (match-beginning 0))
+(eglot-code-actions (point) (point) "quickfix" t)
+(push (format "mended: %s" (buffer-substring (line-beginning-position) (line-end-position))) said)
 (eglot--signal-textDocument/didChange)
 (wait 0)
 (search-forward "m : Mai")

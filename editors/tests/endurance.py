@@ -49,7 +49,8 @@ def no_program_at_all(room, words):
     for tool in ("env", "python3"):
         (room / "bin" / tool).symlink_to(shutil.which("env") if tool == "env" else os.path.realpath(sys.executable))
     opened = b'{"jsonrpc":"2.0","method":"textDocument/didOpen","params":{"textDocument":{"uri":"file:///a.cl","version":1,"text":""}}}'
-    server = subprocess.Popen([server], stdin=subprocess.PIPE, stdout=subprocess.PIPE, env={"PATH": str(room / "bin")})
+    pipes = {"stdin": subprocess.PIPE, "stdout": subprocess.PIPE, "stderr": subprocess.DEVNULL}
+    server = subprocess.Popen([server], env={"PATH": str(room / "bin")}, **pipes)
     server.stdin.write(b"Content-Length: %d\r\n\r\n%s" % (len(opened), opened))
     server.stdin.flush()
     size = int(server.stdout.readline().split()[1])
@@ -112,7 +113,7 @@ def an_editor_that_goes(room, words):
     for how in ("closes the input", "kills the server"):
         client = Client(room, words.cool)
         client.open(room / "a.cl", FAULTY)
-        sessions = client.sessions()
+        sessions = client.processes()
         if how == "kills the server":
             client.server.kill()
         client.server.stdin.close()

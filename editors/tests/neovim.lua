@@ -1,7 +1,11 @@
 -- In Neovim, with a file of one fault open: writes what is told, once it is told, after an edit, and what :make finds, to $COOL_SAID.
 local said = {}
+-- Until so many are told, and each with its range, which is explained later than it is told.
 local function wait(count)
-  vim.wait(30000, function() return #vim.diagnostic.get(0) == count end, 20)
+  vim.wait(30000, function()
+    local found = vim.diagnostic.get(0)
+    return #found == count and (count == 0 or found[1].severity > 1 or found[1].end_col - found[1].col == 1)
+  end, 20)
   for _, found in ipairs(vim.diagnostic.get(0)) do
     table.insert(said, string.format('%d:%d-%d %s', found.lnum + 1, found.col, found.end_col, found.message))
   end
@@ -18,12 +22,16 @@ end
 vim.fn.cursor(2, 27)
 local hover = vim.lsp.buf_request_sync(0, 'textDocument/hover', vim.lsp.util.make_position_params(), 30000)
 for _, answer in pairs(hover) do
-  table.insert(said, vim.split(answer.result.contents.value, '\n')[3])
+  for _, line in ipairs(vim.list_slice(vim.split(answer.result.contents.value, '\n\n'), 2)) do table.insert(said, line) end
 end
 vim.fn.cursor(5, 19)
 vim.cmd('normal! \029') -- CTRL-]
 table.insert(said, 'definition: ' .. vim.fn.line('.') .. ':' .. vim.fn.col('.'))
-vim.api.nvim_buf_set_lines(0, 1, 2, false, { '  s : String <- "ä𝒙"; t : Int;' })
+vim.fn.cursor(2, 27)
+vim.ui.select = function(items, _, choose) choose(items[1]) end
+vim.lsp.buf.code_action()
+vim.wait(30000, function() return vim.fn.getline(2):find('true') == nil end, 20)
+table.insert(said, 'mended: ' .. vim.fn.getline(2))
 wait(0)
 vim.cmd('silent make')
 for _, found in ipairs(vim.fn.getqflist()) do

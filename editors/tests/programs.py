@@ -3,6 +3,7 @@ import os
 import subprocess
 
 from .client import HERE, Client, expect, fill
+from .explanations import stand_in
 
 HELLO = 'class Main inherits IO { main() : Object { out_string("a") }; };\n'
 USE = "class Main { s : Stack; main() : Object { s.push(true) }; };\n"
@@ -121,14 +122,21 @@ def odd_files_beside(room, words):
     (at / "dangling.cl").symlink_to("nowhere")
     os.mkfifo(at / "pipe.cl")
     (at / ".hidden.cl").write_text("!")
-    client = Client(at, words.cool)
+    places = (0, 2, 13, 14), (1, 1, latin.index(b"b :"), latin.index(b"b :") + 1)
+    faults = "".join("fault %d:%d:%d:%d %s: %s\n" % (*place, *WRONG[1:]) for place in places)
+    client = Client(at, words.cool, explain=stand_in(room, faults))
     client.open(at / "main.cl", HELLO)
     expect("main", client.notes(at / "main.cl"), [*("%s.cl is missing: the program is checked without it" % name for name in ("dangling", "folder", "pipe")),
                                                   "checked with crlf.cl, which has faults: line 2, E17: initial value does not conform"])
     client.until("crlf", lambda: client.faults(at / "crlf.cl") == [(2, "E17", "initial value does not conform")])
     client.until("latin", lambda: client.faults(at / "latin.cl") == [WRONG])
-    latin = client.told[(at / "latin.cl").as_uri()][1][0]["range"]
-    expect("a byte that is no UTF-8 has a column", (latin["start"]["character"], latin["end"]["character"]), (32, 33))
+
+
+    def columns():
+        found = client.told[(at / "latin.cl").as_uri()][1][0]["range"]
+        return found["start"]["character"], found["end"]["character"]
+
+    client.until("a byte that is no UTF-8 has a column", lambda: columns() == (32, 33))
     client.end()
 
 
@@ -168,12 +176,13 @@ def a_byte_order_mark(room, words):
 
 def columns_are_those_of_utf_16(room, words):
     at = fill(room / "columns")
-    client = Client(at, words.cool)
     text = 'class Main {\r\n  s : String <- "ä𝒙"; t : Int <- true;\r\n  main() : Object { 0 };\r\n};\r\n'
-    found = client.open(at / "main.cl", text)[0]["range"]
-    line = text.split("\r\n")[1]
-    column = line.index("t :") + 1  # and one more, since 𝒙 has two
-    expect("range", found, {"start": {"line": 1, "character": column}, "end": {"line": 1, "character": column + 1}})
+    start = text.encode().index(b"t :")
+    client = Client(at, words.cool, explain=stand_in(room, "fault 0:2:%d:%d %s: %s\n" % (start, start + 1, *WRONG[1:])))
+    client.open(at / "main.cl", text)
+    column = text.split("\r\n")[1].index("t :") + 1  # and one more, since 𝒙 has two
+    wanted = {"start": {"line": 1, "character": column}, "end": {"line": 1, "character": column + 1}}
+    client.until("range", lambda: client.told[(at / "main.cl").as_uri()][1][0]["range"] == wanted)
     client.end()
 
 

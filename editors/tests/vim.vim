@@ -1,9 +1,10 @@
 " In Vim, with a file of one fault open, and with ALE where $COOL_ALE is 1: writes what is told to $COOL_SAID.
 let s:said = []
 
+" Until so many are told, and each with its range, which is explained later than it is told.
 function s:wait(count)
   for s:turn in range(600)
-    if len(getloclist(0)) == a:count
+    if len(getloclist(0)) == a:count && (a:count == 0 || getloclist(0)[0].end_col - getloclist(0)[0].col < 2)
       break
     endif
     sleep 50m

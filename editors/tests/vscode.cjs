@@ -15,15 +15,16 @@ let told;
 class Value { constructor(...parts) { Object.assign(this, parts); } }
 const provider = (kind) => (_, given) => ((providers[kind] = Object.values(given)[0]), disposable);
 const stub = {
-  Range: Value, Location: Value, Diagnostic: Value, DiagnosticRelatedInformation: Value, Hover: Value, MarkdownString: Value,
-  DocumentSymbol: Value, CompletionItem: Value,
+  Range: Value, Location: Value, DiagnosticRelatedInformation: Value, Hover: Value, MarkdownString: Value,
+  Diagnostic: class extends Value { get message() { return this[1]; } },
+  DocumentSymbol: Value, CompletionItem: Value, CodeAction: Value, CodeActionKind: { QuickFix: 'quickfix' },
   WorkspaceEdit: class { constructor() { this.edits = []; } replace(...edit) { this.edits.push(edit); } },
   Uri: { parse: (text) => text },
   languages: {
     createDiagnosticCollection: () => ({ set: (_, found) => told(found), clear() {}, dispose() {} }),
     registerHoverProvider: provider('hover'), registerDefinitionProvider: provider('definition'),
     registerReferenceProvider: provider('references'), registerDocumentSymbolProvider: provider('symbols'),
-    registerCompletionItemProvider: provider('completion'), registerRenameProvider: provider('rename'),
+    registerCompletionItemProvider: provider('completion'), registerRenameProvider: provider('rename'), registerCodeActionsProvider: provider('actions'),
   },
   window: { createOutputChannel: () => ({ append: (text) => problems.push(text), dispose() {} }), showErrorMessage: (text) => problems.push(text) },
   workspace: {
@@ -42,9 +43,13 @@ const span = (r) => `${r[0]}:${r[1]}-${r[2]}:${r[3]}`;
 (async () => {
   const { activate, deactivate } = require(extension);
   let found = await next(() => activate({ subscriptions: [] }));
+  const hovered = providers.hover(document, { line: 1, character: 23 });
+  found = await next(() => {}); // explained
   found.forEach((f) => console.log(span(f[0]), f.code, f[1], f[2]));
-  const hover = await providers.hover(document, { line: 1, character: 23 });
-  console.log(hover[0][0].split('\n')[2]);
+  const hover = await hovered;
+  console.log(...hover[0][0].split('\n').slice(2));
+  const mends = await providers.actions(document, { start: { line: 1, character: 23 }, end: { line: 1, character: 23 } }, { diagnostics: found });
+  mends.forEach((m) => console.log('mend', m[0], m[1], m.isPreferred, m.diagnostics.length, ...m.edit.edits.map((e) => `${span(e[1])} ${e[2]}`)));
   for (const kind of ['definition', 'references']) console.log(kind, ...(await providers[kind](document, { line: 0, character: 7 })).map((l) => span(l[1])));
   for (const s of await providers.symbols(document)) console.log(s[0], s[2], span(s[3]), ...s.children.map((c) => `${c[0]} ${c[2]}`));
   console.log('completion', ...(await providers.completion(document, { line: 4, character: 18 })).map((c) => c[0]));

@@ -64,6 +64,23 @@ function symbol(s) {
   return shown;
 }
 
+function changed(edit) {
+  const shown = new vscode.WorkspaceEdit();
+  for (const [uri, edits] of Object.entries(edit ? edit.changes : {})) {
+    edits.forEach((e) => shown.replace(vscode.Uri.parse(uri), range(e.range), e.newText));
+  }
+  return shown;
+}
+
+// What mends a fault; of the diagnostics that are shown, it mends those of the same words.
+function action(found, diagnostics) {
+  const shown = new vscode.CodeAction(found.title, vscode.CodeActionKind.QuickFix);
+  shown.edit = changed(found.edit);
+  shown.diagnostics = diagnostics.filter((d) => found.diagnostics.some((f) => f.code === d.code && f.message === d.message));
+  shown.isPreferred = found.isPreferred;
+  return shown;
+}
+
 function providers() {
   const places = (method, more) => async (document, position) =>
     ((await request(method, { ...place(document, position), ...more })) || []).map(location);
@@ -82,12 +99,15 @@ function providers() {
     }),
     vscode.languages.registerRenameProvider(COOL, {
       provideRenameEdits: async (document, position, newName) => {
-        const found = await request('textDocument/rename', { ...place(document, position), newName });
-        const shown = new vscode.WorkspaceEdit();
-        for (const [uri, edits] of Object.entries(found ? found.changes : {})) {
-          edits.forEach((e) => shown.replace(vscode.Uri.parse(uri), range(e.range), e.newText));
-        }
-        return shown;
+        return changed(await request('textDocument/rename', { ...place(document, position), newName }));
+      },
+    }),
+    vscode.languages.registerCodeActionsProvider(COOL, {
+      provideCodeActions: async (document, at, context) => {
+        const side = (position) => ({ line: position.line, character: position.character });
+        const asked = { range: { start: side(at.start), end: side(at.end) }, context: { diagnostics: [] } };
+        return ((await request('textDocument/codeAction', { textDocument: { uri: document.uri.toString() }, ...asked })) || [])
+          .map((found) => action(found, context.diagnostics));
       },
     }),
     vscode.languages.registerDocumentSymbolProvider(COOL, {

@@ -15,6 +15,10 @@ else -- before 0.8
   vim.lsp.buf_attach_client(0, client)
   vim.bo.tagfunc = 'v:lua.vim.lsp.tagfunc'
 end
-if vim.fn.has('nvim-0.10') == 0 then -- later ones have this key by themselves
+-- Later ones have these keys by themselves.
+if vim.fn.has('nvim-0.10') == 0 then
   vim.keymap.set('n', 'K', vim.lsp.buf.hover, { buffer = true })
+end
+if vim.fn.has('nvim-0.11') == 0 then
+  vim.keymap.set('n', 'gra', vim.lsp.buf.code_action, { buffer = true })
 end

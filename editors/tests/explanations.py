@@ -1,0 +1,277 @@
+"""What is told of a fault by the program that explains: by a stand-in that writes what a test has it write, and by the program itself."""
+import os
+import random
+import subprocess
+import time
+
+from .client import EXAMPLES, HERE, Client, NotTried, check, due, expect, fill
+from .edits import TOKEN, edit, place
+
+FAULTY = 'class Main {\n  s : String <- "ä𝒙"; t : Int <- true;\n  main() : Object { 0 };\n};\nclass Late { m : Main; };\n'
+CURE = "the value is of the declared class or of one below it"
+TYPED = FAULTY.encode().index(b"t : Int")
+EDITED = FAULTY.encode().index(b"true;")
+FAULT = "initial value does not conform"
+# What a stand-in says of it, and, with all that there is to say, in LINES.
+EXPLAINED = "fault 0:2:%d:%d E17: %s\nfact found Bool, and due is Int\ncure %s\nmend `1` for `true`\nedit 0:%d:%d 1\n" % (
+    TYPED, TYPED + 1, FAULT, CURE, EDITED, EDITED + 4)
+LINES = """fault 0:2:%d:%d E17: initial value does not conform
+fact found Bool, and due is Int
+fact `t` is declared Int
+other 0:5:%d
+cure %s
+mend `1` in the place of `true`: a line\\nand a \\\\
+edit 0:%d:%d 1\\n\\\\
+""" % (TYPED, TYPED + 1, FAULTY.encode().index(b"Late"), CURE, EDITED, EDITED + 4)
+
+
+def stand_in(room, lines, before=""):
+    """A program that writes these lines, whatever it is asked, with status 1, after other commands of a shell."""
+    (room / "lines").write_text(lines)
+    path = room / "explain"
+    path.write_text("#!/bin/sh\n%s\ncat '%s'\nexit 1\n" % (before, room / "lines"))
+    path.chmod(0o755)
+    return str(path)
+
+
+def explained_by(room):
+    """A stand-in that explains the fault of FAULTY."""
+    return stand_in(room, EXPLAINED)
+
+
+def real():
+    """The program that explains, or that it is not there."""
+    words, environment = [HERE.parent / "release" / "program", "cool_explain"], {**os.environ, "COOL_BUILD": "no"}
+    found = subprocess.run(words, env=environment, stdout=subprocess.PIPE, stderr=subprocess.DEVNULL).stdout.decode().strip()
+    if not found:
+        raise NotTried("no program cool_explain is built")
+    return found
+
+
+def at(text, byte):
+    """The position of a byte."""
+    before = text.encode()[:byte].decode()
+    column = len(before.rpartition("\n")[2].encode("utf-16-le")) // 2
+    return {"line": before.count("\n"), "character": column}
+
+
+def offered(client, path, range_, **context):
+    """What is offered for a range of a file."""
+    where = {"textDocument": {"uri": path.as_uri()}, "range": range_, "context": {"diagnostics": [], **context}}
+    return client.request("textDocument/codeAction", where)["result"]
+
+
+def hover(client, path, position):
+    found = client.request("textDocument/hover", {"textDocument": {"uri": path.as_uri()}, "position": position})["result"]
+    return found and found["contents"]["value"]
+
+
+def whole(note):
+    return {"start": note["range"]["start"], "end": note["range"]["end"]}
+
+
+def faults_are_explained(room, words):
+    """At first with their line, and then, as explained, with range, facts, the other place, cure and mend."""
+    at_ = fill(room / "one", main=FAULTY) / "main.cl"
+    client = Client(at_.parent, words.cool, explain=stand_in(room, LINES, "sleep 1"))
+    first = client.open(at_, FAULTY)
+    expect("at once", [(n["code"], n["range"]["start"]["character"], "relatedInformation" in n) for n in first], [("E17", 2, False)])
+    said = hover(client, at_, at(FAULTY, TYPED)).split("\n\n")
+    expect("hover", said, ["**E17: %s**" % FAULT, "- found Bool, and due is Int\n- `t` is declared Int", "To mend it: %s." % CURE,
+                           "Tried, as an edit (code action): `1` in the place of `true`: a line\nand a \\."])
+    note = client.told[at_.as_uri()][1][0]
+    expect("range", whole(note), {"start": at(FAULTY, TYPED), "end": at(FAULTY, TYPED + 1)})
+    other = note["relatedInformation"][0]["location"]
+    expect("the other place", (other["uri"], other["range"]["start"]), (at_.as_uri(), {"line": 4, "character": 6}))
+    action = offered(client, at_, note["range"])[0]
+    expect("action", (action["kind"], action["diagnostics"], action["title"]), ("quickfix", [note], "`1` in the place of `true`: a line\nand a \\"))
+    edit = action["edit"]["changes"][at_.as_uri()][0]
+    expect("edit", ([place(FAULTY, edit["range"][side]) for side in ("start", "end")], edit["newText"]),
+           ([FAULTY.index("true"), FAULTY.index("true") + 4], "1\n\\"))
+    expect("elsewhere", offered(client, at_, {"start": at(FAULTY, 0), "end": at(FAULTY, 3)}), [])
+    kinds = [bool(offered(client, at_, note["range"], only=only)) for only in (["refactor"], ["quickfix"], [""], [])]
+    expect("of other kinds", kinds, [False, True, True, True])
+    expect("named by the editor", offered(client, at_, {"start": at(FAULTY, 0), "end": at(FAULTY, 3)}, diagnostics=[note]), [action])
+    client.change(at_, FAULTY + " ")
+    expect("as it was in this line", whole(client.told[at_.as_uri()][1][0]), whole(note))
+    client.end()
+
+
+def an_edit_of_another_file(room, words):
+    """Also of one that is not open; and notices, of open files alone."""
+    files = fill(room / "two", main="class Main { p : Part; main() : Object { q }; };\n", part="class Part { };\n")
+    said = "fault 0:1:41:42 E1: unknown name\ncure declare it\nmend an attribute\nedit 1:13:13 q : Int;\n"
+    client = Client(files, words.cool, explain=stand_in(room, said))
+    note = client.open(files / "main.cl", (files / "main.cl").read_text())[0]
+    action = offered(client, files / "main.cl", note["range"])[0]
+    place_ = {"line": 0, "character": 13}
+    expect("edit", action["edit"]["changes"], {(files / "part.cl").as_uri(): [{"range": {"start": place_, "end": place_}, "newText": "q : Int;"}]})
+    (room / "lines").write_text("notice 0:1:13:14 `p` is void\nnotice 1:1:6:10 likely\n")
+    client.change(files / "main.cl", "class Main { p : Part; main() : Object { p }; };\n")
+    client.until("notice", lambda: client.notes(files / "main.cl") == ["`p` is void"])
+    shown = client.told[(files / "main.cl").as_uri()][1][0]
+    expect("quietly", (shown["severity"], shown["range"]["start"]["character"], shown["range"]["end"]["character"]), (4, 13, 14))
+    expect("of a file that is not open", client.notes(files / "part.cl"), [])
+    client.end()
+
+
+def where_only_main_is_wanting(room, words):
+    """What is told with one is explained, too."""
+    path = room / "part.cl"
+    text = "class Part { x : Int <- true; };\n"
+    script = 'if [ $# = 2 ]; then echo "fault 0:1:0:5 C6: no class Main"; exit 1; fi; echo "fault 0:1:13:14 E17: %s"; echo "fact found Bool"; exit 1' % FAULT
+    client = Client(room, words.cool, explain=stand_in(room, "", script))
+    client.open(path, text)
+    expect("explained", "found Bool" in (hover(client, path, {"line": 0, "character": 13}) or ""), True)
+    expect("ranges", [n["range"]["end"]["character"] for n in client.told[path.as_uri()][1]], [5, 14])
+    client.end()
+
+
+def an_answer_that_is_old(room, words):
+    """It is dropped, and its process ends, when the text changes; what waits for it is answered by the new one."""
+    path = room / "main.cl"
+    client = Client(room, words.cool, explain=stand_in(room, LINES, "echo >>'%s'; [ -e '%s' ] || exec sleep 1000" % (room / "begun", room / "fast")))
+    client.open(path, FAULTY)
+    client.numbers += 1
+    asked = {"textDocument": {"uri": path.as_uri()}, "position": at(FAULTY, TYPED)}
+    client.send({"jsonrpc": "2.0", "id": client.numbers, "method": "textDocument/hover", "params": asked})
+    for _ in range(200):
+        time.sleep(0.02)
+        if (room / "begun").exists():
+            break
+    (room / "fast").touch()
+    client.change(path, FAULTY + "-- more\n")
+    began = time.monotonic()
+    while client.take().get("id") != client.numbers:
+        pass
+    expect("soon", time.monotonic() - began < 4.5, True)
+    expect("how often it was asked", (room / "begun").read_text(), "\n\n")
+    client.end()
+
+
+def an_explanation_that_is_none(room, words):
+    """The faults are told with their lines all the same, and what is asked about them has its answer."""
+    path = room / "main.cl"
+    wrong = ["fault 0:2:1:2 E17\n", "fault 7:2:1:2 E17: %s\n" % FAULT, "fault 0:3:1:2 E17: %s\n" % FAULT, "fault 0:2:-1:2 E17: %s\n" % FAULT]
+    wrong += ["fact alone\n", "nonsense\n", "", LINES + LINES]
+    programs = [(lines, "") for lines in wrong] + [("", "exec sleep 1000"), (LINES, "exit 9"), ("", "exec cat /dev/zero"), (LINES, "exit 2")]
+    for number, (lines, before) in enumerate(programs):
+        client = Client(room, words.cool, "--seconds", "4", explain=stand_in(room, lines, before))
+        client.open(path, FAULTY)
+        expect("hover, %r %r" % (lines, before), hover(client, path, {"line": 1, "character": 4}), None)
+        expect("the line, %r" % lines, [(n["code"], n["range"]["start"]["character"]) for n in client.told[path.as_uri()][1]], [("E17", 2)])
+        client.end()
+    client = Client(room, words.cool, explain="/nowhere/explain")
+    client.open(path, FAULTY)
+    expect("there is none", hover(client, path, {"line": 1, "character": 4}), None)
+    client.end()
+    return "%d kinds" % (len(programs) + 1)
+
+
+# With the program itself.
+
+# Lines with a mistake, and what a reader of it would write.
+MISTAKES = [
+    ("out_int(3) out_int(4);", "out_int(3); out_int(4);"),
+    ("if n == 3 then 1 else 2 fi;", "if n = 3 then 1 else 2 fi;"),
+    ("if n < 3 then 1 fi;", "if n < 3 then 1 else 0 fi;"),
+    ("if n < 3 then 1 else if n < 5 then 2 else 3 fi;", "if n < 3 then 1 else if n < 5 then 2 else 3 fi fi;"),
+    ("let x : Int <- 3; out_int(x);", "let x : Int <- 3 in out_int(x);"),
+    ("let x : int <- 3 in x;", "let x : Int <- 3 in x;"),
+    ("case self of m : Main -> 1; esac;", "case self of m : Main => 1; esac;"),
+    ("out_int(m);", "out_int(n);"),
+    ('out_sring("a");', 'out_string("a");'),
+    ("while n < 3 { n <- n + 1; };", "while n < 3 loop { n <- n + 1; } pool;"),
+    ("n <- -1;", "n <- ~1;"),
+]
+TAKEN = "; fi pool in then else loop of esac } ) : <- => ,".split()
+LEAST_WRITTEN, LEAST_PUT_BACK = 0.6, 0.8  # of the lines, and of the texts that are as they were
+
+
+def faults_have_their_cures(room, words):
+    """By the document itself."""
+    path, client = room / "a.cl", Client(room, words.cool, explain=real())
+    client.open(path, "class Main { x : Int <- true; main() : Object { 0 }; };\n")
+    row = next(line for line in (HERE.parent / "docs" / "faults.md").read_text().splitlines() if line.startswith("| `E17:"))
+    expect("cure", "To mend it: %s." % row.split("|")[3].strip() in hover(client, path, {"line": 0, "character": 13}), True)
+    expect("beside it", hover(client, path, {"line": 0, "character": 22}), None)
+    client.end()
+
+
+def ranges_are_those_of_the_tokens(room, words):
+    """A new line before the range of a fault moves the fault by a line, and one behind the range does not."""
+    rnd, compared, path = random.Random(words.seed), 0, room / "one.cl"
+    whole_text = (EXAMPLES / "shapes.cl").read_text().replace('"', '"é𝒙', 9)
+    client, text = Client(room, words.cool, explain=real()), whole_text
+    client.open(path, whole_text)
+
+    def lines(changed):
+        path.write_bytes(changed.encode())
+        return [fault[0] for fault in due(words.cool, [path], room)[path]]
+
+    for _ in range(words.edits // 3):
+        text = whole_text if rnd.random() < 0.2 else edit(rnd, text)
+        for note in client.change(path, text):
+            offered(client, path, note["range"])  # so that it is explained
+        for number, note in enumerate(client.told[path.as_uri()][1]):
+            expect("explained %s of %r" % (note, text), (hover(client, path, note["range"]["start"]) or "")[2:6].startswith(note["code"]), True)
+            start, end = (place(text, note["range"][side]) for side in ("start", "end"))
+            if note["severity"] == 1 and note["code"] not in ("C6", "L3") and start < end:  # of L3, a new line would end the string
+                line = note["range"]["start"]["line"] + 1
+                expect("new line before %s of %r" % (note, text), lines(text[:start] + "\n" + text[start:])[number], line + 1)
+                expect("new line behind %s of %r" % (note, text), lines(text[:end] + "\n" + text[end:])[number], line)
+                compared += 1
+    client.end()
+    return "%d ranges" % compared
+
+
+def program_of(body):
+    return "class Main inherits IO {\n  n : Int;\n  main() : Object { {\n    %s\n  } };\n};\n" % body
+
+
+def mended(client, path, text, room, words):
+    """A text with what is offered for its first fault, or None; with it the program finds fewer faults, or later ones."""
+    faults = [note for note in client.change(path, text) if note["severity"] == 1]
+    for action in offered(client, path, faults[0]["range"])[:1]:
+        for edit in action["edit"]["changes"][path.as_uri()]:
+            start, end = (place(text, edit["range"][side]) for side in ("start", "end"))
+            text = text[:start] + edit["newText"] + text[end:]
+        (room / "mended.cl").write_text(text)
+        left = check(words.cool, [room / "mended.cl"])[room / "mended.cl"]
+        expect("fewer or later faults in %r" % text, not left or len(left) < len(faults) or left[0][1][0] != faults[0]["code"][0], True)
+        return text
+    return None
+
+
+def typical_mistakes_are_mended(room, words):
+    path, client = room / "p.cl", Client(room, words.cool, explain=real())
+    client.open(path, "")
+    good = [mended(client, path, program_of(wrong), room, words) == program_of(right) for wrong, right in MISTAKES]
+    client.end()
+    expect("whether %d of %d are enough" % (sum(good), len(good)), sum(good) >= LEAST_WRITTEN * len(good), True)
+    return "%d of %d as a reader would" % (sum(good), len(good))
+
+
+def taken_tokens_are_put_back(room, words):
+    chosen, path, client = random.Random(words.seed), room / "p.cl", Client(room, words.cool, explain=real())
+    client.open(path, "")
+    texts = [file.read_text() for file in sorted(EXAMPLES.glob("*.cl")) if not any(check(words.cool, [file]).values())]
+    whole_again = tried = 0
+    for number in range(min(words.edits, 60)):
+        text = chosen.choice(texts)
+        found = [token for token in TOKEN.finditer(text) if token.group() == TAKEN[number % len(TAKEN)]]
+        if found:
+            one = chosen.choice(found)
+            taken = text[: one.start()] + text[one.end() :]
+            (room / "taken.cl").write_text(taken)
+            if any(check(words.cool, [room / "taken.cl"]).values()):
+                new = mended(client, path, taken, room, words)
+                tried += 1
+                whole_again += new is not None and TOKEN.findall(new) == TOKEN.findall(text)
+    client.end()
+    expect("whether %d of %d are enough" % (whole_again, tried), whole_again >= LEAST_PUT_BACK * tried, True)
+    return "of %d texts %d are as they were" % (tried, whole_again)
+
+
+TESTS = [faults_are_explained, an_edit_of_another_file, where_only_main_is_wanting, an_answer_that_is_old, an_explanation_that_is_none,
+         faults_have_their_cures, ranges_are_those_of_the_tokens, typical_mistakes_are_mended, taken_tokens_are_put_back]
