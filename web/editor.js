@@ -8,8 +8,9 @@ let coloured = { lines: [""], states: [0] };
 const lineHeight = () => parseFloat(getComputedStyle(text).lineHeight);
 const cursorLine = () => text.value.slice(0, text.selectionStart).split("\n").length;
 
-// What is marked in the file that is shown: maps of a line's number to what is said of it, and the line at which the machine stands.
-const marks = { faults: new Map(), breaks: new Set(), here: undefined };
+// What is marked in the file that is shown: maps of a line's number to what is said of it and to its marked ranges, [from, to, kind], and the line at which
+// the machine stands.
+const marks = { faults: new Map(), ranges: new Map(), breaks: new Set(), here: undefined };
 
 function paint() {
     const height = lineHeight(), { scrollTop, scrollLeft, clientHeight } = text;
@@ -24,11 +25,35 @@ function paint() {
 }
 
 const kindsOf = (...kinds) => kinds.filter(Boolean).join(" ");
-const lineRow = (i) => [kindsOf("line", marks.faults.has(i + 1) && "bad", marks.here === i + 1 && "here"), coloured.states[i], coloured.lines[i]];
 
-function paintedLine(kinds, state, line) {
-    const { parts } = colouredLine(line, state);
+// The ranges stand in the row as text, for a row is compared by its text.
+const lineRow = (i) => [kindsOf("line", marks.here === i + 1 && "here"), coloured.states[i], coloured.lines[i], JSON.stringify(marks.ranges.get(i + 1) ?? [])];
+
+function paintedLine(kinds, state, line, ranges) {
+    const parts = markedParts(colouredLine(line, state).parts, line, JSON.parse(ranges));
     return element("div", { className: kinds }, ...parts.map(([kind, part]) => (kind ? element("span", { className: kind }, part) : part)));
+}
+
+// The parts of a line, parted also where ranges begin and end, each with the kind of a range that it is in. A range has a letter at least, and at the end
+// of the line a blank stands for it; one without an end goes to that of the line.
+function markedParts(parts, line, ranges) {
+    if (ranges.length === 0) return parts;
+    const indent = line.length - line.trimStart().length;
+    const all = ranges.map(([from, to, kind]) => [Math.max(from, Math.min(indent, to ?? indent)), Math.max(from + 1, to ?? line.length), kind]);
+    const edges = all.flatMap(([from, to]) => [from, to]);
+    const found = [];
+    let at = 0;
+    for (const [kind, part] of parts) {
+        const end = at + part.length;
+        const cuts = [at, ...new Set(edges.filter((it) => it > at && it < end).sort((a, b) => a - b)), end];
+        for (let i = 1; i < cuts.length; i += 1) {
+            const range = all.find(([from, to]) => from <= cuts[i - 1] && cuts[i] <= to);
+            found.push([kindsOf(kind, range?.[2]), line.slice(cuts[i - 1], cuts[i])]);
+        }
+        at = end;
+    }
+    const behind = all.find(([from]) => from >= line.length);
+    return behind ? [...found, [behind[2], " "]] : found;
 }
 
 function numberRow(line) {
@@ -53,6 +78,11 @@ function showText(value, from = 0, to = from, top = 0) {
     paint();
 }
 
+// The place in the text area of a line and a column.
+function indexOf({ line, column }) {
+    return coloured.lines.slice(0, line - 1).reduce((sum, it) => sum + it.length + 1, 0) + column;
+}
+
 function scrollToLine(line) {
     const height = lineHeight();
     const from = (line - 1) * height;
@@ -61,7 +91,7 @@ function scrollToLine(line) {
 }
 
 function selectLine(line) {
-    const start = coloured.lines.slice(0, line - 1).reduce((sum, it) => sum + it.length + 1, 0);
+    const start = indexOf({ line, column: 0 });
     text.focus();
     text.setSelectionRange(start, start + (coloured.lines[line - 1] ?? "").length);
     scrollToLine(line);

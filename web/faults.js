@@ -48,19 +48,30 @@ function showFaults({ found, end }) {
     const seen = JSON.stringify([found, files.length > 1]);
     if (seen !== shownFaults) {
         [faults, shownFaults] = [found, seen];
-        at("faults").replaceChildren(...faults.map(faultItem));
+        showExplained();
         showTabs();
-        showMarks();
-        paint();
     }
+    if (found.length > 0 || end === undefined) explainSoon();
     if (program.runs) return;
     if (faults.length > 0) tell(faults.length === 1 ? "1 fault" : `${faults.length} faults`, true);
     else tell(end ?? "no faults", end !== undefined);
 }
 
-function faultItem({ file, line, words }) {
-    const kind = words.slice(0, words.indexOf(":"));
-    const place = files.length > 1 ? `${file}:${line}` : `line ${line}`;
-    const button = element("button", { onclick: () => goTo(file, line) }, `${place}: ${words}`);
-    return element("li", {}, button, MEND[kind] ? element("span", { className: "mend", textContent: MEND[kind] }) : "");
+// Shows the faults with what is known of each, and the notices, in the list and in the text.
+function showExplained() {
+    const rows = faults.map((it, i) => [placeWords(it), it.words, it.file, it.line, i, shownOf(explainedOf(i))]);
+    const notices = (explanation?.notices ?? []).map(({ from, words }) => [placeWords(from), words, from.file, from.line]);
+    showRows(at("faults"), [...rows, ...notices], (...row) => (row.length > 4 ? faultItem(...row) : noticeItem(...row)));
+    if (explanation) at("faults").querySelectorAll(".fix").forEach((it) => (it.disabled = false));
+    showMarks();
+    paint();
+}
+
+// What a row shows of what is known, as text, for a row is compared by its text.
+const shownOf = (known) => JSON.stringify([known ?? "", known?.mend ? mendedLines(known.mend) : ""]);
+
+function faultItem(place, words, file, line, i) {
+    const known = explainedOf(i);
+    const button = element("button", { className: "fault", onclick: () => goTo(file, line) }, `${place}: ${words}`);
+    return element("li", {}, button, ...(known ? detailsOf(known, i) : []));
 }

@@ -105,6 +105,7 @@ function renameFile() {
 
 // What is marked in the file that is shown.
 function showMarks() {
+    marks.ranges = rangesIn(shownFile.name);
     marks.faults = new Map(faults.filter((it) => it.file === shownFile.name).map((it) => [it.line, it.words]));
     marks.breaks = shownFile.breaks;
     marks.here = here?.file === shownFile.name ? here.line : undefined;

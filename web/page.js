@@ -19,6 +19,7 @@ function choose(name) {
 // A file was changed, added, renamed or removed, or the input: by the user, unless it is said otherwise.
 function changedFiles(isEdited = true) {
     edited = isEdited;
+    dropExplanation();
     if (compiledModule) check();
     showTabs();
     keepProgramSoon();
@@ -77,6 +78,7 @@ async function begin() {
     busy(false);
     check();
     program.warm();
+    loadExplainer();
 }
 
 document.addEventListener("keydown", pressed);

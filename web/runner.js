@@ -16,6 +16,11 @@ let compiledModule;
 class Runner {
     jobs = 0;
 
+    // Over the module that `module` gives when it is needed.
+    constructor(module = () => compiledModule) {
+        this.module = module;
+    }
+
     // Runs the program with these words over `files`, a map of names to bytes. `more` may have
     //   input       the bytes that are given beforehand
     //   asks        whether lines are asked for behind them, by `wantsInput`, and given by `give`
@@ -43,7 +48,7 @@ class Runner {
 
     made() {
         const worker = new Worker(workerAddress);
-        worker.postMessage({ module: compiledModule });
+        worker.postMessage({ module: this.module() });
         return worker;
     }
 

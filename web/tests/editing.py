@@ -2,11 +2,10 @@
 import base64
 import json
 import pathlib
-import re
 import tempfile
 import zlib
 
-from page import ADDRESS, ROOT, example, same, test
+from page import ADDRESS, example, same, test
 
 HELLO = 'class Main inherits IO {\n  main() : Object { out_string("Hello\\n") };\n};\n'
 
@@ -29,7 +28,7 @@ def types(page):
     same(page.faults(), ["line 2: E1: unknown name", "line 3: E17: initial value does not conform"])
     same(page.state(), "2 faults")
     same(page.run("return [...document.querySelectorAll('#gutter .bad')].map((it) => it.textContent);"), ["2", "3"])
-    same(page.run("at('faults').querySelectorAll('button')[1].click(); return [cursorLine(), document.activeElement.id];"), [3, "text"])
+    same(page.run("at('faults').querySelectorAll('.fault')[1].click(); return [cursorLine(), document.activeElement.id];"), [3, "text"])
     page.type("n : Int <- 7;")
     page.checked()
     same(page.faults(), ["line 2: E1: unknown name"])
@@ -37,13 +36,6 @@ def types(page):
     page.type("  main() : Int { n };")
     page.checked()
     same([page.faults(), page.state()], [[], "no faults"])
-
-
-@test("says what mends a fault, in the words of docs/faults.md")
-def mends(page):
-    rows = re.findall(r"^\| `(\w\d+): [^`]*` \| .* \| (.*) \|$", (ROOT / "docs/faults.md").read_text(), re.M)
-    page.open()
-    same(page.run("return MEND;"), {kind: words.replace("`", "") for kind, words in rows})
 
 
 @test("keeps the indent, indents by Tab, and lets Tab leave after Escape")

@@ -58,4 +58,5 @@ def pictures(page, folder):
     page.wait("at('lines').textContent.length > 1000")
     page.browser.picture(folder / "assembly.png")
     page.start(("mistakes.cl", example("mistakes.cl")))
+    page.wait("explanation !== undefined || explainModule === undefined")
     page.browser.picture(folder / "faults.png")

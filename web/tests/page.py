@@ -78,7 +78,7 @@ class Page:
         return self.run(f"return at({json.dumps(where)}).textContent;")
 
     def faults(self):
-        return self.run("return [...at('faults').querySelectorAll('button')].map((it) => it.textContent);")
+        return self.run("return [...at('faults').querySelectorAll('.fault')].map((it) => it.textContent);")
 
     def click(self, where):
         self.run(f"at({json.dumps(where)}).click();")

@@ -1,0 +1,156 @@
+"""What the page shows of a fault by what explains it: by a stand-in that says what a test has it say, and by the program itself."""
+import json
+import re
+
+from browser import Missing
+from page import ROOT, same, test
+
+PROGRAM = 'class Main {\n  e : String <- "é"; n : Int <- true;\n  main() : Int { m };\n};\n'
+BYTES = PROGRAM.encode()
+CURE = "the value is of the declared class or of one below it"
+LINES = """fault 0:2:%d:%d E17: initial value does not conform
+fact found Bool, and due is `Int`
+other 0:3:%d
+cure %s
+mend `1` in the place of `true`
+edit 0:%d:%d 1 +\\n2
+fault 0:3:%d:%d E1: unknown name
+mend `n` is near
+edit 0:%d:%d n
+""" % (BYTES.index(b"n : Int"), BYTES.index(b"n : Int") + 1, BYTES.index(b"main"), CURE, BYTES.index(b"true"), BYTES.index(b"true") + 4,
+       *(BYTES.index(b"m }") + more for more in (0, 1, 0, 1)))
+
+
+def stand_in(page, lines, *files, status=1, delay=0):
+    """The page with these files, and with what says these lines of them after so many milliseconds."""
+    page.open()
+    page.run(f"""
+        window.asked = 0;
+        window.lines = {json.dumps(lines)};
+        explainModule = "none";
+        explainer.run = async (words, all, more) => {{
+            asked += 1;
+            const said = lines;
+            await new Promise((over) => setTimeout(over, {delay}));
+            more.pieces([{{ to: 1, bytes: encode(said) }}]);
+            return {{ status: {status} }};
+        }};
+        explainer.stop = () => 0;
+    """)
+    page.start(*files)
+    page.fresh = False
+
+
+def details(page, number):
+    """What stands below a fault."""
+    return page.run(f"return [...at('faults').children[{number}].children].slice(1).map((it) => [it.className, it.textContent]);")
+
+
+def underlined(page):
+    """What is marked in each line of the text as wrong, and as odd."""
+    found = """
+        const marked = (line, kind) => [...line.querySelectorAll(`.${kind}`)].map((it) => it.textContent).join("");
+        return ["wrong", "odd"].map((kind) => [...document.querySelectorAll("#paint .line")].map((it) => marked(it, kind)).filter((it) => it !== ""));
+    """
+    return page.run(found)
+
+
+@test("shows what explains a fault, marks its range, and puts in the edit that mends it; Ctrl+Z takes it back")
+def explained(page):
+    stand_in(page, LINES, ("p.cl", PROGRAM))
+    same(page.faults(), ["line 2: E17: initial value does not conform", "line 3: E1: unknown name"])
+    same(underlined(page), [[it.strip() for it in PROGRAM.split("\n")[1:3]], []])
+    page.wait("explanation !== undefined")
+    same(details(page, 0), [["fact", "found Bool, and due is Int"], ["other", "defined at line 3, too"], ["cure", f"To mend it: {CURE}"],
+                            ["fix", "Mend: 1 in the place of true"]])
+    same(page.run("return at('faults').querySelector('.fix').title.split('\\n\\n');"),
+         [PROGRAM.split("\n")[1].replace("true", "1 +\n2"), "Ctrl+Z takes it back"])
+    same(underlined(page), [["n", "m"], []])
+    same(page.run("at('faults').querySelector('.other').click(); return cursorLine();"), 3)
+    page.run("window.lines = ''; at('faults').querySelector('.fix').click();")
+    same(page.run("return [text.value, document.activeElement.id];"), [PROGRAM.replace("true", "1 +\n2"), "text"])
+    page.checked()
+    same(page.faults(), ["line 4: E1: unknown name"])
+    same(page.run("return explanation === undefined && [...document.querySelectorAll('.fix')].every((it) => it.disabled);"), True)
+    page.press("z", 90, modifiers=2)
+    same(page.run("return text.value;"), PROGRAM)
+    page.checked()
+    same(page.faults(), ["line 2: E17: initial value does not conform", "line 3: E1: unknown name"])
+
+
+@test("keeps what was said of a fault while other lines are edited, and offers its mend when it is said anew")
+def kept(page):
+    stand_in(page, LINES, ("p.cl", PROGRAM))
+    page.wait("explanation !== undefined")
+    page.run("window.lines = ''; text.focus(); text.setSelectionRange(text.value.length, text.value.length);")
+    page.type("-- more")
+    page.checked()
+    same([details(page, 0)[0], underlined(page)[0]], [["fact", "found Bool, and due is Int"], ["n", "m"]])
+    same(page.run("return [...document.querySelectorAll('.fix')].map((it) => it.disabled);"), [True, True])
+    page.run(f"window.lines = {json.dumps(LINES)};")
+    page.type(" ")
+    page.wait("explanation !== undefined")
+    same(page.run("return [...document.querySelectorAll('.fix')].map((it) => it.disabled);"), [False, False])
+
+
+@test("shows what is legal but likely a mistake quietly, and goes to it")
+def notices(page):
+    text = "class Main {\n  n : Int;\n  main() : Object { { n = 7; n; } };\n};\n"
+    at = text.index("n = 7")
+    stand_in(page, f"notice 0:3:{at}:{at + 5} `=` compares, and the answer is not used\n", ("p.cl", text), status=0)
+    page.wait("explanation !== undefined")
+    same([page.faults(), page.state()], [[], "no faults"])
+    shown = page.run("return [...at('faults').children].map((it) => [it.className, it.textContent]);")
+    same(shown, [["notice", "line 3: = compares, and the answer is not used"]])
+    same(underlined(page), [[], ["n = 7"]])
+    same(page.run("at('faults').querySelector('button').click(); return cursorLine();"), 3)
+    page.run("window.lines = '';")
+    page.type("  main() : Object { 7 };")
+    page.checked()
+    page.wait("at('faults').children.length === 0")
+
+
+@test("mends what stands in another file, and what has Windows line ends")
+def other_file(page):
+    main, part = "class Main {\r\n  p : Part;\r\n  main() : Int { p.x() };\r\n};\r\n", "-- é\r\nclass Part {\r\n};\r\n"
+    at, edit = main.index("x()"), len(part.encode()) - len("};\r\n")
+    lines = f"fault 1:3:{at}:{at + 1} E4: unknown method\nmend a method\nedit 0:{edit}:{edit}   x() : Int {{ 1 }};\\n\n"
+    stand_in(page, lines, ("a.cl", part), ("main.cl", main))
+    page.wait("explanation !== undefined")
+    page.run("showFile(files[1]); at('faults').querySelector('.fix').click();")
+    page.checked()
+    same(page.run("return [shownFile.name, text.value];"), ["a.cl", "-- é\nclass Part {\n  x() : Int { 1 };\n};\n"])
+    same(page.state(), "no faults")
+
+
+@test("drops what is said of a text that has changed, and what it cannot read")
+def old_answers(page):
+    stand_in(page, LINES, ("p.cl", PROGRAM), delay=300)
+    page.wait("asked === 1")
+    page.run("text.focus(); text.setSelectionRange(0, 0);")
+    page.type("\n")
+    page.checked()
+    page.run("await new Promise((over) => setTimeout(over, 900));")
+    same(page.run("return [asked, explanation === undefined];"), [2, True])
+    for lines in "nonsense\n", "fault 0:2\n", "fact alone\n", LINES.replace("0:2:", "7:2:"), LINES + LINES:
+        stand_in(page, lines, ("p.cl", PROGRAM))
+        page.wait("asked === 1")
+        page.run("await new Promise((over) => setTimeout(over, 50));")
+        same([page.run("return explanation === undefined;"), len(page.faults()), details(page, 0)], [True, 2, []])
+
+
+@test("has the program itself explain faults, with the cures of docs/faults.md")
+def by_the_program(page):
+    page.open()
+    if page.run("return typeof COOL_EXPLAIN_MODULE === 'undefined';"):
+        raise Missing("there is no explain-module.js")
+    page.start(("p.cl", PROGRAM))
+    page.wait("explanation !== undefined")
+    same(underlined(page)[0], ["n", "m"])
+    rows = dict(re.findall(r"^\| `(\w\d+): [^`]*` \| .* \| (.*) \|$", (ROOT / "docs/faults.md").read_text(), re.M))
+    same([it["cure"] for it in page.run("return explanation.faults;")], [rows["E17"], rows["E1"]])
+    page.start(("p.cl", "class Main inherits IO {\n  main() : Object { {\n    out_int(3) out_int(4);\n  } };\n};\n"))
+    page.wait("explanation !== undefined")
+    page.run("at('faults').querySelector('.fix').click();")
+    page.checked()
+    same(page.state(), "no faults")
