@@ -104,9 +104,9 @@ def judge(other, program, case, folder):
     return bool(why), "alike, but bench/%s lists it: %s" % (other.list, listed)
 
 
-def own_program():
-    """The path of the program of this repository, which is built first where needed."""
-    done = subprocess.run([os.path.join(ROOT, "release", "program")], stdout=subprocess.PIPE, text=True)
+def own_program(*name):
+    """The path of the program of this repository, or of that of a name, which is built first where needed."""
+    done = subprocess.run([os.path.join(ROOT, "release", "program"), *name], stdout=subprocess.PIPE, text=True)
     if done.returncode:
         sys.exit(done.returncode)
     return done.stdout.strip()

@@ -1,0 +1,9 @@
+class Main inherits IO {
+  square(n : Int) : Int { n * n };
+  main() : Object {
+    {
+      out_int(square("4"));
+      out_string("\n");
+    }
+  };
+};

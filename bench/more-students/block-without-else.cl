@@ -1,0 +1,8 @@
+class Main inherits IO {
+  n : Int <- 3;
+  main() : Object {
+    if n = 3 then {
+      out_string("three\n");
+    } fi
+  };
+};

@@ -1,0 +1,9 @@
+class Main inherits IO {
+  show(o : Object) : Object {
+    case o of
+      case i : Int => out_int(i);
+      s : String => out_string(s);
+    esac
+  };
+  main() : Object { show(3) };
+};

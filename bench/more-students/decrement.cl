@@ -1,0 +1,9 @@
+class Main inherits IO {
+  n : Int <- 5;
+  main() : Object {
+    while 0 < n loop {
+      out_int(n);
+      n--;
+    } pool
+  };
+};

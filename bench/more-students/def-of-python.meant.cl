@@ -1,0 +1,8 @@
+class Main inherits IO {
+  square(n : Int) : Int {
+    n * n
+  };
+  main() : Object {
+    out_int(square(4))
+  };
+};

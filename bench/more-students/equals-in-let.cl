@@ -1,0 +1,9 @@
+class Main inherits IO {
+  main() : Object {
+    let a : Int = 3 in
+    {
+      out_int(a * a);
+      out_string("\n");
+    }
+  };
+};

@@ -1,0 +1,9 @@
+class Main inherits IO {
+  area(width : Int, height : Int) : Int { width * height };
+  main() : Object {
+    {
+      out_int(area(3, 4));
+      out_string("\n");
+    }
+  };
+};

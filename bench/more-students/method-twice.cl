@@ -1,0 +1,10 @@
+class Counter {
+  count : Int;
+  next() : Int { count <- count + 1 };
+  next() : Int { count <- count + 1 };
+};
+class Main inherits IO {
+  main() : Object {
+    out_int((new Counter).next())
+  };
+};

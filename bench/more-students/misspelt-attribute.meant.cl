@@ -1,0 +1,9 @@
+class Account {
+  balance : Int;
+  deposit(n : Int) : Int { balance <- balance + n };
+};
+class Main inherits IO {
+  main() : Object {
+    out_int((new Account).deposit(5))
+  };
+};

@@ -1,0 +1,8 @@
+Class Animal {
+  legs() : Int { 4 };
+};
+klass Main inherits IO {
+  main() : Object {
+    out_int((new Animal).legs())
+  };
+};

@@ -1,0 +1,9 @@
+class Main inherits IO {
+  x : Object <- 3;
+  main() : Object {
+    {
+      out_int(x + 1);
+      out_string("\n");
+    }
+  };
+};

@@ -1,0 +1,10 @@
+class Main inherits IO {
+  n : Int <- 3;
+  main() : Object {
+    {
+      out_string("n = ");
+      out_int(n);
+      System.out.println("\n");
+    }
+  };
+};

@@ -1,0 +1,8 @@
+class Main inherits IO {
+  main() : Int {
+    {
+      out_string("Hello\n");
+      return 0;
+    }
+  };
+};

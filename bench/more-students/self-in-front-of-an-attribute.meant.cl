@@ -1,0 +1,9 @@
+class Counter {
+  count : Int;
+  add(n : Int) : Int {
+    count <- count + n
+  };
+};
+class Main inherits IO {
+  main() : Object { out_int((new Counter).add(4)) };
+};

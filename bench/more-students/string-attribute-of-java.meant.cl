@@ -1,0 +1,8 @@
+class Person {
+  name : String <- "Ada";
+  age : Int <- 36;
+  name() : String { name };
+};
+class Main inherits IO {
+  main() : Object { out_string((new Person).name()) };
+};

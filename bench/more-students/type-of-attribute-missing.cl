@@ -1,0 +1,8 @@
+class Counter {
+  count <- 0;
+  next() : Int { count <- count + 1 };
+};
+class Main inherits IO {
+  counter : Counter <- new Counter;
+  main() : Object { out_int(counter.next()) };
+};

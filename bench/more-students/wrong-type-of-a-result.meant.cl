@@ -1,0 +1,9 @@
+class Main inherits IO {
+  greeting(name : String) : String { "Hello ".concat(name) };
+  main() : Object {
+    {
+      out_string(greeting("Ada"));
+      out_string("\n");
+    }
+  };
+};

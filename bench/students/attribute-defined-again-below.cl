@@ -1,0 +1,11 @@
+class Shape {
+  area : Int;
+  area() : Int { area };
+};
+class Square inherits Shape {
+  area : Int;
+  init(side : Int) : Square { { area <- side * side; self; } };
+};
+class Main inherits IO {
+  main() : Object { out_int((new Square).init(3).area()) };
+};

@@ -1,0 +1,9 @@
+class Point {
+  x : Int;
+  x() : Int { x };
+  set_x(value : Int) : Int { x <- value };
+};
+class Main inherits IO {
+  p : Point <- new Point;
+  main() : Object { { p.set_x(3); out_int(p.x()); } };
+};

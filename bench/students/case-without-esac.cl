@@ -1,0 +1,8 @@
+class Main inherits IO {
+  show(o : Object) : Object {
+    case o of
+      i : Int => out_int(i);
+      s : String => out_string(s);
+  };
+  main() : Object { show("text") };
+};

@@ -1,0 +1,9 @@
+class main inherits IO {
+  n : Int <- 3;
+  main() : Object {
+    {
+      out_int(n);
+      out_string("\n");
+    }
+  };
+};

@@ -1,0 +1,9 @@
+class Counter {
+  count : Int;
+  next() : Int { count <- count + 1 };
+};
+
+class Main inherits IO {
+  counter : Counter <- new Counter;
+  main() : Object { out_int(counter.next()) };
+};

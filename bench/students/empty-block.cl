@@ -1,0 +1,9 @@
+class Main inherits IO {
+  n : Int <- 3;
+  main() : Object {
+    {
+      if n = 3 then out_string("three ") else { } fi;
+      out_int(n);
+    }
+  };
+};

@@ -1,0 +1,9 @@
+class Animal {
+  legs() : Int { 4 };
+};
+class Bird extends Animal {
+  legs() : Int { 2 };
+};
+class Main inherits IO {
+  main() : Object { out_int((new Bird).legs()) };
+};

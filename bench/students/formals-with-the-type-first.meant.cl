@@ -1,0 +1,11 @@
+class Main inherits IO {
+  add(a : Int, b : Int) : Int {
+    a + b
+  };
+  main() : Object {
+    {
+      out_int(add(3, 4));
+      out_string("\n");
+    }
+  };
+};

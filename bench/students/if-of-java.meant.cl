@@ -1,0 +1,10 @@
+class Main inherits IO {
+  n : Int <- 3;
+  main() : Object {
+    if (n < 5) then {
+      out_string("small\n");
+    } else {
+      out_string("large\n");
+    } fi
+  };
+};

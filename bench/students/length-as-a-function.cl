@@ -1,0 +1,10 @@
+class Main inherits IO {
+  name : String;
+  main() : Object {
+    {
+      name <- in_string();
+      out_int(length(name));
+      out_string("\n");
+    }
+  };
+};

@@ -1,0 +1,9 @@
+class Main inherits IO {
+  main() : Object {
+    let x : Int <- 3 in
+    {
+      out_int(x * x);
+      out_string("\n");
+    }
+  };
+};

@@ -1,0 +1,10 @@
+class Main inherits IO {
+  n : Int <- 3;
+  main() : Object {
+    {
+      out_string("one ")
+      out_int(n);
+      out_string("\n");
+    }
+  };
+};

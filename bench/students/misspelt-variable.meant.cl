@@ -1,0 +1,10 @@
+class Main inherits IO {
+  count : Int <- 3;
+  total : Int;
+  main() : Object {
+    {
+      total <- count * 2;
+      out_int(total);
+    }
+  };
+};

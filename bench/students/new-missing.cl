@@ -1,0 +1,8 @@
+class Account {
+  balance : Int;
+  deposit(amount : Int) : Int { balance <- balance + amount };
+};
+class Main inherits IO {
+  account : Account <- Account;
+  main() : Object { out_int(account.deposit(3)) };
+};

@@ -1,0 +1,10 @@
+class Main inherits IO {
+  greeting : String <- "Hello";
+  greet(name : String) : Object {
+    {
+      out_string(greeting.concat(", "));
+      out_string(name.concat("\n"));
+    }
+  };
+  main() : Object { greet("world") };
+};

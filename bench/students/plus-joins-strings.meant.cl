@@ -1,0 +1,9 @@
+class Main inherits IO {
+  name : String;
+  main() : Object {
+    {
+      name <- in_string();
+      out_string("Hello ".concat(name).concat("\n"));
+    }
+  };
+};

@@ -1,0 +1,12 @@
+class Main inherits IO {
+  i : Int;
+  main() : Object {
+    {
+      while i < 3 loop {
+        out_int(i);
+        i <- i + 1;
+      } pool;
+      out_string("\n");
+    }
+  };
+};

@@ -1,0 +1,12 @@
+class Main inherits IO {
+  is_even(n : Int) : Bool {
+    n % 2 = 0
+  };
+  main() : Object {
+    if is_even(4) then
+      out_string("even\n")
+    else
+      out_string("odd\n")
+    fi
+  };
+};

@@ -1,0 +1,13 @@
+class Counter {
+  count : Int;
+  add(n : Int) : Counter {
+    {
+      count <- count + n;
+      self;
+    }
+  };
+  count() : Int { count };
+};
+class Main inherits IO {
+  main() : Object { out_int((new Counter).add(3).count()) };
+};

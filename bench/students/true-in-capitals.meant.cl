@@ -1,0 +1,10 @@
+class Main inherits IO {
+  done : Bool <- false;
+  n : Int;
+  main() : Object {
+    while not done loop {
+      n <- n + 1;
+      done <- n = 3;
+    } pool
+  };
+};

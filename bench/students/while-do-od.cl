@@ -1,0 +1,9 @@
+class Main inherits IO {
+  i : Int;
+  main() : Object {
+    while i < 3 do {
+      out_int(i);
+      i <- i + 1;
+    } od
+  };
+};

@@ -1,0 +1,10 @@
+class Main inherits IO {
+  n : Int <- 3;
+  main() : Object {
+    while 0 < n loop {
+      out_int(n);
+      out_string("\n");
+      n <- n - 1;
+    } pool
+  };
+};
