@@ -103,8 +103,7 @@ function showAgain() {
     if (machine.state) move(() => "again");
 }
 
-// The place of the innermost frame that has one.
-const placeShown = () => machine.frames?.map((it) => it.place).find((it) => it !== undefined);
+const placeShown = () => placeOf(machine);
 
 function whereWords(state, { error, limit }) {
     return `${stopWords(state, error, limit)}${state.short ? SHORT : ""}`;

@@ -1,8 +1,6 @@
 // A worker of the page: it runs the program, `cool`, once at a time. A run that is stopped ends with its worker, and the next one has a new worker.
 "use strict";
 
-const encode = (text) => new TextEncoder().encode(text);
-const decode = (bytes) => new TextDecoder().decode(bytes);
 const { load, canSuspend } = coolProgram();
 
 const STATUSES = {

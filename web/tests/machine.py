@@ -161,6 +161,26 @@ def recursion(page):
     same(page.moved("go-on").split(",")[0], "At line 10 of p.cl")
 
 
+@test("breaks at methods without a call or an operation, goes from initial values to main, and stops before abort")
+def edges(page):
+    debugs(page, ("p.cl", """class Main {
+  count : Int <- 1 + 2;
+  get() : Int {
+    count
+  };
+  main() : Object {{
+    get();
+    abort();
+  }};
+};
+"""))
+    same([page.moved(it).split(",")[0] for it in ("into", "over")], ["At line 2 of p.cl", "At line 7 of p.cl"])
+    same(page.moved("over").split(",")[:2], ["Ends by an error: abort called", " line 8 of p.cl"])
+    page.moved("restart")
+    page.run("toggleBreak(4);")
+    same(page.moved("go-on").split(",")[1], " in Main.get")
+
+
 @test("goes back in a run of a million instructions")
 def far(page):
     debugs(page, ("life.cl", "class Main { main() : Object { let i : Int in while i < 60000 loop i <- i + 1 pool }; };"))

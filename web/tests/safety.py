@@ -15,7 +15,7 @@ def output(page):
     for view in "machine", "assembly", "console":
         page.click(f"tab-{view}")
         page.moved()
-    page.run("goOn();")
+    page.run("at('go-on').onclick();")
     page.moved()
     page.run("text.focus(); text.select();")
     page.type(f'class Main {{ main() : Object {{ <b> }}; }}; -- {EVIL}\n')
@@ -25,7 +25,7 @@ def output(page):
 
 @test("has no way from a text to markup or code in its scripts")
 def sources(page):
-    for script in (ROOT / "web").glob("*.js"):
+    for script in (ROOT / "web").rglob("*.js"):
         if script.name in ("module.js", "examples.js"):
             continue
         found = WAYS.search(script.read_text())

@@ -1,5 +1,9 @@
 // Moves of the debugger. A run is the same each time, so a state of the machine is a number: how many instructions were executed since the start.
 // Each look, and each move, runs the program anew by `debug` up to there, with a script of its own; so it can go back, too.
+//
+// What uses this file has a function debug(lines, wanted, { seen, budget }): it runs a script of these lines, and answers { notes, output, short },
+// the notes that they ask for, the output up to the last, and whether the run read to the end of what is given beforehand. `seen` is called with each
+// of the notes, and where it answers true the rest is not needed. No more than `budget` instructions need to be executed.
 "use strict";
 
 const MOST_SCRIPT_BYTES = 65_000, MOST_STEP = 1_000_000_000;
@@ -7,24 +11,9 @@ const MOST_WORDS_READ = 3500, MOST_READS = 12, BLOCK_WORDS = 16, STACK_BLOCKS = 
 // In the order of `regs`.
 const REGISTERS = "pc zero at v0 v1 a0 a1 a2 a3 t0 t1 t2 t3 t4 t5 t6 t7 s0 s1 s2 s3 s4 s5 s6 s7 t8 t9 k0 k1 gp sp fp ra".split(" ");
 
-const debugged = new Runner();
 const hex = (number) => `0x${(number >>> 0).toString(16).padStart(8, "0")}`;
 
 class MoveFailed extends Error {}
-
-// The notes that these lines ask for, and the output up to the last of them.
-async function debug(lines, wanted) {
-    const all = sources();
-    let script = "script";
-    while (all.has(script)) script += "'";
-    all.set(script, encode(lines.join("\n")));
-    const came = await debugged.run(["debug", ...machineLimits(), "--", script, ...fileNames()], all, { notes: wanted, input: encode(at("input").value) });
-    if (came.killed) throw new MoveFailed("stopped");
-    if (came.broken !== undefined) throw new MoveFailed(came.broken);
-    const notes = came.notes.split("\n").slice(0, -1);
-    if (notes.length < wanted) throw new MoveFailed(came.status === 1 ? "The program has faults." : endWords(came) ?? "the run ended before");
-    return { notes, output: came.output, short: came.short };
-}
 
 function linesTo(steps) {
     const lines = [];
@@ -79,10 +68,10 @@ class State {
         return found;
     }
 
-    // Of the stack, what stands behind is read at once as well: the frames of the callers, each of which leads to the next.
-    async read() {
-        const blocks = new Set(this.wanted);
-        for (const from of this.wanted) if (from >= LOW_STACK) for (let i = 1; i < STACK_BLOCKS; i += 1) blocks.add(from + 4 * BLOCK_WORDS * i);
+    // Of the stack, what stands behind is read at once as well, more each time: the frames of the callers, each of which leads to the next.
+    async read(round = 0) {
+        const blocks = new Set(this.wanted), ahead = Math.min(STACK_BLOCKS << round, MOST_WORDS_READ / BLOCK_WORDS);
+        for (const from of this.wanted) if (from >= LOW_STACK) for (let i = 1; i < ahead; i += 1) blocks.add(from + 4 * BLOCK_WORDS * i);
         const addresses = wordsOf(blocks).filter((it) => !this.words.has(it)).slice(0, MOST_WORDS_READ);
         const moves = linesTo(this.steps);
         const { notes } = await debug([...moves, ...addresses.map((it) => `show ${hex(it)}`)], moves.length + addresses.length);
@@ -95,29 +84,34 @@ class State {
             this.wanted.clear();
             const result = compute(this);
             if (this.wanted.size === 0 || round === MOST_READS) return result;
-            await this.read();
+            await this.read(round);
         }
     }
 }
 
 // Runs on from a state to the first stop at one of the labels that `accept` answers something for, and answers that, or { steps, ended } or
-// { steps, limit } at the end of the run. A stop has steps, pc, and registers, a note of them.
-async function runOn(steps, labels, accept, tellProgress) {
+// { steps, limit } at the end of the run or of the budget. A stop has steps, pc, and registers, a note of them.
+async function runOn(steps, labels, accept, { tellProgress = () => {}, budget } = {}) {
     const breaks = [...new Set(labels)].map((it) => `break ${it}`);
     const size = breaks.reduce((sum, it) => sum + it.length + 1, 0) + 100;
     const most = Math.floor((MOST_SCRIPT_BYTES - size) / "run\nregs\n".length);
     if (most < 10) throw new MoveFailed("The program has too many places for one script of the debugger: set a break at a label.");
     for (let from = steps, count = 40; ; count = Math.min(most, count * 4)) {
-        const moves = linesTo(from);
-        const { notes } = await debug([...moves, ...breaks, ...Array(Math.min(count, most)).fill("run\nregs")], moves.length + 2 * Math.min(count, most));
-        for (let i = moves.length; i < notes.length; i += 2) {
-            const stop = reached(notes[i]);
-            if (stop.pc === undefined) return { steps: stop.steps, ended: true };
-            if (stop.steps === from) return { steps: from, limit: true };
-            from = stop.steps;
-            const found = accept({ ...stop, registers: notes[i + 1] });
-            if (found) return found;
-        }
+        const moves = linesTo(from), runs = Math.min(count, most);
+        let passed = 0, stop, found;
+        const seen = (note) => {
+            passed += 1;
+            if (passed <= moves.length) return false;
+            if ((passed - moves.length) % 2 === 1) {
+                stop = reached(note);
+                if (stop.pc === undefined) found = { steps: stop.steps, ended: true };
+                else if (stop.steps === from) found = { steps: from, limit: true };
+                from = stop.steps;
+            } else found = accept({ ...stop, registers: note });
+            return found !== undefined;
+        };
+        await debug([...moves, ...breaks, ...Array(runs).fill("run\nregs")], moves.length + 2 * runs, { seen, budget });
+        if (found) return found;
         tellProgress(from);
     }
 }

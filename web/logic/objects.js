@@ -4,17 +4,18 @@
 
 const MOST_LETTERS = 80, MOST_PUSHED = 100, MOST_FRAMES = 40, FRAME_BYTES = 12;
 
-// Describes a word: { text, object } with the object's address where it is one.
+// Describes a word: its text, and of an object its type, of an Int its value, and of others but Bools and Strings { object, class }, the address.
 function described(word, { state, listing }) {
     if (word === undefined || word === null) return { text: "" };
     if (word === 0) return { text: "void" };
     if (word >= TEXT_START && word < DATA_START) return { text: inText(word, listing) };
     const found = classAt(word, { state, listing });
     if (found === undefined) return { text: String(word | 0) };
-    if (found.name === "Int") return { text: `Int ${state.peek(word + 12) | 0}` };
-    if (found.name === "Bool") return { text: state.peek(word + 12) === 1 ? "true" : "false" };
-    if (found.name === "String") return { text: `"${lettersAt(word, state)}"` };
-    return { text: found.name, object: word, class: found };
+    const type = found.name, number = state.peek(word + 12) | 0;
+    if (type === "Int") return { text: `Int ${number}`, type, value: String(number) };
+    if (type === "Bool") return { text: number === 1 ? "true" : "false", type };
+    if (type === "String") return { text: `"${lettersAt(word, state)}"`, type };
+    return { text: type, type, object: word, class: found };
 }
 
 function inText(address, listing) {
@@ -40,16 +41,20 @@ function lettersAt(address, state) {
     return length > MOST_LETTERS ? `${shown}…` : shown;
 }
 
+// The attributes of the object at an address: { name, word }.
+function attributesAt(object, its, { state, outline }) {
+    const names = attributesOf(outline, its.name);
+    return Array.from({ length: its.attributes }, (_, i) => {
+        const name = names.length === its.attributes ? names[i].name : `attribute ${i + 1}`;
+        return { name, word: state.peek(object + 12 + 4 * i) };
+    });
+}
+
 // A line of the view: a name, a word and what it is; the attributes below an object whose path is open.
 function entry(name, word, path, view) {
     const { text, object, class: its } = described(word, view);
     const made = { name, word, text, path, opens: its !== undefined && its.attributes > 0 };
-    if (!made.opens || !view.open.has(path)) return made;
-    const names = attributesOf(view.outline, its.name);
-    made.entries = Array.from({ length: its.attributes }, (_, i) => {
-        const called = names.length === its.attributes ? names[i].name : `attribute ${i + 1}`;
-        return entry(called, view.state.peek(object + 12 + 4 * i), `${path}.${i}`, view);
-    });
+    if (made.opens && view.open.has(path)) made.entries = attributesAt(object, its, view).map((it, i) => entry(it.name, it.word, `${path}.${i}`, view));
     return made;
 }
 
@@ -67,36 +72,48 @@ function innermost(view) {
     return frameOf(unit, pc, fp, pc <= unit.leave ? s0 : undefined, view);
 }
 
-// The frames from the innermost one on: { title, place, entries }.
-function framesOf(view) {
+// The frames from the innermost one on, so many at most: { title, place } and, but for that of an error and the one that stands for more, what frameOf
+// tells, and `below`, the last word of the stack that is the frame's. Frames whose words are read stand in `known` then, and are not made anew.
+function stackOf(view, most, known = []) {
     const { state, listing } = view;
     const error = listing.errorAt.get(unitAt(listing, state.registers.pc)?.from);
-    if (error) return [{ title: error, place: { file: listing.strings.get(state.registers.t8), line: state.registers.t9 }, entries: [] }];
-    const frames = [];
-    let it = innermost(view), below = state.registers.sp;
-    while (!state.ended && it.unit && it.unit.name !== "__start") {
-        if (frames.length === MOST_FRAMES) return [...frames, { title: "…", entries: [] }];
-        const entries = it.fp === undefined ? [] : frameWords(it, below, frames.length, view);
-        if (it.self !== undefined) entries.unshift(entry("self", it.self, `${frames.length}.self`, view));
-        frames.push({ title: it.unit.name, place: placeAt(listing, it.pc), entries });
-        if (it.fp !== undefined) below = it.fp + FRAME_BYTES + 4 * it.unit.formals;
-        const unit = unitAt(listing, it.returns);
-        it = unit?.body ? frameOf(unit, it.returns - 4, it.next, it.caller, view) : {};
+    if (error) return [{ title: error, place: { file: listing.strings.get(state.registers.t8), line: state.registers.t9 } }];
+    let next = known.length > 0 ? callerOf(known.at(-1), view) : { ...innermost(view), below: state.registers.sp };
+    while (!state.ended && next.unit && next.unit.name !== "__start") {
+        if (known.length >= most) return [...known.slice(0, most), { title: "…" }];
+        const frame = { ...next, title: next.unit.name, place: placeAt(listing, next.pc) };
+        if (next.returns === undefined) return [...known, frame];
+        known.push(frame);
+        next = callerOf(frame, view);
     }
-    return frames;
+    return known.slice();
 }
 
-// The arguments by their names, and what was pushed in the body, the last at `below`.
-function frameWords({ unit, pc, fp }, below, number, view) {
+function callerOf({ unit, fp, below, returns, next, caller }, view) {
+    const its = unitAt(view.listing, returns);
+    if (!its?.body) return {};
+    return { ...frameOf(its, returns - 4, next, caller, view), below: fp === undefined ? below : fp + FRAME_BYTES + 4 * unit.formals };
+}
+
+// The frames with what stands in each: { title, place, entries }.
+const framesOf = (view) => stackOf(view, MOST_FRAMES).map((it, number) => ({ title: it.title, place: it.place, entries: entriesOf(it, number, view) }));
+
+function entriesOf(frame, number, view) {
+    const words = wordsIn(frame, view).map((it) => entry(it.name, it.word, `${number}.${it.key}`, view));
+    return frame.self === undefined ? words : [entry("self", frame.self, `${number}.self`, view), ...words];
+}
+
+// The words of a frame: { name, word, key }; the arguments by their names, and what was pushed in the body, the last at `below`.
+function wordsIn({ unit, pc, fp, below }, view) {
+    if (fp === undefined) return [];
     const [owner, method] = unit.name.split(".");
     const names = view.outline.get(owner)?.methods.find((it) => it.name === method)?.formals ?? [];
-    const entries = [];
-    for (let k = 0; k < unit.formals; k += 1) {
-        entries.push(entry(names[k] ?? `argument ${k + 1}`, view.state.peek(fp + FRAME_BYTES + 4 * (unit.formals - 1 - k)), `${number}.a${k}`, view));
-    }
+    const words = Array.from({ length: unit.formals }, (_, k) => {
+        return { name: names[k] ?? `argument ${k + 1}`, word: view.state.peek(fp + FRAME_BYTES + 4 * (unit.formals - 1 - k)), key: `a${k}` };
+    });
     const pushed = pushedAt(unit, pc, view);
     for (let i = 0, address = fp - 4; address >= below && i < MOST_PUSHED; i += 1, address -= 4) {
-        entries.push(entry(pushed[i] ?? `pushed ${i + 1}`, view.state.peek(address), `${number}.p${i}`, view));
+        words.push({ name: pushed[i] ?? `pushed ${i + 1}`, word: view.state.peek(address), key: `p${i}` });
     }
-    return entries;
+    return words;
 }

@@ -10,6 +10,7 @@ const TWO_WORDS = /^(la|li|mul|bgt|ble|blt|bge)\b/;
 const ERRORS = {
     dispatch_abort: "dispatch to void", case_abort2: "case on void", case_abort: "no matching branch", div_abort: "division by zero",
     substr_abort: "substring out of range", overflow_abort: "arithmetic overflow", heap_limit: "heap used up", stack_limit: "stack used up",
+    "Object.abort": "abort called",
 };
 const ROUTINE = /\.|_init$|^__start$|^equality_test$|_abort2?$|_limit$/;
 
@@ -28,7 +29,6 @@ function listingOf(assembly) {
     const data = lines.findIndex((it) => it.trimStart() === ".data");
     const { rows, labels } = textOf(lines.slice(0, data));
     const words = dataOf(lines.slice(data + 1), labels);
-    const units = unitsOf(rows);
     const places = placesOf(rows, words);
     return {
         rows, labels, places, units: unitsOf(rows), classes: classesOf(words),
