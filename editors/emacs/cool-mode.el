@@ -5,6 +5,9 @@
 ;; (load "/path/to/editors/emacs/cool-mode.el") gives files of Cool their colours, and M-x eglot (part of Emacs 29; elpa-eglot before) then
 ;; shows their faults while they are typed.  To have it begin by itself: (add-hook 'cool-mode-hook #'eglot-ensure).  M-x compile with
 ;; `cool check FILES' is followed to the faults, too.  The lexemes are those of docs/language.md.
+;;
+;; With elpa-dap-mode, M-x dap-debug and "Cool" debugs the program of the file; M-x cool-step-back and M-x cool-reverse-continue go back.  With dape,
+;; M-x dape and cool does.
 
 ;;; Code:
 
@@ -55,6 +58,40 @@
 
 (with-eval-after-load 'eglot
   (add-to-list 'eglot-server-programs (list 'cool-mode (expand-file-name "cool-lsp" cool-folder))))
+
+;; Debugging.
+
+(defun cool-debug-configuration (settings)
+  "The launch of dap-mode with what SETTINGS does not say."
+  (append settings
+          (list :dap-server-path (list (expand-file-name "cool-dap" cool-folder)))
+          (unless (plist-get settings :program) (list :program (buffer-file-name)))
+          (unless (plist-get settings :cwd) (list :cwd default-directory))))
+
+(declare-function dap-register-debug-provider "dap-mode")
+(declare-function dap-register-debug-template "dap-mode")
+(declare-function dap--step "dap-mode")
+(declare-function dap--cur-session-or-die "dap-mode")
+
+(with-eval-after-load 'dap-mode
+  (dap-register-debug-provider "cool" #'cool-debug-configuration)
+  (dap-register-debug-template "Cool" (list :type "cool" :request "launch" :name "Cool" :stopOnEntry t)))
+
+(defun cool-step-back ()
+  "Go back to the line before, in dap-mode."
+  (interactive)
+  (dap--step "stepBack" (dap--cur-session-or-die)))
+
+(defun cool-reverse-continue ()
+  "Go back to the break before, in dap-mode."
+  (interactive)
+  (dap--step "reverseContinue" (dap--cur-session-or-die)))
+
+(defvar dape-configs)
+(with-eval-after-load 'dape
+  (add-to-list 'dape-configs
+               `(cool modes (cool-mode) command ,(expand-file-name "cool-dap" cool-folder)
+                      :type "cool" :request "launch" :program dape-buffer-default :stopOnEntry t)))
 
 (add-to-list 'compilation-error-regexp-alist-alist '(cool "^\\(.+\\):\\([0-9]+\\): [LSCFE][0-9]+: " 1 2))
 (add-to-list 'compilation-error-regexp-alist 'cool)

@@ -8,6 +8,7 @@ import xml.etree.ElementTree
 import zipfile
 
 from .client import HERE, NotTried, expect
+from .debug_client import DebugClient
 from .explanations import FAULT as TOLD
 from .explanations import FAULTY, explained_by
 
@@ -46,6 +47,16 @@ def neovim(room, words):
     said, _ = said_in(room, words, [*call[:1], "--cmd", later, *call[1:]], COOL_ONCE="1")
     expect("by vim.lsp.start", said, ["2:26-27 " + TOLD, "1 told"])
     return version
+
+
+def neovim_debugging(room, words):
+    """What nvim-dap is given, by a stand-in of it."""
+    stand_in = "lua package.loaded.dap = { adapters = {}, configurations = {} }"
+    tell = ("lua local d = require('dap'); local c = d.configurations.cool[1]; "
+            "vim.fn.writefile({ d.adapters.cool.command, c.type .. ' ' .. c.request .. ' ' .. c.program }, vim.env.COOL_SAID); vim.cmd('qall!')")
+    said, version = said_in(room, words, ["nvim", "--clean", "--headless", "--cmd", stand_in, *VIM, "FILE", "-c", tell])
+    expect("nvim-dap", said, [str(HERE / "cool-dap"), "cool launch ${file}"])
+    return version + " with a stand-in of nvim-dap"
 
 
 def vim_make(room, words):
@@ -118,8 +129,34 @@ def vscode_extension(room, words):
     said = subprocess.run(call, timeout=SECONDS, stdout=subprocess.PIPE, check=True, env=environment).stdout.decode().splitlines()
     expect("VS Code", said, ["1:23-1:24 E17 %s 0" % TOLD, FACTS, "mend `1` for `true` quickfix true 1 1:34-1:38 1", "definition 0:6-0:10",
                              "references 0:6-0:10 4:17-4:21", "Main 4 0:0-3:1 s 7 t 7 main 5", "Late 4 4:0-4:24 m 7",
-                             "completion Main", "rename 4:6-4:10 Later", "refused: the name of a class", "0 told; 0 problems"])
+                             "completion Main", "rename 4:6-4:10 Later", "refused: the name of a class", "debug node editors/cool-dap true",
+                             "launch cool launch ${file} true", "0 told; 0 problems"])
     return "with a stand-in of its interface, on node " + subprocess.run(["node", "--version"], stdout=subprocess.PIPE).stdout.decode().strip()
 
 
-TESTS = [neovim, vim_make, vim_with_ale, emacs, vscode_package, vscode_extension]
+def vscode_debugging(room, words):
+    """The adapter of the package, which has all that it needs."""
+    if not shutil.which("node"):
+        raise NotTried("node is not installed")
+    extension = package(room)
+    for program in words.cool, "module":
+        client = DebugClient(program, command=["node", extension / "editors" / "cool-dap"])
+        stop = client.launch(HERE.parent / "examples" / "average.cl", lines=[14], stopOnEntry=True)
+        expect("stop", (stop["reason"], client.where(), client.at("continue")), ("entry", ("Main.main", 20), ("Numbers.average", 14, "exception")))
+        client.end()
+
+
+def emacs_debugging(room, words):
+    """dap-mode, a client of the protocol."""
+    mode = ["emacs", "-q", "--batch", "--eval", "(progn (package-initialize) (require 'dap-mode))"]
+    if not shutil.which("emacs") or not shutil.which("node") or subprocess.run(mode, stderr=subprocess.DEVNULL).returncode:
+        raise NotTried("emacs, elpa-dap-mode or node is not installed")
+    (room / "average.cl").write_text((HERE.parent / "examples" / "average.cl").read_text())
+    call = ["emacs", "-q", "--batch", "-l", HERE / "tests" / "emacs-debug.el"]
+    said, version = said_in(room, words, call, COOL_MODE=str(HERE / "emacs" / "cool-mode.el"), COOL_FILE=str(room / "average.cl"))
+    expect("dap-mode", said, ["Main.main 20", "Main.main 21", "Numbers.add 9", "number = 8", "Main.main 22", "Main.main 21", "Numbers.average 14", "count = 0",
+                              "Main.main 20", "breaks: (average.cl 1)", "Numbers.average 14", "ended"])
+    return version + " with dap-mode"
+
+
+TESTS = [neovim, neovim_debugging, vim_make, vim_with_ale, emacs, emacs_debugging, vscode_package, vscode_extension, vscode_debugging]

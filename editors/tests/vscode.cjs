@@ -17,7 +17,11 @@ const provider = (kind) => (_, given) => ((providers[kind] = Object.values(given
 const stub = {
   Range: Value, Location: Value, DiagnosticRelatedInformation: Value, Hover: Value, MarkdownString: Value,
   Diagnostic: class extends Value { get message() { return this[1]; } },
-  DocumentSymbol: Value, CompletionItem: Value, CodeAction: Value, CodeActionKind: { QuickFix: 'quickfix' },
+  DocumentSymbol: Value, CompletionItem: Value, CodeAction: Value, CodeActionKind: { QuickFix: 'quickfix' }, DebugAdapterExecutable: Value,
+  debug: {
+    registerDebugAdapterDescriptorFactory: (type, factory) => ((providers.adapter = factory), disposable),
+    registerDebugConfigurationProvider: (type, provider) => ((providers.launches = provider), disposable),
+  },
   WorkspaceEdit: class { constructor() { this.edits = []; } replace(...edit) { this.edits.push(edit); } },
   Uri: { parse: (text) => text },
   languages: {
@@ -26,7 +30,7 @@ const stub = {
     registerReferenceProvider: provider('references'), registerDocumentSymbolProvider: provider('symbols'),
     registerCompletionItemProvider: provider('completion'), registerRenameProvider: provider('rename'), registerCodeActionsProvider: provider('actions'),
   },
-  window: { createOutputChannel: () => ({ append: (text) => problems.push(text), dispose() {} }), showErrorMessage: (text) => problems.push(text) },
+  window: { activeTextEditor: { document }, createOutputChannel: () => ({ append: (text) => problems.push(text), dispose() {} }), showErrorMessage: (text) => problems.push(text) },
   workspace: {
     textDocuments: [document], workspaceFolders: undefined,
     getConfiguration: () => ({ get: () => program }),
@@ -56,6 +60,10 @@ const span = (r) => `${r[0]}:${r[1]}-${r[2]}:${r[3]}`;
   const renamed = await providers.rename(document, { line: 4, character: 8 }, 'Later');
   console.log('rename', ...renamed.edits.map((e) => `${span(e[1])} ${e[2]}`));
   await providers.rename(document, { line: 4, character: 8 }, 'later').catch((error) => console.log('refused:', error.message.slice(0, 19)));
+  const [command, words] = Object.values(providers.adapter.createDebugAdapterDescriptor());
+  console.log('debug', command, require('path').relative(extension, words[0]), fs.existsSync(words[0]));
+  const launch = providers.launches.resolveDebugConfiguration(undefined, {});
+  console.log('launch', launch.type, launch.request, launch.program, launch.cool === program);
   document.version = 2;
   document.text = document.text.replace(' <- true', '');
   found = await next(() => handlers.change({ document }));

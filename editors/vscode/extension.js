@@ -1,11 +1,12 @@
-// Starts cool-lsp for files of Cool, and shows what it tells and answers. It uses VS Code's own interface and no package beside it.
+// Starts cool-lsp for files of Cool, and shows what it tells and answers; and has VS Code debug them by cool-dap. It uses VS Code's own interface and no package beside it.
 const vscode = require('vscode');
 const { spawn } = require('child_process');
 const fs = require('fs');
 const path = require('path');
 
 // In a package the server stands in it; in a repository, or where it is installed, beside it.
-const SERVER = [path.join(__dirname, 'editors', 'cool-lsp'), path.join(fs.realpathSync(__dirname), '..', 'cool-lsp')].find(fs.existsSync);
+const EDITORS = [path.join(__dirname, 'editors'), path.join(fs.realpathSync(__dirname), '..')].find((it) => fs.existsSync(path.join(it, 'cool-lsp')));
+const SERVER = path.join(EDITORS, 'cool-lsp');
 const COOL = { language: 'cool' };
 let server, faults, log, rest, number, waiting;
 
@@ -146,6 +147,19 @@ function opened(document) {
   else send({ method: 'textDocument/didOpen', params: { textDocument: item(document) } });
 }
 
+// Debugging: by the adapter, on the node that VS Code has; and without a launch.json the file that is shown.
+
+const adapter = { createDebugAdapterDescriptor: () => new vscode.DebugAdapterExecutable('node', [path.join(EDITORS, 'cool-dap')]) };
+
+const launches = {
+  resolveDebugConfiguration: (_, given) => {
+    const shown = vscode.window.activeTextEditor && vscode.window.activeTextEditor.document;
+    const made = given.type ? given : shown && shown.languageId === 'cool' ? { type: 'cool', request: 'launch', name: 'Cool', program: '${file}', stopOnEntry: true } : given;
+    const cool = vscode.workspace.getConfiguration('cool').get('program');
+    return made.type && cool && !made.cool ? { ...made, cool } : made;
+  },
+};
+
 function activate(context) {
   faults = vscode.languages.createDiagnosticCollection('cool');
   log = vscode.window.createOutputChannel('Cool');
@@ -158,6 +172,7 @@ function activate(context) {
   const moved = () => send({ method: 'workspace/didChangeWatchedFiles', params: { changes: [] } });
   context.subscriptions.push(
     faults, log, files, files.onDidChange(moved), files.onDidCreate(moved), files.onDidDelete(moved), ...providers(),
+    vscode.debug.registerDebugAdapterDescriptorFactory('cool', adapter), vscode.debug.registerDebugConfigurationProvider('cool', launches),
     vscode.workspace.onDidOpenTextDocument(opened),
     vscode.workspace.onDidChangeTextDocument((event) => change(event.document)),
     vscode.workspace.onDidCloseTextDocument(about('textDocument/didClose')));

@@ -1,4 +1,4 @@
--- Neovim: starts the language server, one for each folder or each cool.files.
+-- Neovim: starts the language server, one for each folder or each cool.files, and has nvim-dap debug.
 local here = vim.loop.fs_realpath(debug.getinfo(1, 'S').source:sub(2))
 local list = vim.fn.findfile('cool.files', vim.fn.escape(vim.fn.expand('%:p:h'), ' ,;') .. ';')
 local root = vim.fn.fnamemodify(list ~= '' and list or vim.fn.expand('%:p'), ':p:h')
@@ -21,4 +21,11 @@ if vim.fn.has('nvim-0.10') == 0 then
 end
 if vim.fn.has('nvim-0.11') == 0 then
   vim.keymap.set('n', 'gra', vim.lsp.buf.code_action, { buffer = true })
+end
+
+-- Debugging, where nvim-dap is there: :lua require('dap').continue() begins, and step_back() and reverse_continue() go back.
+local found, dap = pcall(require, 'dap')
+if found and not dap.adapters.cool then
+  dap.adapters.cool = { type = 'executable', command = vim.fn.fnamemodify(here, ':h:h:h') .. '/cool-dap' }
+  dap.configurations.cool = { { type = 'cool', request = 'launch', name = 'Cool', program = '${file}', stopOnEntry = true } }
 end

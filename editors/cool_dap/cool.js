@@ -1,0 +1,122 @@
+// The program `cool`: where it is, and its runs.
+"use strict";
+const { execFileSync, spawn } = require("child_process");
+const fs = require("fs");
+const path = require("path");
+const { MODULE, spawnModule } = require("./module.js");
+const { EDITORS, LaunchFailed } = require("./program.js");
+
+const USUAL_STEPS = 1_000_000_000;
+
+// As the language server has it: the one that is named, or COOL, that of the repository, the one installed beside, or the one on PATH. Where there is none
+// it is the page's module, which "module" names.
+function coolOf(named) {
+    const given = named || process.env.COOL;
+    if (given) return given;
+    const repository = path.join(EDITORS, "..", "release", "program");
+    const asked = { env: { ...process.env, COOL_BUILD: "no" }, stdio: ["ignore", "pipe", "ignore"] };
+    if (fs.existsSync(repository)) return execFileSync(repository, asked).toString().trimEnd();
+    const beside = path.join(EDITORS, "..", "cool");
+    if (fs.existsSync(beside)) return beside;
+    const isOnPath = (process.env.PATH ?? "").split(path.delimiter).some((it) => fs.existsSync(path.join(it, "cool")));
+    return isOnPath || !fs.existsSync(MODULE) ? "cool" : "module";
+}
+
+class Cool {
+    // `input` has `bytes` and `ended`: what the program is given to read, and whether nothing comes behind it. `sink` takes what is told of output, and
+    // has it wait where the client does not keep up: { isFull, drained }.
+    constructor(command, program, input, { steps = USUAL_STEPS, heap, stack }, sink) {
+        Object.assign(this, { command, program, input, steps, sink });
+        this.room = [...(heap ? ["--heap", String(heap)] : []), ...(stack ? ["--stack", String(stack)] : [])];
+        this.running = new Set();
+    }
+
+    // A process, and whether it fails to start. `comes` is called with its output, and how much came before.
+    start(words, comes, fail) {
+        const how = { cwd: this.program.sources, stdio: "pipe" };
+        const child = this.command === "module" ? spawnModule(words, how) : spawn(this.command, words, how);
+        let length = 0;
+        this.running.add(child);
+        child.on("close", () => this.running.delete(child));
+        child.on("error", (error) => fail(new LaunchFailed(`${this.command} does not start: ${error.message}`)));
+        child.stdin.on("error", () => {});
+        child.stdout.on("data", (bytes) => {
+            comes(bytes, length);
+            length += bytes.length;
+            if (this.sink.isFull()) child.stdout.pause(), this.sink.drained(() => child.stdout.resume());
+        });
+        if (this.input.bytes.length > 0) child.stdin.write(this.input.bytes);
+        if (this.input.ended) child.stdin.end();
+        return child;
+    }
+
+    // Ends all runs.
+    stop() {
+        for (const it of this.running) it.stopped = it.kill("SIGKILL");
+    }
+
+    // A run to its end: a promise of { status, stopped, notes }.
+    run(words, comes) {
+        return new Promise((answer, fail) => {
+            const child = (this.last = this.start(words, comes, fail)), notes = [];
+            child.stderr.on("data", (bytes) => notes.push(bytes));
+            child.on("close", (status) => {
+                this.last = undefined;
+                answer({ status, stopped: child.stopped, notes: Buffer.concat(notes).toString() });
+            });
+        });
+    }
+
+    // Gives a run to its end more to read, or the end of it.
+    pass(text) {
+        if (text === undefined) this.last?.stdin.end();
+        else this.last?.stdin.write(text);
+    }
+
+    async asm() {
+        const output = [];
+        const came = await this.run(["asm", "--", ...this.program.names], (bytes) => output.push(bytes));
+        return { ...came, output: Buffer.concat(output).toString() };
+    }
+
+    whole(comes) {
+        return this.run(["run", "--steps", String(this.steps), ...this.room, "--", ...this.program.names], comes);
+    }
+
+    // A run by a script, up to its last line, or to the note of which `seen` says so: a promise of { notes, status, stopped }. Without a line `run` it
+    // ends where the script does. `comes` is called with no output but what came before that.
+    debug(lines, wanted, { seen = () => false, budget } = {}, comes = () => {}) {
+        const isOpen = lines.some((it) => it.startsWith("run"));
+        const most = Math.min(this.steps, budget ?? (isOpen ? Infinity : Math.max(1, stepsOf(lines))));
+        const script = this.program.script(lines);
+        return new Promise((answer, fail) => {
+            const notes = [];
+            let rest = "", done = false;
+            // A note that was written before these bytes is there to be read by now, and has been read a turn later.
+            const afterNotes = (bytes, before) => setImmediate(() => setImmediate(() => !done && comes(bytes, before)));
+            const child = this.start(["debug", "--steps", String(most), ...this.room, "--", script, ...this.program.names], isOpen ? afterNotes : comes, fail);
+            const end = (status) => {
+                fs.rm(script, () => {});
+                answer({ notes, status, stopped: child.stopped });
+            };
+            const note = (line) => {
+                if (done || notes.length === wanted) return;
+                notes.push(line);
+                done = seen(line) === true || (isOpen && notes.length === wanted);
+                if (!done) return;
+                child.kill("SIGKILL");
+                end();
+            };
+            child.stderr.on("data", (bytes) => {
+                const parts = (rest + bytes.toString("latin1")).split("\n");
+                rest = parts.pop();
+                parts.forEach(note);
+            });
+            child.on("close", (status) => done || end(status));
+        });
+    }
+}
+
+const stepsOf = (lines) => lines.reduce((sum, it) => sum + (it.startsWith("step ") ? Number(it.slice(5)) : 0), 0);
+
+module.exports = { Cool, coolOf };

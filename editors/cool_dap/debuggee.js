@@ -1,0 +1,193 @@
+// The program that is debugged: where it stands, and its moves. A state is a number of instructions, so it goes back as exactly as on.
+"use strict";
+const { StringDecoder } = require("string_decoder");
+const { Cool } = require("./cool.js");
+const { READERS } = require("./input.js");
+const { logicWith } = require("./logic.js");
+const { LaunchFailed } = require("./program.js");
+
+const FRAMES_OF_MOVES = 40;
+// Instructions, and instructions a millisecond of a run of which nothing is known yet.
+const FIRST_PART = 1_000_000, PART_GROWS = 4, LEAST_RATE = 1000;
+
+class Debuggee {
+    // `tell` is called with output, and `asks` where the program reads what was not given yet.
+    constructor(command, program, input, settings, { tell, asks, sink }) {
+        Object.assign(this, { program, input, asks, told: 0, decoder: new StringDecoder("utf8"), tellText: tell });
+        this.cool = new Cool(command, program, input, settings, sink);
+        this.logic = logicWith((...all) => this.debug(...all));
+    }
+
+    // Makes the listing of the assembly; answers the notes of `cool` where there is none.
+    async prepare() {
+        const { status, output, notes } = await this.cool.asm();
+        if (status !== 0) return notes;
+        this.listing = this.logic.listingOf(output);
+        this.outline = this.logic.outlineOf(this.program.files);
+    }
+
+    async debug(lines, wanted, more) {
+        const came = await this.cool.debug(lines, wanted, more, (bytes, before) => this.isBack || this.tell(bytes, before));
+        if (came.stopped) throw new this.logic.MoveFailed("stopped");
+        const isShort = came.status !== undefined && came.notes.length < wanted && !more?.seen;
+        if (isShort) throw new LaunchFailed(`${this.cool.command} debug ended with status ${came.status}`);
+        return came;
+    }
+
+    // Tells what was not told yet of output that begins behind so many bytes.
+    tell(bytes, before = 0) {
+        const fresh = bytes.subarray(Math.max(0, this.told - before));
+        if (this.told < before || fresh.length === 0) return;
+        this.told += fresh.length;
+        this.tellText(this.decoder.write(fresh));
+    }
+
+    get view() {
+        return { state: this.state, listing: this.listing, outline: this.outline };
+    }
+
+    // Where the program stands, with so many frames. Words of memory that are lacking are read.
+    async frames(most = FRAMES_OF_MOVES) {
+        const { state } = this;
+        let found;
+        do found = await state.settled(() => this.logic.stackOf(this.view, most, this.known));
+        while (state.wanted.size > 0);
+        return found;
+    }
+
+    async stand(steps) {
+        this.state = await this.logic.State.after(steps, this.state);
+        this.known = [];
+    }
+
+    async from() {
+        return { ...this.view, frames: await this.frames() };
+    }
+
+    // The breaks of the user, and those before a read of what was not given.
+    allBreaks({ places, labels } = this.logic.NO_BREAKS) {
+        const own = new Set(labels);
+        const takes = (label, stop) => (READERS.includes(label) && this.input.isWanted(stop.steps)) || own.has(label);
+        return { places, labels: [...own, ...READERS.filter((it) => this.listing.labels.has(it))], takes };
+    }
+
+    readsAt(stop) {
+        return READERS.includes(stop.label) && this.input.isWanted(stop.steps);
+    }
+
+    // Moves on as `go` does, with the breaks that `breaks` answers, and past each read that has to wait for its line. Answers the stop, or
+    // { steps, paused }.
+    async forward(go, breaks = () => this.logic.NO_BREAKS) {
+        this.isPaused = this.isChanged = false;
+        const from = await this.from();
+        for (;;) {
+            const here = this.atReader() && this.input.isWanted(this.state.steps) ? { steps: this.state.steps } : undefined;
+            const found = here ?? (await this.moved(go, from, breaks));
+            if (!here && !this.readsAt(found)) return found;
+            await this.stand(found.steps);
+            this.asks();
+            if (!this.isPaused) await this.input.more();
+            if (this.isPaused) return { steps: found.steps, paused: true };
+        }
+    }
+
+    // Moves on by so many instructions.
+    forwardBy(count) {
+        return this.forward(async ({ state }) => ({ steps: state.steps + count }));
+    }
+
+    atReader() {
+        return READERS.some((it) => this.listing.labels.get(it) === this.state.registers.pc);
+    }
+
+    // Moves in parts of more and more instructions, so that it is known how far a run is that is paused. Where the breaks changed the move is made anew.
+    async moved(go, from, breaks) {
+        const { steps } = this.state;
+        let passed = steps, rate = LEAST_RATE;
+        for (let part = FIRST_PART; ; part *= PART_GROWS) {
+            if (this.isPaused) return { steps: passed, paused: true };
+            const budget = Math.min(steps + part, this.cool.steps), begun = performance.now();
+            try {
+                const found = await this.stoppable(() => go(from, this.allBreaks(breaks()), { budget }));
+                if (!found.limit || found.steps >= this.cool.steps) return found;
+                [passed, rate] = [budget, budget / (performance.now() - begun)];
+            } catch (error) {
+                if (!(error instanceof this.logic.MoveFailed) || !(this.isPaused || this.isChanged)) throw error;
+                const now = Math.max(passed, steps + 1, Math.floor((performance.now() - begun) * rate));
+                if (this.isPaused) return this.pausedAt(go, from, breaks, now);
+                this.isChanged = false;
+                part = FIRST_PART / PART_GROWS;
+            }
+        }
+    }
+
+    // Where a run stands that was paused after so many instructions: no further than at its first stop.
+    async pausedAt(go, from, breaks, budget) {
+        const found = await go(from, this.allBreaks(breaks()), { budget });
+        return found.limit && found.steps < this.cool.steps ? { steps: found.steps, paused: true } : found;
+    }
+
+    // A part of a move that a pause stops; to show the state that it leads to takes no longer than it did.
+    async stoppable(part) {
+        this.isStoppable = true;
+        try {
+            return await part();
+        } finally {
+            this.isStoppable = false;
+        }
+    }
+
+    // Where a move back leads. What it runs is not told: it may go a little further than here.
+    async backward(find) {
+        this.isBack = true;
+        try {
+            const from = await this.from();
+            return await this.stoppable(() => find(from));
+        } finally {
+            this.isBack = false;
+        }
+    }
+
+    // Has a move that goes on take up other breaks.
+    changeBreaks() {
+        this.isChanged = true;
+        if (this.isStoppable) this.cool.stop();
+    }
+
+    pause() {
+        this.isPaused = true;
+        this.input.leave();
+        if (this.isStoppable) this.cool.stop();
+    }
+
+    // The first state at which a move by lines stops, or the call of main where none comes soon.
+    async entry() {
+        const { into, goOn, NO_BREAKS, State } = this.logic;
+        const beginning = { listing: this.listing, outline: this.outline, state: await State.after(0), frames: [] };
+        const first = await into(beginning, NO_BREAKS, { budget: FIRST_PART });
+        return first.ended || first.limit ? goOn(beginning, { places: [], labels: ["Main.main"] }, { budget: FIRST_PART }) : first;
+    }
+
+    // A line of input, or its end. A run without breaks reads it itself.
+    give(line) {
+        if (line === "^D") this.input.end();
+        else this.input.give(line);
+        this.cool.pass(line === "^D" ? undefined : `${line}\n`);
+    }
+
+    // To the end, without breaks: the status.
+    async whole() {
+        const { status, stopped, notes } = await this.cool.whole((bytes, before) => this.tell(bytes, before));
+        if (stopped) throw new this.logic.MoveFailed("stopped");
+        return { status, notes };
+    }
+
+    end() {
+        this.isPaused = true;
+        this.input.leave();
+        this.cool.stop();
+        this.program.remove();
+    }
+}
+
+module.exports = { Debuggee };
