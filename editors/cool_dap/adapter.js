@@ -4,7 +4,7 @@ const fs = require("fs");
 const { Breakpoints } = require("./breakpoints.js");
 const { coolOf } = require("./cool.js");
 const { Debuggee } = require("./debuggee.js");
-const { Frames } = require("./frames.js");
+const { Frames, NotTold } = require("./frames.js");
 const { Input } = require("./input.js");
 const { Messages, written } = require("./messages.js");
 const { Program, LaunchFailed } = require("./program.js");
@@ -64,8 +64,11 @@ class Adapter {
         const program = new Program(settings);
         const { inputFile, input: text = "", inputEnds = false } = settings;
         const input = inputFile ? new Input(inputOf(inputFile, settings.cwd), true) : new Input(text, inputEnds);
-        const asks = () => this.output("console", "The program reads a line: type it here, or ^D for the end of the input.\n");
-        this.debuggee = new Debuggee(coolOf(settings.cool), program, input, settings, { tell: (text) => this.output("stdout", text), asks, sink: this.sink });
+        const hears = {
+            output: (text) => this.output("stdout", text), says: (text, isWrong) => this.output(isWrong ? "stderr" : "console", text),
+            asks: () => this.output("console", "The program reads a line: type it here, or ^D for the end of the input.\n"),
+        };
+        this.debuggee = new Debuggee(coolOf(settings.cool), program, input, settings, hears, this.sink);
         this.frames = new Frames(this.debuggee);
         const faults = settings.noDebug ? undefined : await this.debuggee.prepare().catch((error) => (this.debuggee.end(), Promise.reject(error)));
         if (faults === undefined) return;
@@ -86,7 +89,7 @@ class Adapter {
             if (this.settings.noDebug) return this.ended();
             await debuggee.stand(0);
             if (this.settings.stopOnEntry) return this.stopped({ steps: (await debuggee.entry()).steps }, "entry");
-            return this.arrived(await debuggee.forward(debuggee.logic.goOn, () => this.breakpoints.breaks));
+            return this.arrived(await debuggee.forward(debuggee.logic.goOn, this.breakpoints));
         });
     }
 
@@ -106,12 +109,12 @@ class Adapter {
     }
 
     forward(go, reason = "step") {
-        return this.act(async () => this.arrived(await this.debuggee.forward(go, () => this.breakpoints.breaks), reason));
+        return this.act(async () => this.arrived(await this.debuggee.forward(go, this.breakpoints), reason));
     }
 
     backward(find) {
         return this.act(async () => {
-            const { debuggee } = this, found = await debuggee.backward(find);
+            const { debuggee } = this, found = await debuggee.backward(find, this.breakpoints);
             if (found) return this.stopped(found, found.broken ? this.reasonOf(found) : "step");
             const first = await debuggee.entry();
             return this.stopped({ steps: Math.min(first.steps, debuggee.state.steps) }, "entry");
@@ -180,25 +183,25 @@ class Adapter {
             const { value, name: _, ...more } = await this.frames.evaluate(expression, frameId);
             return { result: value, ...more };
         } catch (error) {
-            throw error.name === "Error" ? new Refused(error.message) : error;
+            throw error instanceof NotTold ? new Refused(error.message) : error;
         }
     }
 
-    setBreakpoints({ source, breakpoints, lines }) {
-        if (!this.debuggee?.listing) return { breakpoints: (breakpoints ?? lines ?? []).map(() => ({ verified: false })) };
-        const wanted = breakpoints?.map((it) => it.line) ?? lines ?? [];
-        this.asked = (this.asked ?? new Map()).set(source.path, wanted);
-        const told = this.breakpoints.setLines(source.path, wanted, this.debuggee);
+    // Answers what is told of the breaks that are asked for, which `set` sets where there is a program.
+    setBreaks(asked, set) {
+        if (!this.debuggee?.listing) return { breakpoints: asked.map(() => ({ verified: false })) };
+        const breakpoints = set(this.debuggee);
         if (this.runs) this.debuggee.changeBreaks();
-        return { breakpoints: told };
+        return { breakpoints };
+    }
+
+    setBreakpoints({ source, breakpoints, lines = [] }) {
+        const asked = breakpoints ?? lines.map((line) => ({ line }));
+        return this.setBreaks(asked, (debuggee) => this.breakpoints.setLines(source.path, asked, debuggee));
     }
 
     setFunctionBreakpoints({ breakpoints }) {
-        if (!this.debuggee?.listing) return { breakpoints: breakpoints.map(() => ({ verified: false })) };
-        this.askedNames = breakpoints.map((it) => it.name);
-        const told = this.breakpoints.setFunctions(this.askedNames, this.debuggee);
-        if (this.runs) this.debuggee.changeBreaks();
-        return { breakpoints: told };
+        return this.setBreaks(breakpoints, (debuggee) => this.breakpoints.setFunctions(breakpoints, debuggee));
     }
 
     breakpointLocations({ source, line, endLine = line }) {
@@ -214,10 +217,7 @@ class Adapter {
         await this.moving;
         await this.launch(settings?.program || settings?.files ? settings : this.settings);
         this.isDown = false;
-        const before = [...(this.asked ?? [])];
-        this.breakpoints.lines.clear();
-        for (const [file, lines] of before) this.breakpoints.setLines(file, lines, this.debuggee);
-        this.breakpoints.setFunctions(this.askedNames ?? [], this.debuggee);
+        this.breakpoints.renew(this.debuggee);
     }
 
     close() {

@@ -1,5 +1,59 @@
 // Breaks at lines of files and at methods, as the client asks for them, and as the places and labels at which a run stops.
 "use strict";
+const { Unread, readConditions } = require("./conditions.js");
+const { NotTold } = require("./frames.js");
+
+// One break. `told` is what the client is told of it; `asked` is what it asked for, and `reads` that as conditions.js reads it.
+class Breakpoint {
+    constructor(kind, asked, told, { places = [], labels = [] } = {}, reads = {}) {
+        Object.assign(this, { kind, asked, told, places, labels, reads, hits: [], known: new Map() });
+    }
+
+    isAt(stop) {
+        return stop.label ? this.labels.includes(stop.label) : this.places.includes(stop.place);
+    }
+
+    // Whether it depends on the state that it stops there.
+    get isOpen() {
+        return Object.values(this.reads).some((it) => it !== undefined);
+    }
+
+    // Whether it stops a run that goes on to there, at which `look` looks (debuggee.js). It is asked once of each state, since what it says then is said
+    // once.
+    async stops(steps, look) {
+        if (!this.isOpen) return true;
+        if (!this.known.has(steps)) this.known.set(steps, await this.judged(steps, look));
+        return this.known.get(steps);
+    }
+
+    async judged(steps, { named, tell }) {
+        const { condition, counts, message } = this.reads;
+        try {
+            if (condition && !(await condition(named))) return false;
+        } catch (error) {
+            if (!(error instanceof NotTold)) throw error;
+            await tell(`cool-dap: the condition "${this.asked.condition}" cannot be told here: ${error.message}\n`, true);
+            return true;
+        }
+        if (counts && !counts(this.countedTo(steps))) return false;
+        if (message) await tell(`${await message(named)}\n`);
+        return message === undefined;
+    }
+
+    // The number of a hit among those that are known, in the order of the run.
+    countedTo(steps) {
+        let at = this.hits.length;
+        while (at > 0 && this.hits[at - 1] > steps) at -= 1;
+        this.hits.splice(at, 0, steps);
+        return at + 1;
+    }
+
+    // Whether it is one to go back to: one that stopped, or would by its condition. Hits are counted going on alone.
+    async stoppedAt(steps, look) {
+        const { counts, message } = this.reads;
+        return this.known.has(steps) || !(counts || message) ? this.stops(steps, look) : false;
+    }
+}
 
 class Breakpoints {
     constructor() {
@@ -8,31 +62,52 @@ class Breakpoints {
         this.count = 0;
     }
 
-    setLines(file, lines, debuggee) {
-        const found = lines.map((line) => this.lineAt(file, line, debuggee));
-        this.lines.set(file, found);
-        return found.map((it) => it.told);
+    // Each break is asked for by its line, and by what conditions.js reads.
+    setLines(file, asked, debuggee) {
+        this.lines.set(file, asked.map((it) => this.lineAt(file, it, debuggee)));
+        return this.lines.get(file).map((it) => it.told);
     }
 
-    lineAt(file, line, { program, logic, listing, outline }) {
-        const id = (this.count += 1), name = program.nameOf(file);
+    lineAt(file, asked, { program, logic, listing, outline }) {
+        const { line } = asked, name = program.nameOf(file);
         const found = name === undefined ? undefined : logic.breakOfLine(name, line, { listing, outline });
-        if (found) return { ...found, kind: "breakpoint", told: { id, verified: true, line: found.line, source: { name, path: file } } };
+        if (found) return this.made("breakpoint", asked, { line: found.line, source: { name, path: file } }, found);
         const message = name === undefined ? "this file is no part of the program" : "no line from here on has a call or an operation";
-        return { places: [], labels: [], told: { id, verified: false, line, message } };
+        return this.refused(asked, { line, message });
     }
 
-    setFunctions(names, debuggee) {
-        this.functions = names.map((name) => this.functionAt(name, debuggee));
+    // Each is asked for by its name.
+    setFunctions(asked, debuggee) {
+        this.functions = asked.map((it) => this.functionAt(it, debuggee));
         return this.functions.map((it) => it.told);
     }
 
-    functionAt(name, { program, logic, listing, outline }) {
-        const id = (this.count += 1), labels = labelsOf(name.trim(), listing, outline, logic);
-        if (labels.length === 0) return { places: [], labels, told: { id, verified: false, message: `${name} is no method: write Class.method` } };
+    functionAt(asked, { program, logic, listing, outline }) {
+        const labels = labelsOf(asked.name.trim(), listing, outline, logic);
+        if (labels.length === 0) return this.refused(asked, { message: `${asked.name} is no method: write Class.method` });
         const method = logic.methodOf(outline, labels[0]), file = outline.get(labels[0].split(".")[0])?.file;
         const where = method && file !== undefined ? { line: method.line, source: { name: file, path: program.pathOf(file) } } : {};
-        return { places: [], labels, kind: "function breakpoint", told: { id, verified: true, ...where } };
+        return this.made("function breakpoint", asked, where, { labels });
+    }
+
+    made(kind, asked, told, where) {
+        try {
+            return new Breakpoint(kind, asked, { id: (this.count += 1), verified: true, ...told }, where, readConditions(asked));
+        } catch (error) {
+            if (!(error instanceof Unread)) throw error;
+            return this.refused(asked, { ...told, message: error.message });
+        }
+    }
+
+    // One that never stops, with the reason.
+    refused(asked, told) {
+        return new Breakpoint(undefined, asked, { id: (this.count += 1), verified: false, ...told });
+    }
+
+    // The same breaks in a program that was launched anew.
+    renew(debuggee) {
+        for (const [file, its] of this.lines) this.setLines(file, its.map((it) => it.asked), debuggee);
+        this.setFunctions(this.functions.map((it) => it.asked), debuggee);
     }
 
     get all() {
@@ -41,12 +116,38 @@ class Breakpoints {
 
     // For the moves of stops.js.
     get breaks() {
-        return { places: this.all.flatMap((it) => it.places), labels: this.all.flatMap((it) => it.labels) };
+        const { all } = this;
+        return {
+            places: all.flatMap((it) => it.places), labels: all.flatMap((it) => it.labels), areOpen: all.some((it) => it.isOpen),
+            isOpen: (stop) => this.at(stop).some((it) => it.isOpen),
+        };
     }
 
-    // Those that a stop is at.
+    at(stop) {
+        return this.all.filter((it) => it.isAt(stop));
+    }
+
+    // Whether each break at a stop has said whether it stops there.
+    isKnown(stop) {
+        return this.at(stop).every((it) => !it.isOpen || it.known.has(stop.steps));
+    }
+
+    // Whether one of them stops a run that goes on; each is asked, since each may have something to say.
+    async stops(stop, look) {
+        let stops = false;
+        for (const it of this.at(stop)) stops = (await it.stops(stop.steps, look)) || stops;
+        return stops;
+    }
+
+    // Whether one of them is one to go back to.
+    async stoppedAt(stop, look) {
+        for (const it of this.at(stop)) if (await it.stoppedAt(stop.steps, look)) return true;
+        return false;
+    }
+
+    // Those that stopped a run there.
     hitBy(stop) {
-        return this.all.filter((it) => (stop.label ? it.labels.includes(stop.label) : it.places.includes(stop.place)));
+        return this.at(stop).filter((it) => !it.isOpen || it.known.get(stop.steps));
     }
 }
 

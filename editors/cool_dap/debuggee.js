@@ -2,6 +2,7 @@
 "use strict";
 const { StringDecoder } = require("string_decoder");
 const { Cool } = require("./cool.js");
+const { Frames } = require("./frames.js");
 const { READERS } = require("./input.js");
 const { logicWith } = require("./logic.js");
 const { LaunchFailed } = require("./program.js");
@@ -11,9 +12,9 @@ const FRAMES_OF_MOVES = 40;
 const FIRST_PART = 1_000_000, PART_GROWS = 4, LEAST_RATE = 1000;
 
 class Debuggee {
-    // `tell` is called with output, and `asks` where the program reads what was not given yet.
-    constructor(command, program, input, settings, { tell, asks, sink }) {
-        Object.assign(this, { program, input, asks, told: 0, decoder: new StringDecoder("utf8"), tellText: tell });
+    // `hears` is told of `output`, of what breaks `says`, and that the program `asks` for a line, which it reads and which was not given yet.
+    constructor(command, program, input, settings, hears, sink) {
+        Object.assign(this, { program, input, hears, told: 0, decoder: new StringDecoder("utf8"), isStoppable: false, isSilent: false });
         this.cool = new Cool(command, program, input, settings, sink);
         this.logic = logicWith((...all) => this.debug(...all));
     }
@@ -27,7 +28,7 @@ class Debuggee {
     }
 
     async debug(lines, wanted, more) {
-        const came = await this.cool.debug(lines, wanted, more, (bytes, before) => this.isBack || this.tell(bytes, before));
+        const came = await this.cool.debug(lines, wanted, more, (bytes, before) => this.isSilent || this.tell(bytes, before));
         if (came.stopped) throw new this.logic.MoveFailed("stopped");
         const isShort = came.status !== undefined && came.notes.length < wanted && !more?.seen;
         if (isShort) throw new LaunchFailed(`${this.cool.command} debug ended with status ${came.status}`);
@@ -39,7 +40,7 @@ class Debuggee {
         const fresh = bytes.subarray(Math.max(0, this.told - before));
         if (this.told < before || fresh.length === 0) return;
         this.told += fresh.length;
-        this.tellText(this.decoder.write(fresh));
+        this.hears.output(this.decoder.write(fresh));
     }
 
     get view() {
@@ -60,32 +61,68 @@ class Debuggee {
         this.known = [];
     }
 
+    // A look at the program after so many instructions, where it need not stand, taken once one asks for it: `named` promises the variable of a name of the
+    // innermost frame there, and `tell` says something behind the output up to there.
+    lookAfter(steps) {
+        let taken;
+        const take = async () => {
+            const state = (this.lookedAt = await this.logic.State.after(steps, this.lookedAt ?? this.state));
+            return new Frames(Object.assign(Object.create(this), { state, known: [] }));
+        };
+        const frames = () => (taken ??= take());
+        return {
+            named: async (name) => (await frames()).evaluate(name, 1),
+            tell: async (...said) => (await frames(), this.hears.says(...said)),
+        };
+    }
+
     async from() {
         return { ...this.view, frames: await this.frames() };
     }
 
     // The breaks of the user, and those before a read of what was not given.
-    allBreaks({ places, labels } = this.logic.NO_BREAKS) {
+    allBreaks(breakpoints) {
+        const { places, labels, areOpen, isOpen } = breakpoints?.breaks ?? { ...this.logic.NO_BREAKS, areOpen: false, isOpen: () => false };
         const own = new Set(labels);
         const takes = (label, stop) => (READERS.includes(label) && this.input.isWanted(stop.steps)) || own.has(label);
-        return { places, labels: [...own, ...READERS.filter((it) => this.listing.labels.has(it))], takes };
+        return {
+            places, labels: [...own, ...READERS.filter((it) => this.listing.labels.has(it))], takes, areOpen,
+            isOpen: (stop) => !this.readsAt(stop) && isOpen(stop), first: (stops) => this.firstOf(stops, breakpoints),
+        };
+    }
+
+    // The first of these stops at which a break stops. Where the run is paused meanwhile it stands at the first one that is not known yet.
+    firstOf(stops, breakpoints) {
+        return this.during({ isStoppable: false, isSilent: false }, async () => {
+            for (const it of stops) {
+                if (this.isPaused && !breakpoints.isKnown(it)) return { steps: it.steps, paused: true };
+                if (this.isChanged) throw new this.logic.MoveFailed("stopped");
+                if (await breakpoints.stops(it, this.lookAfter(it.steps))) return it;
+            }
+            return undefined;
+        });
+    }
+
+    // The last of them that is one to go back to.
+    async lastOf(stops, breakpoints) {
+        for (const it of stops.reverse()) if (await breakpoints.stoppedAt(it, this.lookAfter(it.steps))) return it;
+        return undefined;
     }
 
     readsAt(stop) {
         return READERS.includes(stop.label) && this.input.isWanted(stop.steps);
     }
 
-    // Moves on as `go` does, with the breaks that `breaks` answers, and past each read that has to wait for its line. Answers the stop, or
-    // { steps, paused }.
-    async forward(go, breaks = () => this.logic.NO_BREAKS) {
+    // Moves on as `go` does, with these breaks, and past each read that has to wait for its line. Answers the stop, or { steps, paused }.
+    async forward(go, breakpoints) {
         this.isPaused = this.isChanged = false;
         const from = await this.from();
         for (;;) {
             const here = this.atReader() && this.input.isWanted(this.state.steps) ? { steps: this.state.steps } : undefined;
-            const found = here ?? (await this.moved(go, from, breaks));
+            const found = here ?? (await this.moved(go, from, breakpoints));
             if (!here && !this.readsAt(found)) return found;
             await this.stand(found.steps);
-            this.asks();
+            this.hears.asks();
             if (!this.isPaused) await this.input.more();
             if (this.isPaused) return { steps: found.steps, paused: true };
         }
@@ -101,51 +138,56 @@ class Debuggee {
     }
 
     // Moves in parts of more and more instructions, so that it is known how far a run is that is paused. Where the breaks changed the move is made anew.
-    async moved(go, from, breaks) {
+    async moved(go, from, breakpoints) {
         const { steps } = this.state;
         let passed = steps, rate = LEAST_RATE;
         for (let part = FIRST_PART; ; part *= PART_GROWS) {
             if (this.isPaused) return { steps: passed, paused: true };
             const budget = Math.min(steps + part, this.cool.steps), begun = performance.now();
             try {
-                const found = await this.stoppable(() => go(from, this.allBreaks(breaks()), { budget }));
+                const found = await this.during({ isStoppable: true }, () => this.part(go, from, breakpoints, budget));
                 if (!found.limit || found.steps >= this.cool.steps) return found;
                 [passed, rate] = [budget, budget / (performance.now() - begun)];
             } catch (error) {
                 if (!(error instanceof this.logic.MoveFailed) || !(this.isPaused || this.isChanged)) throw error;
                 const now = Math.max(passed, steps + 1, Math.floor((performance.now() - begun) * rate));
-                if (this.isPaused) return this.pausedAt(go, from, breaks, now);
+                if (this.isPaused) return this.pausedAt(go, from, breakpoints, now);
                 this.isChanged = false;
                 part = FIRST_PART / PART_GROWS;
             }
         }
     }
 
+    // A part of a move. Where breaks are open the run goes past them, so its output is told once it is known that it does not stop there.
+    async part(go, from, breakpoints, budget) {
+        const breaks = this.allBreaks(breakpoints);
+        const found = await this.during({ isSilent: breaks.areOpen }, () => go(from, breaks, { budget }));
+        if (breaks.areOpen && found.limit) await this.logic.State.after(found.steps);
+        return found;
+    }
+
     // Where a run stands that was paused after so many instructions: no further than at its first stop.
-    async pausedAt(go, from, breaks, budget) {
-        const found = await go(from, this.allBreaks(breaks()), { budget });
+    async pausedAt(go, from, breakpoints, budget) {
+        const found = await this.part(go, from, breakpoints, budget);
         return found.limit && found.steps < this.cool.steps ? { steps: found.steps, paused: true } : found;
     }
 
-    // A part of a move that a pause stops; to show the state that it leads to takes no longer than it did.
-    async stoppable(part) {
-        this.isStoppable = true;
+    // Does a part of a move during which a pause or other breaks stop what runs (to show the state that it leads to takes no longer than it did), or
+    // during which the output of what runs is not told.
+    async during(how, part) {
+        const { isStoppable, isSilent } = this;
+        Object.assign(this, how);
         try {
             return await part();
         } finally {
-            this.isStoppable = false;
+            Object.assign(this, { isStoppable, isSilent });
         }
     }
 
     // Where a move back leads. What it runs is not told: it may go a little further than here.
-    async backward(find) {
-        this.isBack = true;
-        try {
-            const from = await this.from();
-            return await this.stoppable(() => find(from));
-        } finally {
-            this.isBack = false;
-        }
+    async backward(find, breakpoints) {
+        const from = await this.from(), breaks = { ...breakpoints.breaks, last: (stops) => this.lastOf(stops, breakpoints) };
+        return this.during({ isStoppable: true, isSilent: true }, () => find(from, breaks));
     }
 
     // Has a move that goes on take up other breaks.

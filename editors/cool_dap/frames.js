@@ -5,6 +5,9 @@
 const NAME = /^\w+(?: or \w+)*$/;
 const MOST_FRAMES = 20_000;
 
+// A name that stands for nothing that can be told.
+class NotTold extends Error {}
+
 class Frames {
     constructor(debuggee) {
         this.debuggee = debuggee;
@@ -107,7 +110,7 @@ class Frames {
     // The value of a name, and of attributes behind it: `x`, `self.x`, `x.y.z`, `$a0`. The innermost variable of a name counts, then the attribute.
     async evaluate(expression, id) {
         const names = /^\s*(\$?\w+)((?:\s*\.\s*\w+)*)\s*$/.exec(expression);
-        if (!names) throw new Error("only names are told, as count or self.count");
+        if (!names) throw new NotTold("only names are told, as count or self.count");
         if (names[1][0] === "$") return this.named(this.registers(), names[1]);
         const { variables, attributes } = await this.contents(id);
         let found = lastNamed(variables, names[1]) ?? attributes.find((it) => it.name === names[1]);
@@ -120,11 +123,11 @@ class Frames {
 
     async named(parts, name) {
         const [found] = await this.described(() => parts.filter((it) => it.name === name));
-        if (!found) throw new Error(`${name} is no variable here`);
+        if (!found) throw new NotTold(`${name} is no variable here`);
         return found;
     }
 }
 
 const lastNamed = (all, name) => all.findLast((it) => it.name.split(" or ").includes(name));
 
-module.exports = { Frames };
+module.exports = { Frames, NotTold };

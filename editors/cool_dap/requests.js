@@ -4,7 +4,8 @@ const { disassembled, memory } = require("./code.js");
 
 const THREAD = 1;
 const CAPABILITIES = {
-    supportsConfigurationDoneRequest: true, supportsFunctionBreakpoints: true, supportsStepBack: true, supportsEvaluateForHovers: true,
+    supportsConfigurationDoneRequest: true, supportsFunctionBreakpoints: true, supportsConditionalBreakpoints: true,
+    supportsHitConditionalBreakpoints: true, supportsLogPoints: true, supportsStepBack: true, supportsEvaluateForHovers: true,
     supportsTerminateRequest: true, supportsRestartRequest: true, supportsDelayedStackTraceLoading: true, supportsExceptionInfoRequest: true,
     supportsSteppingGranularity: true, supportsDisassembleRequest: true, supportsReadMemoryRequest: true, supportsBreakpointLocationsRequest: true,
     supportsLoadedSourcesRequest: true,
@@ -96,7 +97,7 @@ const REQUESTS = {
     },
     reverseContinue() {
         const { logic } = this.standing;
-        return resumes(() => this.backward((from) => logic.backTo(from, this.breakpoints.breaks)));
+        return resumes(() => this.backward(logic.backTo));
     },
     pause() {
         if (this.runs) this.debuggee.pause();

@@ -2,11 +2,12 @@
 import json
 import os
 import queue
+import shutil
 import subprocess
 import threading
 import time
 
-from .client import HERE, WITHIN
+from .client import HERE, WITHIN, NotTried, expect
 
 
 class DebugClient:
@@ -14,7 +15,7 @@ class DebugClient:
         pipes = dict.fromkeys(("stdin", "stdout", "stderr"), subprocess.PIPE)
         self.adapter = subprocess.Popen(command, env={**os.environ, "COOL": program, **environment}, **pipes)
         self.inbox, self.log, self.number = queue.Queue(), [], 0
-        self.events, self.output, self.said = [], "", ""
+        self.events, self.all, self.output, self.said = [], [], "", ""
         self.threads = [threading.Thread(target=it, daemon=True) for it in (self.read, self.read_log)]
         for it in self.threads:
             it.start()
@@ -52,6 +53,7 @@ class DebugClient:
                 else:
                     self.said += text
             self.events.append(message)
+            self.all.append(message)
         return message
 
     def answer(self, command, **arguments):
@@ -81,17 +83,18 @@ class DebugClient:
     # What most tests do.
 
     def launch(self, program, lines=(), functions=(), filters=("errors",), **more):
-        """Launches a file with breaks at its lines, or at (file, line), and methods, and answers the event of the first stop."""
+        """Launches a file with breaks at its lines, or at (file, line), and methods, and answers the event of the first stop. A break may be a
+        table of what the protocol has."""
         self.ask("initialize", adapterID="cool", linesStartAt1=True, columnsStartAt1=True)
         number = self.send("launch", program=str(program), **more)
         self.event("initialized")
         by_file = {}
         for it in lines:
             file, line = it if isinstance(it, tuple) else (program, it)
-            by_file.setdefault(file, []).append({"line": line})
+            by_file.setdefault(file, []).append(line if isinstance(line, dict) else {"line": line})
         self.set = [self.ask("setBreakpoints", source={"path": str(file)}, breakpoints=its) for file, its in by_file.items()]
         if functions:
-            self.set.append(self.ask("setFunctionBreakpoints", breakpoints=[{"name": it} for it in functions]))
+            self.set.append(self.ask("setFunctionBreakpoints", breakpoints=[it if isinstance(it, dict) else {"name": it} for it in functions]))
         self.ask("setExceptionBreakpoints", filters=list(filters))
         self.ask("configurationDone")
         self.launched = number
@@ -143,3 +146,24 @@ def soon(what, seconds=WITHIN):
         if time.monotonic() > end:
             raise AssertionError("not soon")
         time.sleep(0.01)
+
+
+def begun(room, words, text=None, name="p.cl", **more):
+    """A client, and the first stop of a program in a folder of its own."""
+    if not shutil.which("node"):
+        raise NotTried("node is not installed")
+    file = room / "a b é" / name
+    file.parent.mkdir(exist_ok=True)
+    file.write_text(text)
+    client = DebugClient(words.cool, TMPDIR=str(kept(room)))
+    return client, client.launch(file, **more), file
+
+
+def kept(room):
+    (room / "tmp").mkdir(exist_ok=True)
+    return room / "tmp"
+
+
+def done(client, room):
+    client.end()
+    expect("left in the folder for temporary files", list(kept(room).iterdir()), [])

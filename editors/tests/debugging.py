@@ -2,11 +2,10 @@
 import argparse
 import base64
 import random
-import shutil
 import time
 
-from .client import EXAMPLES, NotTried, expect
-from .debug_client import DebugClient
+from .client import EXAMPLES, expect
+from .debug_client import DebugClient, begun, done, kept
 
 RECURSION = """class Main inherits IO {
   bottom() : Int {
@@ -83,27 +82,6 @@ class Main {
   };
 };
 """
-
-
-def begun(room, words, text=None, name="p.cl", **more):
-    """A client, and the first stop of a program in a folder of its own."""
-    if not shutil.which("node"):
-        raise NotTried("node is not installed")
-    file = room / "a b é" / name
-    file.parent.mkdir(exist_ok=True)
-    file.write_text(text)
-    client = DebugClient(words.cool, TMPDIR=str(kept(room)))
-    return client, client.launch(file, **more), file
-
-
-def kept(room):
-    (room / "tmp").mkdir(exist_ok=True)
-    return room / "tmp"
-
-
-def done(client, room):
-    client.end()
-    expect("left in the folder for temporary files", list(kept(room).iterdir()), [])
 
 
 def average(room, words):

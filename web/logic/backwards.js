@@ -17,7 +17,7 @@ async function lastOf({ state, listing }, places, labels, choose) {
             return stop.steps >= state.steps + CALL_TAKES ? stop : undefined;
         };
         await runOn(from, [...labels, ...labelsOf(places, listing)], accept, { budget: state.steps + CALL_TAKES });
-        const found = choose(stops, from === 0);
+        const found = await choose(stops, from === 0);
         if (found || from === 0) return found;
     }
 }
@@ -40,15 +40,15 @@ const goesOn = (before, stop) => before.fp === stop.fp && isOneLine(before.place
 // To the last break before.
 function backTo(from, breaks) {
     const broken = new Set(breaks.places);
+    const { isOpen = isSure, last } = breaks;
     return lastOf(from, breaks.places, breaks.labels, (stops, isAll) => {
         const begins = firstOfPass(undefined, undefined);
         // Of the first stop in a frame it is seen in the whole run alone whether it begins a pass.
-        const known = new Set();
-        let last;
+        const known = new Set(), found = [];
         for (const it of stops.filter((it) => it.label || broken.has(it.place))) {
-            if (it.label || (begins(it) && (isAll || known.has(it.fp)))) last = { ...it, broken: true };
+            if (it.label || (begins(it) && (isAll || known.has(it.fp)))) found.push({ ...it, broken: true });
             known.add(it.fp);
         }
-        return last;
+        return found.some(isOpen) ? last(found) : found.at(-1);
     });
 }

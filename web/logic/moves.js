@@ -90,8 +90,9 @@ class State {
 }
 
 // Runs on from a state to the first stop at one of the labels that `accept` answers something for, and answers that, or { steps, ended } or
-// { steps, limit } at the end of the run or of the budget. A stop has steps, pc, and registers, a note of them.
-async function runOn(steps, labels, accept, { tellProgress = () => {}, budget } = {}) {
+// { steps, limit } at the end of the run or of the budget. A stop has steps, pc, and registers, a note of them. After each script `settle` makes the
+// answer, where there is one, of what was found by it.
+async function runOn(steps, labels, accept, { tellProgress = () => {}, budget, settle = (found) => found } = {}) {
     const breaks = [...new Set(labels)].map((it) => `break ${it}`);
     const size = breaks.reduce((sum, it) => sum + it.length + 1, 0) + 100;
     const most = Math.floor((MOST_SCRIPT_BYTES - size) / "run\nregs\n".length);
@@ -111,7 +112,8 @@ async function runOn(steps, labels, accept, { tellProgress = () => {}, budget } 
             return found !== undefined;
         };
         await debug([...moves, ...breaks, ...Array(runs).fill("run\nregs")], moves.length + 2 * runs, { seen, budget });
-        if (found) return found;
+        const settled = await settle(found);
+        if (settled) return settled;
         tellProgress(from);
     }
 }

@@ -4,11 +4,14 @@
 // lines can stop. A call is seen where the first instruction of a method that it may call comes with its own return address in $ra; the state
 // that is shown then is that before the call. An operation is seen at the label behind it. So all stops are at labels, as `debug` takes them.
 //
-// A move goes from what is shown, { state, listing, frames }, with breaks, { places, labels, takes }: labels at which it stops where `takes` answers
-// true, which may be left out. It answers a promise of the stop: { steps }, and what stopOf and runOn tell, or the `label` and `broken`, whether it is a break.
+// A move goes from what is shown, { state, listing, frames }, with breaks, { places, labels } and what may be left out: `takes`, whether it stops at a
+// label; `isOpen`, whether it depends on what stands in memory that a break is one at a stop; and `first`, a promise of the first of such stops at
+// which it is, or `last`, of the last. It answers a promise of the stop: { steps }, and what stopOf and runOn tell, or the `label`, and `broken`,
+// whether it is a break.
 "use strict";
 
 const NO_BREAKS = { places: [], labels: [] };
+const isSure = () => false;
 
 // What a stop is: a call or an operation, with the steps before it and its frame's $fp, or an error, with the steps before the jump to it.
 function stopOf({ steps, pc, registers }, listing) {
@@ -35,17 +38,21 @@ function breaksAt({ labels, takes = () => true }, listing) {
 function runTo(from, places, accepts, breaks, more) {
     const { state, listing } = from;
     const broken = new Set(breaks.places), begins = firstOfPass(frameNow(from), placeNow(from)), labelAt = breaksAt(breaks, listing);
+    const { isOpen = isSure } = breaks;
+    // The run goes past those that are open, and it is asked behind it which of them is the first break.
+    const open = [];
+    const broke = (found) => (isOpen(found) ? void open.push(found) : found);
     const accept = (stop) => {
-        const found = stopOf(stop, listing);
+        const found = stopOf(stop, listing), label = labelAt(stop);
         if (found && found.steps > state.steps) {
             if (found.error) return found;
-            if (broken.has(found.place) && begins(found)) return { ...found, broken: true };
-            if (accepts(found)) return found;
+            const stops = (broken.has(found.place) && begins(found) && broke({ ...found, broken: true })) || (accepts(found) && found);
+            if (stops) return stops;
         }
-        const label = labelAt(stop);
-        if (label !== undefined) return { steps: stop.steps, label, broken: true };
+        return label === undefined ? undefined : broke({ steps: stop.steps, label, broken: true });
     };
-    return runOn(state.steps, [...Object.keys(ERRORS), ...breaks.labels, ...labelsOf([...places, ...breaks.places], listing)], accept, more);
+    const settle = async (found) => (open.length > 0 ? await breaks.first(open.splice(0)) : undefined) ?? found;
+    return runOn(state.steps, [...Object.keys(ERRORS), ...breaks.labels, ...labelsOf([...places, ...breaks.places], listing)], accept, { ...more, settle });
 }
 
 // The break of a line of a file: { line, places, labels }. Where the line has no place it is one at the next line of its method that has, else at the
