@@ -34,7 +34,8 @@ def comment(name, text):
     string = re.match(r'(?:#!.*\n)?"""((?:[^"]|"(?!""))*)"""', text)
     if string:
         return [line.strip() for line in string[1].split("\n")]
-    mark, lines = MARKS.get(name[name.rfind(".") :], "# ?"), []
+    usual = MARKS[".js"] if re.match(r"#!.*\bnode\n", text) else "# ?"
+    mark, lines = MARKS.get(name[name.rfind(".") :], usual), []
     for line in re.sub(r"\A(?:#!|#compdef).*\n", "", text[:5000]).split("\n"):
         found = re.match(mark, line)
         if not found:

@@ -7,19 +7,31 @@ const { MODULE, spawnModule } = require("./module.js");
 const { EDITORS, LaunchFailed } = require("./program.js");
 
 const USUAL_STEPS = 1_000_000_000;
+// The script that tells a repository's program, and how long it may take.
+const TOP = path.join(EDITORS, ".."), PICKS = path.join(TOP, "release", "program"), MOST_MILLISECONDS = 10_000;
 
-// As the language server has it: the one that is named, or COOL, that of the repository, the one installed beside, or the one on PATH. Where there is none
+// As the language server has it: the one that is named, or COOL, the one installed beside, that of the repository, or the one on PATH. Where there is none
 // it is the page's module, which "module" names.
 function coolOf(named) {
     const given = named || process.env.COOL;
     if (given) return given;
-    const repository = path.join(EDITORS, "..", "release", "program");
-    const asked = { env: { ...process.env, COOL_BUILD: "no" }, stdio: ["ignore", "pipe", "ignore"] };
-    if (fs.existsSync(repository)) return execFileSync(repository, asked).toString().trimEnd();
-    const beside = path.join(EDITORS, "..", "cool");
-    if (fs.existsSync(beside)) return beside;
+    const found = fs.existsSync(PICKS) ? ofRepository() : path.join(TOP, "cool");
+    if (found && fs.existsSync(found)) return found;
     const isOnPath = (process.env.PATH ?? "").split(path.delimiter).some((it) => fs.existsSync(path.join(it, "cool")));
-    return isOnPath || !fs.existsSync(MODULE) ? "cool" : "module";
+    if (isOnPath) return "cool";
+    if (fs.existsSync(MODULE)) return "module";
+    throw new LaunchFailed('There is no program `cool`: run ./install in the repository, or set "cool" in the launch to the path of one.');
+}
+
+// The path of the repository's program, if it has one for this machine.
+function ofRepository() {
+    const released = path.join(TOP, "release", "cool.exe"), how = { timeout: MOST_MILLISECONDS, stdio: ["ignore", "pipe", "ignore"] };
+    if (process.platform === "win32") return released;
+    try {
+        return execFileSync(PICKS, { ...how, env: { ...process.env, COOL_BUILD: "no" } }).toString().trimEnd();
+    } catch {
+        return undefined;
+    }
 }
 
 class Cool {

@@ -30,7 +30,10 @@ const stub = {
     registerReferenceProvider: provider('references'), registerDocumentSymbolProvider: provider('symbols'),
     registerCompletionItemProvider: provider('completion'), registerRenameProvider: provider('rename'), registerCodeActionsProvider: provider('actions'),
   },
-  window: { activeTextEditor: { document }, createOutputChannel: () => ({ append: (text) => problems.push(text), dispose() {} }), showErrorMessage: (text) => problems.push(text) },
+  window: {
+    activeTextEditor: { document }, createOutputChannel: () => ({ append: (text) => problems.push(text), dispose() {} }),
+    showErrorMessage: (text) => problems.push(text),
+  },
   workspace: {
     textDocuments: [document], workspaceFolders: undefined,
     getConfiguration: () => ({ get: () => program }),

@@ -1,4 +1,5 @@
-// Starts cool-lsp for files of Cool, and shows what it tells and answers; and has VS Code debug them by cool-dap. It uses VS Code's own interface and no package beside it.
+// Starts cool-lsp for files of Cool, and shows what it tells and answers; and has VS Code debug them by cool-dap. It uses VS Code's own interface and no
+// package beside it.
 const vscode = require('vscode');
 const { spawn } = require('child_process');
 const fs = require('fs');
@@ -154,7 +155,8 @@ const adapter = { createDebugAdapterDescriptor: () => new vscode.DebugAdapterExe
 const launches = {
   resolveDebugConfiguration: (_, given) => {
     const shown = vscode.window.activeTextEditor && vscode.window.activeTextEditor.document;
-    const made = given.type ? given : shown && shown.languageId === 'cool' ? { type: 'cool', request: 'launch', name: 'Cool', program: '${file}', stopOnEntry: true } : given;
+    const isShown = !given.type && shown && shown.languageId === 'cool';
+    const made = isShown ? { type: 'cool', request: 'launch', name: 'Cool', program: '${file}', stopOnEntry: true } : given;
     const cool = vscode.workspace.getConfiguration('cool').get('program');
     return made.type && cool && !made.cool ? { ...made, cool } : made;
   },
