@@ -53,22 +53,21 @@ class Adapter {
         }
     }
 
-    // What is told only where the program stands.
-    get standing() {
+    // The program, of which is told only where it stands: a refusal elsewhere.
+    standing() {
         if (!this.debuggee?.state || this.runs || this.isDown) throw new Refused(this.runs ? "the program runs" : "no program is stopped");
         return this.debuggee;
     }
 
     async launch(settings) {
         this.settings = settings;
-        const program = new Program(settings);
-        const { inputFile, input: text = "", inputEnds = false } = settings;
+        const command = coolOf(settings.cool), { inputFile, input: text = "", inputEnds = false } = settings;
         const input = inputFile ? new Input(inputOf(inputFile, settings.cwd), true) : new Input(text, inputEnds);
         const hears = {
             output: (text) => this.output("stdout", text), says: (text, isWrong) => this.output(isWrong ? "stderr" : "console", text),
             asks: () => this.output("console", "The program reads a line: type it here, or ^D for the end of the input.\n"),
         };
-        this.debuggee = new Debuggee(coolOf(settings.cool), program, input, settings, hears, this.sink);
+        this.debuggee = new Debuggee(command, new Program(settings), input, settings, hears, this.sink);
         this.frames = new Frames(this.debuggee);
         const faults = settings.noDebug ? undefined : await this.debuggee.prepare().catch((error) => (this.debuggee.end(), Promise.reject(error)));
         if (faults === undefined) return;
@@ -178,7 +177,7 @@ class Adapter {
         const reads = this.debuggee.input.waits || (this.settings.noDebug && this.runs);
         if (reads && context !== "hover" && context !== "watch") return this.typed(expression);
         if (context === "repl" && /^\s*</.test(expression)) return this.typed(expression.replace(/^\s*< ?/, ""));
-        this.standing;
+        this.standing();
         try {
             const { value, name: _, ...more } = await this.frames.evaluate(expression, frameId);
             return { result: value, ...more };

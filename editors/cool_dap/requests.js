@@ -60,13 +60,13 @@ const REQUESTS = {
         return { threads: [{ id: THREAD, name: "Main.main" }] };
     },
     stackTrace({ startFrame, levels }) {
-        return this.standing && this.frames.stack({ startFrame: frameOf(startFrame), levels: frameOf(levels) });
+        return this.standing() && this.frames.stack({ startFrame: frameOf(startFrame), levels: frameOf(levels) });
     },
     async scopes({ frameId }) {
-        return { scopes: this.standing && (await this.frames.scopes(frameId)) };
+        return { scopes: this.standing() && (await this.frames.scopes(frameId)) };
     },
     async variables({ variablesReference, start = 0, count = 0 }) {
-        const all = this.standing && (await this.frames.variables(variablesReference));
+        const all = this.standing() && (await this.frames.variables(variablesReference));
         return { variables: count > 0 ? all.slice(start, start + count) : all };
     },
     evaluate(given) {
@@ -76,27 +76,27 @@ const REQUESTS = {
         return { exceptionId: this.why ?? "", description: this.why, breakMode: "always" };
     },
     continue() {
-        const { logic } = this.standing;
+        const { logic } = this.standing();
         return resumes(() => this.forward(logic.goOn));
     },
     next({ granularity }) {
-        const { logic } = this.standing;
+        const { logic } = this.standing();
         return resumes(() => (granularity === "instruction" ? this.onByOne() : this.forward(logic.over)));
     },
     stepIn({ granularity }) {
-        const { logic } = this.standing;
+        const { logic } = this.standing();
         return resumes(() => (granularity === "instruction" ? this.onByOne() : this.forward(logic.into)));
     },
     stepOut() {
-        const { logic } = this.standing;
+        const { logic } = this.standing();
         return resumes(() => this.forward(logic.out));
     },
     stepBack({ granularity }) {
-        const { logic } = this.standing;
+        const { logic } = this.standing();
         return resumes(() => (granularity === "instruction" ? this.backByOne() : this.backward(logic.backOver)));
     },
     reverseContinue() {
-        const { logic } = this.standing;
+        const { logic } = this.standing();
         return resumes(() => this.backward(logic.backTo));
     },
     pause() {
@@ -104,10 +104,10 @@ const REQUESTS = {
     },
     disassemble(given) {
         const [offset, instructionOffset] = [given.offset, given.instructionOffset].map(placeOf), instructionCount = countOf(given.instructionCount);
-        return { instructions: disassembled(this.standing, { ...given, offset, instructionOffset, instructionCount }) };
+        return { instructions: disassembled(this.standing(), { ...given, offset, instructionOffset, instructionCount }) };
     },
     readMemory(given) {
-        return memory(this.standing, { ...given, offset: placeOf(given.offset), count: bytesOf(given.count) });
+        return memory(this.standing(), { ...given, offset: placeOf(given.offset), count: bytesOf(given.count) });
     },
     terminate() {
         return { after: () => this.finish() };

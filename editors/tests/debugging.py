@@ -2,9 +2,10 @@
 import argparse
 import base64
 import random
+import re
 import time
 
-from .client import EXAMPLES, expect
+from .client import EXAMPLES, HERE, expect
 from .debug_client import DebugClient, begun, done, kept
 
 RECURSION = """class Main inherits IO {
@@ -85,19 +86,28 @@ class Main {
 
 
 def average(room, words):
+    """The example of docs/debug-adapter.md, and then the frames, and the end."""
     client, stop, _ = begun(room, words, (EXAMPLES / "average.cl").read_text(), stopOnEntry=True)
-    expect("entry", (stop["reason"], client.where()), ("entry", ("Main.main", 20)))
-    expect("over", [client.at("next") for _ in range(3)], [("Main.main", 21, "step"), ("Main.main", 22, "step"), ("Numbers.average", 14, "exception")])
+    expect("entry", stop["reason"], "entry")
+    example = re.findall(r"(?m)^    (\w+) +(\S.*)$", (HERE.parent / "docs" / "debug-adapter.md").read_text())
+    expect("the example", [(it, shown_after(client, it)) for it, _ in example], example)
+    expect("to the error", client.at("continue"), ("Numbers.average", 14, "exception"))
     expect("why", client.ask("exceptionInfo", threadId=1)["description"], "division by zero")
     expect("attributes", client.variables(scope="Attributes of self"), {"sum": "12", "count": "0"})
     expect("of the caller", client.variables(frame=2)["numbers"], "Numbers")
     expect("back", [client.at("stepBack") for _ in range(3)], [("Main.main", it, "step") for it in (22, 21, 20)])
-    around = [("Numbers.add", 9, "step"), ("Numbers.add", 10, "step"), ("Main.main", 21, "step")]
-    expect("into, into, out", [client.at(it) for it in ("stepIn", "stepIn", "stepOut")], around)
-    expect("to the error", client.at("continue"), ("Numbers.average", 14, "exception"))
+    expect("to the error again", client.at("continue"), ("Numbers.average", 14, "exception"))
     expect("to the end", client.stop("continue"), {"event": "terminated"})
     expect("output", client.output, "p.cl:14: Division by zero.\n")
     done(client, room)
+
+
+def shown_after(client, name):
+    """What the example has right of a move or a name."""
+    if name not in ("launch", "next", "stepIn", "stepOut", "stepBack"):
+        return client.value(name)
+    stop = {} if name == "launch" else client.stop(name)
+    return "%s %d" % client.where() + (": " + stop["text"] if "text" in stop else "")
 
 
 def breaks_at_lines(room, words):
@@ -281,6 +291,7 @@ def other_launches(room, words):
     expect("their place", (place["source"]["path"], place["line"]), (str(faulty), 2))
     expect("no file", client.answer("launch", program=str(room / "none.cl"))["message"], str(room / "none.cl") + ": no such file")
     expect("nothing named", client.answer("launch")["success"], False)
+    expect("no input", client.answer("launch", program=str(faulty), inputFile="none")["success"], False)
     done(client, room)
     client = DebugClient("/nowhere/cool", TMPDIR=str(kept(room)))
     expect("no program", client.answer("launch", program=str(faulty))["message"], "/nowhere/cool does not start: spawn /nowhere/cool ENOENT")

@@ -41,7 +41,11 @@ function runTo(from, places, accepts, breaks, more) {
     const { isOpen = isSure } = breaks;
     // The run goes past those that are open, and it is asked behind it which of them is the first break.
     const open = [];
-    const broke = (found) => (isOpen(found) ? void open.push(found) : found);
+    const broke = (found) => {
+        if (!isOpen(found)) return found;
+        open.push(found);
+        return undefined;
+    };
     const accept = (stop) => {
         const found = stopOf(stop, listing), label = labelAt(stop);
         if (found && found.steps > state.steps) {
