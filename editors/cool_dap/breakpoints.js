@@ -6,7 +6,7 @@ const { NotTold } = require("./frames.js");
 // One break. `told` is what the client is told of it; `asked` is what it asked for, and `reads` that as conditions.js reads it.
 class Breakpoint {
     constructor(kind, asked, told, { places = [], labels = [] } = {}, reads = {}) {
-        Object.assign(this, { kind, asked, told, places, labels, reads, hits: [], known: new Map() });
+        Object.assign(this, { kind, asked, told, places, labels, reads, hits: [], holding: new Map(), known: new Map() });
     }
 
     isAt(stop) {
@@ -18,6 +18,19 @@ class Breakpoint {
         return Object.values(this.reads).some((it) => it !== undefined);
     }
 
+    // A promise of whether its condition holds, or of { wrong } where that cannot be told. It is asked once of each state.
+    holds(steps, { named }) {
+        const { condition } = this.reads;
+        if (!condition) return true;
+        const failed = (error) => {
+            if (error instanceof NotTold) return { wrong: error.message };
+            this.holding.delete(steps);
+            throw error;
+        };
+        if (!this.holding.has(steps)) this.holding.set(steps, condition(named).catch(failed));
+        return this.holding.get(steps);
+    }
+
     // Whether it stops a run that goes on to there, at which `look` looks (debuggee.js). It is asked once of each state, since what it says then is said
     // once.
     async stops(steps, look) {
@@ -26,17 +39,15 @@ class Breakpoint {
         return this.known.get(steps);
     }
 
-    async judged(steps, { named, tell }) {
-        const { condition, counts, message } = this.reads;
-        try {
-            if (condition && !(await condition(named))) return false;
-        } catch (error) {
-            if (!(error instanceof NotTold)) throw error;
-            await tell(`cool-dap: the condition "${this.asked.condition}" cannot be told here: ${error.message}\n`, true);
+    async judged(steps, look) {
+        const { counts, message } = this.reads, holds = await this.holds(steps, look);
+        if (!holds) return false;
+        if (holds.wrong) {
+            await look.tell(`cool-dap: the condition "${this.asked.condition}" cannot be told here: ${holds.wrong}\n`, true);
             return true;
         }
         if (counts && !counts(this.countedTo(steps))) return false;
-        if (message) await tell(`${await message(named)}\n`);
+        if (message) await look.tell(`${await message(look.named)}\n`);
         return message === undefined;
     }
 
@@ -62,9 +73,10 @@ class Breakpoints {
         this.count = 0;
     }
 
-    // Each break is asked for by its line, and by what conditions.js reads.
-    setLines(file, asked, debuggee) {
-        this.lines.set(file, asked.map((it) => this.lineAt(file, it, debuggee)));
+    // Each break is asked for by its line, and by what conditions.js reads. One that was there `before`, and is asked for in the same words, stays as it is,
+    // with its hits: a client names all breaks of a file where one is new.
+    setLines(file, asked, debuggee, before = this.lines.get(file) ?? []) {
+        this.lines.set(file, asked.map((it) => sameIn(before, it) ?? this.lineAt(file, it, debuggee)));
         return this.lines.get(file).map((it) => it.told);
     }
 
@@ -77,8 +89,8 @@ class Breakpoints {
     }
 
     // Each is asked for by its name.
-    setFunctions(asked, debuggee) {
-        this.functions = asked.map((it) => this.functionAt(it, debuggee));
+    setFunctions(asked, debuggee, before = this.functions) {
+        this.functions = asked.map((it) => sameIn(before, it) ?? this.functionAt(it, debuggee));
         return this.functions.map((it) => it.told);
     }
 
@@ -106,8 +118,8 @@ class Breakpoints {
 
     // The same breaks in a program that was launched anew.
     renew(debuggee) {
-        for (const [file, its] of this.lines) this.setLines(file, its.map((it) => it.asked), debuggee);
-        this.setFunctions(this.functions.map((it) => it.asked), debuggee);
+        for (const [file, its] of this.lines) this.setLines(file, its.map((it) => it.asked), debuggee, []);
+        this.setFunctions(this.functions.map((it) => it.asked), debuggee, []);
     }
 
     get all() {
@@ -132,6 +144,11 @@ class Breakpoints {
         return this.at(stop).every((it) => !it.isOpen || it.known.has(stop.steps));
     }
 
+    // Asks the conditions of those at a stop.
+    ask(stop, look) {
+        return Promise.all(this.at(stop).map((it) => it.holds(stop.steps, look)));
+    }
+
     // Whether one of them stops a run that goes on; each is asked, since each may have something to say.
     async stops(stop, look) {
         let stops = false;
@@ -150,6 +167,8 @@ class Breakpoints {
         return this.at(stop).filter((it) => !it.isOpen || it.known.get(stop.steps));
     }
 }
+
+const sameIn = (all, asked) => all.find((it) => JSON.stringify(it.asked) === JSON.stringify(asked));
 
 // The labels of a method's name: with its class, or those that inherit it; or alone, for each class that has one; or of any other label of the code.
 function labelsOf(name, { labels }, outline, { DATA_START }) {

@@ -8,6 +8,8 @@ const { logicWith } = require("./logic.js");
 const { LaunchFailed } = require("./program.js");
 
 const FRAMES_OF_MOVES = 40;
+// Stops that are looked at by one run.
+const MOST_TOGETHER = 64;
 // Instructions, and instructions a millisecond of a run of which nothing is known yet.
 const FIRST_PART = 1_000_000, PART_GROWS = 4, LEAST_RATE = 1000;
 
@@ -72,7 +74,7 @@ class Debuggee {
         const frames = () => (taken ??= take());
         return {
             named: async (name) => (await frames()).evaluate(name, 1),
-            tell: async (...said) => (await frames(), this.hears.says(...said)),
+            tell: async (...said) => (await this.logic.State.after(steps), this.hears.says(...said)),
         };
     }
 
@@ -91,13 +93,18 @@ class Debuggee {
         };
     }
 
-    // The first of these stops at which a break stops. Where the run is paused meanwhile it stands at the first one that is not known yet.
+    // The first of these stops at which a break stops. Where the run is paused meanwhile it stands at the first one that is not known yet. More and more
+    // of them are looked at together, by one run.
     firstOf(stops, breakpoints) {
         return this.during({ isStoppable: false, isSilent: false }, async () => {
-            for (const it of stops) {
-                if (this.isPaused && !breakpoints.isKnown(it)) return { steps: it.steps, paused: true };
-                if (this.isChanged) throw new this.logic.MoveFailed("stopped");
-                if (await breakpoints.stops(it, this.lookAfter(it.steps))) return it;
+            for (let i = 0, together = 1; i < stops.length; i += together, together = Math.min(4 * together, MOST_TOGETHER)) {
+                const looks = stops.slice(i, i + together).map((it) => [it, this.lookAfter(it.steps)]);
+                if (!this.isPaused) await this.during({ isSilent: true }, () => Promise.all(looks.map(([it, look]) => breakpoints.ask(it, look))));
+                for (const [it, look] of looks) {
+                    if (this.isPaused && !breakpoints.isKnown(it)) return { steps: it.steps, paused: true };
+                    if (this.isChanged) throw new this.logic.MoveFailed("stopped");
+                    if (await breakpoints.stops(it, look)) return it;
+                }
             }
             return undefined;
         });

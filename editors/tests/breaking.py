@@ -52,6 +52,13 @@ def conditions(room, words):
     done(client, room)
 
 
+def conditions_of_many(room, words):
+    """A thousand passes are asked in some seconds, since many are looked at by one run."""
+    client, stop, _ = begun(room, words, LOOP.replace("i < 6", "i < 1000"), lines=[{"line": ADDS, "condition": "n = 999"}])
+    expect("the last", (stop["reason"], client.value("n"), client.output[-6:]), ("breakpoint", "999", "998999"))
+    done(client, room)
+
+
 def conditions_by_steps(room, words):
     """A step into a line stops there though its condition does not hold; over it, it does not; and back leads to where it holds."""
     client, stop, _ = begun(room, words, LOOP, lines=[{"line": ADDS, "condition": "n = 2"}, {"line": 11, "condition": "i = 5"}])
@@ -71,11 +78,14 @@ def counts(room, words):
     for count, condition, values in wanted:
         seen = stops(client, file, {"hitCondition": count, "condition": condition})
         expect("%s of %s" % (count, condition), [it[0] for it in seen], values)
-    client.ask("setBreakpoints", source={"path": str(file)}, breakpoints=[{"line": ADDS, "hitCondition": ">= 3"}])
+    third = {"line": ADDS, "hitCondition": ">= 3"}
+    client.ask("setBreakpoints", source={"path": str(file)}, breakpoints=[third])
     moves = ("continue", "breakpoint", "2"), ("continue", "breakpoint", "3"), ("reverseContinue", "breakpoint", "2"), ("reverseContinue", "entry", None)
     for move, reason, value in (*moves, moves[0]):
         expect(move, client.stop(move)["reason"], reason)
         expect("n", value and client.value("n"), value)
+    client.ask("setBreakpoints", source={"path": str(file)}, breakpoints=[{"line": 100}, third])
+    expect("with another break", (client.stop("continue")["reason"], client.value("n")), ("breakpoint", "3"))
     done(client, room)
 
 
@@ -130,4 +140,4 @@ def pausing_at_conditions(room, words):
     done(client, room)
 
 
-TESTS = [conditions, conditions_by_steps, counts, messages, wrong_conditions, pausing_at_conditions]
+TESTS = [conditions, conditions_of_many, conditions_by_steps, counts, messages, wrong_conditions, pausing_at_conditions]

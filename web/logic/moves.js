@@ -31,6 +31,44 @@ function reached(note) {
 const registerIn = (note, name) => parseInt(note.slice(5 + 9 * REGISTERS.indexOf(name)).slice(0, 8), 16);
 const registersIn = (note) => Object.fromEntries(REGISTERS.map((it) => [it, registerIn(note, it)]));
 
+// What `lines` note after so many instructions: { steps, pc } as reached, their notes, and the output up to there. What is asked for at the same time is
+// one run, as far as it fits into a script; the output is then that up to the last.
+let waitingLooks = [];
+function noted(steps, lines) {
+    return new Promise((answer, fail) => {
+        waitingLooks.push({ steps, lines, answer, fail });
+        if (waitingLooks.length === 1) Promise.resolve().then(runWaiting);
+    });
+}
+
+function runWaiting() {
+    const all = waitingLooks.sort((a, b) => a.steps - b.steps), parts = [[]];
+    waitingLooks = [];
+    for (const it of all) {
+        const count = parts.at(-1).reduce((sum, { lines }) => sum + lines.length + 2, 0);
+        if (count + it.lines.length > MOST_WORDS_READ && count > 0) parts.push([]);
+        parts.at(-1).push(it);
+    }
+    return parts.reduce((before, part) => before.then(() => runPart(part)), Promise.resolve());
+}
+
+async function runPart(part) {
+    const moves = part.map((it, i) => linesTo(it.steps - (i > 0 ? part[i - 1].steps : 0)));
+    const lines = part.flatMap((it, i) => [...moves[i], ...it.lines]);
+    try {
+        const { notes, output, short } = await debug(lines, lines.length);
+        let at = 0, last = { steps: 0, pc: 0 };
+        part.forEach((it, i) => {
+            const begin = at + moves[i].length;
+            if (moves[i].length > 0) last = reached(notes[begin - 1]);
+            at = begin + it.lines.length;
+            it.answer({ ...last, notes: notes.slice(begin, at), output, short });
+        });
+    } catch (error) {
+        for (const it of part) it.fail(error);
+    }
+}
+
 const wordsOf = (blocks) => [...blocks].flatMap((from) => Array.from({ length: BLOCK_WORDS }, (_, i) => from + 4 * i));
 
 // The state after so many instructions, or at the end where the program ended before. Words of memory are read when they are asked for:
@@ -44,15 +82,9 @@ class State {
     static async after(steps, before) {
         const state = new State();
         const shows = before ? wordsOf(before.used).slice(0, MOST_WORDS_READ) : [];
-        const moves = linesTo(steps);
-        const { notes, output, short } = await debug([...moves, "regs", ...shows.map((it) => `show ${hex(it)}`)], moves.length + 1 + shows.length);
-        const last = moves.length > 0 ? reached(notes[moves.length - 1]) : { steps: 0, pc: 0 };
-        state.steps = last.steps;
-        state.ended = last.pc === undefined;
-        state.registers = registersIn(notes[moves.length]);
-        state.output = output;
-        state.short = short;
-        state.takeUp(notes.slice(moves.length + 1));
+        const { notes, output, short, ...last } = await noted(steps, ["regs", ...shows.map((it) => `show ${hex(it)}`)]);
+        Object.assign(state, { steps: last.steps, ended: last.pc === undefined, registers: registersIn(notes[0]), output, short });
+        state.takeUp(notes.slice(1));
         return state;
     }
 
@@ -73,9 +105,8 @@ class State {
         const blocks = new Set(this.wanted), ahead = Math.min(STACK_BLOCKS << round, MOST_WORDS_READ / BLOCK_WORDS);
         for (const from of this.wanted) if (from >= LOW_STACK) for (let i = 1; i < ahead; i += 1) blocks.add(from + 4 * BLOCK_WORDS * i);
         const addresses = wordsOf(blocks).filter((it) => !this.words.has(it)).slice(0, MOST_WORDS_READ);
-        const moves = linesTo(this.steps);
-        const { notes } = await debug([...moves, ...addresses.map((it) => `show ${hex(it)}`)], moves.length + addresses.length);
-        this.takeUp(notes.slice(moves.length));
+        const { notes } = await noted(this.steps, addresses.map((it) => `show ${hex(it)}`));
+        this.takeUp(notes);
     }
 
     // What `compute` answers once all words that it peeks at are read.
