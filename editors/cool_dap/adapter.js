@@ -63,11 +63,11 @@ class Adapter {
         this.settings = settings;
         const command = coolOf(settings.cool), { inputFile, input: text = "", inputEnds = false } = settings;
         const input = inputFile ? new Input(inputOf(inputFile, settings.cwd), true) : new Input(text, inputEnds);
-        const hears = {
-            output: (text) => this.output("stdout", text), says: (text, isWrong) => this.output(isWrong ? "stderr" : "console", text),
-            asks: () => this.output("console", "The program reads a line: type it here, or ^D for the end of the input.\n"),
+        const client = {
+            output: (text) => this.output("stdout", text), say: (text, isWrong) => this.output(isWrong ? "stderr" : "console", text),
+            askForLine: () => this.output("console", "The program reads a line: type it here, or ^D for the end of the input.\n"),
         };
-        this.debuggee = new Debuggee(command, new Program(settings), input, settings, hears, this.sink);
+        this.debuggee = new Debuggee(command, new Program(settings), input, settings, client, this.sink);
         this.frames = new Frames(this.debuggee);
         const faults = settings.noDebug ? undefined : await this.debuggee.prepare().catch((error) => (this.debuggee.end(), Promise.reject(error)));
         if (faults === undefined) return;

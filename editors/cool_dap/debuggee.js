@@ -14,9 +14,9 @@ const MOST_TOGETHER = 64;
 const FIRST_PART = 1_000_000, PART_GROWS = 4, LEAST_RATE = 1000;
 
 class Debuggee {
-    // `hears` is told of `output`, of what breaks `says`, and that the program `asks` for a line, which it reads and which was not given yet.
-    constructor(command, program, input, settings, hears, sink) {
-        Object.assign(this, { program, input, hears, told: 0, decoder: new StringDecoder("utf8"), isStoppable: false, isSilent: false });
+    // `client` takes output, what a break has to say, and that the program reads a line that was not given yet: { output, say, askForLine }.
+    constructor(command, program, input, settings, client, sink) {
+        Object.assign(this, { program, input, client, told: 0, decoder: new StringDecoder("utf8"), isStoppable: false, isSilent: false });
         this.cool = new Cool(command, program, input, settings, sink);
         this.logic = logicWith((...all) => this.debug(...all));
     }
@@ -42,7 +42,7 @@ class Debuggee {
         const fresh = bytes.subarray(Math.max(0, this.told - before));
         if (this.told < before || fresh.length === 0) return;
         this.told += fresh.length;
-        this.hears.output(this.decoder.write(fresh));
+        this.client.output(this.decoder.write(fresh));
     }
 
     get view() {
@@ -74,7 +74,7 @@ class Debuggee {
         const frames = () => (taken ??= take());
         return {
             named: async (name) => (await frames()).evaluate(name, 1),
-            tell: async (...said) => (await this.logic.State.after(steps), this.hears.says(...said)),
+            tell: async (...said) => (await this.logic.State.after(steps), this.client.say(...said)),
         };
     }
 
@@ -129,7 +129,7 @@ class Debuggee {
             const found = here ?? (await this.moved(go, from, breakpoints));
             if (!here && !this.readsAt(found)) return found;
             await this.stand(found.steps);
-            this.hears.asks();
+            this.client.askForLine();
             if (!this.isPaused) await this.input.more();
             if (this.isPaused) return { steps: found.steps, paused: true };
         }
