@@ -3,9 +3,11 @@ import argparse
 import base64
 import random
 import re
+import shutil
+import subprocess
 import time
 
-from .client import EXAMPLES, HERE, expect
+from .client import EXAMPLES, HERE, NotTried, expect
 from .debug_client import DebugClient, begun, done, kept
 
 RECURSION = """class Main inherits IO {
@@ -343,6 +345,18 @@ def end_of_program(room, words):
     done(client, room)
 
 
+def called_by_hand(room, words):
+    """What is no call of an editor is refused in a line."""
+    if not shutil.which("node"):
+        raise NotTried("node is not installed")
+    old = "Object.defineProperty(process, 'versions', { value: { node: '16.1.0' } })"
+    (room / "old.js").write_text(old)
+    for call, status, said in ((["--help"], 2, "takes no words"), ([], 125, "this is node 16.1.0")):
+        node = ["node", *(["-r", room / "old.js"] if status == 125 else []), HERE / "cool-dap", *call]
+        ended = subprocess.run(node, stdin=subprocess.DEVNULL, stderr=subprocess.PIPE)
+        expect(said, (ended.returncode, said in ended.stderr.decode(), ended.stderr.count(b"\n")), (status, True, 1))
+
+
 def nonsense_requests(room, words):
     client = DebugClient(words.cool, TMPDIR=str(kept(room)))
     client.adapter.stdin.write(b"Content-Length: 3\r\n\r\nabcContent-Length: 2\r\n\r\n[]")
@@ -378,4 +392,4 @@ def random_requests(room, words):
 
 
 TESTS = [random_requests, by_the_module, average, breaks_at_lines, walks, errors, deep_recursion, reading, two_files, variables, code, pausing,
-         output_exactly, other_launches, restarting, end_of_program, nonsense_requests]
+         output_exactly, other_launches, restarting, end_of_program, nonsense_requests, called_by_hand]

@@ -50,8 +50,9 @@ function runTo(from, places, accepts, breaks, more) {
         const found = stopOf(stop, listing), label = labelAt(stop);
         if (found && found.steps > state.steps) {
             if (found.error) return found;
-            const stops = (broken.has(found.place) && begins(found) && broke({ ...found, broken: true })) || (accepts(found) && found);
-            if (stops) return stops;
+            const atBreak = broken.has(found.place) && begins(found) ? broke({ ...found, broken: true }) : undefined;
+            if (atBreak) return atBreak;
+            if (accepts(found)) return found;
         }
         return label === undefined ? undefined : broke({ steps: stop.steps, label, broken: true });
     };
