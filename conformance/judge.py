@@ -6,11 +6,11 @@ from limited import Runner
 
 
 class Judge:
-    """A command, and within which limits it passes a case: `mode` is that of `run`, and `limits` are its options that take a number."""
+    """A command, and within which limits it passes a case: `mode` is that of `run`, `limits` are its options that take a number, `owner` that of a Runner."""
 
-    def __init__(self, command, mode, limits):
+    def __init__(self, command, mode, limits, owner=None):
         self.mode, self.limits, self.late = mode, limits, 0
-        self.runner = Runner(command, limits["--seconds"], limits["--memory"])
+        self.runner = Runner(command, limits["--seconds"], limits["--memory"], owner)
 
     def results(self, cases):
         """Of each case, in their order: the case, why it failed in short, and the lines that tell of it; nothing where it passed.

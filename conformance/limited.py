@@ -26,11 +26,11 @@ class Came(NamedTuple):
 
 
 class Runner:
-    """Runs a command over cases, several at once where several threads ask for it, until it is stopped."""
+    """Runs a command over cases, several at once where several threads ask for it, until it is stopped. An owner, a user and a group, gets the files."""
 
-    def __init__(self, command, seconds, memory_kib):
+    def __init__(self, command, seconds, memory_kib, owner=None):
         self.command = [*SHELL, str(MOST_FILE_BLOCKS), str(memory_kib or ""), *command]
-        self.seconds = seconds
+        self.seconds, self.owner = seconds, owner
         self.stopped, self._stopping = os.pipe()
 
     def stop(self):
@@ -47,6 +47,9 @@ class Runner:
                 files, given = os.path.join(folder, "files"), os.path.join(folder, "input")
                 copy(case.folder, files, EXPECTED)
                 copy_input(os.path.join(case.folder, "input"), given)
+                if self.owner:
+                    give(files, self.owner)
+                    os.chmod(folder, 0o711)
                 status = self._status(self.command + case.words, files, given, output, notes)
             finally:
                 remove(folder)
@@ -84,6 +87,13 @@ def copy(source, target, left_out=()):
             copy(entry.path, name)
         else:
             shutil.copyfile(entry.path, name)
+
+
+def give(folder, owner):
+    """Gives a folder that nobody else can reach yet, with all that is in it, to a user."""
+    for path, _, names in os.walk(folder):
+        for name in ("", *names):
+            os.chown(os.path.join(path, name), *owner)
 
 
 def copy_input(source, target):

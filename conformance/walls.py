@@ -1,0 +1,71 @@
+"""The walls between a compiler that is not trusted and the cases: the sandbox, another user, or none."""
+
+import os
+import pwd
+import subprocess
+import tempfile
+
+from call import HERE, Refusal
+
+TOP = os.path.dirname(HERE)
+# What must hold of two folders for a user: it ends with 3 where the first does not, and with 4 where the second does not.
+REACHED = '[ ! -x "$1" ] || exit 3; [ -x "$2" ] || exit 4'
+# And of the folder of a table and the path of a compiler.
+CALLED = '[ ! -w "$1" ] || exit 3; [ -x "$2" ] && [ ! -d "$2" ] || exit 4'
+
+
+class Wall:
+    """How compilers are called: as a user, who is none where it is '', with so many processes at once; or without a wall."""
+
+    def __init__(self, user, is_trusted, processes):
+        self.user, self.is_trusted, self.processes = user, is_trusted, str(processes)
+        self.script = os.path.join(HERE, "as-user" if user else "sandbox")
+        self.options = (["--as", user] if user else []) + ["--processes", self.processes]
+        self.owner = None
+        if user:
+            self._check_user()
+        elif not is_trusted:
+            self._check("no sandbox", "/usr/bin/true")
+
+    def _check(self, wrong, *command):
+        """What comes of a command behind this wall: a compiler that cannot be called is not one that refuses programs."""
+        tried = subprocess.run([self.script, *self.options, *command], cwd="/", stderr=subprocess.PIPE, check=False)
+        if tried.returncode not in (0, 3, 4):
+            raise Refusal(f"{wrong}: {os.fsdecode(tried.stderr).strip() or f'status {tried.returncode}'}")
+        return tried.returncode
+
+    def _check_user(self):
+        try:
+            found = pwd.getpwnam(self.user)
+        except KeyError:
+            raise Refusal(f"no user {self.user}: useradd {self.user} makes one") from None
+        came = self._check(f"no call as {self.user}", "/bin/sh", "-c", REACHED, "sh", TOP, tempfile.gettempdir())
+        if came == 3:
+            raise Refusal(f"{self.user} can read the cases: chmod go-rwx {TOP}")
+        if came == 4:
+            raise Refusal(f"{self.user} cannot reach {tempfile.gettempdir()}: name another folder by TMPDIR")
+        self.owner = found.pw_uid, found.pw_gid
+
+    def command(self, folder, program):
+        """How the compiler of a folder is called, or None where it has none; `program` runs the assembly that a coolc writes."""
+        compiler, coolc = os.path.join(folder, "compiler"), os.path.join(folder, "coolc")
+        options = ["--trusted"] if self.is_trusted else self.options
+        if self._runs(compiler):
+            return [compiler] if self.is_trusted else [self.script, *options, compiler]
+        if self._runs(coolc):
+            return [os.path.join(HERE, "assembled"), program, *options, coolc]
+        return None
+
+    def _runs(self, path):
+        if not self.user:
+            return os.access(path, os.X_OK)
+        beside = os.path.dirname(os.path.dirname(path))
+        came = self._check(f"no call as {self.user}", "/bin/sh", "-c", CALLED, "sh", beside, path)
+        if came == 3:
+            raise Refusal(f"{self.user} can write where the table is to be: chmod go-w {beside}")
+        return came == 0
+
+    def end(self):
+        """Ends what a compiler left running. The sandbox ends it by itself."""
+        if self.user:
+            self._check("not ended", "/bin/sh", "-c", "kill -KILL -1; exit 0")
