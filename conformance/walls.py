@@ -29,7 +29,8 @@ class Wall:
 
     def _check(self, wrong, *command):
         """What comes of a command behind this wall: a compiler that cannot be called is not one that refuses programs."""
-        tried = subprocess.run([self.script, *self.options, *command], cwd="/", stderr=subprocess.PIPE, check=False)
+        with tempfile.TemporaryDirectory() as empty:
+            tried = subprocess.run([self.script, *self.options, *command], cwd=empty, stderr=subprocess.PIPE, check=False)
         if tried.returncode not in (0, 3, 4):
             raise Refusal(f"{wrong}: {os.fsdecode(tried.stderr).strip() or f'status {tried.returncode}'}")
         return tried.returncode
