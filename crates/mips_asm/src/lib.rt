@@ -25,6 +25,7 @@ use mips_isa::{AsmError, Image, Line};
 pub use second_pass::SecondPass;
 use std::alloc::Global;
 pub use text_labels::{TextLabels, text_label};
+pub use text_words::words_of_statement;
 
 /// The image of lines of assembly, in two passes.
 ///

@@ -10,7 +10,7 @@ use crate::position::words_of_instruction;
 use mips_isa::{Line, MOST_TEXT_WORDS, Statement};
 
 /// The words that a statement is assembled to.
-fn words_of_statement(statement: &Statement) -> u32
+pub fn words_of_statement(statement: &Statement) -> u32
     ensures { result ≡ words_needed (need (statement_of statement.now)) }
 {
     match statement {
