@@ -1,1 +1,7 @@
-class Main inherits IO { main() : Object { { out_string("Hello\n"); } }; };
+class Main inherits IO {
+  main() : Object {
+    {
+      out_string("Hello\n");
+    }
+  };
+};

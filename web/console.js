@@ -1,10 +1,13 @@
 // Runs of the program: output as it comes, and input as it is asked for.
 "use strict";
 
-const MOST_SHOWN = 200_000, SHOW_DELAY = 30;
+// Lines are bounded, too: to lay out many short ones takes a browser so long that it hears no key meanwhile.
+const MOST_SHOWN = 200_000, MOST_LINES = 5_000, SHOW_DELAY = 30;
+// A part of what is shown has no more than these when another one is added to it.
+const FULL_PART = 20_000, FULL_LINES = 500;
 
 const program = new Runner();
-let shownLetters = 0;
+let shownLetters = 0, shownLines = 0;
 // What was typed for the last run.
 let typedLines = "";
 
@@ -16,37 +19,57 @@ function numberOf(id, least, most) {
 const steps = () => ["--steps", numberOf("steps", 1, 1e15)];
 const machineLimits = () => [...steps(), "--heap", numberOf("heap", 4, 262_144), "--stack", numberOf("stack", 4, 65_536)];
 
-// What comes is shown in parts, since to lay out a long text takes time; and of a text without end its last part.
-let waiting = [], waitingLetters = 0, showing;
+// What comes is shown in parts, with pauses as long as it took to lay the last one out; and of a text without end its last part.
+let waiting = [], waitingLetters = 0, waitingLines = 0, showing, pause = SHOW_DELAY;
 
-function append(part, kind) {
-    waiting.push({ part, kind });
+const newlinesOf = (text) => text.split("\n").length - 1;
+const endOf = (text) => text.split("\n").slice(-MOST_LINES - 1).join("\n").slice(-MOST_SHOWN);
+const isFull = (letters, lines) => letters >= MOST_SHOWN || lines >= MOST_LINES;
+
+function append(all, kind) {
+    const part = endOf(all), lines = newlinesOf(part);
+    waiting.push({ part, kind, lines });
     waitingLetters += part.length;
-    while (waiting.length > 1 && waitingLetters - waiting[0].part.length >= MOST_SHOWN) waitingLetters -= waiting.shift().part.length;
-    showing ??= setTimeout(showWaiting, SHOW_DELAY);
+    waitingLines += lines;
+    while (waiting.length > 1 && isFull(waitingLetters - waiting[0].part.length, waitingLines - waiting[0].lines)) {
+        const gone = waiting.shift();
+        waitingLetters -= gone.part.length;
+        waitingLines -= gone.lines;
+    }
+    showing ??= setTimeout(showWaiting, pause);
 }
 
 function showWaiting() {
+    const begun = performance.now();
     clearTimeout(showing);
     const out = at("output");
     const atEnd = out.scrollTop + out.clientHeight >= out.scrollHeight - 30;
-    for (const { part, kind } of waiting) {
-        const last = out.lastChild;
-        if (last?.className === kind && last.textContent.length < 20_000) last.append(part);
-        else out.append(element("span", { className: kind }, part));
-    }
+    waiting.forEach((it) => showPart(out, it));
     shownLetters += waitingLetters;
-    while (shownLetters > MOST_SHOWN && out.childNodes.length > 1) {
-        shownLetters -= out.firstChild.textContent.length;
-        out.firstChild.remove();
-    }
+    shownLines += waitingLines;
+    while (isFull(shownLetters, shownLines) && out.childNodes.length > 1) dropPart(out.firstChild);
     if (atEnd) out.scrollTop = out.scrollHeight;
     forgetWaiting();
+    pause = Math.max(SHOW_DELAY, performance.now() - begun);
+}
+
+function showPart(out, { part, kind, lines }) {
+    const last = out.lastChild;
+    if (last?.className === kind && last.textContent.length < FULL_PART && last.lines < FULL_LINES) {
+        last.append(part);
+        last.lines += lines;
+    } else out.append(element("span", { className: kind, lines }, part));
+}
+
+function dropPart(first) {
+    shownLetters -= first.textContent.length;
+    shownLines -= first.lines;
+    first.remove();
 }
 
 function forgetWaiting() {
     clearTimeout(showing);
-    [waiting, waitingLetters, showing] = [[], 0, undefined];
+    [waiting, waitingLetters, waitingLines, showing] = [[], 0, 0, undefined];
 }
 
 function wantsLine(wants) {
@@ -63,7 +86,7 @@ function clearConsole() {
     forgetWaiting();
     at("output").replaceChildren();
     at("end").replaceChildren();
-    shownLetters = 0;
+    shownLetters = shownLines = 0;
 }
 
 async function run() {

@@ -5,7 +5,7 @@ const COOL_EXAMPLES = [
   "files": [
    {
     "name": "hello.cl",
-    "text": "class Main inherits IO { main() : Object { { out_string(\"Hello\\n\"); } }; };\n"
+    "text": "class Main inherits IO {\n  main() : Object {\n    {\n      out_string(\"Hello\\n\");\n    }\n  };\n};\n"
    }
   ],
   "input": ""

@@ -50,6 +50,7 @@ function showFaults({ found, end }) {
         [faults, shownFaults] = [found, seen];
         showExplained();
         showTabs();
+        showHelp();
     }
     if (found.length > 0 || end === undefined) explainSoon();
     if (program.runs) return;

@@ -1,7 +1,7 @@
 // The page as a whole: its views, keys, examples and colours, and how it begins.
 "use strict";
 
-const VIEWS = ["console", "machine", "assembly"];
+const VIEWS = ["console", "machine", "assembly", "help"];
 const EXAMPLES = typeof COOL_EXAMPLES === "undefined" ? [] : COOL_EXAMPLES;
 const EMPTY = { files: [{ name: "program.cl", text: "" }] };
 

@@ -7,7 +7,7 @@ from page import example, same, test
 def phone(page):
     page.start(("average.cl", example("average.cl")))
     page.browser.size(360, 740, phone=True)
-    for view in "console", "machine", "assembly":
+    for view in "console", "machine", "assembly", "help":
         page.click(f"tab-{view}")
         page.moved()
         same([view, page.run("return document.documentElement.scrollWidth <= innerWidth && innerWidth === 360;")], [view, True])
@@ -60,3 +60,5 @@ def pictures(page, folder):
     page.start(("mistakes.cl", example("mistakes.cl")))
     page.wait("explanation !== undefined || explainModule === undefined")
     page.browser.picture(folder / "faults.png")
+    page.click("tab-help")
+    page.browser.picture(folder / "help.png")

@@ -1,4 +1,6 @@
 """Runs: output, input, stop, limits, the rules beside compiled code, and programs that are deep or never end."""
+import time
+
 from page import example, same, test
 
 GREETS = '''class Main inherits IO {
@@ -79,6 +81,20 @@ def stops(page):
     page.run("at('steps').value = 1000;")
     page.click("run")
     same(page.ended(), "cool: step limit\n")
+
+
+@test("stops an endless output within a second, be its lines short or without end")
+def stops_output(page):
+    for body in 'out_string("x\\n")', 'out_string("ab")':
+        page.start(main(f"while true loop {body} pool"))
+        page.run("at('steps').value = 1e15;")
+        page.click("run")
+        page.wait("at('output').textContent.length > 9000 || !program.runs")
+        pressed = time.monotonic()
+        page.press("Escape", 27)
+        page.wait("at('state').textContent === 'stopped'")
+        same(time.monotonic() - pressed < 1, True)
+        page.run("at('steps').value = at('steps').defaultValue;")
 
 
 @test("bounds the output of an endless program")
