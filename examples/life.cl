@@ -33,8 +33,8 @@ class Board inherits IO {
 
   neighbours(row : Int, column : Int) : Int {
     live(row - 1, column - 1) + live(row - 1, column) + live(row - 1, column + 1) +
-    live(row, column - 1) + live(row, column + 1) +
-    live(row + 1, column - 1) + live(row + 1, column) + live(row + 1, column + 1)
+      live(row, column - 1) + live(row, column + 1) +
+      live(row + 1, column - 1) + live(row + 1, column) + live(row + 1, column + 1)
   };
 
   -- What stands in a cell in the next generation: three neighbours give life, and two keep what is there.
@@ -74,13 +74,13 @@ class Main inherits IO {
   start() : Board {
     (new Board).make(9,
       "........."
-      .concat(".........")
-      .concat("....#....")
-      .concat("....#....")
-      .concat("....#....")
-      .concat(".......#.")
-      .concat("........#")
-      .concat("......###"))
+        .concat(".........")
+        .concat("....#....")
+        .concat("....#....")
+        .concat("....#....")
+        .concat(".......#.")
+        .concat("........#")
+        .concat("......###"))
   };
 
   main() : Object {

@@ -53,6 +53,10 @@ class Classes:
         there = self.places(params, defined)
         return [place for place in places if place not in there]
 
+    def highlight(self, params):
+        uri = self.files.uri(to_path(params["textDocument"]["uri"]))
+        return [{"range": place["range"]} for place in self.places(params, named) if place["uri"] == uri]
+
     def completion(self, params):
         """The classes of the programs of a file whose names begin as the word at a place does: a capital letter begins the name of a class alone."""
         path, begun, _ = self.word(params)

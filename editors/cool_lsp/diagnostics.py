@@ -73,6 +73,11 @@ class Checker:
         """The explained faults of a file, each with its diagnostic."""
         return [pair for program in self.kept.values() for pair in program.told[2].get(path, ())]
 
+    def whole(self):
+        """The files, by the tuple of their paths, of each program that is a class table: it has no faults but those of typing."""
+        found = {key: program for key, program in self.kept.items() if program.runs and None not in program.files.values()}
+        return {key: program.files for key, program in found.items() if all(kind[0] == "E" for _, _, kind, _ in program.runs[-1].faults)}
+
     def waits(self, path):
         """Whether an explanation of a file is still to come, or to be told."""
         runs = [run for key, program in self.kept.items() if path in key for run, known in zip(program.runs, program.told[0]) if known is None]

@@ -12,8 +12,9 @@ MOST_OUTPUT = 64 << 20  # bytes that an answer may have; each is far shorter
 class Inquiry:
     """A call that another thread can stop."""
 
-    def __init__(self, words, seconds):
-        self.words, self.seconds = words, seconds
+    def __init__(self, words, seconds, notes=subprocess.DEVNULL):
+        """With subprocess.STDOUT for `notes` the output has them, too."""
+        self.words, self.seconds, self.notes = words, seconds, notes
         self.process, self.stopped = None, False
 
     def answer(self, files):
@@ -32,7 +33,7 @@ class Inquiry:
             return None
 
     def call(self, names, room):
-        self.process = program.start(self.words + names, room, subprocess.DEVNULL)
+        self.process = program.start(self.words + names, room, self.notes)
         if self.stopped:  # before there was a process
             self.stop()
         timer = threading.Timer(self.seconds, self.stop)

@@ -4,6 +4,7 @@ from collections import namedtuple
 
 from . import program
 from .inquiry import Inquiry
+from .moves import Moved
 
 LINE = re.compile(rb"(\d+):\d+:(\d+) (\w+) (\S+) (\S+) (?:(\d+):\d+:(\d+)|[-?])\n")
 
@@ -44,4 +45,21 @@ def read(paths, lines):
     for file, at, role, name, type_, other, there in LINE.findall(lines):
         target = (paths[int(other)], int(there)) if other else None
         found.append(Mark((paths[int(file)], int(at)), role.decode(), name, type_.decode(), target))
+    return found
+
+
+def moved(marks, old, new):
+    """Marks of files at the places that their names have in later texts, both dictionaries of bytes by path. What is there no more is left out."""
+    texts, found = {path: Moved(data, new[path]) for path, data in old.items()}, []
+
+    def now(place, name):
+        if not place or place[0] not in texts:
+            return place
+        at = texts[place[0]].place(place[1], name)
+        return None if at is None else (place[0], at)
+
+    for mark in marks:
+        place = now(mark.place, mark.name)
+        if place:
+            found.append(mark._replace(place=place, target=now(mark.target, mark.name)))
     return found

@@ -6,6 +6,7 @@ from .answers import position
 from .classes import Refused
 from .diagnostics import MAIN
 from .files import to_path
+from .marks import moved
 from .names import KEYWORDS
 from .ranges import Text
 
@@ -17,19 +18,25 @@ RECEIVER = re.compile(rb"\s*(?:@\s*[A-Z][A-Za-z0-9_]*\s*)?\.\s*\Z")
 RESERVED = KEYWORDS | {b"true", b"false", b"self"}
 VARIABLES = ("attribute", "formal", "let", "case")
 METHOD, VARIABLE = 2, 6  # kinds of what completes a word
-# The methods of the basic classes (docs/language.md).
+READ, WRITTEN = 2, 3  # kinds of places that are highlighted
+READING = ("type", "variable", "call")
+# The methods of the basic classes, with their signatures and the names of their formals (docs/language.md). Each name stands in one class alone.
 GIVEN = {
-    "Object": ("abort ():Object", "type_name ():String", "copy ():SELF_TYPE"),
-    "IO": ("out_string (String):SELF_TYPE", "out_int (Int):SELF_TYPE", "in_string ():String", "in_int ():Int"),
-    "String": ("length ():Int", "concat (String):String", "substr (Int,Int):String"),
+    "Object": {"abort": ("():Object", ""), "type_name": ("():String", ""), "copy": ("():SELF_TYPE", "")},
+    "IO": {
+        "out_string": ("(String):SELF_TYPE", "x"), "out_int": ("(Int):SELF_TYPE", "x"),
+        "in_string": ("():String", ""), "in_int": ("():Int", ""),
+    },
+    "String": {"length": ("():Int", ""), "concat": ("(String):String", "s"), "substr": ("(Int,Int):String", "i l")},
 }
+GIVEN_FORMALS = {name: formals.split() for methods in GIVEN.values() for name, (_, formals) in methods.items()}
 
 
 class Class:
-    """A class as the marks have it: its name, its parent's, and the marks of its methods."""
+    """A class as the marks have it: its name, its parent's, and the marks of its methods, each with the names of its formals."""
 
     def __init__(self, name):
-        self.name, self.parent, self.methods = name, "Object", []
+        self.name, self.parent, self.methods, self.formals = name, "Object", [], {}
 
 
 def classes(marks):
@@ -38,10 +45,15 @@ def classes(marks):
     for mark in marks:
         if mark.role == "class":
             last = found[mark.name.decode()] = Class(mark.name.decode())
+        elif not last:
+            pass  # of a class whose name stands no more where it stood
         elif mark.role == "type" and before == "class":
             last.parent = mark.name.decode()
         elif mark.role == "method":
             last.methods.append(mark)
+            last.formals[mark.place] = []
+        elif mark.role == "formal" and last.methods:
+            last.formals[last.methods[-1].place].append(mark.name.decode())
         before = mark.role
     return found
 
@@ -59,6 +71,7 @@ class Meanings:
 
     def __init__(self, files, programs, marks):
         self.files, self.programs, self.marks = files, programs, marks
+        self.kept = {}  # by a program, as the tuple of its paths: the last files that had marks, and these where they were asked for
 
     def of(self, path, changed=None):
         """The marks of a program of a file, with other bytes for some files, or None."""
@@ -73,9 +86,32 @@ class Meanings:
         """The marks of the program of a file, and the one at a place of it; None where there are none."""
         path = to_path(params["textDocument"]["uri"])
         at = Text(self.files.data(path)).place(*position(params["position"]))
-        marks = self.of(path)
-        there = [mark for mark in marks or () if mark.place[0] == path and mark.place[1] <= at <= mark.place[1] + len(mark.name)]
-        return (marks, there[-1]) if there else (marks, None)
+        return found_at(self.of(path), path, at)
+
+    def seen(self, params):
+        """The same, where there are none by those of the last text that had some."""
+        path = to_path(params["textDocument"]["uri"])
+        at = Text(self.files.data(path)).place(*position(params["position"]))
+        return found_at(self.of(path) or self.before(path), path, at)
+
+    def keep(self, whole):
+        """Takes note of the files, by the tuple of their paths, of programs that are class tables as they were checked last."""
+        programs = {program for path in self.files.open for program in self.programs.of(path)}
+        self.kept = {key: kept for key, kept in self.kept.items() if key in programs}
+        for key, files in whole.items():
+            if key not in self.kept or self.kept[key][0] != files:
+                self.kept[key] = files, None
+
+    def before(self, path):
+        """The marks of a program of a file in the last text that had some, at the places that they have now; None where there was no such text."""
+        for program in self.programs.of(path):
+            files, marks = self.kept.get(program, (None, None))
+            if files and marks is None:
+                marks = self.marks.of(files) or self.marks.of({**files, "": MAIN}) or ()
+                self.kept[program] = files, marks
+            if marks:
+                return moved(marks, files, {other: self.files.data(other) or b"" for other in files})
+        return None
 
     def location(self, place, name):
         text = Text(self.files.data(place[0]))
@@ -83,13 +119,14 @@ class Meanings:
 
     def hover(self, params):
         """The type of a name, or the signature of a method."""
-        _, mark = self.named(params)
+        marks, mark = self.seen(params)
         if not mark or mark.type == "?":
             return None
-        return {"contents": {"kind": "markdown", "value": "```cool\n%s\n```" % told(mark)}, "range": self.location(mark.place, mark.name)["range"]}
+        contents = {"kind": "markdown", "value": "```cool\n%s\n```" % told(mark, formals_of(marks, mark))}
+        return {"contents": contents, "range": self.location(mark.place, mark.name)["range"]}
 
     def definition(self, params):
-        marks, mark = self.named(params)
+        marks, mark = self.seen(params)
         return marks and [self.location(mark.target, mark.name)] if mark and mark.target and mark.target[0] else None
 
     def references(self, params):
@@ -99,6 +136,14 @@ class Meanings:
         declared = (params.get("context") or {}).get("includeDeclaration", True)
         uses = [other for other in marks if other.target == mark.target and other.place[0]]
         return [self.location(other.place, other.name) for other in uses if declared or other.place != mark.target]
+
+    def highlight(self, params):
+        """The places of a name in its file; those where it is defined or assigned to are told apart."""
+        marks, mark = self.seen(params)
+        if not mark or not mark.target:
+            return None
+        here = [other for other in marks if other.target == mark.target and other.place[0] == mark.place[0]]
+        return [{"range": self.location(other.place, other.name)["range"], "kind": READ if other.role in READING else WRITTEN} for other in here]
 
     # New names.
 
@@ -140,7 +185,7 @@ class Meanings:
             if more <= targets:
                 break
             targets |= more
-        given = {line.split()[0] for place in targets for name in above[place] for line in GIVEN.get(name, ())}
+        given = {method for place in targets for name in above[place] for method in GIVEN.get(name, ())}
         if mark.name.decode() in given:
             raise Refused("a basic class has this method")
         return targets
@@ -224,12 +269,25 @@ def members(found, type_):
     """The methods of a class with those that it inherits, the nearest of each name, as what completes a word."""
     items = {}
     for owner in chain(found, type_) if type_ else ():
-        own = [line.split() for line in GIVEN.get(owner, ())]
+        own = [(name, signature, GIVEN_FORMALS[name]) for name, (signature, _) in GIVEN.get(owner, {}).items()]
         if owner in found:
-            own = [(mark.name.decode(), mark.type) for mark in found[owner].methods]
-        for name, signature in own:
-            items.setdefault(name, {"label": name, "kind": METHOD, "detail": spaced(signature)})
+            own = [(mark.name.decode(), mark.type, found[owner].formals[mark.place]) for mark in found[owner].methods]
+        for name, signature, formals in own:
+            items.setdefault(name, {"label": name, "kind": METHOD, "detail": spaced(signature, formals)})
     return list(items.values())
+
+
+def found_at(marks, path, at):
+    """Marks, and the one of them at a place, or None."""
+    there = [mark for mark in marks or () if mark.place[0] == path and mark.place[1] <= at <= mark.place[1] + len(mark.name)]
+    return marks, there[-1] if there else None
+
+
+def formals_of(marks, mark):
+    """The names of the formals of the method that a mark means."""
+    if not mark.target:
+        return GIVEN_FORMALS.get(mark.name.decode(), [])
+    return next((owner.formals[mark.target] for owner in classes(marks).values() if mark.target in owner.formals), [])
 
 
 def edited(data, due, new):
@@ -245,13 +303,19 @@ def shape(marks, due=(), new=b""):
     return [(mark.role, new if mark in due else mark.name, mark.type, numbers.get(mark.target)) for mark in marks]
 
 
-def told(mark):
+def told(mark, formals):
     """A mark as a person reads it."""
     name = mark.name.decode()
     if mark.role in ("class", "type"):
         return "class " + name
-    return name + spaced(mark.type) if mark.type.startswith("(") else name + " : " + mark.type
+    return name + spaced(mark.type, formals) if mark.type.startswith("(") else name + " : " + mark.type
 
 
-def spaced(signature):
-    return signature.replace(",", ", ").replace("):", ") : ")
+def parameters(signature, formals):
+    """The formals of a signature, with their names where these are known."""
+    types = [type_ for type_ in signature[1:].partition(")")[0].split(",") if type_]
+    return ["%s : %s" % pair for pair in zip(formals, types)] if len(formals) == len(types) else types
+
+
+def spaced(signature, formals):
+    return "(%s) : %s" % (", ".join(parameters(signature, formals)), signature.rpartition(":")[2])

@@ -5,15 +5,18 @@ import threading
 import traceback
 
 from .answers import QUICKFIX, Answers
+from .calls import Calls
 from .classes import Classes, Refused
 from .diagnostics import Checker
 from .explainer import Explainer
 from .files import Document, Files, is_path, to_path
+from .formatting import Formatter
 from .marks import Marks
 from .meanings import Meanings
 from .programs import LIST, Programs
 from .protocol import log, messages
 from .session import Session
+from .snippets import Snippets
 
 LOOK_AGAIN = 2  # seconds until stored files are looked at again, where the editor does not tell that they changed
 NO_METHOD, WRONG_PARAMETERS, WRONG_REQUEST, REFUSED = -32601, -32602, -32600, -32803
@@ -44,13 +47,17 @@ class Server:
             "workspace/didChangeWorkspaceFolders": self.folders_changed,
         }
         answers, classes = Answers(self.files, self.programs, self.checker, self.told), Classes(self.files, self.programs)
-        meanings = Meanings(self.files, self.programs, Marks(seconds))
+        self.meanings = meanings = Meanings(self.files, self.programs, Marks(seconds))
+        self.snippets = Snippets(self.files)
         self.questions = {
             "textDocument/hover": first(answers.hover, meanings.hover),
             "textDocument/documentSymbol": answers.symbols,
             "textDocument/definition": first(meanings.definition, classes.definition),
             "textDocument/references": first(meanings.references, classes.references),
-            "textDocument/completion": first(meanings.completion, classes.completion),
+            "textDocument/documentHighlight": first(meanings.highlight, classes.highlight),
+            "textDocument/completion": both(first(meanings.completion, classes.completion), self.snippets.completion),
+            "textDocument/signatureHelp": Calls(self.files, meanings).signature,
+            "textDocument/formatting": Formatter(named, seconds).of(self.files, meanings),
             "textDocument/rename": first(meanings.rename, classes.rename),
             "textDocument/codeAction": answers.actions,
         }
@@ -102,12 +109,17 @@ class Server:
     def initialize(self, params):
         folders = [folder["uri"] for folder in params.get("workspaceFolders") or []] or [params.get("rootUri") or ""]
         self.programs.roots = [path for path in map(to_path, folders) if is_path(path)]
-        workspace = (params.get("capabilities") or {}).get("workspace") or {}
+        capabilities = params.get("capabilities") or {}
+        completes = ((capabilities.get("textDocument") or {}).get("completion") or {}).get("completionItem") or {}
+        self.snippets.taken = completes.get("snippetSupport") is True
+        workspace = capabilities.get("workspace") or {}
         self.watches = (workspace.get("didChangeWatchedFiles") or {}).get("dynamicRegistration") is True
         sync = {"openClose": True, "change": 1, "save": {"includeText": False}}
         folders = {"workspaceFolders": {"supported": True, "changeNotifications": True}}
-        answers = {name + "Provider": True for name in ("hover", "documentSymbol", "definition", "references", "rename")}
+        plain = "hover documentSymbol definition references documentHighlight rename documentFormatting"
+        answers = {name + "Provider": True for name in plain.split()}
         answers["completionProvider"] = {"triggerCharacters": ["."]}
+        answers["signatureHelpProvider"] = {"triggerCharacters": ["(", ","]}
         answers["codeActionProvider"] = {"codeActionKinds": [QUICKFIX]}
         return {"capabilities": {"textDocumentSync": sync, "workspace": folders, **answers}, "serverInfo": {"name": "cool-lsp"}}
 
@@ -155,6 +167,7 @@ class Server:
             try:
                 self.files.look(self.documents)
                 self.tell(self.checker.all())
+                self.meanings.keep(self.checker.whole())
             except OSError as error:
                 log("nothing can be told: %s" % error)
             except Exception:  # a defect of the server costs one check, and not the server
@@ -197,6 +210,11 @@ class Server:
 def first(*functions):
     """The answer of the first function that has one."""
     return lambda params: next((found for found in (function(params) for function in functions) if found is not None), None)
+
+
+def both(one, other):
+    """The answers of two functions, together."""
+    return lambda params: [*(one(params) or ()), *other(params)]
 
 
 def outcome(method, function, params):

@@ -23,13 +23,13 @@ def expect(what, told, wanted):
 
 
 class Client:
-    def __init__(self, root, program, *words, log=subprocess.DEVNULL, watches=False, command=(HERE / "cool-lsp",), explain=""):
+    def __init__(self, root, program, *words, log=subprocess.DEVNULL, watches=False, command=(HERE / "cool-lsp",), explain="", completes=None):
         call = [*command, *(["--cool", program] if program else []), *words]
         environment = {**os.environ, "COOL": "", "COOL_EXPLAIN": explain, "TMPDIR": str(root)}  # so that nothing is left of a server that is killed
         self.server = subprocess.Popen(call, env=environment, stdin=subprocess.PIPE, stdout=subprocess.PIPE, stderr=log)
         self.told, self.versions, self.numbers, self.inbox, self.came = {}, {}, 0, queue.Queue(), None
         threading.Thread(target=self.read, daemon=True).start()
-        capabilities = {"workspace": {"didChangeWatchedFiles": {"dynamicRegistration": watches}}}
+        capabilities = {"workspace": {"didChangeWatchedFiles": {"dynamicRegistration": watches}}, "textDocument": {"completion": {"completionItem": completes}}}
         self.request("initialize", {"processId": os.getpid(), "rootUri": root.as_uri(), "capabilities": capabilities})
         self.notify("initialized", {})
 

@@ -11,6 +11,7 @@ from .client import HERE, NotTried, expect
 from .debug_client import DebugClient
 from .explanations import FAULT as TOLD
 from .explanations import FAULTY, explained_by
+from .names import editor
 
 FACTS = "- found Bool, and due is Int  To mend it: the value is of the declared class or of one below it.  Tried, as an edit (code action): `1` for `true`."
 MENDED = 'mended:   s : String <- "ä𝒙"; t : Int <- 1;'
@@ -125,12 +126,13 @@ def vscode_extension(room, words):
         raise NotTried("node is not installed")
     (room / "m.cl").write_text(FAULTY)
     call = ["node", HERE / "tests" / "vscode.cjs", package(room), words.cool, room / "m.cl"]
-    environment = {**os.environ, "COOL_EXPLAIN": explained_by(room)}
+    environment = {**os.environ, "COOL_EXPLAIN": explained_by(room), "COOL_EDITOR": editor()}
     said = subprocess.run(call, timeout=SECONDS, stdout=subprocess.PIPE, check=True, env=environment).stdout.decode().splitlines()
     expect("VS Code", said, ["1:23-1:24 E17 %s 0" % TOLD, FACTS, "mend `1` for `true` quickfix true 1 1:34-1:38 1", "definition 0:6-0:10",
                              "references 0:6-0:10 4:17-4:21", "Main 4 0:0-3:1 s 7 t 7 main 5", "Late 4 4:0-4:24 m 7",
-                             "completion Main", "rename 4:6-4:10 Later", "refused: the name of a class", "debug node editors/cool-dap true",
-                             "launch cool launch ${file} true", "0 told; 0 problems"])
+                             "completion Main", "highlights 4:6-4:10 2", "rename 4:6-4:10 Later", "refused: the name of a class",
+                             "debug node editors/cool-dap true", "launch cool launch ${file} true", 'formatting 1:30-1:31 ""',
+                             "signature f(a : Int) : Int a : Int 0", r'form "while ${1:test} loop {\n  $0;\n} pool"', "0 told; 0 problems"])
     return "with a stand-in of its interface, on node " + subprocess.run(["node", "--version"], stdout=subprocess.PIPE).stdout.decode().strip()
 
 

@@ -39,6 +39,7 @@ KEYS = ["textDocument", "uri", "text", "version", "contentChanges", "position", 
 METHODS = ["initialize", "initialized", "workspace/didChangeWatchedFiles", "workspace/didChangeWorkspaceFolders", "$/cancelRequest", "x", ""]
 METHODS += ["textDocument/" + name for name in ("didOpen", "didChange", "didClose", "didSave", "hover", "definition", "references")]
 METHODS += ["textDocument/" + name for name in ("documentSymbol", "completion", "rename", "codeAction")]
+METHODS += ["textDocument/" + name for name in ("documentHighlight", "signatureHelp", "formatting")]
 
 
 def value(rnd, depth):

@@ -17,7 +17,9 @@ const provider = (kind) => (_, given) => ((providers[kind] = Object.values(given
 const stub = {
   Range: Value, Location: Value, DiagnosticRelatedInformation: Value, Hover: Value, MarkdownString: Value,
   Diagnostic: class extends Value { get message() { return this[1]; } },
-  DocumentSymbol: Value, CompletionItem: Value, CodeAction: Value, CodeActionKind: { QuickFix: 'quickfix' }, DebugAdapterExecutable: Value,
+  DocumentSymbol: Value, CompletionItem: Value, SnippetString: Value, DocumentHighlight: Value, CodeAction: Value,
+  SignatureHelp: Value, SignatureInformation: Value, ParameterInformation: Value, TextEdit: { replace: (...edit) => edit },
+  CodeActionKind: { QuickFix: 'quickfix' }, DebugAdapterExecutable: Value,
   debug: {
     registerDebugAdapterDescriptorFactory: (type, factory) => ((providers.adapter = factory), disposable),
     registerDebugConfigurationProvider: (type, provider) => ((providers.launches = provider), disposable),
@@ -28,7 +30,10 @@ const stub = {
     createDiagnosticCollection: () => ({ set: (_, found) => told(found), clear() {}, dispose() {} }),
     registerHoverProvider: provider('hover'), registerDefinitionProvider: provider('definition'),
     registerReferenceProvider: provider('references'), registerDocumentSymbolProvider: provider('symbols'),
-    registerCompletionItemProvider: provider('completion'), registerRenameProvider: provider('rename'), registerCodeActionsProvider: provider('actions'),
+    registerCompletionItemProvider: provider('completion'), registerRenameProvider: provider('rename'),
+    registerCodeActionsProvider: provider('actions'),
+    registerDocumentHighlightProvider: provider('highlights'), registerSignatureHelpProvider: provider('signatures'),
+    registerDocumentFormattingEditProvider: provider('formatting'),
   },
   window: {
     activeTextEditor: { document }, createOutputChannel: () => ({ append: (text) => problems.push(text), dispose() {} }),
@@ -60,6 +65,7 @@ const span = (r) => `${r[0]}:${r[1]}-${r[2]}:${r[3]}`;
   for (const kind of ['definition', 'references']) console.log(kind, ...(await providers[kind](document, { line: 0, character: 7 })).map((l) => span(l[1])));
   for (const s of await providers.symbols(document)) console.log(s[0], s[2], span(s[3]), ...s.children.map((c) => `${c[0]} ${c[2]}`));
   console.log('completion', ...(await providers.completion(document, { line: 4, character: 18 })).map((c) => c[0]));
+  console.log('highlights', ...(await providers.highlights(document, { line: 4, character: 8 })).map((h) => `${span(h[0])} ${h[1]}`));
   const renamed = await providers.rename(document, { line: 4, character: 8 }, 'Later');
   console.log('rename', ...renamed.edits.map((e) => `${span(e[1])} ${e[2]}`));
   await providers.rename(document, { line: 4, character: 8 }, 'later').catch((error) => console.log('refused:', error.message.slice(0, 19)));
@@ -68,8 +74,15 @@ const span = (r) => `${r[0]}:${r[1]}-${r[2]}:${r[3]}`;
   const launch = providers.launches.resolveDebugConfiguration(undefined, {});
   console.log('launch', launch.type, launch.request, launch.program, launch.cool === program);
   document.version = 2;
-  document.text = document.text.replace(' <- true', '');
+  document.text = document.text.replace(' <- true', ' ');
   found = await next(() => handlers.change({ document }));
+  console.log('formatting', ...(await providers.formatting(document)).map((e) => `${span(e[0])} ${JSON.stringify(e[1])}`));
+  document.version = 3;
+  document.text = 'class Main { f(a : Int) : Int { a };\n main() : Int { f(wh';
+  await next(() => handlers.change({ document }));
+  const help = await providers.signatures(document, { line: 1, character: 18 });
+  console.log('signature', help.signatures[0][0], help.signatures[0].parameters[0][0], help.activeParameter);
+  console.log('form', ...(await providers.completion(document, { line: 1, character: 20 })).map((c) => JSON.stringify(c.insertText[0])));
   console.log(found.length, 'told;', problems.length, 'problems', ...problems);
   deactivate();
 })();

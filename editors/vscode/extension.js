@@ -66,6 +66,24 @@ function symbol(s) {
   return shown;
 }
 
+function completion(c) {
+  const shown = new vscode.CompletionItem(c.label, c.kind - 1);
+  shown.detail = c.detail;
+  if (c.insertText) shown.insertText = new vscode.SnippetString(c.insertText);
+  return shown;
+}
+
+function signatures(found) {
+  if (!found) return null;
+  const shown = new vscode.SignatureHelp();
+  shown.signatures = found.signatures.map((s) => {
+    const one = new vscode.SignatureInformation(s.label);
+    one.parameters = s.parameters.map((p) => new vscode.ParameterInformation(p.label));
+    return one;
+  });
+  return Object.assign(shown, { activeSignature: found.activeSignature, activeParameter: found.activeParameter });
+}
+
 function changed(edit) {
   const shown = new vscode.WorkspaceEdit();
   for (const [uri, edits] of Object.entries(edit ? edit.changes : {})) {
@@ -95,9 +113,21 @@ function providers() {
     }),
     vscode.languages.registerDefinitionProvider(COOL, { provideDefinition: places('textDocument/definition') }),
     vscode.languages.registerReferenceProvider(COOL, { provideReferences: places('textDocument/references', { context: { includeDeclaration: true } }) }),
+    vscode.languages.registerDocumentHighlightProvider(COOL, {
+      provideDocumentHighlights: async (document, position) =>
+        ((await request('textDocument/documentHighlight', place(document, position))) || [])
+          .map((h) => new vscode.DocumentHighlight(range(h.range), (h.kind || 1) - 1)),
+    }),
     vscode.languages.registerCompletionItemProvider(COOL, {
-      provideCompletionItems: async (document, position) =>
-        ((await request('textDocument/completion', place(document, position))) || []).map((c) => new vscode.CompletionItem(c.label, c.kind - 1)),
+      provideCompletionItems: async (document, position) => ((await request('textDocument/completion', place(document, position))) || []).map(completion),
+    }, '.'),
+    vscode.languages.registerSignatureHelpProvider(COOL, {
+      provideSignatureHelp: async (document, position) => signatures(await request('textDocument/signatureHelp', place(document, position))),
+    }, '(', ','),
+    vscode.languages.registerDocumentFormattingEditProvider(COOL, {
+      provideDocumentFormattingEdits: async (document) =>
+        ((await request('textDocument/formatting', { textDocument: { uri: document.uri.toString() }, options: {} })) || [])
+          .map((e) => vscode.TextEdit.replace(range(e.range), e.newText)),
     }),
     vscode.languages.registerRenameProvider(COOL, {
       provideRenameEdits: async (document, position, newName) => {
@@ -136,7 +166,8 @@ function start() {
     faults.clear();
   });
   const folders = (vscode.workspace.workspaceFolders || []).map((f) => ({ uri: f.uri.toString(), name: f.name }));
-  const capabilities = { workspace: { didChangeWatchedFiles: { dynamicRegistration: true } } };
+  const completes = { completion: { completionItem: { snippetSupport: true } } };
+  const capabilities = { workspace: { didChangeWatchedFiles: { dynamicRegistration: true } }, textDocument: completes };
   request('initialize', { processId: process.pid, rootUri: null, workspaceFolders: folders, capabilities });
   send({ method: 'initialized', params: {} });
   vscode.workspace.textDocuments.forEach((d) => d.languageId === 'cool' && send({ method: 'textDocument/didOpen', params: { textDocument: item(d) } }));

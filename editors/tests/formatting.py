@@ -1,0 +1,165 @@
+"""How files are laid out: by the rules, once and for all, and with nothing else changed, as the programs say."""
+import os
+import random
+import re
+import subprocess
+from concurrent.futures import ThreadPoolExecutor
+
+from cool_lsp.diagnostics import MAIN
+from cool_lsp.formatting import Formatter, edited
+from cool_lsp.layout import Texts
+from cool_lsp.marks import Marks
+
+from .client import EXAMPLES, HERE, Client, expect, fill
+
+CASES = HERE.parent / "conformance" / "cases"
+FORMAT = HERE / "cool-format"
+ROUGH = """(* first *)
+
+class   Main inherits IO{main():Object{{
+out_string("a  b") ;   -- said
+      (* a note
+           on two lines *)
+if isvoid(self)then 1
+   else 2 fi;
+let x:Int<-~1,y:Int in
+
+
+x+(  y*2 );
+while x<3 loop
+x<-x+1
+pool;
+case x of
+a:Int=>
+a;
+esac; }};
+};
+"""
+SMOOTH = """(* first *)
+
+class Main inherits IO { main() : Object { {
+  out_string("a  b");   -- said
+  (* a note
+       on two lines *)
+  if isvoid (self) then 1
+  else 2 fi;
+  let x : Int <- ~1, y : Int in
+
+    x + (y * 2);
+  while x < 3 loop
+    x <- x + 1
+  pool;
+  case x of
+    a : Int =>
+      a;
+  esac; } };
+};
+"""
+
+
+def call(program, *words, **more):
+    """The status, the output and the notes of cool-format."""
+    came = subprocess.run([FORMAT, *words], env={**os.environ, "COOL": program}, stdout=subprocess.PIPE, stderr=subprocess.PIPE, **more)
+    return came.returncode, came.stdout.decode(), came.stderr.decode()
+
+
+def programs(program):
+    """The programs of one file of examples/ and of the cases that are accepted, each text once."""
+    found = {}
+    for path in [*EXAMPLES.glob("*.cl"), *CASES.glob("*/*.cl")]:
+        found.setdefault(path.read_bytes(), path)
+    with ThreadPoolExecutor(2) as pool:
+        ends = pool.map(lambda path: subprocess.run([program, "check", "--", path.name], cwd=path.parent, stderr=subprocess.PIPE).returncode, found.values())
+        return [path for path, status in zip(found.values(), ends) if status == 0]
+
+
+def assembled(program, folder, data):
+    """The assembly of a program without the numbers of its lines, which are what `$t9` is given."""
+    (folder / "p.cl").write_bytes(data)
+    came = subprocess.run([program, "asm", "p.cl"], cwd=folder, stdout=subprocess.PIPE, check=True)
+    return re.sub(rb"\tli \$t9, \d+\n", b"", came.stdout)
+
+
+def laid_out(program, data):
+    marks = Marks(60)
+    return edited(data, Formatter(program, 60).formatted("p", data, lambda it: marks.of({"p": it}) or marks.of({"p": it, "": MAIN}), "p"))
+
+
+def roughly(data, rnd):
+    """A program with other blanks, line ends and comments between its tokens."""
+    parts = []
+    for token in Texts(data).tokens:
+        parts += [rnd.choice([b" ", b" ", b" ", b"\n", b"\n", b"\n\n\n", b"\t ", b" -- c\n", b" (* c *) ", b"\n(* c\n      d *)\n"]), token]
+    return b"".join(parts)
+
+
+def programs_are_laid_out(room, words):
+    """Each is one of the same code, and is laid out already then; so are the examples and some others with other blanks and comments."""
+    rnd, count, found = random.Random(words.seed), 0, programs(words.cool)
+    some = rnd.sample([path for path in found if path.parent != EXAMPLES and path.stat().st_size < 20000], 20)
+    for path in found:
+        data = path.read_bytes()
+        for text in [data, roughly(data, rnd)] if path.parent == EXAMPLES or path in some else [data]:
+            new = laid_out(words.cool, text)
+            expect("%s again" % path, laid_out(words.cool, new) == new, True)
+            expect("the code of %s" % path, assembled(words.cool, room, new) == assembled(words.cool, room, data), True)
+            count += 1
+    return "%d texts" % count
+
+
+def rules_of_layout(room, words):
+    expect("laid out", laid_out(words.cool, ROUGH.encode()).decode(), SMOOTH)
+    expect("with Windows line ends", laid_out(words.cool, ROUGH.encode().replace(b"\n", b"\r\n")), SMOOTH.encode().replace(b"\n", b"\r\n"))
+    expect("a class that others need", laid_out(words.cool, b"class A inherits B{a:C;};\n"), b"class A inherits B { a : C; };\n")
+    expect("nothing", laid_out(words.cool, b" \n\n"), b"")
+    for path in EXAMPLES.glob("*.cl"):
+        expect("an example", (path.name, laid_out(words.cool, path.read_bytes()) == path.read_bytes()), (path.name, True))
+
+
+def what_is_not_laid_out(room, words):
+    at = fill(room / "bad", syntax="class A {\n a : Int\n};", binary=b"\x7fELF\0\0", wide="class A { };".encode("utf-16"), good="class A{};")
+    for name, note in (("syntax", "3: S1: unexpected token"), ("binary", "1: L1: unknown character"), ("wide", "1: L1: unknown character")):
+        said = "cool-format: %s.cl:%s: not laid out\n" % (name, note)
+        expect(name, call(words.cool, "--write", name + ".cl", cwd=at), (1, "", said))
+    (at / "large.cl").write_bytes(b" " * 1048577)
+    expect("too large", call(words.cool, "large.cl", cwd=at), (1, "", "cool-format: large.cl: not laid out: cool: files too large\n"))
+    expect("no program", call("/none", "good.cl", cwd=at)[::2], (1, "cool-format: good.cl: not laid out: the program did not answer\n"))
+    expect("a program that says what is not so", call("/bin/true", at / "syntax.cl")[0], 0)
+    client = Client(room / "bad", words.cool)
+    client.open(at / "syntax.cl", "class A {\n a : Int\n};")
+    answer = client.request("textDocument/formatting", {"textDocument": {"uri": (at / "syntax.cl").as_uri()}, "options": {}})
+    expect("refused in an editor", answer["error"]["message"], "syntax.cl:3: S1: unexpected token: not laid out")
+    client.end()
+
+
+def words_of_cool_format(room, words):
+    at = fill(room / "some", rough="class A{};", smooth="class A { };\n")
+    expect("to the output", call(words.cool, at / "rough.cl"), (0, "class A { };\n", ""))
+    expect("of the input", call(words.cool, input=b"class A{};"), (0, "class A { };\n", ""))
+    expect("checked", call(words.cool, "--check", "rough.cl", "smooth.cl", cwd=at), (1, "rough.cl\n", ""))
+    (at / "rough.cl").chmod(0o640)
+    (at / "link.cl").symlink_to("rough.cl")
+    expect("written", call(words.cool, "--write", "link.cl", "smooth.cl", cwd=at), (0, "", ""))
+    there = (at / "rough.cl").read_text(), (at / "rough.cl").stat().st_mode & 0o777, (at / "link.cl").is_symlink()
+    expect("in its place", there, ("class A { };\n", 0o640, True))
+    expect("and nothing else", sorted(path.name for path in at.iterdir()), ["link.cl", "rough.cl", "smooth.cl"])
+    expect("other words", [call(words.cool, *it)[0] for it in (["--write"], ["-x"], ["a", "b"])], [2, 2, 2])
+    expect("a missing file", call(words.cool, "--check", "none.cl", cwd=at), (1, "", "cool-format: none.cl: No such file or directory\n"))
+
+
+def edits_of_an_editor(room, words):
+    """What an editor is told to change, with letters of two units in its way."""
+    text = 'class Main{main():Object{"\U0001f600é"};--  \U0001f600\n};'
+    at, client = fill(room / "program", p=text) / "p.cl", Client(room / "program", words.cool)
+    client.open(at, text)
+    edits = client.request("textDocument/formatting", {"textDocument": {"uri": at.as_uri()}, "options": {}})["result"]
+    units = text.encode("utf-16-le")
+    starts = [0, *(match.end() for match in re.finditer("\n", text))]
+    for edit in reversed(edits):
+        start, end = (2 * (len(text[: starts[it["line"]]].encode("utf-16-le")) // 2 + it["character"]) for it in (edit["range"]["start"], edit["range"]["end"]))
+        units = units[:start] + edit["newText"].encode("utf-16-le") + units[end:]
+    expect("edited", units.decode("utf-16-le"), 'class Main { main() : Object { "\U0001f600é" }; --  \U0001f600\n};\n')
+    client.end()
+
+
+TESTS = [rules_of_layout, programs_are_laid_out, what_is_not_laid_out, words_of_cool_format, edits_of_an_editor]
