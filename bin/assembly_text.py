@@ -34,7 +34,7 @@ class Line:
         while at < len(text):
             found = WORD.match(text, at)
             if not found:
-                raise Unlike("an unknown word in %r" % text)
+                raise Unlike("an unknown word in %s" % ascii(text.decode("utf-8", "replace")))
             at = found.end()
             if found.lastgroup not in (None, "comment"):
                 self.words.append((found.lastgroup, found.group(found.lastgroup)))
