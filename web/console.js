@@ -74,6 +74,7 @@ function forgetWaiting() {
 
 function wantsLine(wants) {
     for (const it of ["line", "send", "close"]) at(it).disabled = !wants;
+    at("line").placeholder = wants ? "the program waits for a line" : "input, when it is asked for";
     if (wants) at("line").focus();
 }
 

@@ -86,4 +86,6 @@ const COOL_HELP = [
   [["", "in_string", " gives ", "Ada", " a length of 4"], ["input with Windows line ends: the ", "\\r", " belongs to the line. ", "in_int", " passes over it"]],
   [["", "L2: string not closed", " at a ", "\\", ""], ["the file has Windows line ends: then ", "\\", " does not stand before the newline"]],
   [["status 8, and not a word"], ["output could not be written: a full disk, or a pipe that nobody reads"]],
+  [["", "cool: heap limit", ", ", "stack limit", ", ", "step limit", ""], ["the program may have more by ", "--heap KIB", ", ", "--stack KIB", ", ", "--steps N", "; or it does not end"]],
+  [["", "cool: NAME: read failed", ""], ["most often NAME is a folder"]],
   [["", "cool: -: missing", ""], ["", "-", " is a name like others: ", "/dev/stdin", " is standard input"]]]]}];
