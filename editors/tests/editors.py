@@ -40,7 +40,7 @@ def said_in(room, words, call, **environment):
 def neovim(room, words):
     call = ["nvim", "--clean", "--headless", *VIM, "FILE", "-c", "luafile %s" % (HERE / "tests" / "neovim.lua")]
     said, version = said_in(room, words, call)
-    expect("Neovim", said, ["2:26-27 " + TOLD, "1 told", *FACTS.split("  "), "definition: 1:7", MENDED, "0 told",
+    expect("Neovim", said, ["2:26-27 " + TOLD, "1 told", *FACTS.split("  "), "definition: 1:7", MENDED, "0 told", "laid out: true",
                             "make: 2 E17: " + TOLD, "coolKeyword coolString"])
     said, _ = said_in(room, words, call, COOL="/nowhere/cool", COOL_ONCE="1")
     expect("no program", said[0], "1:0-0 not checked: /nowhere/cool does not start: No such file or directory")
@@ -81,7 +81,8 @@ def emacs(room, words):
     if shutil.which("emacs") and subprocess.run(eglot, stderr=subprocess.DEVNULL).returncode:
         raise NotTried("eglot is not installed")
     said, version = said_in(room, words, call, COOL_MODE=str(HERE / "emacs" / "cool-mode.el"), COOL_MAKE="'%s' check m.cl" % words.cool)
-    expect("Emacs", said, ["cool-mode", "2:22-23 cool [E17]: " + TOLD, "1 told", MENDED, "0 told", "definition: line 1", "outline: (Method Class Field)",
+    expect("Emacs", said, ["cool-mode", "2:22-23 cool [E17]: " + TOLD, "1 told", MENDED, "0 told", "laid out:   main() : Object { 0 };",
+                           "definition: line 1", "outline: (Method Class Field)",
                            "font-lock-keyword-face font-lock-string-face", "next error: m.cl, line 2"])
     return version
 

@@ -33,6 +33,10 @@ vim.lsp.buf.code_action()
 vim.wait(30000, function() return vim.fn.getline(2):find('true') == nil end, 20)
 table.insert(said, 'mended: ' .. vim.fn.getline(2))
 wait(0)
+local line = vim.fn.getline(3)
+vim.fn.setline(3, (line:gsub(' ', '')))
+if vim.lsp.buf.format then vim.lsp.buf.format({ timeout_ms = 30000 }) else vim.lsp.buf.formatting_sync({}, 30000) end
+table.insert(said, 'laid out: ' .. tostring(vim.fn.getline(3) == line))
 vim.cmd('silent make')
 for _, found in ipairs(vim.fn.getqflist()) do
   table.insert(said, string.format('make: %d %s', found.lnum, found.text))
