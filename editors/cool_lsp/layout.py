@@ -3,7 +3,7 @@ where they are; what is between tokens alone is made anew, so the tokens are the
 import re
 from collections import namedtuple
 
-from .lexemes import hidden
+from .lexemes import bare, hidden
 from .names import KEYWORDS
 
 STEP, BINDINGS = 2, 4  # blanks: of what stands in something, and of the variables of a `let` over several lines
@@ -47,11 +47,11 @@ class Texts:
         for start, end in [*hidden(data), (len(data), len(data))]:
             for match in WORD.finditer(data, at, start):
                 self.add(*match.span())
+            at = len(data) if end is None else end
             if data.startswith(b'"', start):
-                self.add(start, end)
+                self.add(start, at)
             elif start < len(data):
-                self.comments.append((start, end))
-            at = end
+                self.comments.append((start, at))
         self.close(len(data))
 
     def said(self):
@@ -193,6 +193,7 @@ def laid_out(data):
     """The file as Texts, and what is to stand in each of its gaps."""
     texts = Texts(data)
     indents = [*Layout(texts).indents(), (0, 0)]
-    end = b"\r\n" if b"\r\n" in data[: data.find(b"\n") + 1] else b"\n"
+    first = bare(data)[0].find(b"\n")
+    end = b"\r\n" if first > 0 and data[first - 1 : first] == b"\r" else b"\n"
     sides = zip([None, *texts.tokens], texts.gaps, [*texts.tokens, None], indents)
     return texts, [filled(gap, before, after, *indent, end) for before, gap, after, indent in sides]

@@ -57,6 +57,10 @@ class Main inherits IO { main() : Object { {
 """
 
 
+BETWEEN = [b" ", b" ", b" ", b"\n", b"\n", b"\n\n\n", b"\t ", b"\f", b" -- c\n", b"\t-- c  \r\n", b" (* c *) ", b"\n(* c\n      d *)\n"]
+BETWEEN += [b"\n (* e\r\n *) (**) "]
+
+
 def call(program, *words, **more):
     """The status, the output and the notes of cool-format."""
     came = subprocess.run([FORMAT, *words], env={**os.environ, "COOL": program}, stdout=subprocess.PIPE, stderr=subprocess.PIPE, **more)
@@ -89,7 +93,7 @@ def roughly(data, rnd):
     """A program with other blanks, line ends and comments between its tokens."""
     parts = []
     for token in Texts(data).tokens:
-        parts += [rnd.choice([b" ", b" ", b" ", b"\n", b"\n", b"\n\n\n", b"\t ", b" -- c\n", b" (* c *) ", b"\n(* c\n      d *)\n"]), token]
+        parts += [rnd.choice(BETWEEN), token]
     return b"".join(parts)
 
 
