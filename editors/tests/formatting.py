@@ -61,9 +61,10 @@ BETWEEN = [b" ", b" ", b" ", b"\n", b"\n", b"\n\n\n", b"\t ", b"\f", b" -- c\n",
 BETWEEN += [b"\n (* e\r\n *) (**) "]
 
 
-def call(program, *words, **more):
+def call(program, *words, namer="", **more):
     """The status, the output and the notes of cool-format."""
-    came = subprocess.run([FORMAT, *words], env={**os.environ, "COOL": program}, stdout=subprocess.PIPE, stderr=subprocess.PIPE, **more)
+    environment = {**os.environ, "COOL": program, "COOL_EDITOR": namer}
+    came = subprocess.run([FORMAT, *words], env=environment, stdout=subprocess.PIPE, stderr=subprocess.PIPE, **more)
     return came.returncode, came.stdout.decode(), came.stderr.decode()
 
 
@@ -136,6 +137,25 @@ def what_is_not_laid_out(room, words):
     client.end()
 
 
+def what_the_programs_find_changed(room, words):
+    """Stand-ins that tell of a text laid out what they do not tell of it before."""
+    at, new = fill(room / "some", rough="class A{};"), "class A { };"
+
+    def stand_in(name, before, after):
+        (room / name).write_text("#!/bin/sh\nif grep -q '%s' 0.cl; then %s; else %s; fi\n" % (new, after, before))
+        (room / name).chmod(0o755)
+        return str(room / name)
+
+    cool = stand_in("cool", "true", "echo '0.cl:1: E1: unknown name' >&2; exit 1")
+    expect("a fault", call(cool, "rough.cl", cwd=at), (1, "", "cool-format: rough.cl: not laid out: its faults would change\n"))
+    said = "cool-format: rough.cl: not laid out: a name would mean something else\n"
+    for number, mark in enumerate(("0:1:6 class A B 0:1:6", "0:1:7 class A A 0:1:7", "0:1:6 class A A -")):
+        namer = stand_in("namer", "echo 0:1:6 class A A 0:1:6", "echo " + mark)
+        expect("mark %d" % number, call(words.cool, "rough.cl", namer=namer, cwd=at), (1, "", said))
+    namer = stand_in("namer", "echo 0:1:6 class A A 0:1:6", "echo 0:1:6 class A A 0:1:6")
+    expect("the same", call(words.cool, "rough.cl", namer=namer, cwd=at), (0, new + "\n", ""))
+
+
 def words_of_cool_format(room, words):
     at = fill(room / "some", rough="class A{};", smooth="class A { };\n")
     expect("to the output", call(words.cool, at / "rough.cl"), (0, "class A { };\n", ""))
@@ -166,4 +186,4 @@ def edits_of_an_editor(room, words):
     client.end()
 
 
-TESTS = [rules_of_layout, programs_are_laid_out, what_is_not_laid_out, words_of_cool_format, edits_of_an_editor]
+TESTS = [rules_of_layout, programs_are_laid_out, what_is_not_laid_out, what_the_programs_find_changed, words_of_cool_format, edits_of_an_editor]
