@@ -12,9 +12,9 @@ LENGTH = re.compile(rb"content-length:[ \t]*(\d{1,18})[ \t]*\r?\n\Z", re.IGNOREC
 
 
 def log(words):
-    """Writes a line to standard error, which editors keep as the server's log."""
+    """Writes a line to standard error, which editors keep as the server's log, under the name of the script that runs."""
     try:
-        os.write(2, ("cool-lsp: %s\n" % " ".join(str(words).split())).encode("utf-8", "replace"))
+        os.write(2, ("%s: %s\n" % (os.path.basename(sys.argv[0]), " ".join(str(words).split()))).encode("utf-8", "replace"))
     except OSError:
         pass  # nobody reads it
 
