@@ -21,7 +21,7 @@ use Rattle.cool_emit.proofs.TextOfCode.{count_low}
 use Rattle.lists.proofs.AllItems.{all_append}
 use Rattle.cool_simulation.specs.Loadings.{Loading, constants, context}
 use Rattle.cool_simulation.specs.Simulation.{CodeAt}
-use Rattle.cool_codegen.specs.Spans.{Span, spans, arguments_spans, items_spans, initial_spans, Branch, with_branch, branches, along}
+use Rattle.cool_codegen.specs.Spans.{Span, spans, arguments_spans, items_spans, initial_spans, Spanned, with_branch, branches, along}
 use Rattle.cool_codegen.proofs.SpansStand.{span_stands}
 
 module _ (files : List (List ℕ)) (I : ℕ → Type 0) (X : List ℕ → Type 0) where
@@ -52,10 +52,10 @@ module _ (files : List (List ℕ)) (I : ℕ → Type 0) (X : List ℕ → Type 0
   FitSpan x = IsFit x.depth x.tree
 
   module _ (size : List Line → ℕ) (s : Context) (g : Constants) where
-    abbrev FitBranch : Branch → Type 0
+    abbrev FitBranch : Spanned → Type 0
     FitBranch b = (pc : ℕ) → AllByRecursion FitSpan (b.inside pc)
 
-    put_fit : (bs : List Branch) (b : Branch) → AllByRecursion FitBranch bs → FitBranch b → AllByRecursion FitBranch (with_branch bs b)
+    put_fit : (bs : List Spanned) (b : Spanned) → AllByRecursion FitBranch bs → FitBranch b → AllByRecursion FitBranch (with_branch bs b)
     put_fit [] b h k = (k, tt)
     put_fit (a ∷ bs) b h k = by (nat_lt a.arm.depth b.arm.depth) (put_fit bs b h.1 k)
       where
@@ -63,7 +63,7 @@ module _ (files : List (List ℕ)) (I : ℕ → Type 0) (X : List ℕ → Type 0
         by true more = (k, h)
         by false more = (h.0, more)
 
-    along_fit : (bs : List Branch) (pc : ℕ) → AllByRecursion FitBranch bs → AllByRecursion FitSpan (along size (λ (b : Branch). b.arm.lines) (λ pc b. b.inside pc) pc bs)
+    along_fit : (bs : List Spanned) (pc : ℕ) → AllByRecursion FitBranch bs → AllByRecursion FitSpan (along size (λ (b : Spanned). b.arm.lines) (λ pc b. b.inside pc) pc bs)
     along_fit [] pc h = tt
     along_fit (b ∷ bs) pc h = all_append FitSpan (b.inside pc) _ (h.0 pc) (along_fit bs (pc + size b.arm.lines) h.1)
 
@@ -157,7 +157,7 @@ module _ (files : List (List ℕ)) (I : ℕ → Type 0) (X : List ℕ → Type 0
       initial_fit vs d k pc Without h w l = tt
       initial_fit vs d k pc (With t) h w l = spans_fit vs d k pc t h w (omega arith)
 
-      branches_fit : (vs : List Named) (d k : ℕ) (end : Name) (before : List Branch) (cs : Cases) → AllByRecursion FitBranch before → Asked (integers_in_cases cs) (strings_in_cases files cs) → AreCasesWithin (length files) cs
+      branches_fit : (vs : List Named) (d k : ℕ) (end : Name) (before : List Spanned) (cs : Cases) → AllByRecursion FitBranch before → Asked (integers_in_cases cs) (strings_in_cases files cs) → AreCasesWithin (length files) cs
           → d + 1 + cases_size cs ≤ 8000 → AllByRecursion FitBranch (branches size s g vs d k end before cs)
       branches_fit vs d k end before NoCase b h w l = b
       branches_fit vs d k end before (CaseOf at name declared t cs) b h w l =
