@@ -120,14 +120,14 @@ class State {
     }
 }
 
-// Runs on from a state to the first stop at one of the labels that `accept` answers something for, and answers that, or { steps, ended } or
+// Runs on from a state to the first stop at one of the addresses that `accept` answers something for, and answers that, or { steps, ended } or
 // { steps, limit } at the end of the run or of the budget. A stop has steps, pc, and registers, a note of them. After each script `settle` makes the
 // answer, where there is one, of what was found by it.
-async function runOn(steps, labels, accept, { tellProgress = () => {}, budget, settle = (found) => found } = {}) {
-    const breaks = [...new Set(labels)].map((it) => `break ${it}`);
-    const size = breaks.reduce((sum, it) => sum + it.length + 1, 0) + 100;
+async function runOn(steps, addresses, accept, { tellProgress = () => {}, budget, settle = (found) => found } = {}) {
+    const breaks = [...new Set(addresses)].map((it) => `break ${hex(it)}`);
+    const size = breaks.length * "break 0x00000000\n".length + 100;
     const most = Math.floor((MOST_SCRIPT_BYTES - size) / "run\nregs\n".length);
-    if (most < 10) throw new MoveFailed("The program has too many places for one script of the debugger: set a break at a label.");
+    if (most < 10) throw new MoveFailed("The program has too many lines for one script of the debugger: set a break at one of them.");
     for (let from = steps, count = 40; ; count = Math.min(most, count * 4)) {
         const moves = linesTo(from), runs = Math.min(count, most);
         let passed = 0, stop, found;
