@@ -2,7 +2,7 @@
 // stop sought stands in it. Each answers a stop, or undefined where there is none before.
 "use strict";
 
-const FIRST_PART = 4000, PART_GROWS = 8;
+const FIRST_PART = 8000, PART_GROWS = 8, STOPS_OF_PART = 400;
 
 // What `choose` makes of the stops at these addresses in the last part of the run before the state; where it answers undefined, in a longer part.
 async function lastOf(from, addresses, choose) {
@@ -14,7 +14,7 @@ async function lastOf(from, addresses, choose) {
             stops.push(stopOf(stop, from));
             return undefined;
         };
-        if (steps > first) await runOn(first, addresses, accept, { budget: steps });
+        if (steps > first) await runOn(first, addresses, accept, { budget: steps, stops: STOPS_OF_PART });
         const found = await choose(stops, first === 0);
         if (found || first === 0) return found;
     }
