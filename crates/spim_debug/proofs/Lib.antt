@@ -12,5 +12,6 @@ mod ScriptNumbers
 mod ScriptCommands
 mod ReadScripts
 mod LabelsOfText
+mod PlacesOfText
 mod CommandsForText
 pub mod RunsLeft

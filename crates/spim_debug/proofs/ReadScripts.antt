@@ -8,13 +8,15 @@ use Rattle.mips_isa.specs.Lines as lines
 use Rattle.spim_debug.specs.declared.script.DebugCommand.{DebugCommand}
 use Rattle.spim_debug.specs.declared.script.ScriptFault.{ScriptFault}
 use Rattle.spim_debug.specs.declared.script.ScriptError.{ScriptError}
-use Rattle.spim_debug.specs.Scripts.{IsReadAs, commands_from, commands_in}
+use Rattle.spim_debug.specs.Scripts.{IsReadAs, commands_from, commands_in, place_in}
 use Rattle.spim_debug.proofs.ScriptParts.{parts_say}
 
--- the table has the addresses that names have, and the parts are those of the script
-pub script_read : (table place : lines.Name → Option ℕ) (bytes : List ℕ) (parts : List (List ℕ)) (answer : Result (Vec DebugCommand Global) ScriptError)
-    → ((name : lines.Name) → table name ≡ place name) → parts ≡ slice_split (λ b. b == 10) bytes → IsReadAs (commands_from table 1 parts) answer → IsReadAs (commands_in place bytes) answer
-script_read table place bytes parts answer same cut h =
-    let names : table ≡ place = fun_ext same in
+-- the table has the addresses that labels have, and the parts are those of the script
+pub script_read : (words : ℕ) (table label : lines.Name → Option ℕ) (bytes : List ℕ) (parts : List (List ℕ)) (answer : Result (Vec DebugCommand Global) ScriptError)
+    → ((name : lines.Name) → table name ≡ label name) → parts ≡ slice_split (λ b. b == 10) bytes → IsReadAs (commands_from (place_in words table) 1 parts) answer
+    → IsReadAs (commands_in (place_in words label) bytes) answer
+script_read words table label bytes parts answer same cut h =
+    let labels : table ≡ label = fun_ext same in
+    let place : List ℕ → Option ℕ = place_in words label in
     subst (λ (told : Result (List DebugCommand) ScriptFault). IsReadAs told answer)
-    (ap (λ (p : lines.Name → Option ℕ). commands_from p 1 parts) names ∙ (ap (commands_from place 1) cut ∙ parts_say place bytes)) h
+    (ap (λ (l : lines.Name → Option ℕ). commands_from (place_in words l) 1 parts) labels ∙ (ap (commands_from place 1) cut ∙ parts_say place bytes)) h

@@ -1,9 +1,17 @@
--- What the readers of a script's lines hand to one another: what is asked for at a label, and a command that is added if there is one.
+-- What the readers of a script's lines hand to one another: the words of the text that a script may name, what is asked for at one of them,
+-- and a command that is added if there is one.
 use Rattle.std.specs.Prelude.{ℕ, List, [], ◌∷◌, ◌++◌, Option, Some, None}
+use Rattle.mips_asm.specs.TextLabels.{address_of}
+use Rattle.spim_debug.specs.declared.places.Places.{Places}
 use Rattle.spim_debug.specs.declared.script.DebugCommand.{DebugCommand}
 use Rattle.spim_debug.specs.declared.script.DebugCommand.TheVariants as command
 use Rattle.spim_debug.specs.declared.script_lines.Asked.{Asked}
 use Rattle.spim_debug.specs.declared.script_lines.Asked.TheVariants.{Break, Delete, List as Listed}
+use Rattle.spim_debug.specs.Scripts.{place_in}
+
+-- the address of the word that a label or an address names
+abbrev pub place_of : Places → List ℕ → Option ℕ
+place_of places = place_in places.words (address_of places.labels)
 
 -- what is asked for, at an address
 abbrev pub asked : Asked → ℕ → DebugCommand

@@ -1,7 +1,9 @@
--- What a script says: a command for each line that is not empty, or the first line that is in no form, or names no label of a word of the
--- text. The rule is in `docs/debugger.md`, Scripts.
-use Rattle.std.specs.Prelude.{◌≡◌, refl, ℕ, suc, ◌==◌, ◌&&◌, nat_le, if◌then◌else◌, List, [], ◌∷◌, length, bytes_eq, codes, Option, Some, None, Result, Ok, Err}
+-- What a script says: a command for each line that is not empty, or the first line that is in no form, or names no word of the text. The rule
+-- is in `docs/debugger.md`, Scripts.
+use Rattle.std.specs.Prelude.{◌≡◌, refl, ℕ, suc, ◌-◌, ◌/◌, ◌%◌, ◌==◌, ◌&&◌, ◌||◌, nat_le, nat_lt, Bool, if◌then◌else◌, List, [], ◌∷◌, length, bytes_eq, codes, Option, Some, None, Result, Ok, Err}
 use Rattle.std.specs.List.{slice_split}
+use Rattle.std.specs.Option.{is_some}
+use Rattle.mips_isa.specs.declared.address_map.TheConstants.{TEXT_START}
 use Rattle.mips_isa.specs.Lines as lines
 use Rattle.mips_text.specs.Names.{is_name}
 use Rattle.mips_text.specs.Reading.{lines_in}
@@ -35,47 +37,60 @@ number_in digits most word = if nat_le (length word) digits then up_to most (dec
 abbrev pub address_in : List ℕ → Option ℕ
 address_in word = if length word == 10 then hexadecimal word else None
 
+-- whether a text of so many words has one at this address
+abbrev pub has_word : ℕ → ℕ → Bool
+has_word words a = nat_le TEXT_START a && (a - TEXT_START) % 4 == 0 && nat_lt ((a - TEXT_START) / 4) words
+
+-- the address of the word of a text of so many words at an address, if it has one there
+abbrev pub word_at : ℕ → Option ℕ → Option ℕ
+word_at words None = None
+word_at words (Some a) = if has_word words a then Some a else None
+
+-- the address of the word of a text that is named by a label, where labels have these addresses, or by its address
+abbrev pub place_in : ℕ → (lines.Name → Option ℕ) → List ℕ → Option ℕ
+place_in words label word = if is_name word then label word else word_at words (address_in word)
+
 -- with a number or an address, if it is one
 abbrev pub with_number : Option ℕ → (ℕ → DebugCommand) → Said
 with_number None command = Err B1
 with_number (Some n) command = says (command n)
 
--- with the address of a label, if it has one
-abbrev pub at_label : Option ℕ → (ℕ → DebugCommand) → Said
-at_label None command = Err B2
-at_label (Some a) command = says (command a)
+-- with a label or an address, where it names a word of the text
+abbrev pub at_place : Option ℕ → (ℕ → DebugCommand) → Said
+at_place None command = Err B2
+at_place (Some a) command = says (command a)
 
-abbrev pub with_label : (lines.Name → Option ℕ) → List ℕ → (ℕ → DebugCommand) → Said
-with_label place word command = if is_name word then at_label (place word) command else Err B1
+abbrev pub with_place : (List ℕ → Option ℕ) → List ℕ → (ℕ → DebugCommand) → Said
+with_place place word command = if is_name word || is_some (address_in word) then at_place (place word) command else Err B1
 
--- with a label and a number
-abbrev pub with_both : (lines.Name → Option ℕ) → List ℕ → Option ℕ → (ℕ → ℕ → DebugCommand) → Said
+-- with both and a number
+abbrev pub with_both : (List ℕ → Option ℕ) → List ℕ → Option ℕ → (ℕ → ℕ → DebugCommand) → Said
 with_both place word None command = Err B1
-with_both place word (Some n) command = with_label place word (λ a. command a n)
+with_both place word (Some n) command = with_place place word (λ a. command a n)
 
 -- a word alone, and with one operand and two
 abbrev pub alone : List ℕ → Said
 alone verb = if bytes_eq verb (codes "run") then says Run else (if bytes_eq verb (codes "regs") then says Regs else Err B1)
 
-abbrev pub with_operand : (lines.Name → Option ℕ) → List ℕ → List ℕ → Said
+abbrev pub with_operand : (List ℕ → Option ℕ) → List ℕ → List ℕ → Said
 with_operand place verb word =
-    if bytes_eq verb (codes "break") then with_label place word Break
-    else (if bytes_eq verb (codes "delete") then with_label place word Delete
+    if bytes_eq verb (codes "break") then with_place place word Break
+    else (if bytes_eq verb (codes "delete") then with_place place word Delete
     else (if bytes_eq verb (codes "step") then with_number (number_in 10 1000000000 word) Step
     else (if bytes_eq verb (codes "show") then with_number (address_in word) Show else Err B1)))
 
-abbrev pub with_operands : (lines.Name → Option ℕ) → List ℕ → List ℕ → List ℕ → Said
+abbrev pub with_operands : (List ℕ → Option ℕ) → List ℕ → List ℕ → List ℕ → Said
 with_operands place verb first second =
     if bytes_eq verb (codes "list") then with_both place first (number_in 4 1000 second) ListWords else Err B1
 
-abbrev pub said_by : (lines.Name → Option ℕ) → List (List ℕ) → Said
+abbrev pub said_by : (List ℕ → Option ℕ) → List (List ℕ) → Said
 said_by place (verb ∷ []) = alone verb
 said_by place (verb ∷ word ∷ []) = with_operand place verb word
 said_by place (verb ∷ first ∷ second ∷ []) = with_operands place verb first second
 said_by place words = Err B1
 
--- what a line says, where labels have these addresses
-abbrev pub said : (lines.Name → Option ℕ) → List ℕ → Said
+-- what a line says, where labels and addresses name words at these addresses
+abbrev pub said : (List ℕ → Option ℕ) → List ℕ → Said
 said place [] = Ok None
 said place (b ∷ bs) = said_by place (words_in (b ∷ bs))
 
@@ -86,12 +101,12 @@ then_commands number (Ok None) later = later
 then_commands number (Ok (Some command)) (Err fault) = Err fault
 then_commands number (Ok (Some command)) (Ok commands) = Ok (command ∷ commands)
 
-abbrev pub commands_from : (lines.Name → Option ℕ) → ℕ → List (List ℕ) → Result (List DebugCommand) ScriptFault
+abbrev pub commands_from : (List ℕ → Option ℕ) → ℕ → List (List ℕ) → Result (List DebugCommand) ScriptFault
 commands_from place number [] = Ok []
 commands_from place number (line ∷ rest) = then_commands number (said place line) (commands_from place (suc number) rest)
 
 -- the commands of a script, or its first fault
-abbrev pub commands_in : (lines.Name → Option ℕ) → List ℕ → Result (List DebugCommand) ScriptFault
+abbrev pub commands_in : (List ℕ → Option ℕ) → List ℕ → Result (List DebugCommand) ScriptFault
 commands_in place bytes = commands_from place 1 (lines_in bytes)
 
 -- What reading answers: the commands, or the first fault, unless memory ran out.
@@ -100,9 +115,9 @@ IsReadAs told (Ok commands) = told ≡ Ok commands.items
 IsReadAs told (Err Memory) = Unit {0}
 IsReadAs told (Err (Fault fault)) = told ≡ Err fault
 
--- worked examples, where `main` alone is a label, at 0x00400000
-abbrev main_alone : lines.Name → Option ℕ
-main_alone name = if bytes_eq name (codes "main") then Some 0x00400000 else None
+-- worked examples, of a text of 2 words, where `main` alone is a label, at 0x00400000
+abbrev main_alone : List ℕ → Option ℕ
+main_alone = place_in 2 (λ name. if bytes_eq name (codes "main") then Some 0x00400000 else None)
 
 a_script : commands_in main_alone (codes "break main\nrun\n\nlist main 2\nstep 5\nshow 0x1000000A\nregs")
     ≡ Ok (Break 0x00400000 ∷ Run ∷ ListWords 0x00400000 2 ∷ Step 5 ∷ Show 0x1000000a ∷ Regs ∷ [])
@@ -110,6 +125,21 @@ a_script = refl
 
 unknown_label : commands_in main_alone (codes "run\nbreak Nope\nstep") ≡ Err (record { kind = B2; line = 2 })
 unknown_label = refl
+
+second_word : commands_in main_alone (codes "break 0x00400004\ndelete 0x00400004\nlist 0x00400000 1") ≡ Ok (Break 0x00400004 ∷ Delete 0x00400004 ∷ ListWords 0x00400000 1 ∷ [])
+second_word = refl
+
+behind_the_text : said main_alone (codes "break 0x00400008") ≡ Err B2
+behind_the_text = refl
+
+before_the_text : said main_alone (codes "break 0x003ffffc") ≡ Err B2
+before_the_text = refl
+
+within_a_word : said main_alone (codes "delete 0x00400002") ≡ Err B2
+within_a_word = refl
+
+seven_digits : said main_alone (codes "break 0x0400000") ≡ Err B1
+seven_digits = refl
 
 two_spaces : said main_alone (codes "step  1") ≡ Err B1
 two_spaces = refl

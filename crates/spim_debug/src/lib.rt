@@ -11,6 +11,7 @@ mod digits;
 mod disassembly;
 mod laws;
 mod notes;
+mod places;
 mod script;
 mod script_lines;
 mod script_words;

@@ -1,15 +1,13 @@
 //! The lines of a script, each by itself.
 
 ghost use Rattle.std.specs.Prelude.{◌≡◌, ◌≤◌, IfOk, length, map, suc};
-ghost use Rattle.mips_asm.specs.TextLabels.{address_of};
-ghost use Rattle.spim_debug.specs.Scripts.{IsReadAs, address_in, alone, commands_from, number_in, said, said_by, with_label, with_number, with_operand, with_operands};
-ghost use Rattle.spim_debug.specs.ScriptLines.{asked, with_command};
+ghost use Rattle.spim_debug.specs.Scripts.{IsReadAs, address_in, alone, commands_from, number_in, said, said_by, with_number, with_operand, with_operands, with_place};
+ghost use Rattle.spim_debug.specs.ScriptLines.{asked, place_of, with_command};
 ghost use Rattle.spim_debug.specs.declared.script.DebugCommand.TheVariants.{Show, Step};
 
+use crate::places::{Places, is_place};
 use crate::script::{DebugCommand, ScriptError, ScriptFault, ScriptKind};
 use crate::script_words::{parts, read_address, read_number};
-use mips_asm::TextLabels;
-use mips_text::is_name;
 use std::alloc::{AllocError, Global};
 
 /// The most instructions of a `step`.
@@ -28,14 +26,14 @@ const LIST_DIGITS: usize = 4;
 pub(crate) fn read_lines(
     alloc: Global,
     lines: &[&[u8]],
-    labels: &TextLabels,
+    places: &Places,
 ) -> Result<Vec<DebugCommand>, ScriptError>
     requires { length lines.now ≤ 65537 }
-    ensures { IsReadAs (commands_from (address_of labels.now) 1 (map (λ line. line.now) lines.now)) result }
+    ensures { IsReadAs (commands_from (place_of places.now) 1 (map (λ line. line.now) lines.now)) result }
 {
     let mut commands = Vec::new(alloc);
     for (index, line) in lines.iter().enumerate() {
-        match read_line(alloc, line, labels)? {
+        match read_line(alloc, line, places)? {
             Ok(command) => keep(&mut commands, command)?,
             Err(kind) => {
                 let line = index as u32 + 1;
@@ -60,26 +58,26 @@ fn keep(commands: &mut Vec<DebugCommand>, command: Option<DebugCommand>) -> Resu
 fn read_line(
     alloc: Global,
     line: &[u8],
-    labels: &TextLabels,
+    places: &Places,
 ) -> Result<Result<Option<DebugCommand>, ScriptKind>, AllocError>
-    ensures { IfOk result (λ told. told ≡ said (address_of labels.now) line.now) }
+    ensures { IfOk result (λ told. told ≡ said (place_of places.now) line.now) }
 {
     if line.is_empty() {
         return Ok(Ok(None));
     }
     let words = parts(alloc, line, b' ')?;
-    Ok(said_by(words.as_slice(), labels))
+    Ok(said_by(words.as_slice(), places))
 }
 
 /// What the words of a line say.
 #[tactic(auto, using(crate::proofs::ScriptCommands::more_words))]
-fn said_by(words: &[&[u8]], labels: &TextLabels) -> Result<Option<DebugCommand>, ScriptKind>
-    ensures { result ≡ said_by (address_of labels.now) (map (λ word. word.now) words.now) }
+fn said_by(words: &[&[u8]], places: &Places) -> Result<Option<DebugCommand>, ScriptKind>
+    ensures { result ≡ said_by (place_of places.now) (map (λ word. word.now) words.now) }
 {
     match words {
         [verb] => alone(verb),
-        [verb, word] => with_operand(verb, word, labels.address(word)),
-        [verb, first, second] => with_operands(verb, first, second, labels.address(first)),
+        [verb, word] => with_operand(verb, word, places.address(word)),
+        [verb, first, second] => with_operands(verb, first, second, places.address(first)),
         _ => Err(ScriptKind::B1),
     }
 }
@@ -97,7 +95,7 @@ fn alone(verb: &[u8]) -> Result<Option<DebugCommand>, ScriptKind>
     }
 }
 
-/// What a word with an operand says, where the operand has this address if it is a label.
+/// What a word with an operand says, where the operand names a word of the text at this address.
 fn with_operand(
     verb: &[u8],
     word: &[u8],
@@ -106,9 +104,9 @@ fn with_operand(
     ensures { result ≡ with_operand (λ name. address) verb.now word.now }
 {
     if verb == b"break".as_slice() {
-        at_label(Asked::Break, word, address)
+        at_place(Asked::Break, word, address)
     } else if verb == b"delete".as_slice() {
-        at_label(Asked::Delete, word, address)
+        at_place(Asked::Delete, word, address)
     } else if verb == b"step".as_slice() {
         step(word)
     } else if verb == b"show".as_slice() {
@@ -118,7 +116,7 @@ fn with_operand(
     }
 }
 
-/// What a word with two operands says, where the first has this address if it is a label.
+/// What a word with two operands says, where the first names a word of the text at this address.
 fn with_operands(
     verb: &[u8],
     first: &[u8],
@@ -131,12 +129,12 @@ fn with_operands(
         return Err(ScriptKind::B1);
     }
     match read_number(second, LIST_DIGITS, MOST_LISTED) {
-        Some(count) => at_label(Asked::List(count as u32), first, address),
+        Some(count) => at_place(Asked::List(count as u32), first, address),
         None => Err(ScriptKind::B1),
     }
 }
 
-/// What is asked for at a label.
+/// What is asked for at a word of the text.
 #[derive(Clone, Copy)]
 enum Asked {
     Break,
@@ -158,15 +156,15 @@ impl Asked {
     }
 }
 
-/// The command at a label. B1 comes where the word is no name, and B2 where it has no address.
-fn at_label(
+/// The command at a place. B1 comes where the word is neither a name nor an address, and B2 where it names no word of the text.
+fn at_place(
     what: Asked,
     word: &[u8],
     address: Option<u32>,
 ) -> Result<Option<DebugCommand>, ScriptKind>
-    ensures { result ≡ with_label (λ name. address) word.now (asked what) }
+    ensures { result ≡ with_place (λ name. address) word.now (asked what) }
 {
-    if !is_name(word) {
+    if !is_place(word) {
         return Err(ScriptKind::B1);
     }
     match address {

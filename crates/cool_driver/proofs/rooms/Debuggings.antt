@@ -2,7 +2,7 @@
 use Rattle.std.specs.Prelude.{◌∷◌, codes}
 use Rattle.cool_driver.specs.Sources.{EndsWith, AreKnown, FilesExactly, IsCause, IsNoProgram, IsProgram}
 use Rattle.cool_driver.specs.{Calls.{Call, DidNothing, Got, Request, ShelfUse, SinkUse, UnlessCutShort, shelf_of}, Comes.{Comes, NoPieces}}
-use Rattle.cool_driver.specs.{Debugging.{commands_for, debug_notes, debuggee_within}, Ends.{Goes}}
+use Rattle.cool_driver.specs.{Debugging.{commands_for, debug_notes, debuggee_within, place_of}, Ends.{Goes}}
 use Rattle.cool_driver.specs.Execution.{heap_of, note_of, note_of_halt, run_of, segments_within, stack_of, status_of, status_of_halt}
 use Rattle.cool_driver.specs.{Headline.{EndsAsImage, Headline, IsPartOfSource, StopsReading}, Notes.{missing_note, refused_note, script_note, too_large_note, unread_note}}
 use Rattle.cool_driver.specs.{Refusals.{IsLine, IsTold}, Statuses.{FILE_FAULT, code_of}, Telling.{HaltNoted, fault_note}}
@@ -24,7 +24,6 @@ use Rattle.cool_ports.specs.{Counts.{Rose}, ShelfFiles.{FileMap}, SinkBytes.{app
 use Rattle.cool_simulation.specs.Accord.{Means}
 use Rattle.cool_syntax.specs.declared.TheConstants.{MOST_SOURCE_BYTES}
 use Rattle.cool_words.specs.{Plans.{IsBounded}, declared.plan.RunLimits.{RunLimits}}
-use Rattle.mips_asm.specs.TextLabels.{text_label}
 use Rattle.mips_isa.specs.{Assembly.{image_of}, Calls.{Exited, Outcome, Running, Trapped}, ImageBounds.{ImageParts}, Lines.{Line}, Run.{start}}
 use Rattle.spim_debug.specs.{Debugging.{CountedBy, Debugged, StandsEarlier, debuggee}, Scripts.{commands_in}, declared.debugger.DebugEnd.{DebugEnd}}
 use Rattle.spim_debug.specs.{declared.script.DebugCommand.{DebugCommand}, declared.script.ScriptFault.{ScriptFault}, declared.script.TheConstants.{MOST_SCRIPT_BYTES}}
@@ -37,7 +36,7 @@ use Rattle.lists.specs.Bytes.{AreBytes}
 
 -- what a script says for lines is what it says for the program of these lines
 pub said_for : (lines : List Line) (p : List Class) (names : List (List ℕ)) (script : List ℕ) → lines ≡ program_lines p names
-    → commands_for p names script ≡ commands_in (text_label lines) script
+    → commands_for p names script ≡ commands_in (place_of lines) script
 unfolding commands_for
 said_for lines p names script same = rw (← same)
 

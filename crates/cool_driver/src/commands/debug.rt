@@ -176,11 +176,9 @@ fn script_program(
     ensures refused { IfErr result (IsTold (IsDueToScript script.now bytes.now (words_of names.now) program.now)) }
 {
     let lines = lines(alloc, program, names)?;
-    match read_script(alloc, bytes, &lines) {
-        Ok(commands) => Ok(Scripted {
-            image: assemble_lines(alloc, &lines)?,
-            commands,
-        }),
+    let image = assemble_lines(alloc, &lines)?;
+    match read_script(alloc, bytes, &lines, image.text.len()) {
+        Ok(commands) => Ok(Scripted { image, commands }),
         Err(ScriptError::Fault(fault)) => {
             let note = script_note(alloc, script, fault)?;
             Err(refuse_by_line(alloc, Status::Unfit, note.as_bytes()))
