@@ -76,8 +76,8 @@ fn said_by(words: &[&[u8]], places: &Places) -> Result<Option<DebugCommand>, Scr
 {
     match words {
         [verb] => alone(verb),
-        [verb, word] => with_operand(verb, word, places.address(word)),
-        [verb, first, second] => with_operands(verb, first, second, places.address(first)),
+        [verb, word] => with_operand(verb, word, places),
+        [verb, first, second] => with_operands(verb, first, second, places),
         _ => Err(ScriptKind::B1),
     }
 }
@@ -95,18 +95,18 @@ fn alone(verb: &[u8]) -> Result<Option<DebugCommand>, ScriptKind>
     }
 }
 
-/// What a word with an operand says, where the operand names a word of the text at this address.
+/// What a word with an operand says.
 fn with_operand(
     verb: &[u8],
     word: &[u8],
-    address: Option<u32>,
+    places: &Places,
 ) -> Result<Option<DebugCommand>, ScriptKind>
-    ensures { result ≡ with_operand (λ name. address) verb.now word.now }
+    ensures { result ≡ with_operand (place_of places.now) verb.now word.now }
 {
     if verb == b"break".as_slice() {
-        at_place(Asked::Break, word, address)
+        at_place(Asked::Break, word, places)
     } else if verb == b"delete".as_slice() {
-        at_place(Asked::Delete, word, address)
+        at_place(Asked::Delete, word, places)
     } else if verb == b"step".as_slice() {
         step(word)
     } else if verb == b"show".as_slice() {
@@ -116,20 +116,20 @@ fn with_operand(
     }
 }
 
-/// What a word with two operands says, where the first names a word of the text at this address.
+/// What a word with two operands says.
 fn with_operands(
     verb: &[u8],
     first: &[u8],
     second: &[u8],
-    address: Option<u32>,
+    places: &Places,
 ) -> Result<Option<DebugCommand>, ScriptKind>
-    ensures { result ≡ with_operands (λ name. address) verb.now first.now second.now }
+    ensures { result ≡ with_operands (place_of places.now) verb.now first.now second.now }
 {
     if verb != b"list".as_slice() {
         return Err(ScriptKind::B1);
     }
     match read_number(second, LIST_DIGITS, MOST_LISTED) {
-        Some(count) => at_place(Asked::List(count as u32), first, address),
+        Some(count) => at_place(Asked::List(count as u32), first, places),
         None => Err(ScriptKind::B1),
     }
 }
@@ -157,17 +157,13 @@ impl Asked {
 }
 
 /// The command at a place. B1 comes where the word is neither a name nor an address, and B2 where it names no word of the text.
-fn at_place(
-    what: Asked,
-    word: &[u8],
-    address: Option<u32>,
-) -> Result<Option<DebugCommand>, ScriptKind>
-    ensures { result ≡ with_place (λ name. address) word.now (asked what) }
+fn at_place(what: Asked, word: &[u8], places: &Places) -> Result<Option<DebugCommand>, ScriptKind>
+    ensures { result ≡ with_place (place_of places.now) word.now (asked what) }
 {
     if !is_place(word) {
         return Err(ScriptKind::B1);
     }
-    match address {
+    match places.address(word) {
         Some(address) => Ok(Some(what.at(address))),
         None => Err(ScriptKind::B2),
     }
