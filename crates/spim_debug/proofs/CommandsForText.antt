@@ -5,13 +5,13 @@ use Rattle.std.specs.Global.{Global}
 use Rattle.std.specs.Option.{is_some}
 use Rattle.mips_text.specs.Names.{is_name}
 use Rattle.spim_debug.specs.declared.script.DebugCommand.{DebugCommand}
-use Rattle.spim_debug.specs.declared.script.DebugCommand.TheVariants.{Break, Delete, Step, Run, Regs, Show, List as ListWords}
+use Rattle.spim_debug.specs.declared.script.DebugCommand.TheVariants.{Break, Delete, Step, Run, Regs, Out, Show, Words, List as ListWords}
 use Rattle.spim_debug.specs.declared.script.ScriptKind.TheVariants.{B1}
 use Rattle.spim_debug.specs.declared.script.ScriptFault.{ScriptFault}
 use Rattle.spim_debug.specs.declared.script.ScriptError.{ScriptError}
 use Rattle.spim_debug.specs.declared.script.ScriptError.TheVariants.{Memory, Fault}
 use Rattle.spim_debug.specs.Debugging.{IsTextAddress, IsCommandFor, IsScriptFor}
-use Rattle.spim_debug.specs.Scripts.{Said, says, IsReadAs, number_in, address_in, with_number, at_place, with_place, with_both, alone, with_operand, with_operands, said_by, said, then_commands, commands_from}
+use Rattle.spim_debug.specs.Scripts.{Said, says, IsReadAs, number_in, address_in, with_number, with_numbers, at_place, with_place, with_both, alone, with_operand, with_operands, said_by, said, then_commands, commands_from}
 use Rattle.lists.specs.Words.{words_in}
 
 -- each place is the address of a word of the text, or none
@@ -39,6 +39,11 @@ number_for : (text : List ℕ) (o : Option ℕ) (command : ℕ → DebugCommand)
 number_for text None command f = tt
 number_for text (Some n) command f = f n
 
+-- with an address and a number
+numbers_for : (text : List ℕ) (a n : Option ℕ) → SaysFor text (with_numbers a n Words)
+numbers_for text None n = tt
+numbers_for text (Some a) n = number_for text n (Words a) (λ k. tt)
+
 -- at a place
 at_for : (text : List ℕ) (o : Option ℕ) (command : ℕ → DebugCommand) → IfSome o (IsTextAddress text) → ((a : ℕ) → IsTextAddress text a → IsCommandFor text (command a)) → SaysFor text (at_place o command)
 at_for text None command h f = tt
@@ -54,8 +59,9 @@ both_for text place word (Some n) h = place_for text place word (λ a. ListWords
 
 alone_for : (text verb : List ℕ) → SaysFor text (alone verb)
 alone_for text verb =
-    either_for text (bytes_eq verb (codes "run")) (says Run) (if bytes_eq verb (codes "regs") then says Regs else Err B1) tt
-    (either_for text (bytes_eq verb (codes "regs")) (says Regs) (Err B1) tt tt)
+    let out_or : Said = if bytes_eq verb (codes "out") then says Out else Err B1 in
+    either_for text (bytes_eq verb (codes "run")) (says Run) (if bytes_eq verb (codes "regs") then says Regs else out_or) tt
+    (either_for text (bytes_eq verb (codes "regs")) (says Regs) out_or tt (either_for text (bytes_eq verb (codes "out")) (says Out) (Err B1) tt tt))
 
 operand_for : (text : List ℕ) (place : List ℕ → Option ℕ) (verb word : List ℕ) → NamesWords text place → SaysFor text (with_operand place verb word)
 operand_for text place verb word h =
@@ -72,7 +78,9 @@ operand_for text place verb word h =
 
 operands_for : (text : List ℕ) (place : List ℕ → Option ℕ) (verb first second : List ℕ) → NamesWords text place → SaysFor text (with_operands place verb first second)
 operands_for text place verb first second h =
-    either_for text (bytes_eq verb (codes "list")) (with_both place first (number_in 4 1000 second) ListWords) (Err B1) (both_for text place first (number_in 4 1000 second) h) tt
+    let words_or : Said = if bytes_eq verb (codes "words") then with_numbers (address_in first) (number_in 4 1000 second) Words else Err B1 in
+    either_for text (bytes_eq verb (codes "list")) (with_both place first (number_in 4 1000 second) ListWords) words_or (both_for text place first (number_in 4 1000 second) h)
+    (either_for text (bytes_eq verb (codes "words")) (with_numbers (address_in first) (number_in 4 1000 second) Words) (Err B1) (numbers_for text (address_in first) (number_in 4 1000 second)) tt)
 
 words_for : (text : List ℕ) (place : List ℕ → Option ℕ) (words : List (List ℕ)) → NamesWords text place → SaysFor text (said_by place words)
 words_for text place [] h = tt

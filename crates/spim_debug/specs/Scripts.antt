@@ -1,7 +1,6 @@
 -- What a script says: a command for each line that is not empty, or the first line that is in no form, or names no word of the text. The rule
 -- is in `docs/debugger.md`, Scripts.
 use Rattle.std.specs.Prelude.{◌≡◌, refl, ℕ, suc, ◌-◌, ◌/◌, ◌%◌, ◌==◌, ◌&&◌, ◌||◌, nat_le, nat_lt, Bool, if◌then◌else◌, List, [], ◌∷◌, length, bytes_eq, codes, Option, Some, None, Result, Ok, Err}
-use Rattle.std.specs.List.{slice_split}
 use Rattle.std.specs.Option.{is_some}
 use Rattle.mips_isa.specs.declared.address_map.TheConstants.{TEXT_START}
 use Rattle.mips_isa.specs.Lines as lines
@@ -9,7 +8,7 @@ use Rattle.mips_text.specs.Names.{is_name}
 use Rattle.mips_text.specs.Reading.{lines_in}
 use Rattle.mips_text.specs.Words.{decimal, hexadecimal}
 use Rattle.spim_debug.specs.declared.script.DebugCommand.{DebugCommand}
-use Rattle.spim_debug.specs.declared.script.DebugCommand.TheVariants.{Break, Delete, Step, Run, Regs, Show, List as ListWords}
+use Rattle.spim_debug.specs.declared.script.DebugCommand.TheVariants.{Break, Delete, Step, Run, Regs, Out, Show, Words, List as ListWords}
 use Rattle.spim_debug.specs.declared.script.ScriptKind.{ScriptKind}
 use Rattle.spim_debug.specs.declared.script.ScriptKind.TheVariants.{B1, B2}
 use Rattle.spim_debug.specs.declared.script.ScriptFault.{ScriptFault}
@@ -68,9 +67,17 @@ abbrev pub with_both : (List ℕ → Option ℕ) → List ℕ → Option ℕ →
 with_both place word None command = Err B1
 with_both place word (Some n) command = with_place place word (λ a. command a n)
 
+-- with an address and a number, if they are that
+abbrev pub with_numbers : Option ℕ → Option ℕ → (ℕ → ℕ → DebugCommand) → Said
+with_numbers None count command = Err B1
+with_numbers (Some a) count command = with_number count (command a)
+
 -- a word alone, and with one operand and two
 abbrev pub alone : List ℕ → Said
-alone verb = if bytes_eq verb (codes "run") then says Run else (if bytes_eq verb (codes "regs") then says Regs else Err B1)
+alone verb =
+    if bytes_eq verb (codes "run") then says Run
+    else (if bytes_eq verb (codes "regs") then says Regs
+    else (if bytes_eq verb (codes "out") then says Out else Err B1))
 
 abbrev pub with_operand : (List ℕ → Option ℕ) → List ℕ → List ℕ → Said
 with_operand place verb word =
@@ -81,7 +88,8 @@ with_operand place verb word =
 
 abbrev pub with_operands : (List ℕ → Option ℕ) → List ℕ → List ℕ → List ℕ → Said
 with_operands place verb first second =
-    if bytes_eq verb (codes "list") then with_both place first (number_in 4 1000 second) ListWords else Err B1
+    if bytes_eq verb (codes "list") then with_both place first (number_in 4 1000 second) ListWords
+    else (if bytes_eq verb (codes "words") then with_numbers (address_in first) (number_in 4 1000 second) Words else Err B1)
 
 abbrev pub said_by : (List ℕ → Option ℕ) → List (List ℕ) → Said
 said_by place (verb ∷ []) = alone verb
@@ -140,6 +148,15 @@ within_a_word = refl
 
 seven_digits : said main_alone (codes "break 0x0400000") ≡ Err B1
 seven_digits = refl
+
+words_and_output : commands_in main_alone (codes "words 0x7fffff00 64\nout") ≡ Ok (Words 0x7fffff00 64 ∷ Out ∷ [])
+words_and_output = refl
+
+too_many_words : said main_alone (codes "words 0x7fffff00 1001") ≡ Err B1
+too_many_words = refl
+
+words_of_a_label : said main_alone (codes "words main 1") ≡ Err B1
+words_of_a_label = refl
 
 two_spaces : said main_alone (codes "step  1") ≡ Err B1
 two_spaces = refl

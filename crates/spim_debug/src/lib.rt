@@ -6,6 +6,8 @@
 #![tactic(auto)]
 
 mod break_set;
+mod counted_run;
+mod counting_sink;
 mod debugger;
 mod digits;
 mod disassembly;

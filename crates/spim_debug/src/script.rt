@@ -31,8 +31,12 @@ pub enum DebugCommand {
     Run,
     /// To note pc and the registers.
     Regs,
+    /// To note how many bytes of output there are.
+    Out,
     /// To note the word at this address.
     Show(u32),
+    /// To note so many words from this address on.
+    Words(u32, u32),
     /// To note so many instructions from this address on.
     List(u32, u32),
 }

@@ -1,9 +1,9 @@
 //! The lines of a script, each by itself.
 
 ghost use Rattle.std.specs.Prelude.{◌≡◌, ◌≤◌, IfOk, length, map, suc};
-ghost use Rattle.spim_debug.specs.Scripts.{IsReadAs, address_in, alone, commands_from, number_in, said, said_by, with_number, with_operand, with_operands, with_place};
+ghost use Rattle.spim_debug.specs.Scripts.{IsReadAs, address_in, alone, commands_from, number_in, said, said_by, with_number, with_numbers, with_operand, with_operands, with_place};
 ghost use Rattle.spim_debug.specs.ScriptLines.{asked, place_of, with_command};
-ghost use Rattle.spim_debug.specs.declared.script.DebugCommand.TheVariants.{Show, Step};
+ghost use Rattle.spim_debug.specs.declared.script.DebugCommand.TheVariants.{Show, Step, Words};
 
 use crate::places::{Places, is_place};
 use crate::script::{DebugCommand, ScriptError, ScriptFault, ScriptKind};
@@ -16,7 +16,7 @@ const MOST_STEPS: u64 = 1_000_000_000;
 /// The most digits of their number.
 const STEP_DIGITS: usize = 10;
 
-/// The most instructions of a `list`.
+/// The most instructions of a `list`, and words of a `words`.
 const MOST_LISTED: u64 = 1_000;
 
 /// The most digits of their number.
@@ -90,6 +90,8 @@ fn alone(verb: &[u8]) -> Result<Option<DebugCommand>, ScriptKind>
         Ok(Some(DebugCommand::Run))
     } else if verb == b"regs".as_slice() {
         Ok(Some(DebugCommand::Regs))
+    } else if verb == b"out".as_slice() {
+        Ok(Some(DebugCommand::Out))
     } else {
         Err(ScriptKind::B1)
     }
@@ -125,12 +127,15 @@ fn with_operands(
 ) -> Result<Option<DebugCommand>, ScriptKind>
     ensures { result ≡ with_operands (place_of places.now) verb.now first.now second.now }
 {
-    if verb != b"list".as_slice() {
-        return Err(ScriptKind::B1);
-    }
-    match read_number(second, LIST_DIGITS, MOST_LISTED) {
-        Some(count) => at_place(Asked::List(count as u32), first, places),
-        None => Err(ScriptKind::B1),
+    if verb == b"list".as_slice() {
+        match read_number(second, LIST_DIGITS, MOST_LISTED) {
+            Some(count) => at_place(Asked::List(count as u32), first, places),
+            None => Err(ScriptKind::B1),
+        }
+    } else if verb == b"words".as_slice() {
+        words(first, second)
+    } else {
+        Err(ScriptKind::B1)
     }
 }
 
@@ -185,6 +190,19 @@ fn show(word: &[u8]) -> Result<Option<DebugCommand>, ScriptKind>
 {
     match read_address(word) {
         Some(address) => Ok(Some(DebugCommand::Show(address))),
+        None => Err(ScriptKind::B1),
+    }
+}
+
+/// The command to note so many words from an address on.
+fn words(first: &[u8], second: &[u8]) -> Result<Option<DebugCommand>, ScriptKind>
+    ensures { result ≡ with_numbers (address_in first.now) (number_in 4 1000 second.now) Words }
+{
+    let Some(address) = read_address(first) else {
+        return Err(ScriptKind::B1);
+    };
+    match read_number(second, LIST_DIGITS, MOST_LISTED) {
+        Some(count) => Ok(Some(DebugCommand::Words(address, count as u32))),
         None => Err(ScriptKind::B1),
     }
 }

@@ -1,5 +1,4 @@
-use Rattle.std.proofs.Common.{ap, length, map, sym, subst, ◌∙◌, ℕ}
-use Rattle.std.specs.Prelude.{IfOk}
+use Rattle.std.proofs.Common.{ap, length, map, subst, ◌∙◌, ℕ}
 use Rattle.mips_isa.specs.Lines.{lines_of}
 use Rattle.mips_isa.specs.Assembly.{image_of}
 use Rattle.mips_text.specs.Reading.{lines_in}
