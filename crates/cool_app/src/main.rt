@@ -9,27 +9,33 @@ use cool_driver::{Status, refuse_words};
 use cool_ports::StdSink;
 use process::perform;
 use std::alloc::Global;
-use std::io::ErrorKind;
+use std::io::{BufReader, ErrorKind};
 use std::process::ExitCode;
 use std::{env, io};
 
+/// How many bytes of standard input a session reads at once, where so many are there. Any other command reads byte by byte, since what it leaves is
+/// there for the next command of a script.
+const BYTES_AHEAD_IN_SESSION: usize = 8_192;
+
 fn main(rt: HostRuntime) -> ExitCode {
     let status = match words(&rt) {
-        Ok(words) => {
-            perform(
-                rt.alloc(),
-                &words,
-                &rt,
-                rt.stdin(),
-                rt.stdout(),
-                rt.stderr(),
-            )
-            .status
-        }
+        Ok(words) => status_of(&rt, &words),
         Err(error) if error.kind() == ErrorKind::OutOfMemory => Status::Memory.code(),
         Err(_) => refuse_words(&mut StdSink::new(rt.stderr())).code(),
     };
     ExitCode::from(status)
+}
+
+/// The exit status of what the words ask.
+fn status_of(rt: &HostRuntime, words: &[String]) -> u8 {
+    let ahead = match words {
+        [command, ..] if command.as_str() == "session" => BYTES_AHEAD_IN_SESSION,
+        _ => 0,
+    };
+    match BufReader::with_capacity(rt.alloc(), ahead, rt.stdin()) {
+        Ok(input) => perform(rt.alloc(), words, rt, input, rt.stdout(), rt.stderr()).status,
+        Err(_) => Status::Memory.code(),
+    }
 }
 
 /// The words of the command line after the program's own name.
