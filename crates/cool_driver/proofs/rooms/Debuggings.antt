@@ -24,8 +24,9 @@ use Rattle.cool_ports.specs.{Counts.{Rose}, ShelfFiles.{FileMap}, SinkBytes.{app
 use Rattle.cool_simulation.specs.Accord.{Means}
 use Rattle.cool_syntax.specs.declared.TheConstants.{MOST_SOURCE_BYTES}
 use Rattle.cool_words.specs.{Plans.{IsBounded}, declared.plan.RunLimits.{RunLimits}}
+use Rattle.mips_asm.specs.TextLabels.{text_label}
 use Rattle.mips_isa.specs.{Assembly.{image_of}, Calls.{Exited, Outcome, Running, Trapped}, ImageBounds.{ImageParts}, Lines.{Line}, Run.{start}}
-use Rattle.spim_debug.specs.{Debugging.{CountedBy, Debugged, StandsEarlier, debuggee}, Scripts.{commands_in}, declared.debugger.DebugEnd.{DebugEnd}}
+use Rattle.spim_debug.specs.{Debugging.{CountedBy, Debugged, StandsEarlier, debuggee}, Scripts.{commands_in, place_in}, declared.debugger.DebugEnd.{DebugEnd}}
 use Rattle.spim_debug.specs.{declared.script.DebugCommand.{DebugCommand}, declared.script.ScriptFault.{ScriptFault}, declared.script.TheConstants.{MOST_SCRIPT_BYTES}}
 use Rattle.spim_debug.specs.Notes.{state_in}
 use Rattle.spim_machine.specs.{Machine.{IsIn, MachineParts}, declared.halt.Halt.{Halt}}
@@ -35,10 +36,16 @@ use Rattle.lists.specs.Bytes.{AreBytes}
 -- The script
 
 -- what a script says for lines is what it says for the program of these lines
-pub said_for : (lines : List Line) (p : List Class) (names : List (List ℕ)) (script : List ℕ) → lines ≡ program_lines p names
+said_of : (lines : List Line) (p : List Class) (names : List (List ℕ)) (script : List ℕ) → lines ≡ program_lines p names
     → commands_for p names script ≡ commands_in (place_of lines) script
 unfolding commands_for
-said_for lines p names script same = rw (← same)
+said_of lines p names script same = rw (← same)
+
+-- whose text has so many words
+pub said_for : (lines : List Line) (words : ℕ) (p : List Class) (names : List (List ℕ)) (script : List ℕ) → lines ≡ program_lines p names
+    → words ≡ length (image_of lines).text → commands_for p names script ≡ commands_in (place_in words (text_label lines)) script
+said_for lines words p names script same size =
+    said_of lines p names script same ∙ ap (λ (n : ℕ). commands_in (place_in n (text_label lines)) script) (sym size)
 
 -- why it was not read, and its note
 pub script_told : (shelf : ShelfUse) (script : List ℕ) (fault : ShelfFault) (refusal : Refusal) → EndsWith (script ∷ []) shelf.asked_after
