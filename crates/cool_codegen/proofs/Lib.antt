@@ -11,3 +11,5 @@ pub mod FeaturesThere
 mod NumbersStay
 mod SameSettings
 mod VariablesInOrder
+pub mod SpansOfCode
+pub mod SpansStand

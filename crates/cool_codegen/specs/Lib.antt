@@ -6,6 +6,7 @@ pub mod Arms
 pub mod Code
 pub mod Asked
 pub mod Features
+pub mod Spans
 pub mod Numbered
 pub mod Settings
 pub mod AddedCode
