@@ -13,3 +13,4 @@ mod SameSettings
 mod VariablesInOrder
 pub mod SpansOfCode
 pub mod SpansStand
+pub mod SpansOfNodes

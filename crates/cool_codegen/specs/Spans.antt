@@ -1,7 +1,9 @@
 -- The spans of code: for each expression within a tree, where its code begins, and the names in scope there, the depth, and the number of
 -- nodes before it. By the same recursion as the code. What is counted up to there is a measure of lines: their number (`length`), or the
 -- bytes of text that they take (`sizes`), by which the place where the whole begins is a line or an address.
-use Rattle.std.specs.Prelude.{ℕ, ◌+◌, List, [], ◌∷◌, ◌++◌, length, codes, nat_lt, if◌then◌else◌, Option, Some, None}
+use Rattle.std.specs.Prelude.{◌≡◌, refl, ℕ, ◌+◌, List, [], ◌∷◌, ◌++◌, length, codes, nat_lt, if◌then◌else◌, Option, Some, None}
+use Rattle.cool_syntax.specs.declared.place.Place.{Place}
+use Rattle.cool_syntax.specs.declared.operator.ArithOp.TheVariants.{Add}
 use Rattle.cool_syntax.specs.declared.file_tree.Feature.{Feature}
 use Rattle.cool_syntax.specs.declared.file_tree.Feature.TheVariants.{Method, Attribute}
 use Rattle.cool_syntax.specs.declared.file_tree.Formal.{Formal}
@@ -14,12 +16,13 @@ use Rattle.cool_classes.specs.ClimbedChains.{above}
 use Rattle.cool_rules.specs.Rules.{type_meant}
 use Rattle.cool_runtime.specs.CodeOfCalls.{enter_lines}
 use Rattle.cool_runtime.specs.Routines.{push_lines}
+use Rattle.cool_runtime.specs.Standing.{sizes}
 use Rattle.cool_layout.specs.Labels.{method_label}
 use Rattle.cool_consts.specs.Constants.{Constants}
 use Rattle.cool_codegen.specs.Arms.{Arm}
 use Rattle.cool_codegen.specs.Code.{Context, code, arguments_code, initial_code, file_label, label_at, range_code}
 use Rattle.cool_codegen.specs.Features.{attributes_in, with_formals}
-use Rattle.cool_codegen.specs.Pieces.{case_begin_lines, mark_lines, test_lines, turn_lines}
+use Rattle.cool_codegen.specs.Pieces.{case_begin_lines, mark_lines, take_lines, test_lines, turn_lines}
 use Rattle.cool_codegen.specs.Types.{class_meant, trees_count}
 use Rattle.cool_codegen.specs.Variables.{Named, bind}
 
@@ -150,3 +153,17 @@ module _ (size : List Line → ℕ) where
   abbrev pub feature_spans : Context → Constants → ℕ → Feature → List Span
   feature_spans s g pc (Method m) = method_spans s g m.formals pc m.body
   feature_spans s g pc (Attribute a) = initial_value_spans s g pc a.init
+
+-- Worked examples: `1 + 2`, whose second operand stands at depth 1, behind the code of the first and its push: six lines, or 28 bytes.
+abbrev sum : Place → Tree
+sum p = trees.Arith p Add (trees.Int p 1) (trees.Int p 2)
+
+sum_by_lines : (s : Context) (g : Constants) (vs : List Named) (p : Place)
+    → spans length s g vs 0 0 0 (sum p) ≡ span vs 0 0 0 (sum p) ∷ span vs 0 0 0 (trees.Int p 1) ∷ span vs 1 1 6 (trees.Int p 2) ∷ []
+unfolding take_lines
+sum_by_lines s g vs p = refl
+
+sum_by_bytes : (s : Context) (g : Constants) (vs : List Named) (p : Place)
+    → spans sizes s g vs 0 0 4194304 (sum p) ≡ span vs 0 0 4194304 (sum p) ∷ span vs 0 0 4194304 (trees.Int p 1) ∷ span vs 1 1 4194332 (trees.Int p 2) ∷ []
+unfolding take_lines
+sum_by_bytes s g vs p = refl

@@ -1,0 +1,152 @@
+-- Each node has a span: by the number of its root, which is one for each node of the tree.
+use Rattle.std.proofs.Common.{◌≡◌, ◌⊎◌, ℕ, suc, ◌+◌, ◌<◌, ◌≤◌, List, [], ◌∷◌, ◌++◌, Bool as Truth, true, false, inl, inr, refl, arith}
+use Rattle.std.specs.Prelude.{if◌then◌else◌, nat_lt, codes, Contains}
+use Rattle.std.proofs.lemmas.Bool.{ltb-true, ltb-false}
+use Rattle.std.proofs.lemmas.List.Elements.{Contains-append_left, Contains-append_right}
+use Rattle.cool_syntax.specs.Tree.{Tree, Trees, MaybeTree, Cases, Last, More, Without, With, NoCase, CaseOf, tree_size, trees_size, maybe_size, cases_size}
+use Rattle.cool_syntax.specs.Tree as trees
+use Rattle.cool_syntax.specs.NodeLists.{root}
+use Rattle.mips_isa.specs.Lines.{Name, Line}
+use Rattle.cool_rules.specs.Rules.{type_meant}
+use Rattle.cool_consts.specs.Constants.{Constants}
+use Rattle.cool_codegen.specs.Code.{Context, label_at}
+use Rattle.cool_codegen.specs.Types.{trees_count}
+use Rattle.cool_codegen.specs.Variables.{Named, bind}
+use Rattle.lists.proofs.Membership.{first_there, later_there}
+use Rattle.cool_codegen.specs.Spans.{Span, spans, arguments_spans, items_spans, initial_spans, Branch, with_branch, branches, along}
+
+-- a span whose root has a number
+pub record HasNode (xs : List Span) (n : ℕ) : Type 0 where
+  pub at : Span
+  pub there : Contains xs at
+  pub number : at.first + tree_size at.tree ≡ suc n
+
+left : (xs ys : List Span) (n : ℕ) → HasNode xs n → HasNode (xs ++ ys) n
+left xs ys n h = record { at = h.at; there = Contains-append_left xs ys h.at h.there; number = h.number }
+
+right : (xs ys : List Span) (n : ℕ) → HasNode ys n → HasNode (xs ++ ys) n
+right xs ys n h = record { at = h.at; there = Contains-append_right xs ys h.at h.there; number = h.number }
+
+-- below a number, or not
+choose : (b n : ℕ) {A : Type 0} → (n < b → A) → (b ≤ n → A) → A
+choose b n {A} low high = by (nat_lt n b) refl
+  where
+    by : (t : Truth) → nat_lt n b ≡ t → A
+    by true e = low (ltb-true n b e)
+    by false e = high (ltb-false n b e)
+
+-- the root, or a node of a part
+own : (x : Span) (xs : List Span) (k m n : ℕ) → x.first + tree_size x.tree ≡ suc (k + m) → n < suc (k + m) → (n < k + m → HasNode xs n) → HasNode (x ∷ xs) n
+own x xs k m n e less inner =
+    choose (k + m) n
+    (λ low. let h = inner low in record { at = h.at; there = later_there x xs h.at h.there; number = h.number })
+    (λ high. record { at = x; there = first_there x xs; number = omega (arith, e) })
+
+module _ (size : List Line → ℕ) (s : Context) (g : Constants) where
+  -- a branch has a node, wherever it begins
+  abbrev InBranch : Branch → ℕ → Type 0
+  InBranch b n = (pc : ℕ) → HasNode (b.inside pc) n
+
+  -- one of the branches has it
+  abbrev InSome : List Branch → ℕ → Type 0
+  InSome [] n = ⊥
+  InSome (b ∷ bs) n = InBranch b n ⊎ InSome bs n
+
+  put_one : (bs : List Branch) (b : Branch) (n : ℕ) → InBranch b n → InSome (with_branch bs b) n
+  put_one [] b n h = inl h
+  put_one (a ∷ bs) b n h = by (nat_lt a.arm.depth b.arm.depth) (put_one bs b n h)
+    where
+      by : (t : Truth) → InSome (with_branch bs b) n → InSome (if t then b ∷ a ∷ bs else a ∷ with_branch bs b) n
+      by true more = inl h
+      by false more = inr more
+
+  put_keeps : (bs : List Branch) (b : Branch) (n : ℕ) → InSome bs n → InSome (with_branch bs b) n
+  put_keeps [] b n h = absurd h
+  put_keeps (a ∷ bs) b n h = by (nat_lt a.arm.depth b.arm.depth) (λ later. put_keeps bs b n later)
+    where
+      by : (t : Truth) → (InSome bs n → InSome (with_branch bs b) n) → InSome (if t then b ∷ a ∷ bs else a ∷ with_branch bs b) n
+      by true keeps = inr h
+      by false keeps = elim h [ inl here ↦ inl here | inr later ↦ inr (keeps later) ]
+
+  shown : (bs : List Branch) (pc n : ℕ) → InSome bs n → HasNode (along size (λ (b : Branch). b.arm.lines) (λ pc b. b.inside pc) pc bs) n
+  shown [] pc n h = absurd h
+  shown (b ∷ bs) pc n h = elim h [ inl here ↦ left (b.inside pc) _ n (here pc) | inr later ↦ right (b.inside pc) _ n (shown bs (pc + size b.arm.lines) n later) ]
+
+  branches_keep : (vs : List Named) (d k n : ℕ) (end : Name) (before : List Branch) (cs : Cases) → InSome before n → InSome (branches size s g vs d k end before cs) n
+  branches_keep vs d k n end before NoCase h = h
+  branches_keep vs d k n end before (CaseOf at name declared t cs) h = branches_keep vs d (k + tree_size t) n end (with_branch before _) cs (put_keeps before _ n h)
+
+  mutual
+    -- each number of the tree's nodes is that of a span
+    pub every_node : (vs : List Named) (d k pc n : ℕ) (t : Tree) → k ≤ n → n < k + tree_size t → HasNode (spans size s g vs d k pc t) n
+    every_node vs d k pc n (trees.Id at name) from to = own _ _ k 0 n (omega arith) (omega arith) (λ low. absurd (omega arith))
+    every_node vs d k pc n (trees.Assign at name t) from to = own _ _ k (tree_size t) n (omega arith) (omega arith) (λ low. every_node vs d k _ n t from low)
+    every_node vs d k pc n (trees.Dispatch at t name ts) from to =
+        own _ _ k (tree_size t + trees_size ts) n (omega arith) (omega arith) (λ low. choose (k + tree_size t) n
+        (λ less. right (arguments_spans size s g vs d (k + tree_size t) pc ts) _ n (every_node vs (d + trees_count ts) k _ n t from less))
+        (λ more. left (arguments_spans size s g vs d (k + tree_size t) pc ts) _ n (every_argument vs d (k + tree_size t) pc n ts more (omega arith))))
+    every_node vs d k pc n (trees.StaticDispatch at t class name ts) from to =
+        own _ _ k (tree_size t + trees_size ts) n (omega arith) (omega arith) (λ low. choose (k + tree_size t) n
+        (λ less. right (arguments_spans size s g vs d (k + tree_size t) pc ts) _ n (every_node vs (d + trees_count ts) k _ n t from less))
+        (λ more. left (arguments_spans size s g vs d (k + tree_size t) pc ts) _ n (every_argument vs d (k + tree_size t) pc n ts more (omega arith))))
+    every_node vs d k pc n (trees.If at t y e) from to =
+        own _ _ k (tree_size t + tree_size y + tree_size e) n (omega arith) (omega arith) (λ low. choose (k + tree_size t) n
+        (λ less. left (spans size s g vs d k pc t) _ n (every_node vs d k pc n t from less))
+        (λ more. right (spans size s g vs d k pc t) _ n (choose (k + tree_size t + tree_size y) n
+        (λ less. left (spans size s g vs d (k + tree_size t) _ y) _ n (every_node vs d (k + tree_size t) _ n y more less))
+        (λ last. right (spans size s g vs d (k + tree_size t) _ y) _ n (every_node vs d (k + tree_size t + tree_size y) _ n e last (omega arith))))))
+    every_node vs d k pc n (trees.While at t b) from to =
+        own _ _ k (tree_size t + tree_size b) n (omega arith) (omega arith) (λ low. choose (k + tree_size t) n
+        (λ less. left (spans size s g vs d k _ t) _ n (every_node vs d k _ n t from less))
+        (λ more. right (spans size s g vs d k _ t) _ n (every_node vs d (k + tree_size t) _ n b more (omega arith))))
+    every_node vs d k pc n (trees.Block at ts) from to = own _ _ k (trees_size ts) n (omega arith) (omega arith) (λ low. every_item vs d k pc n ts from low)
+    every_node vs d k pc n (trees.Let at name declared o t) from to =
+        own _ _ k (maybe_size o + tree_size t) n (omega arith) (omega arith) (λ low. choose (k + maybe_size o) n
+        (λ less. left (initial_spans size s g vs d k pc o) _ n (every_initial vs d k pc n o from less))
+        (λ more. right (initial_spans size s g vs d k pc o) _ n (every_node (bind d name (type_meant s.table declared.name) vs) (d + 1) (k + maybe_size o) _ n t more (omega arith))))
+    every_node vs d k pc n (trees.Case at t cs) from to =
+        own _ _ k (tree_size t + cases_size cs) n (omega arith) (omega arith) (λ low. choose (k + tree_size t) n
+        (λ less. left (spans size s g vs d k pc t) _ n (every_node vs d k pc n t from less))
+        (λ more. right (spans size s g vs d k pc t) _ n
+        (shown (branches size s g vs d (k + tree_size t) (label_at s (codes "end") (root k (trees.Case at t cs))) [] cs) _ n (every_branch vs d (k + tree_size t) n _ [] cs more (omega arith)))))
+    every_node vs d k pc n (trees.New at class) from to = own _ _ k 0 n (omega arith) (omega arith) (λ low. absurd (omega arith))
+    every_node vs d k pc n (trees.IsVoid at t) from to = own _ _ k (tree_size t) n (omega arith) (omega arith) (λ low. every_node vs d k _ n t from low)
+    every_node vs d k pc n (trees.Arith at op a b) from to =
+        own _ _ k (tree_size a + tree_size b) n (omega arith) (omega arith) (λ low. choose (k + tree_size a) n
+        (λ less. left (spans size s g vs d k pc a) _ n (every_node vs d k pc n a from less))
+        (λ more. right (spans size s g vs d k pc a) _ n (every_node vs (d + 1) (k + tree_size a) _ n b more (omega arith))))
+    every_node vs d k pc n (trees.Neg at t) from to = own _ _ k (tree_size t) n (omega arith) (omega arith) (λ low. every_node vs d k _ n t from low)
+    every_node vs d k pc n (trees.Compare at op a b) from to =
+        own _ _ k (tree_size a + tree_size b) n (omega arith) (omega arith) (λ low. choose (k + tree_size a) n
+        (λ less. left (spans size s g vs d k pc a) _ n (every_node vs d k pc n a from less))
+        (λ more. right (spans size s g vs d k pc a) _ n (every_node vs (d + 1) (k + tree_size a) _ n b more (omega arith))))
+    every_node vs d k pc n (trees.Not at t) from to = own _ _ k (tree_size t) n (omega arith) (omega arith) (λ low. every_node vs d k _ n t from low)
+    every_node vs d k pc n (trees.Int at value) from to = own _ _ k 0 n (omega arith) (omega arith) (λ low. absurd (omega arith))
+    every_node vs d k pc n (trees.Str at bytes) from to = own _ _ k 0 n (omega arith) (omega arith) (λ low. absurd (omega arith))
+    every_node vs d k pc n (trees.Bool at value) from to = own _ _ k 0 n (omega arith) (omega arith) (λ low. absurd (omega arith))
+
+    every_argument : (vs : List Named) (d k pc n : ℕ) (ts : Trees) → k ≤ n → n < k + trees_size ts → HasNode (arguments_spans size s g vs d k pc ts) n
+    every_argument vs d k pc n Last from to = absurd (omega arith)
+    every_argument vs d k pc n (More t ts) from to =
+        choose (k + tree_size t) n
+        (λ less. left (spans size s g vs d k pc t) _ n (every_node vs d k pc n t from less))
+        (λ more. right (spans size s g vs d k pc t) _ n (every_argument vs (d + 1) (k + tree_size t) _ n ts more (omega arith)))
+
+    every_item : (vs : List Named) (d k pc n : ℕ) (ts : Trees) → k ≤ n → n < k + trees_size ts → HasNode (items_spans size s g vs d k pc ts) n
+    every_item vs d k pc n Last from to = absurd (omega arith)
+    every_item vs d k pc n (More t ts) from to =
+        choose (k + tree_size t) n
+        (λ less. left (spans size s g vs d k pc t) _ n (every_node vs d k pc n t from less))
+        (λ more. right (spans size s g vs d k pc t) _ n (every_item vs d (k + tree_size t) _ n ts more (omega arith)))
+
+    every_initial : (vs : List Named) (d k pc n : ℕ) (o : MaybeTree) → k ≤ n → n < k + maybe_size o → HasNode (initial_spans size s g vs d k pc o) n
+    every_initial vs d k pc n Without from to = absurd (omega arith)
+    every_initial vs d k pc n (With t) from to = every_node vs d k pc n t from to
+
+    every_branch : (vs : List Named) (d k n : ℕ) (end : Name) (before : List Branch) (cs : Cases) → k ≤ n → n < k + cases_size cs → InSome (branches size s g vs d k end before cs) n
+    every_branch vs d k n end before NoCase from to = absurd (omega arith)
+    every_branch vs d k n end before (CaseOf at name declared t cs) from to =
+        choose (k + tree_size t) n
+        (λ less. branches_keep vs d (k + tree_size t) n end (with_branch before _) cs
+        (put_one before _ n (λ pc. every_node (bind d name (type_meant s.table declared.name) vs) (d + 1) k _ n t from less)))
+        (λ more. every_branch vs d (k + tree_size t) n end (with_branch before _) cs more (omega arith))
