@@ -1,6 +1,8 @@
--- Each node has a span: by the number of its root, which is one for each node of the tree.
-use Rattle.std.proofs.Common.{◌≡◌, ◌⊎◌, ℕ, suc, ◌+◌, ◌<◌, ◌≤◌, List, [], ◌∷◌, ◌++◌, Bool as Truth, true, false, inl, inr, refl, arith}
+-- Each node has a span, by the number of its root, and there are as many spans as nodes.
+use Rattle.std.proofs.Common.{◌≡◌, ◌⊎◌, ℕ, suc, ◌+◌, ◌<◌, ◌≤◌, List, [], ◌∷◌, ◌++◌, Bool as Truth, true, false, inl, inr, refl, arith, length, sym, ◌∙◌}
 use Rattle.std.specs.Prelude.{if◌then◌else◌, nat_lt, codes, Contains}
+use Rattle.std.specs.List.{AllByRecursion}
+use Rattle.std.proofs.lemmas.List.{length-append}
 use Rattle.std.proofs.lemmas.Bool.{ltb-true, ltb-false}
 use Rattle.std.proofs.lemmas.List.Elements.{Contains-append_left, Contains-append_right}
 use Rattle.cool_syntax.specs.Tree.{Tree, Trees, MaybeTree, Cases, Last, More, Without, With, NoCase, CaseOf, tree_size, trees_size, maybe_size, cases_size}
@@ -150,3 +152,97 @@ module _ (size : List Line → ℕ) (s : Context) (g : Constants) where
         (λ less. branches_keep vs d (k + tree_size t) n end (with_branch before _) cs
         (put_one before _ n (λ pc. every_node (bind d name (type_meant s.table declared.name) vs) (d + 1) k _ n t from less)))
         (λ more. every_branch vs d (k + tree_size t) n end (with_branch before _) cs more (omega arith))
+
+  -- as many spans as nodes
+
+  -- a branch has as many spans wherever it begins
+  abbrev IsSteady : Branch → Type 0
+  IsSteady b = (pc : ℕ) → length (b.inside pc) ≡ length (b.inside 0)
+
+  abbrev total : List Branch → ℕ
+  total [] = 0
+  total (b ∷ bs) = length (b.inside 0) + total bs
+
+  along_many : (bs : List Branch) (pc : ℕ) → AllByRecursion IsSteady bs → length (along size (λ (b : Branch). b.arm.lines) (λ pc b. b.inside pc) pc bs) ≡ total bs
+  along_many [] pc h = refl
+  along_many (b ∷ bs) pc h =
+      let one = length-append (b.inside pc) (along size (λ (b : Branch). b.arm.lines) (λ pc b. b.inside pc) (pc + size b.arm.lines) bs) in
+      let own = h.0 pc in
+      let more = along_many bs (pc + size b.arm.lines) h.1 in
+      omega arith
+
+  total_put : (bs : List Branch) (b : Branch) → total (with_branch bs b) ≡ length (b.inside 0) + total bs
+  total_put [] b = refl
+  total_put (a ∷ bs) b = by (nat_lt a.arm.depth b.arm.depth) (total_put bs b)
+    where
+      by : (t : Truth) → total (with_branch bs b) ≡ length (b.inside 0) + total bs → total (if t then b ∷ a ∷ bs else a ∷ with_branch bs b) ≡ length (b.inside 0) + (length (a.inside 0) + total bs)
+      by true h = refl
+      by false h = omega (arith, h)
+
+  summed : (bs : List Branch) (b : Branch) (x m c : ℕ) → x ≡ total (with_branch bs b) + c → length (b.inside 0) ≡ m → x ≡ total bs + (m + c)
+  summed bs b x m c h k = let put = total_put bs b in omega arith
+
+  steady_put : (bs : List Branch) (b : Branch) → AllByRecursion IsSteady bs → IsSteady b → AllByRecursion IsSteady (with_branch bs b)
+  steady_put [] b h k = (k, tt)
+  steady_put (a ∷ bs) b h k = by (nat_lt a.arm.depth b.arm.depth) (steady_put bs b h.1 k)
+    where
+      by : (t : Truth) → AllByRecursion IsSteady (with_branch bs b) → AllByRecursion IsSteady (if t then b ∷ a ∷ bs else a ∷ with_branch bs b)
+      by true more = (k, h)
+      by false more = (h.0, more)
+
+  joined : (xs ys : List Span) (a b : ℕ) → length xs ≡ a → length ys ≡ b → length (xs ++ ys) ≡ a + b
+  joined xs ys a b h k = let l = length-append xs ys in omega arith
+
+  next : (xs : List Span) (a : ℕ) → length xs ≡ a → suc (length xs) ≡ a + 1
+  next xs a h = omega (arith, h)
+
+  mutual
+    pub as_many : (vs : List Named) (d k pc : ℕ) (t : Tree) → length (spans size s g vs d k pc t) ≡ tree_size t
+    as_many vs d k pc (trees.Id at name) = refl
+    as_many vs d k pc (trees.Assign at name t) = next _ _ (as_many vs d k _ t)
+    as_many vs d k pc (trees.Dispatch at t name ts) = 
+        next _ _ (joined (arguments_spans size s g vs d (k + tree_size t) pc ts) _ _ _ (many_arguments vs d (k + tree_size t) pc ts) (as_many vs (d + trees_count ts) k _ t) ∙ omega arith)
+    as_many vs d k pc (trees.StaticDispatch at t class name ts) = 
+        next _ _ (joined (arguments_spans size s g vs d (k + tree_size t) pc ts) _ _ _ (many_arguments vs d (k + tree_size t) pc ts) (as_many vs (d + trees_count ts) k _ t) ∙ omega arith)
+    as_many vs d k pc (trees.If at t y e) =
+        let three = joined (spans size s g vs d (k + tree_size t) _ y) _ _ _ (as_many vs d (k + tree_size t) _ y) (as_many vs d (k + tree_size t + tree_size y) _ e) in
+        let all = joined (spans size s g vs d k pc t) _ _ _ (as_many vs d k pc t) three in
+        next _ _ (all ∙ omega arith)
+    as_many vs d k pc (trees.While at t b) = next _ _ (joined (spans size s g vs d k _ t) _ _ _ (as_many vs d k _ t) (as_many vs d (k + tree_size t) _ b))
+    as_many vs d k pc (trees.Block at ts) = next _ _ (many_items vs d k pc ts)
+    as_many vs d k pc (trees.Let at name declared o t) =
+        next _ _ (joined (initial_spans size s g vs d k pc o) _ _ _ (many_initial vs d k pc o) (as_many (bind d name (type_meant s.table declared.name) vs) (d + 1) (k + maybe_size o) _ t))
+    as_many vs d k pc (trees.Case at t cs) =
+        let bs = branches size s g vs d (k + tree_size t) (label_at s (codes "end") (root k (trees.Case at t cs))) [] cs in
+        let (steady, sum) = many_branches vs d (k + tree_size t) (label_at s (codes "end") (root k (trees.Case at t cs))) [] cs tt in
+        let n : total bs ≡ cases_size cs = sum ∙ omega arith in
+        next _ _ (joined (spans size s g vs d k pc t) _ _ _ (as_many vs d k pc t) (along_many bs _ steady ∙ n))
+    as_many vs d k pc (trees.New at class) = refl
+    as_many vs d k pc (trees.IsVoid at t) = next _ _ (as_many vs d k _ t)
+    as_many vs d k pc (trees.Arith at op a b) = next _ _ (joined (spans size s g vs d k pc a) _ _ _ (as_many vs d k pc a) (as_many vs (d + 1) (k + tree_size a) _ b))
+    as_many vs d k pc (trees.Neg at t) = next _ _ (as_many vs d k _ t)
+    as_many vs d k pc (trees.Compare at op a b) = next _ _ (joined (spans size s g vs d k pc a) _ _ _ (as_many vs d k pc a) (as_many vs (d + 1) (k + tree_size a) _ b))
+    as_many vs d k pc (trees.Not at t) = next _ _ (as_many vs d k _ t)
+    as_many vs d k pc (trees.Int at value) = refl
+    as_many vs d k pc (trees.Str at bytes) = refl
+    as_many vs d k pc (trees.Bool at value) = refl
+
+    many_arguments : (vs : List Named) (d k pc : ℕ) (ts : Trees) → length (arguments_spans size s g vs d k pc ts) ≡ trees_size ts
+    many_arguments vs d k pc Last = refl
+    many_arguments vs d k pc (More t ts) = joined (spans size s g vs d k pc t) _ _ _ (as_many vs d k pc t) (many_arguments vs (d + 1) (k + tree_size t) _ ts)
+
+    many_items : (vs : List Named) (d k pc : ℕ) (ts : Trees) → length (items_spans size s g vs d k pc ts) ≡ trees_size ts
+    many_items vs d k pc Last = refl
+    many_items vs d k pc (More t ts) = joined (spans size s g vs d k pc t) _ _ _ (as_many vs d k pc t) (many_items vs d (k + tree_size t) _ ts)
+
+    many_initial : (vs : List Named) (d k pc : ℕ) (o : MaybeTree) → length (initial_spans size s g vs d k pc o) ≡ maybe_size o
+    many_initial vs d k pc Without = refl
+    many_initial vs d k pc (With t) = as_many vs d k pc t
+
+    many_branches : (vs : List Named) (d k : ℕ) (end : Name) (before : List Branch) (cs : Cases) → AllByRecursion IsSteady before
+        → AllByRecursion IsSteady (branches size s g vs d k end before cs) × (total (branches size s g vs d k end before cs) ≡ total before + cases_size cs)
+    many_branches vs d k end before NoCase h = (h, omega arith)
+    many_branches vs d k end before (CaseOf at name declared t cs) h =
+        let scope = bind d name (type_meant s.table declared.name) vs in
+        let (steady, sum) = many_branches vs d (k + tree_size t) end (with_branch before _) cs (steady_put before _ h (λ pc. as_many scope (d + 1) k _ t ∙ sym (as_many scope (d + 1) k _ t))) in
+        (steady, summed before _ _ _ _ sum (as_many scope (d + 1) k _ t))
