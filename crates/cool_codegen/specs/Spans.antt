@@ -154,6 +154,13 @@ module _ (size : List Line → ℕ) where
   feature_spans s g pc (Method m) = method_spans s g m.formals pc m.body
   feature_spans s g pc (Attribute a) = initial_value_spans s g pc a.init
 
+-- lines stand in a text behind so many of its lines
+pub record StandsBehind (text : List Line) (n : ℕ) (part : List Line) : Type 0 where
+  pub front : List Line
+  pub rest : List Line
+  pub whole : text ≡ front ++ (part ++ rest)
+  pub many : length front ≡ n
+
 -- Worked examples: `1 + 2`, whose second operand stands at depth 1, behind the code of the first and its push: six lines, or 28 bytes.
 abbrev sum : Place → Tree
 sum p = trees.Arith p Add (trees.Int p 1) (trees.Int p 2)
