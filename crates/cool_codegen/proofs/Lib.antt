@@ -14,3 +14,4 @@ mod VariablesInOrder
 pub mod SpansOfCode
 pub mod SpansStand
 pub mod SpansOfNodes
+pub mod MovedSpans
