@@ -15,3 +15,5 @@ pub mod SpansOfCode
 pub mod SpansStand
 pub mod SpansOfNodes
 pub mod MovedSpans
+pub mod LinesInAll
+pub mod SpansOfTables
