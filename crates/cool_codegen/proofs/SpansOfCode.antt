@@ -81,16 +81,20 @@ module _ (size : List Line → ℕ) (P : ℕ → List Line → Type 0)
       law_spans vs d k pc (trees.Assign at name t) has = (has, law_spans vs d k pc t (front (code s g vs d k t) _ pc has))
       law_spans vs d k pc (trees.Dispatch at t name ts) has =
           let args = arguments_code s g vs d (k + tree_size t) ts in
-          let object = code s g vs (d + trees_count ts) k t in
-          (has, all_append Stands (arguments_spans size s g vs d (k + tree_size t) pc ts) _
-          (law_arguments vs d (k + tree_size t) pc ts (front args _ pc has))
-          (law_spans vs (d + trees_count ts) k (pc + size args) t (front object _ _ (back args _ pc has))))
+          let object = code s g vs (d + trees_count ts) k t in (
+            has,
+            all_append Stands (arguments_spans size s g vs d (k + tree_size t) pc ts) _
+                (law_arguments vs d (k + tree_size t) pc ts (front args _ pc has))
+                (law_spans vs (d + trees_count ts) k (pc + size args) t (front object _ _ (back args _ pc has))),
+          )
       law_spans vs d k pc (trees.StaticDispatch at t class name ts) has =
           let args = arguments_code s g vs d (k + tree_size t) ts in
-          let object = code s g vs (d + trees_count ts) k t in
-          (has, all_append Stands (arguments_spans size s g vs d (k + tree_size t) pc ts) _
-          (law_arguments vs d (k + tree_size t) pc ts (front args _ pc has))
-          (law_spans vs (d + trees_count ts) k (pc + size args) t (front object _ _ (back args _ pc has))))
+          let object = code s g vs (d + trees_count ts) k t in (
+            has,
+            all_append Stands (arguments_spans size s g vs d (k + tree_size t) pc ts) _
+                (law_arguments vs d (k + tree_size t) pc ts (front args _ pc has))
+                (law_spans vs (d + trees_count ts) k (pc + size args) t (front object _ _ (back args _ pc has))),
+          )
       law_spans vs d k pc (trees.If at t y n) has =
           let one = code s g vs d k t in
           let two = code s g vs d (k + tree_size t) y in
@@ -98,10 +102,12 @@ module _ (size : List Line → ℕ) (P : ℕ → List Line → Type 0)
           let test = test_lines (label_at s (codes "else") (root k (trees.If at t y n))) in
           let turn = turn_lines (label_at s (codes "end") (root k (trees.If at t y n))) (label_at s (codes "else") (root k (trees.If at t y n))) in
           let h2 = back test _ _ (back one _ pc has) in
-          let h3 = back turn _ _ (back two _ _ h2) in
-          (has, all_append Stands (spans size s g vs d k pc t) _ (law_spans vs d k pc t (front one _ pc has))
-          (all_append Stands (spans size s g vs d (k + tree_size t) (pc + size one + size test) y) _
-          (law_spans vs d (k + tree_size t) _ y (front two _ _ h2)) (law_spans vs d (k + tree_size t + tree_size y) _ n (front three _ _ h3))))
+          let h3 = back turn _ _ (back two _ _ h2) in (
+            has,
+            all_append Stands (spans size s g vs d k pc t) _ (law_spans vs d k pc t (front one _ pc has))
+                (all_append Stands (spans size s g vs d (k + tree_size t) (pc + size one + size test) y) _
+                (law_spans vs d (k + tree_size t) _ y (front two _ _ h2)) (law_spans vs d (k + tree_size t + tree_size y) _ n (front three _ _ h3))),
+          )
       law_spans vs d k pc (trees.While at t b) has =
           let mark = mark_lines (label_at s (codes "loop") (root k (trees.While at t b))) in
           let one = code s g vs d k t in
@@ -114,32 +120,40 @@ module _ (size : List Line → ℕ) (P : ℕ → List Line → Type 0)
       law_spans vs d k pc (trees.Let at name declared o t) has =
           let type = type_meant s.table declared.name in
           let one = initial_code s g vs d k type o in
-          let two = code s g (bind d name type vs) (d + 1) (k + maybe_size o) t in
-          (has, all_append Stands (initial_spans size s g vs d k pc o) _ (law_initial vs d k pc type o (front one _ pc has))
-          (law_spans (bind d name type vs) (d + 1) (k + maybe_size o) _ t (front two _ _ (back push_lines _ _ (back one _ pc has)))))
+          let two = code s g (bind d name type vs) (d + 1) (k + maybe_size o) t in (
+            has,
+            all_append Stands (initial_spans size s g vs d k pc o) _ (law_initial vs d k pc type o (front one _ pc has))
+                (law_spans (bind d name type vs) (d + 1) (k + maybe_size o) _ t (front two _ _ (back push_lines _ _ (back one _ pc has)))),
+          )
       law_spans vs d k pc (trees.Case at t cs) has =
           let one = code s g vs d k t in
           let begin = case_begin_lines (file_label s g at) at.line in
           let end = label_at s (codes "end") (root k (trees.Case at t cs)) in
           let arms = arms_lines (arms_code s g vs d (k + tree_size t) end [] cs) in
-          let h = front arms (case_end_lines end) _ (back push_lines _ _ (back begin _ _ (back one _ pc has))) in
-          (has, all_append Stands (spans size s g vs d k pc t) _ (law_spans vs d k pc t (front one _ pc has))
-          (laid (branches size s g vs d (k + tree_size t) end [] cs) (pc + size one + size begin + size push_lines)
-          (law_branches vs d (k + tree_size t) end [] cs tt)
-          (subst (λ (xs : List Arm). P (pc + size one + size begin + size push_lines) (arms_lines xs)) (arms_are vs d (k + tree_size t) end [] cs) h)))
+          let h = front arms (case_end_lines end) _ (back push_lines _ _ (back begin _ _ (back one _ pc has))) in (
+            has,
+            all_append Stands (spans size s g vs d k pc t) _ (law_spans vs d k pc t (front one _ pc has))
+                (laid (branches size s g vs d (k + tree_size t) end [] cs) (pc + size one + size begin + size push_lines)
+                (law_branches vs d (k + tree_size t) end [] cs tt)
+                (subst (λ (xs : List Arm). P (pc + size one + size begin + size push_lines) (arms_lines xs)) (arms_are vs d (k + tree_size t) end [] cs) h)),
+          )
       law_spans vs d k pc (trees.New at class) has = (has, tt)
       law_spans vs d k pc (trees.IsVoid at t) has = (has, law_spans vs d k pc t (front (code s g vs d k t) _ pc has))
       law_spans vs d k pc (trees.Arith at op a b) has =
           let one = code s g vs d k a in
-          let two = code s g vs (d + 1) (k + tree_size a) b in
-          (has, all_append Stands (spans size s g vs d k pc a) _ (law_spans vs d k pc a (front one _ pc has))
-          (law_spans vs (d + 1) (k + tree_size a) _ b (front two _ _ (back push_lines _ _ (back one _ pc has)))))
+          let two = code s g vs (d + 1) (k + tree_size a) b in (
+            has,
+            all_append Stands (spans size s g vs d k pc a) _ (law_spans vs d k pc a (front one _ pc has))
+                (law_spans vs (d + 1) (k + tree_size a) _ b (front two _ _ (back push_lines _ _ (back one _ pc has)))),
+          )
       law_spans vs d k pc (trees.Neg at t) has = (has, law_spans vs d k pc t (front (code s g vs d k t) _ pc has))
       law_spans vs d k pc (trees.Compare at op a b) has =
           let one = code s g vs d k a in
-          let two = code s g vs (d + 1) (k + tree_size a) b in
-          (has, all_append Stands (spans size s g vs d k pc a) _ (law_spans vs d k pc a (front one _ pc has))
-          (law_spans vs (d + 1) (k + tree_size a) _ b (front two _ _ (back push_lines _ _ (back one _ pc has)))))
+          let two = code s g vs (d + 1) (k + tree_size a) b in (
+            has,
+            all_append Stands (spans size s g vs d k pc a) _ (law_spans vs d k pc a (front one _ pc has))
+                (law_spans vs (d + 1) (k + tree_size a) _ b (front two _ _ (back push_lines _ _ (back one _ pc has)))),
+          )
       law_spans vs d k pc (trees.Not at t) has = (has, law_spans vs d k pc t (front (code s g vs d k t) _ pc has))
       law_spans vs d k pc (trees.Int at value) has = (has, tt)
       law_spans vs d k pc (trees.Str at bytes) has = (has, tt)

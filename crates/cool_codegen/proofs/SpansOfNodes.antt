@@ -200,9 +200,9 @@ module _ (size : List Line → ℕ) (s : Context) (g : Constants) where
     pub as_many : (vs : List Named) (d k pc : ℕ) (t : Tree) → length (spans size s g vs d k pc t) ≡ tree_size t
     as_many vs d k pc (trees.Id at name) = refl
     as_many vs d k pc (trees.Assign at name t) = next _ _ (as_many vs d k _ t)
-    as_many vs d k pc (trees.Dispatch at t name ts) = 
+    as_many vs d k pc (trees.Dispatch at t name ts) =
         next _ _ (joined (arguments_spans size s g vs d (k + tree_size t) pc ts) _ _ _ (many_arguments vs d (k + tree_size t) pc ts) (as_many vs (d + trees_count ts) k _ t) ∙ omega arith)
-    as_many vs d k pc (trees.StaticDispatch at t class name ts) = 
+    as_many vs d k pc (trees.StaticDispatch at t class name ts) =
         next _ _ (joined (arguments_spans size s g vs d (k + tree_size t) pc ts) _ _ _ (many_arguments vs d (k + tree_size t) pc ts) (as_many vs (d + trees_count ts) k _ t) ∙ omega arith)
     as_many vs d k pc (trees.If at t y e) =
         let three = joined (spans size s g vs d (k + tree_size t) _ y) _ _ _ (as_many vs d (k + tree_size t) _ y) (as_many vs d (k + tree_size t + tree_size y) _ e) in

@@ -7,6 +7,7 @@ pub mod Code
 pub mod Asked
 pub mod Features
 pub mod Spans
+pub mod Shown
 pub mod Numbered
 pub mod Settings
 pub mod AddedCode

@@ -29,6 +29,7 @@ use crate::number::negative;
 use crate::operation::take_default;
 use crate::piece::{case_begin, case_end, pop, try_tags, turn};
 use crate::setting::Setting;
+use crate::span::Span;
 use crate::variables::Variable;
 use cool_classes::{ClassId, Ty};
 use cool_consts::Consts;
@@ -163,17 +164,20 @@ impl<'a> Code<'a> {
                 type_meant(setting.table, &branch.declared.name),
             );
             let earlier = replace(&mut self.lines, Vec::new(setting.alloc));
+            let noted = replace(&mut self.spans, Vec::new(setting.alloc));
             self.arm(depth, branch, class, end)?;
             let own = replace(&mut self.lines, earlier);
+            let spans = replace(&mut self.spans, noted);
             insert_arm(
                 &mut sorted,
                 Arm {
                     depth: setting.depth(class),
                     lines: own,
+                    spans,
                 },
             )?;
         }
-        add_arms(sorted, &mut self.lines)?;
+        add_arms(sorted, &mut self.lines, &mut self.spans)?;
         Ok(())
     }
 
@@ -232,13 +236,39 @@ fn pushed(depth: u32, ty: Ty) -> Variable
     }
 }
 
-/// Adds the lines of branches, in order.
-fn add_arms(arms: Vec<Arm>, lines: &mut Vec<Line>) -> Result<(), AllocError>
-    ensures { OnOk result (lines_of lines.new.items ≡ lines_of lines.old.items ++ arms_lines (map arm_of arms.items)) }
+/// Adds the lines of branches, in order, and their spans.
+fn add_arms<'a>(
+    arms: Vec<Arm<'a>>,
+    lines: &mut Vec<Line>,
+    spans: &mut Vec<Span<'a>>,
+) -> Result<(), AllocError>
+    ensures lines { OnOk result (lines_of lines.new.items ≡ lines_of lines.old.items ++ arms_lines (map arm_of arms.items)) }
 {
     for arm in arms {
-        let Arm { lines: mut own, .. } = arm;
+        let Arm {
+            lines: mut own,
+            spans: noted,
+            ..
+        } = arm;
+        let before = lines.len();
         lines.append(&mut own)?;
+        add_moved(&noted, before, spans)?;
+    }
+    Ok(())
+}
+
+/// Adds spans, moved on by so many lines.
+fn add_moved<'a>(
+    own: &[Span<'a>],
+    before: usize,
+    spans: &mut Vec<Span<'a>>,
+) -> Result<(), AllocError> {
+    for span in own {
+        spans.push(Span {
+            from: before + span.from,
+            to: before + span.to,
+            ..*span
+        })?;
     }
     Ok(())
 }

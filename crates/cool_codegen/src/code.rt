@@ -1,15 +1,44 @@
 //! The code of a feature while it is made.
 
 use crate::setting::Setting;
+use crate::span::{Span, form_of};
 use crate::variables::Variables;
 use cool_consts::Consts;
+use cool_syntax::Node;
 use mips_isa::Line;
+use std::alloc::AllocError;
 
-/// The code of a feature while it is made: where it stands, the names in scope, the constants so far, and the lines so far.
+/// The code of a feature while it is made: where it stands, the names in scope, the constants so far, the lines so far, and the spans of the
+/// expressions whose code they are.
 #[derive(Drop)]
 pub struct Code<'a> {
     pub setting: Setting<'a>,
     pub variables: Variables<'a>,
     pub consts: Consts,
     pub lines: Vec<Line>,
+    pub spans: Vec<Span<'a>>,
+}
+
+impl<'a> Code<'a> {
+    /// Notes that the code of a node begins here, at this depth, and answers the number of its span, which ends where it begins until
+    /// `end_span`.
+    pub(crate) fn begin_span(&mut self, depth: u32, node: &Node) -> Result<usize, AllocError> {
+        let number = self.spans.len();
+        let from = self.lines.len();
+        self.spans.push(Span {
+            at: node.place(),
+            form: form_of(node),
+            from,
+            to: from,
+            depth,
+            names: self.variables.count(),
+            latest: self.variables.latest(),
+        })?;
+        Ok(number)
+    }
+
+    /// Notes that the code whose span has this number ends here.
+    pub(crate) fn end_span(&mut self, number: usize) {
+        self.spans[number].to = self.lines.len();
+    }
 }

@@ -32,6 +32,20 @@ impl<'a> Code<'a> {
         ensures some { 1 ≤ size_at self.old.setting.body.now id }
     {
         let node = self.node_of(depth, id);
+        let span = self.begin_span(depth, node)?;
+        self.parts(depth, id, node)?;
+        self.end_span(span);
+        Ok(())
+    }
+
+    /// Adds the code of a node, behind the begin of its span.
+    #[cycle(coding)]
+    fn parts(&mut self, depth: u32, id: NodeId, node: &'a Node) -> Result<(), AllocError>
+        requires node { IsNodeOf self.old.setting (scope_of self.old.variables) id node.now }
+        requires ready { IsReady self.old.setting self.old.variables }
+        requires room { HasRoom self.old.consts depth (node_size self.old.setting.body.now node.now) }
+        ensures made { AddsNode depth id node.now self.old self.new result }
+    {
         match node {
             Node::Dispatch { .. } | Node::StaticDispatch { .. } => self.dispatch(depth, id, node),
             Node::Let { .. } | Node::Case { .. } => self.binding(depth, id, node),

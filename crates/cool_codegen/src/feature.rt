@@ -23,8 +23,9 @@ use crate::code::Code;
 use crate::number::signed;
 use crate::piece::{leave, mark, store};
 use crate::setting::Setting;
+use crate::span::Span;
 use crate::variables::{Variable, Variables};
-use cool_classes::{AttributeRef, ClassId, MethodRef};
+use cool_classes::{AttributeRef, ClassId, ClassTable, MethodRef};
 use cool_consts::Consts;
 use cool_layout::{Layout, method_label};
 use cool_rules::{TypedProgram, type_meant};
@@ -36,7 +37,15 @@ use mips_isa::register::{FP, S0};
 use std::alloc::{AllocError, Global};
 use std::mem::replace;
 
-/// The code of a feature of a class, by its number among the features of the class: a method under its label, or the part of an initializer
+/// The code of a feature, the spans of its expressions, and the names in scope in all of it.
+#[derive(Drop)]
+pub struct FeatureCode<'a> {
+    pub lines: Vec<Line>,
+    pub spans: Vec<Span<'a>>,
+    pub names: Variables<'a>,
+}
+
+/// The lines of a feature of a class, by its number among the features of the class: a method under its label, or the part of an initializer
 /// that computes and stores an initial value; nothing for an attribute without one. The constants that the code names are numbered after
 /// those before. The names are those of the files.
 ///
@@ -61,9 +70,25 @@ pub fn feature_lines(
     ensures strings { (x : syntax.Feature) → slice_get (features_of p.now c) feature ≡ Some x → OnOk result (consts.new.strings ≡ with_strings consts.old.strings (feature_strings (map string_bytes names.now) x)) }
     ensures kept { Extends consts.old consts.new }
 {
+    let FeatureCode { lines, .. } = feature_code(alloc, p, layout, consts, names, c, feature)?;
+    Ok(lines)
+}
+
+/// The code of a feature of a class, whose lines are those of `feature_lines`, with the span of each of its expressions: the whole before
+/// its parts, and parts in the order of their code. The names are the formals of a method and the attributes of the class.
+///
+/// `Err` comes only for want of memory. The constants are then those before, with perhaps more after them.
+pub fn feature_code<'a>(
+    alloc: Global,
+    p: &'a TypedProgram,
+    layout: &'a Layout,
+    consts: &mut Consts,
+    names: &'a [String],
+    c: ClassId,
+    feature: u32,
+) -> Result<FeatureCode<'a>, AllocError> {
     let table = p.table();
     let types = p.types(c, feature);
-    let mut lines = Vec::new(alloc);
     match &table.features(c)[feature as usize] {
         Feature::Method(method) => {
             let setting = Setting {
@@ -76,10 +101,10 @@ pub fn feature_lines(
                 body: &method.body,
                 types,
             };
-            method_lines(&setting, method.formals.as_slice(), consts, &mut lines)?;
+            method_code(&setting, method.formals.as_slice(), consts)
         }
-        Feature::Attribute(attribute) => {
-            if let Some(body) = &attribute.init {
+        Feature::Attribute(attribute) => match &attribute.init {
+            Some(body) => {
                 let setting = Setting {
                     alloc,
                     table,
@@ -90,62 +115,72 @@ pub fn feature_lines(
                     body,
                     types,
                 };
-                attribute_lines(&setting, consts, &mut lines)?;
+                initial_value_code(&setting, consts)
             }
-        }
+            None => Ok(FeatureCode {
+                lines: Vec::new(alloc),
+                spans: Vec::new(alloc),
+                names: attribute_variables(alloc, table, layout, c)?,
+            }),
+        },
     }
-    Ok(lines)
 }
 
-/// Adds the code of the whole expression of a feature. `Err` comes only for want of memory.
+/// The code of the whole expression of a feature, behind lines. `Err` comes only for want of memory.
 ///
-/// The constants and the lines stand in the code while it is made, and are put back whether that fails or not.
-fn body_lines<'a>(
+/// The constants stand in the code while it is made, and are put back whether that fails or not.
+fn body_code<'a>(
     setting: &Setting<'a>,
     variables: Variables<'a>,
     consts: &mut Consts,
-    lines: &mut Vec<Line>,
-) -> Result<(), AllocError>
-    requires places { IsTreeWithin (length setting.now.names.now) setting.now.body.now }
-    requires types { HasTypesIn setting.now (scope_of variables) }
-    requires ready { IsReady setting.now variables }
-    requires room { HasRoom consts.old 0 (tree_size setting.now.body.now) }
-    ensures made { AddsBody setting.now (λ g. code (context setting.now) g variables.entry 0 0 setting.now.body.now) consts.old consts.new lines.old.items lines.new.items result }
-    ensures kept { Keeps consts.old consts.new }
-{
+    lines: Vec<Line>,
+) -> Result<FeatureCode<'a>, AllocError> {
     let root = setting.body.root();
     let mut code = Code {
         setting: *setting,
         variables,
         consts: replace(consts, Consts::new(setting.alloc)),
-        lines: replace(lines, Vec::new(setting.alloc)),
+        lines,
+        spans: Vec::new(setting.alloc),
     };
     let made = code.expression(0, root);
     let Code {
+        variables: names,
         consts: more,
-        lines: longer,
+        lines,
+        spans,
         ..
     } = code;
     *consts = more;
-    *lines = longer;
     made?;
-    Ok(())
+    Ok(FeatureCode {
+        lines,
+        spans,
+        names,
+    })
 }
 
-/// The attributes of the class of a feature, as variables.
-fn attribute_variables<'a>(setting: &Setting<'a>) -> Result<Variables<'a>, AllocError>
-    requires sound { IsSound setting.now }
-    ensures variables { IfOk result (λ vs. vs ≡ attributes_in setting.now.table.now setting.now.class) }
-    ensures ready { IfOk result (IsReady setting.now) }
+/// The attributes of the objects of a class, as variables.
+pub fn attribute_variables<'a>(
+    alloc: Global,
+    table: &'a ClassTable,
+    layout: &Layout,
+    class: ClassId,
+) -> Result<Variables<'a>, AllocError>
+    requires whole { IsWholeTable table.now }
+    requires class { class.0 < length table.now }
+    requires layout { IsLayoutOf layout.now table.now }
+    ensures variables { IfOk result (λ vs. vs ≡ attributes_in table.now class) }
+    ensures types { IfOk result (HaveTypes table.now) }
 {
-    let mut variables = Variables::new(setting.alloc);
-    for attribute in setting.table.attributes(setting.alloc, setting.class)? {
+    let mut variables = Variables::new(alloc);
+    for attribute in table.attributes(alloc, class)? {
         let variable = Variable {
             base: S0,
-            offset: setting.offset(attribute),
-            ty: setting.attribute(attribute),
+            offset: signed(layout.offset(class, attribute)),
+            ty: table.attribute_type(attribute),
         };
-        variables.enter(setting.table.attribute_name(attribute), variable)?;
+        variables.enter(table.attribute_name(attribute), variable)?;
     }
     Ok(variables)
 }
@@ -174,59 +209,42 @@ fn formal_variables<'a>(
     Ok(())
 }
 
-/// Adds the lines of the method of these formals, whose body the setting has. `Err` comes only for want of memory.
-fn method_lines<'a>(
+/// The code of the method of these formals, whose body the setting has. `Err` comes only for want of memory.
+fn method_code<'a>(
     setting: &Setting<'a>,
     formals: &'a [Formal],
     consts: &mut Consts,
-    lines: &mut Vec<Line>,
-) -> Result<(), AllocError>
-    requires sound { IsSound setting.now }
-    requires has { HasMethod setting.now.table.now (User setting.now.class setting.now.feature) }
-    requires few { length formals.now < 2 ^ 28 }
-    requires types { HasTypesIn setting.now (scope_of (with_formals setting.now.table.now formals.now (attributes_in setting.now.table.now setting.now.class))) }
-    requires places { IsTreeWithin (length setting.now.names.now) setting.now.body.now }
-    requires room { HasRoom consts.old 0 (tree_size setting.now.body.now) }
-    ensures made { AddsBody setting.now (λ g. method_code (context setting.now) g formals.now setting.now.body.now) consts.old consts.new lines.old.items lines.new.items result }
-    ensures kept { Keeps consts.old consts.new }
-{
+) -> Result<FeatureCode<'a>, AllocError> {
     let alloc = setting.alloc;
     let method = MethodRef::User {
         owner: setting.class,
         index: setting.feature,
     };
     let label = method_label(alloc, setting.table, method)?;
-    let mut variables = attribute_variables(setting)?;
+    let mut variables = attribute_variables(alloc, setting.table, setting.layout, setting.class)?;
     formal_variables(setting, &mut variables, formals)?;
-    write(alloc, lines, &mark(&label))?;
-    write(alloc, lines, &enter())?;
-    body_lines(setting, variables, consts, lines)?;
+    let mut lines = Vec::new(alloc);
+    write(alloc, &mut lines, &mark(&label))?;
+    write(alloc, &mut lines, &enter())?;
+    let mut code = body_code(setting, variables, consts, lines)?;
     let taken = signed(12 + 4 * formals.len() as u32);
-    write(alloc, lines, &leave(taken))?;
-    Ok(())
+    write(alloc, &mut code.lines, &leave(taken))?;
+    Ok(code)
 }
 
-/// Adds the part of an initializer for the attribute whose initial value the setting has. `Err` comes only for want of memory.
-fn attribute_lines<'a>(
+/// The part of an initializer for the attribute whose initial value the setting has. `Err` comes only for want of memory.
+fn initial_value_code<'a>(
     setting: &Setting<'a>,
     consts: &mut Consts,
-    lines: &mut Vec<Line>,
-) -> Result<(), AllocError>
-    requires sound { IsSound setting.now }
-    requires there { Contains (attributes setting.now.table.now setting.now.class) (attribute_of setting.now) }
-    requires types { HasTypesIn setting.now (scope_of (attributes_in setting.now.table.now setting.now.class)) }
-    requires places { IsTreeWithin (length setting.now.names.now) setting.now.body.now }
-    requires room { HasRoom consts.old 0 (tree_size setting.now.body.now) }
-    ensures made { AddsBody setting.now (λ g. initial_value_code (context setting.now) g (Some setting.now.body.now)) consts.old consts.new lines.old.items lines.new.items result }
-    ensures kept { Keeps consts.old consts.new }
-{
+) -> Result<FeatureCode<'a>, AllocError> {
+    let alloc = setting.alloc;
     let attribute = AttributeRef {
         owner: setting.class,
         index: setting.feature,
     };
-    let variables = attribute_variables(setting)?;
-    body_lines(setting, variables, consts, lines)?;
+    let variables = attribute_variables(alloc, setting.table, setting.layout, setting.class)?;
+    let mut code = body_code(setting, variables, consts, Vec::new(alloc))?;
     let offset = setting.offset(attribute);
-    write(setting.alloc, lines, &store(offset, S0))?;
-    Ok(())
+    write(alloc, &mut code.lines, &store(offset, S0))?;
+    Ok(code)
 }

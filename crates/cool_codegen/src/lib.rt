@@ -18,6 +18,9 @@ mod operation;
 mod operator;
 pub mod piece;
 mod setting;
+mod span;
 mod variables;
 
-pub use feature::feature_lines;
+pub use feature::{FeatureCode, attribute_variables, feature_code, feature_lines};
+pub use span::{Form, Span};
+pub use variables::{Entry, Variable, Variables};

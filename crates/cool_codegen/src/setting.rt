@@ -70,16 +70,6 @@ impl<'a> Setting<'a> {
         signed(self.layout.last_tag(class) - self.layout.tag(class) + 1)
     }
 
-    /// The declared type of an attribute.
-    pub fn attribute(&self, attribute: AttributeRef) -> Ty
-        requires sound { IsSound self.now }
-        requires has { HasAttribute self.now.table.now attribute }
-        ensures is_type { IsType self.now.table.now result }
-        ensures attribute { result ≡ type_meant self.now.table.now (attribute_type self.now.table.now attribute) }
-    {
-        self.table.attribute_type(attribute)
-    }
-
     /// Where an attribute stands in the objects of the class, in bytes.
     pub fn offset(&self, attribute: AttributeRef) -> i32
         requires sound { IsSound self.now }

@@ -1,8 +1,9 @@
 //! The names in scope, with the words that hold their values.
 
-ghost use Rattle.std.specs.Prelude.{◌≡◌, ◌≢◌, ◌<◌, [], ◌∷◌, IfSome, IsTrue, if◌then◌else◌};
+ghost use Rattle.std.specs.Prelude.{◌≡◌, ◌≢◌, ◌<◌, [], ◌∷◌, length, slice_get, IfSome, IsTrue, if◌then◌else◌};
+ghost use Rattle.std.specs.Option.{option_map};
 ghost use Rattle.std.specs.Result.{is_ok};
-ghost use Rattle.cool_codegen.specs.Variables.{found, left};
+ghost use Rattle.cool_codegen.specs.Variables.{found, left, named_of};
 
 use cool_classes::Ty;
 use cool_syntax::Name;
@@ -20,9 +21,9 @@ pub struct Variable {
 
 /// A name that was entered, with its variable.
 #[derive(Clone, Copy)]
-struct Entry<'a> {
-    name: &'a [u8],
-    variable: Variable,
+pub struct Entry<'a> {
+    pub name: &'a [u8],
+    pub variable: Variable,
 }
 
 /// The names in scope with their variables, whose words are addressed from registers. A contract sees them with the latest first.
@@ -71,6 +72,20 @@ impl<'a> Variables<'a> {
         ensures { self.new ≡ left self.old }
     {
         self.entries.pop();
+    }
+
+    /// How many names are in scope.
+    pub fn count(&self) -> usize
+        ensures { result ≡ length self.now }
+    {
+        self.entries.len()
+    }
+
+    /// The name that was entered last, with its variable.
+    pub fn latest(&self) -> Option<Entry<'a>>
+        ensures { option_map named_of result ≡ slice_get self.now 0 }
+    {
+        self.entries.last().copied()
     }
 
     /// The variable of a name, by its latest entry.

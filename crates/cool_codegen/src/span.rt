@@ -1,0 +1,72 @@
+//! The span of an expression: where its code stands, and what is in scope there.
+
+ghost use Rattle.std.specs.Prelude.{◌≡◌, List};
+ghost use Rattle.cool_syntax.specs.NodeLists.{made};
+ghost use Rattle.cool_syntax.specs.Tree.{Tree};
+ghost use Rattle.cool_codegen.specs.Shown.{form_of};
+
+use crate::variables::Entry;
+use cool_syntax::{ArithOp, CompareOp, Node, Place};
+
+/// The form of an expression.
+#[derive(Clone, Copy, Debug)]
+pub enum Form {
+    Name,
+    Assign,
+    Call,
+    StaticCall,
+    If,
+    While,
+    Block,
+    Let,
+    Case,
+    New,
+    IsVoid,
+    Arith(ArithOp),
+    Neg,
+    Compare(CompareOp),
+    Not,
+    Integer,
+    String,
+    Bool,
+}
+
+/// Where the code of an expression stands: the place and the form of the expression, the number of the first of its lines and of the line
+/// behind it among those of its feature, how many words are pushed in the frame where it begins, how many names are in scope there, and the
+/// one that was entered last.
+#[derive(Clone, Copy)]
+pub struct Span<'a> {
+    pub at: Place,
+    pub form: Form,
+    pub from: usize,
+    pub to: usize,
+    pub depth: u32,
+    pub names: usize,
+    pub latest: Option<Entry<'a>>,
+}
+
+/// The form of a node.
+pub(crate) fn form_of(node: &Node) -> Form
+    ensures { (ts : List Tree) → result ≡ form_of (made ts node.now) }
+{
+    match node {
+        Node::Assign { .. } => Form::Assign,
+        Node::Dispatch { .. } => Form::Call,
+        Node::StaticDispatch { .. } => Form::StaticCall,
+        Node::If { .. } => Form::If,
+        Node::While { .. } => Form::While,
+        Node::Block { .. } => Form::Block,
+        Node::Let { .. } => Form::Let,
+        Node::Case { .. } => Form::Case,
+        Node::New { .. } => Form::New,
+        Node::IsVoid { .. } => Form::IsVoid,
+        Node::Arith { op, .. } => Form::Arith(*op),
+        Node::Neg { .. } => Form::Neg,
+        Node::Compare { op, .. } => Form::Compare(*op),
+        Node::Not { .. } => Form::Not,
+        Node::Id { .. } => Form::Name,
+        Node::Int { .. } => Form::Integer,
+        Node::Str { .. } => Form::String,
+        Node::Bool { .. } => Form::Bool,
+    }
+}
