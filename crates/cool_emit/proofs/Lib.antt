@@ -41,3 +41,4 @@ pub mod ProgramsAreSound
 mod PartsAreLight
 mod SectionsInTurn
 mod PassesEnd
+pub mod SpansOfPrograms

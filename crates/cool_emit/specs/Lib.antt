@@ -3,3 +3,4 @@ pub mod FileNames
 pub mod Programs
 pub mod SoundLines
 pub mod Sections
+pub mod SpansOfPrograms

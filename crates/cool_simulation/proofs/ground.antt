@@ -4,6 +4,7 @@ pub mod BoundVariables
 pub mod CallErrors
 pub mod CallsLater
 pub mod CodeOfParts
+pub mod CodeOfSpans
 pub mod DataHere
 pub mod EvaluationLater
 pub mod FirstParts

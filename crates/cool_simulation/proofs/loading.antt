@@ -4,6 +4,7 @@ pub mod Loaded
 pub mod LoadedConstants
 pub mod LoadedImages
 pub mod LoadedItems
+pub mod LoadedSpans
 pub mod LoadedStrings
 pub mod LoadedTables
 pub mod LoadedText

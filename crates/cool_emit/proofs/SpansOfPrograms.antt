@@ -1,0 +1,83 @@
+-- In the text of a program each span is the code of its tree, in its class and its feature.
+use Rattle.std.proofs.Common.{ℕ, ◌+◌, List, [], ◌∷◌, ◌++◌, length, flat_map, map, Bool as Truth, true, false, refl, sym, append-nil}
+use Rattle.std.specs.Prelude.{pos, nat_lt, if◌then◌else◌, Contains}
+use Rattle.std.specs.List.{AllByRecursion}
+use Rattle.std.proofs.lemmas.List.Elements.{All-contains, All-from_recursion}
+use Rattle.mips_isa.specs.Lines.{Line}
+use Rattle.cool_classes.specs.declared.class_id.ClassId.{ClassId}
+use Rattle.cool_classes.specs.Chains.{Class, parent_of}
+use Rattle.cool_runtime.specs.CodeOfCalls.{enter_lines}
+use Rattle.cool_runtime.specs.Reaches.{World}
+use Rattle.cool_runtime.specs.RoutineLines.{all_routine_lines}
+use Rattle.cool_runtime.specs.Standing.{sizes, HasLines}
+use Rattle.cool_runtime.proofs.Pieces.{has_front, has_back}
+use Rattle.cool_layout.specs.Preorder.{numbers_from}
+use Rattle.cool_layout.specs.Labels.{initializer}
+use Rattle.cool_consts.specs.Constants.{Constants}
+use Rattle.cool_codegen.specs.Pieces.{begin_init_lines, return_basic_lines, leave_lines, take_self_lines}
+use Rattle.cool_emit.specs.Programs.{Placed, attributes_in, methods_in, placed_code, parent_code, initializer_code, class_code, classes_code, program_constants, program_text}
+use Rattle.lists.proofs.AllItems.{all_append}
+use Rattle.cool_codegen.specs.Spans.{Span, StandsBehind, along, feature_spans}
+use Rattle.cool_emit.specs.SpansOfPrograms.{SpanOf, context_of, lines_of_span, placed_spans, initializer_spans, class_spans, text_spans, program_spans}
+use Rattle.cool_codegen.proofs.SpansStand.{behind_front, behind_back}
+use Rattle.cool_codegen.proofs.SpansOfCode.{Stands, law_along, law_feature}
+
+all_mapped : {X Y : Type 0} (P : X → Type 0) (Q : Y → Type 0) (f : X → Y) (xs : List X) → ((x : X) → P x → Q (f x)) → AllByRecursion P xs → AllByRecursion Q (map f xs)
+all_mapped P Q f [] h all = tt
+all_mapped P Q f (x ∷ xs) h all = (h x all.0, all_mapped P Q f xs h all.1)
+
+module _ (size : List Line → ℕ) (P : ℕ → List Line → Type 0)
+    (front : (xs ys : List Line) (pc : ℕ) → P pc (xs ++ ys) → P pc xs)
+    (back : (xs ys : List Line) (pc : ℕ) → P pc (xs ++ ys) → P (pc + size xs) ys)
+    (p : List Class) (files : List (List ℕ)) (g : Constants)
+  where
+    abbrev pub StandsIn : SpanOf → Type 0
+    StandsIn x = P x.span.from (lines_of_span p files g x)
+
+    placed_stand : (c : ClassId) (pc : ℕ) (f : Placed) → P pc (placed_code p files g c f) → AllByRecursion StandsIn (placed_spans size p files g c pc f)
+    placed_stand c pc f has =
+        all_mapped (Stands size P front back (context_of p files c f.place) g) StandsIn (λ (x : Span). record { class = c; feature = f.place; span = x })
+        (feature_spans size (context_of p files c f.place) g pc f.feature) (λ x h. h) (law_feature size P front back (context_of p files c f.place) g pc f.feature has)
+
+    all_placed : (c : ClassId) (pc : ℕ) (fs : List Placed) → P pc (flat_map (placed_code p files g c) fs) → AllByRecursion StandsIn (along size (placed_code p files g c) (placed_spans size p files g c) pc fs)
+    all_placed c = law_along size P front back (context_of p files c 0) g StandsIn (placed_code p files g c) (placed_spans size p files g c) (placed_stand c)
+
+    pub initializer_stands : (pc : ℕ) (c : ClassId) → P pc (initializer_code p files g c) → AllByRecursion StandsIn (initializer_spans size p files g pc c)
+    initializer_stands pc c has =
+        by (begin_init_lines (initializer p c)) (parent_code p (parent_of p c)) (flat_map (placed_code p files g c) (attributes_in p c)) (λ q. all_placed c q (attributes_in p c)) (nat_lt c.0 5) has
+      where
+        by : (begin parent own : List Line) → ((q : ℕ) → P q own → AllByRecursion StandsIn (along size (placed_code p files g c) (placed_spans size p files g c) q (attributes_in p c)))
+            → (b : Truth) → P pc (if b then return_basic_lines (initializer p c) else begin ++ (enter_lines ++ (parent ++ (own ++ (take_self_lines ++ leave_lines (pos 12))))))
+            → AllByRecursion StandsIn (if b then [] else along size (placed_code p files g c) (placed_spans size p files g c) (pc + size begin + size enter_lines + size parent) (attributes_in p c))
+        by begin parent own inside true h = tt
+        by begin parent own inside false h = inside _ (front own _ _ (back parent _ _ (back enter_lines _ _ (back begin _ pc h))))
+
+    class_stands : (pc : ℕ) (c : ClassId) → P pc (class_code p files g c) → AllByRecursion StandsIn (class_spans size p files g pc c)
+    class_stands pc c has =
+        let first = initializer_code p files g c in
+        all_append StandsIn (initializer_spans size p files g pc c) _ (initializer_stands pc c (front first _ pc has)) (all_placed c _ (methods_in p c) (back first _ pc has))
+
+    pub text_stands : (pc : ℕ) → P pc (all_routine_lines ++ classes_code p files g) → AllByRecursion StandsIn (text_spans size p files g pc)
+    text_stands pc has =
+        law_along size P front back (context_of p files (record { 0 = 0 }) 0) g StandsIn (class_code p files g) (class_spans size p files g) class_stands
+        (pc + size all_routine_lines) (numbers_from 0 (length p)) (back all_routine_lines _ pc has)
+
+-- in the text of a machine
+pub program_stands : (w : World) (p : List Class) (files : List (List ℕ)) (pc : ℕ) (x : SpanOf) → HasLines w pc (program_text p files) → Contains (program_spans sizes p files pc) x
+    → HasLines w x.span.from (lines_of_span p files (program_constants p files) x)
+program_stands w p files pc x has there =
+    let g = program_constants p files in
+    let front : (xs ys : List Line) (pc : ℕ) → HasLines w pc (xs ++ ys) → HasLines w pc xs = has_front w in
+    let back : (xs ys : List Line) (pc : ℕ) → HasLines w pc (xs ++ ys) → HasLines w (pc + sizes xs) ys = λ xs ys pc h. has_back w xs ys pc (pc + sizes xs) refl h in
+    let all = text_stands sizes (HasLines w) front back p files g pc has in
+    All-contains (StandsIn sizes (HasLines w) front back p files g) (program_spans sizes p files pc) x (All-from_recursion _ (program_spans sizes p files pc) all) there
+
+-- in the text of a program, by its lines
+pub program_behind : (p : List Class) (files : List (List ℕ)) (x : SpanOf) → Contains (program_spans length p files 0) x
+    → StandsBehind (program_text p files) x.span.from (lines_of_span p files (program_constants p files) x)
+program_behind p files x there =
+    let g = program_constants p files in
+    let text = program_text p files in
+    let whole : StandsBehind text 0 text = record { front = []; rest = []; whole = sym (append-nil text); many = refl } in
+    let all = text_stands length (StandsBehind text) (behind_front text) (behind_back text) p files g 0 whole in
+    All-contains (StandsIn length (StandsBehind text) (behind_front text) (behind_back text) p files g) (program_spans length p files 0) x (All-from_recursion _ (program_spans length p files 0) all) there
