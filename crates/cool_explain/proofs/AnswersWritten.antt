@@ -9,7 +9,7 @@ use Rattle.cool_sources.specs.Statuses.{code_of}
 use Rattle.cool_sources.specs.declared.status.Status.{Status}
 use Rattle.cool_sources.specs.declared.status.Status.TheVariants.{Done, Refused}
 use Rattle.cool_explain.specs.Ends.{IsAnswer, IsCutShort, IsExplained, note_of, puts_of, verdict}
-use Rattle.cool_explain.specs.declared.command_line.Form.{Form}
+use Rattle.cool_explain.specs.declared.form.Form.{Form}
 use Rattle.cool_explain.specs.declared.explaining.Answer.{Answer}
 
 -- the status tells whether there are faults

@@ -6,7 +6,7 @@ use Rattle.cool_sources.specs.Devices.{ShelfUse, GotNothing, SinkUse}
 use Rattle.cool_sources.proofs.FreshShelves.{after_none, gave_all, given}
 use Rattle.cool_explain.specs.Ends.{IsCutShort, IsExplained, IsTold, form_text}
 use Rattle.cool_explain.specs.Processes.{HasExplained, WasCutShort}
-use Rattle.cool_explain.specs.declared.command_line.Form.{Form}
+use Rattle.cool_explain.specs.declared.form.Form.{Form}
 
 -- a shelf that was asked for nothing before
 module _ (form : Form) (shelf : ShelfUse) (names : List (List ℕ)) (asked_none : shelf.asked_before ≡ []) (gave_none : shelf.gave_before ≡ []) where

@@ -13,8 +13,8 @@ use Rattle.cool_sources.specs.declared.status.Status.{Status}
 use Rattle.cool_sources.specs.declared.status.Status.TheVariants.{Done, Refused, Usage, WriteFault, Memory, FileFault}
 use Rattle.cool_explain.specs.Lines.{lines_of}
 use Rattle.cool_explain.specs.Texts.{text_of}
-use Rattle.cool_explain.specs.declared.command_line.Form.{Form}
-use Rattle.cool_explain.specs.declared.command_line.Form.TheVariants.{Text, Lines}
+use Rattle.cool_explain.specs.declared.form.Form.{Form}
+use Rattle.cool_explain.specs.declared.form.Form.TheVariants.{Text, Lines}
 use Rattle.cool_explain.specs.declared.explaining.Answer.{Answer}
 
 -- what is told of files of these names, in this form

@@ -1,5 +1,4 @@
 pub mod Changes
-pub mod CommandLine
 pub mod Cures
 pub mod Ends
 pub mod Facts

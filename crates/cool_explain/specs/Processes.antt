@@ -4,7 +4,7 @@ use Rattle.cool_mend.specs.declared.explanation.Explained.{Explained}
 use Rattle.cool_ports.specs.SinkBytes.{GotPrefix}
 use Rattle.cool_sources.specs.GivenFiles.{GaveAll}
 use Rattle.cool_explain.specs.Ends.{HasFaults, IsTold, form_text}
-use Rattle.cool_explain.specs.declared.command_line.Form.{Form}
+use Rattle.cool_explain.specs.declared.form.Form.{Form}
 
 -- The shelf gave all files, which have faults, or none, and the output took what is told of them, and nothing else.
 pub record HasExplained (faulty : Bool) (form : Form) (names asked gave : List (List ℕ)) (held : Option (List ℕ)) : Type 0 where

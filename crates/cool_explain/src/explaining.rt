@@ -13,7 +13,7 @@ ghost use Rattle.cool_sources.specs.Devices.{shelf_use, sink_use, GotNothing};
 ghost use Rattle.cool_sources.specs.Reading.{AreUnread, IsUntold};
 ghost use Rattle.cool_explain.specs.Ends.{HasFaults, IsAnswer, IsAnswerOf, IsCutShort, IsExplained, IsNoteCut, form_text, note_of, puts_of, verdict};
 
-use crate::command_line::Form;
+use crate::form::Form;
 use crate::lines::lines_of;
 use crate::note::{BAD_COMMAND_LINE, FILES_NOT_READ};
 use crate::text::text_of;

@@ -2,14 +2,14 @@
 //! marked, what is known of the fault, and lines that mend it. `cool_explain --lines FILES` writes the same for programs.
 //!
 //! Comes in: a form, and names of files. Goes out: the explanations of `cool_mend` as `specs/Texts.antt` and `specs/Lines.antt` write them, or a
-//! status. It meets `specs/CommandLine.antt` and `specs/Ends.antt`, and over the system's files and streams `specs/Processes.antt`.
+//! status. It meets `specs/Ends.antt`, and over the system's files and streams `specs/Processes.antt`.
 #![tactic(auto)]
 
 mod changes;
-mod command_line;
 mod cures;
 mod explaining;
 mod facts;
+mod form;
 mod lines;
 mod note;
 mod process;
@@ -17,9 +17,9 @@ mod shown;
 mod source_line;
 mod text;
 
-use command_line::call_of;
 use cool_ports::StdSink;
-use cool_sources::{Status, tell};
+use cool_sources::{Status, call_of, tell};
+use form::Form;
 use note::BAD_COMMAND_LINE;
 use process::explain_over_system;
 use std::alloc::Global;
@@ -29,17 +29,17 @@ use std::{env, io};
 
 fn main(rt: HostRuntime) -> ExitCode {
     let status = match words(&rt) {
-        Ok(words) => match call_of(&words) {
+        Ok(words) => match call_of("--lines", &words) {
             Some(call) => {
+                let form = if call.other { Form::Lines } else { Form::Text };
                 explain_over_system(
                     rt.alloc(),
-                    call.form,
+                    form,
                     call.names,
                     &rt,
                     rt.stdout(),
                     rt.stderr(),
-                )
-                .status
+                ).status
             }
             None => bad_command_line(&rt),
         },

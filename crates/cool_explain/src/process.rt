@@ -6,8 +6,8 @@ ghost use Rattle.cool_sources.specs.GivenFiles.{WereUnread};
 ghost use Rattle.cool_explain.specs.Ends.{note_of};
 ghost use Rattle.cool_explain.specs.Processes.{HasExplained, WasCutShort};
 
-use crate::command_line::Form;
 use crate::explaining::explain_names;
+use crate::form::Form;
 use cool_ports::{FileShelf, Shelf, Sink, StdSink};
 use cool_sources::Status;
 use std::alloc::Global;

@@ -5,8 +5,10 @@
 //! shelf gave.
 #![tactic(auto)]
 
+mod command_line;
 mod reading;
 mod status;
 
+pub use command_line::{Call, call_of};
 pub use reading::read_files;
 pub use status::{Status, tell};

@@ -1,8 +1,8 @@
 -- No word so far is an option.
 use Rattle.std.proofs.Common.{◌≡◌, drop}
 use Rattle.std.specs.List.{list_any}
-use Rattle.cool_explain.specs.CommandLine.{is_option, words_of}
-use Rattle.cool_explain.proofs.command_line.has_option.Given as goal
+use Rattle.cool_sources.specs.CommandLine.{is_option, words_of}
+use Rattle.cool_sources.proofs.command_line.has_option.Given as goal
 
 abbrev pub invariant-loop-word : goal.invariant-loop-word
 invariant-loop-word l = list_any is_option (words_of (drop l.word-index l.words)) ≡ list_any is_option (words_of l.words)
