@@ -4,5 +4,6 @@ pub mod Loadings
 pub mod MainRun
 pub mod Pictures
 pub mod Simulation
+pub mod SpansLoaded
 pub mod Theorem
 pub mod WrittenPrograms

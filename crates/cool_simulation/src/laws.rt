@@ -1,5 +1,6 @@
 //! The laws of compiled programs.
 
+ghost use Rattle.cool_simulation.specs.SpansLoaded.{InitialValuesStand, MethodsStand};
 ghost use Rattle.cool_simulation.specs.Theorem.{AcceptedCompile, CallsMean, FoldedImagesMean, ImagesMean, ProgramsRun, RunsAreMet, TypedImagesMean};
 
 /// The image of the program that files of bytes are, under names that are texts of at most 4,096 bytes, means the program: whatever the
@@ -32,4 +33,10 @@ pub fn law_always_runs()
 /// The code of each method and of each initializer does what its call means, in each machine in which the program is loaded.
 pub fn law_calls_mean()
     ensures { CallsMean }
+{}
+
+/// In the machine of a loaded program the code of each expression stands where its span says.
+pub fn law_spans_stand()
+    ensures methods { MethodsStand }
+    ensures initial_values { InitialValuesStand }
 {}
