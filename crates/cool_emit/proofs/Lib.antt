@@ -42,3 +42,8 @@ mod PartsAreLight
 mod SectionsInTurn
 mod PassesEnd
 pub mod SpansOfPrograms
+mod KindsInAll
+mod TellingParts
+mod RowsStanding
+mod FeaturesTold
+mod ClassesTold

@@ -1,6 +1,6 @@
 -- In the text of a program each span is the code of its tree, in its class and its feature.
 use Rattle.std.proofs.Common.{ℕ, ◌+◌, List, [], ◌∷◌, ◌++◌, length, flat_map, map, Bool as Truth, true, false, refl, sym, append-nil}
-use Rattle.std.specs.Prelude.{pos, nat_lt, if◌then◌else◌, Contains}
+use Rattle.std.specs.Prelude.{nat_lt, if◌then◌else◌, Contains}
 use Rattle.std.specs.List.{AllByRecursion}
 use Rattle.std.proofs.lemmas.List.Elements.{All-contains, All-from_recursion}
 use Rattle.mips_isa.specs.Lines.{Line}
@@ -14,17 +14,47 @@ use Rattle.cool_runtime.proofs.Pieces.{has_front, has_back}
 use Rattle.cool_layout.specs.Preorder.{numbers_from}
 use Rattle.cool_layout.specs.Labels.{initializer}
 use Rattle.cool_consts.specs.Constants.{Constants}
-use Rattle.cool_codegen.specs.Pieces.{begin_init_lines, return_basic_lines, leave_lines, take_self_lines}
-use Rattle.cool_emit.specs.Programs.{Placed, attributes_in, methods_in, placed_code, parent_code, initializer_code, class_code, classes_code, program_constants, program_text}
+use Rattle.cool_codegen.specs.Pieces.{begin_init_lines, return_basic_lines}
+use Rattle.cool_emit.specs.Programs.{Placed, attributes_in, methods_in, placed_code, parent_code, initializer_code, class_code, classes_code, end_code, program_constants, program_text}
 use Rattle.lists.proofs.AllItems.{all_append}
 use Rattle.cool_codegen.specs.Spans.{Span, StandsBehind, along, feature_spans}
-use Rattle.cool_emit.specs.SpansOfPrograms.{SpanOf, context_of, lines_of_span, placed_spans, initializer_spans, class_spans, text_spans, program_spans}
+use Rattle.cool_emit.specs.SpansOfPrograms.{SpanOf, context_of, lines_of_span, placed_spans, initializer_spans, text_spans, told_in_class, told_in_initializer, told_in_text, program_spans}
 use Rattle.cool_codegen.proofs.SpansStand.{behind_front, behind_back}
 use Rattle.cool_codegen.proofs.SpansOfCode.{Stands, law_along, law_feature}
 
-all_mapped : {X Y : Type 0} (P : X → Type 0) (Q : Y → Type 0) (f : X → Y) (xs : List X) → ((x : X) → P x → Q (f x)) → AllByRecursion P xs → AllByRecursion Q (map f xs)
+pub all_mapped : {X Y : Type 0} (P : X → Type 0) (Q : Y → Type 0) (f : X → Y) (xs : List X) → ((x : X) → P x → Q (f x)) → AllByRecursion P xs → AllByRecursion Q (map f xs)
 all_mapped P Q f [] h all = tt
 all_mapped P Q f (x ∷ xs) h all = (h x all.0, all_mapped P Q f xs h all.1)
+
+-- what holds of each that is told of a feature, where its code has what that asks for, holds of each that is told of a program
+module _ (size : List Line → ℕ) (P : ℕ → List Line → Type 0)
+    (front : (xs ys : List Line) (pc : ℕ) → P pc (xs ++ ys) → P pc xs)
+    (back : (xs ys : List Line) (pc : ℕ) → P pc (xs ++ ys) → P (pc + size xs) ys)
+    (p : List Class) (files : List (List ℕ)) (g : Constants) {X : Type 0} (told : ClassId → ℕ → Placed → List X) (Q : X → Type 0)
+    (each : (c : ClassId) (pc : ℕ) (f : Placed) → P pc (placed_code p files g c f) → AllByRecursion Q (told c pc f))
+  where
+    in_features : (c : ClassId) (pc : ℕ) (fs : List Placed) → P pc (flat_map (placed_code p files g c) fs) → AllByRecursion Q (along size (placed_code p files g c) (told c) pc fs)
+    in_features c = law_along size P front back (context_of p files c 0) g Q (placed_code p files g c) (told c) (each c)
+
+    pub in_initializer : (pc : ℕ) (c : ClassId) → P pc (initializer_code p files g c) → AllByRecursion Q (told_in_initializer size p files g told pc c)
+    in_initializer pc c has =
+        by (begin_init_lines (initializer p c)) (parent_code p (parent_of p c)) (flat_map (placed_code p files g c) (attributes_in p c)) (λ q. in_features c q (attributes_in p c)) (nat_lt c.0 5) has
+      where
+        by : (begin parent own : List Line) → ((q : ℕ) → P q own → AllByRecursion Q (along size (placed_code p files g c) (told c) q (attributes_in p c)))
+            → (b : Truth) → P pc (if b then return_basic_lines (initializer p c) else begin ++ (enter_lines ++ (parent ++ (own ++ end_code))))
+            → AllByRecursion Q (if b then [] else along size (placed_code p files g c) (told c) (pc + size begin + size enter_lines + size parent) (attributes_in p c))
+        by begin parent own inside true h = tt
+        by begin parent own inside false h = inside _ (front own _ _ (back parent _ _ (back enter_lines _ _ (back begin _ pc h))))
+
+    in_class : (pc : ℕ) (c : ClassId) → P pc (class_code p files g c) → AllByRecursion Q (told_in_class size p files g told pc c)
+    in_class pc c has =
+        let first = initializer_code p files g c in
+        all_append Q (told_in_initializer size p files g told pc c) _ (in_initializer pc c (front first _ pc has)) (in_features c _ (methods_in p c) (back first _ pc has))
+
+    pub in_text : (pc : ℕ) → P pc (all_routine_lines ++ classes_code p files g) → AllByRecursion Q (told_in_text size p files g told pc)
+    in_text pc has =
+        law_along size P front back (context_of p files (record { 0 = 0 }) 0) g Q (class_code p files g) (told_in_class size p files g told) in_class
+        (pc + size all_routine_lines) (numbers_from 0 (length p)) (back all_routine_lines _ pc has)
 
 module _ (size : List Line → ℕ) (P : ℕ → List Line → Type 0)
     (front : (xs ys : List Line) (pc : ℕ) → P pc (xs ++ ys) → P pc xs)
@@ -39,28 +69,11 @@ module _ (size : List Line → ℕ) (P : ℕ → List Line → Type 0)
         all_mapped (Stands size P front back (context_of p files c f.place) g) StandsIn (λ (x : Span). record { class = c; feature = f.place; span = x })
         (feature_spans size (context_of p files c f.place) g pc f.feature) (λ x h. h) (law_feature size P front back (context_of p files c f.place) g pc f.feature has)
 
-    all_placed : (c : ClassId) (pc : ℕ) (fs : List Placed) → P pc (flat_map (placed_code p files g c) fs) → AllByRecursion StandsIn (along size (placed_code p files g c) (placed_spans size p files g c) pc fs)
-    all_placed c = law_along size P front back (context_of p files c 0) g StandsIn (placed_code p files g c) (placed_spans size p files g c) (placed_stand c)
-
     pub initializer_stands : (pc : ℕ) (c : ClassId) → P pc (initializer_code p files g c) → AllByRecursion StandsIn (initializer_spans size p files g pc c)
-    initializer_stands pc c has =
-        by (begin_init_lines (initializer p c)) (parent_code p (parent_of p c)) (flat_map (placed_code p files g c) (attributes_in p c)) (λ q. all_placed c q (attributes_in p c)) (nat_lt c.0 5) has
-      where
-        by : (begin parent own : List Line) → ((q : ℕ) → P q own → AllByRecursion StandsIn (along size (placed_code p files g c) (placed_spans size p files g c) q (attributes_in p c)))
-            → (b : Truth) → P pc (if b then return_basic_lines (initializer p c) else begin ++ (enter_lines ++ (parent ++ (own ++ (take_self_lines ++ leave_lines (pos 12))))))
-            → AllByRecursion StandsIn (if b then [] else along size (placed_code p files g c) (placed_spans size p files g c) (pc + size begin + size enter_lines + size parent) (attributes_in p c))
-        by begin parent own inside true h = tt
-        by begin parent own inside false h = inside _ (front own _ _ (back parent _ _ (back enter_lines _ _ (back begin _ pc h))))
-
-    class_stands : (pc : ℕ) (c : ClassId) → P pc (class_code p files g c) → AllByRecursion StandsIn (class_spans size p files g pc c)
-    class_stands pc c has =
-        let first = initializer_code p files g c in
-        all_append StandsIn (initializer_spans size p files g pc c) _ (initializer_stands pc c (front first _ pc has)) (all_placed c _ (methods_in p c) (back first _ pc has))
+    initializer_stands = in_initializer size P front back p files g (placed_spans size p files g) StandsIn placed_stand
 
     pub text_stands : (pc : ℕ) → P pc (all_routine_lines ++ classes_code p files g) → AllByRecursion StandsIn (text_spans size p files g pc)
-    text_stands pc has =
-        law_along size P front back (context_of p files (record { 0 = 0 }) 0) g StandsIn (class_code p files g) (class_spans size p files g) class_stands
-        (pc + size all_routine_lines) (numbers_from 0 (length p)) (back all_routine_lines _ pc has)
+    text_stands = in_text size P front back p files g (placed_spans size p files g) StandsIn placed_stand
 
 -- in the text of a machine
 pub program_stands : (w : World) (p : List Class) (files : List (List ℕ)) (pc : ℕ) (x : SpanOf) → HasLines w pc (program_text p files) → Contains (program_spans sizes p files pc) x

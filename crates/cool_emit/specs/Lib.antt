@@ -4,3 +4,7 @@ pub mod Programs
 pub mod SoundLines
 pub mod Sections
 pub mod SpansOfPrograms
+pub mod CodeTables
+pub mod TableLines
+pub mod Tellings
+pub mod StandingRows

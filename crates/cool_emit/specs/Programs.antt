@@ -55,11 +55,17 @@ abbrev pub parent_code : List Class → Option ClassId → List Line
 parent_code p None = []
 parent_code p (Some q) = call_init_lines (initializer p q)
 
+abbrev pub begin_code : List Class → ClassId → List Line
+begin_code p c = begin_init_lines (initializer p c) ++ (enter_lines ++ parent_code p (parent_of p c))
+
+abbrev pub end_code : List Line
+end_code = take_self_lines ++ leave_lines (pos 12)
+
 abbrev pub initializer_code : List Class → List (List ℕ) → Constants → ClassId → List Line
 initializer_code p files g c =
     if nat_lt c.0 5 then return_basic_lines (initializer p c)
     else begin_init_lines (initializer p c)
-    ++ (enter_lines ++ (parent_code p (parent_of p c) ++ (flat_map (placed_code p files g c) (attributes_in p c) ++ (take_self_lines ++ leave_lines (pos 12)))))
+    ++ (enter_lines ++ (parent_code p (parent_of p c) ++ (flat_map (placed_code p files g c) (attributes_in p c) ++ end_code)))
 
 abbrev pub class_code : List Class → List (List ℕ) → Constants → ClassId → List Line
 class_code p files g c = initializer_code p files g c ++ flat_map (placed_code p files g c) (methods_in p c)

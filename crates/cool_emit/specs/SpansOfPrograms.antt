@@ -27,22 +27,30 @@ module _ (p : List Class) (files : List (List ℕ)) where
   abbrev pub lines_of_span : Constants → SpanOf → List Line
   lines_of_span g x = code_of (context_of x.class x.feature) g x.span
 
+-- What is told of each feature, by where its code begins, in the order of the text: of the attributes of each class, and then of its methods.
+module _ {X : Type 0} (size : List Line → ℕ) (p : List Class) (files : List (List ℕ)) (g : Constants) (told : ClassId → ℕ → Placed → List X) where
+  abbrev pub told_in_initializer : ℕ → ClassId → List X
+  told_in_initializer pc c =
+      if nat_lt c.0 5 then []
+      else along size (placed_code p files g c) (told c)
+      (pc + size (begin_init_lines (initializer p c)) + size enter_lines + size (parent_code p (parent_of p c))) (attributes_in p c)
+
+  abbrev pub told_in_class : ℕ → ClassId → List X
+  told_in_class pc c = told_in_initializer pc c ++ along size (placed_code p files g c) (told c) (pc + size (initializer_code p files g c)) (methods_in p c)
+
+  -- where the text begins at an address
+  abbrev pub told_in_text : ℕ → List X
+  told_in_text pc = along size (class_code p files g) told_in_class (pc + size all_routine_lines) (numbers_from 0 (length p))
+
 module _ (size : List Line → ℕ) (p : List Class) (files : List (List ℕ)) (g : Constants) where
   abbrev pub placed_spans : ClassId → ℕ → Placed → List SpanOf
   placed_spans c pc f = map (λ (x : Span). record { class = c; feature = f.place; span = x }) (feature_spans size (context_of p files c f.place) g pc f.feature)
 
   abbrev pub initializer_spans : ℕ → ClassId → List SpanOf
-  initializer_spans pc c =
-      if nat_lt c.0 5 then []
-      else along size (placed_code p files g c) (placed_spans c)
-      (pc + size (begin_init_lines (initializer p c)) + size enter_lines + size (parent_code p (parent_of p c))) (attributes_in p c)
+  initializer_spans = told_in_initializer size p files g placed_spans
 
-  abbrev pub class_spans : ℕ → ClassId → List SpanOf
-  class_spans pc c = initializer_spans pc c ++ along size (placed_code p files g c) (placed_spans c) (pc + size (initializer_code p files g c)) (methods_in p c)
-
-  -- where the text begins at an address
   abbrev pub text_spans : ℕ → List SpanOf
-  text_spans pc = along size (class_code p files g) class_spans (pc + size all_routine_lines) (numbers_from 0 (length p))
+  text_spans = told_in_text size p files g placed_spans
 
 abbrev pub program_spans : (List Line → ℕ) → List Class → List (List ℕ) → ℕ → List SpanOf
 program_spans size p files = text_spans size p files (program_constants p files)

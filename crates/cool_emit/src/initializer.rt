@@ -4,7 +4,9 @@ ghost use Rattle.std.specs.Prelude.{◌≡◌, ◌++◌, ◌<◌, ◌^◌, lengt
 ghost use Rattle.mips_isa.specs.Lines.{lines_of};
 ghost use Rattle.cool_classes.specs.Chains.{parent_of};
 ghost use Rattle.cool_emit.specs.Additions.{Adds, files_of, IsSound};
-ghost use Rattle.cool_emit.specs.Programs.{attributes_in, initializer_code, parent_code};
+ghost use Rattle.cool_layout.specs.Labels.{initializer};
+ghost use Rattle.cool_codegen.specs.Pieces.{return_basic_lines};
+ghost use Rattle.cool_emit.specs.Programs.{attributes_in, begin_code, end_code, initializer_code, parent_code};
 
 use crate::emission::{Emission, Part};
 use cool_classes::ClassId;
@@ -14,10 +16,10 @@ use cool_layout::initializer_label;
 use cool_runtime::draft::write;
 use cool_runtime::piece::enter;
 use mips_isa::Line;
-use std::alloc::AllocError;
+use std::alloc::{AllocError, Global};
 
 /// The number of basic classes, which stand first.
-const BASIC_CLASSES: u32 = 5;
+pub(crate) const BASIC_CLASSES: u32 = 5;
 
 /// Adds the initializer of a class. The one of a basic class does nothing. `Err` comes only for want of memory.
 pub(crate) fn add_initializer(
@@ -32,15 +34,47 @@ pub(crate) fn add_initializer(
     requires few_strings { length consts.old.strings < 2 ^ 30 }
     ensures { OnOk result (Adds (files_of emission.now) (attributes_in emission.now.program.now c) (λ g. initializer_code emission.now.program.now (files_of emission.now) g c) consts.old consts.new (lines_of lines.old.items) (lines_of lines.new.items)) }
 {
+    if c.0 < BASIC_CLASSES {
+        return add_basic(emission, c, lines);
+    }
+    add_begin(emission, c, lines)?;
+    emission.add_features(c, Part::Attributes, consts, lines)?;
+    add_end(emission.alloc, lines)
+}
+
+/// Adds the initializer of a basic class. `Err` comes only for want of memory.
+pub(crate) fn add_basic(
+    emission: &Emission<'_>,
+    c: ClassId,
+    lines: &mut Vec<Line>,
+) -> Result<(), AllocError>
+    requires class { c.0 < length emission.now.program.now }
+    ensures { OnOk result (lines_of lines.new.items ≡ lines_of lines.old.items ++ return_basic_lines (initializer emission.now.program.now c)) }
+{
+    let name = initializer_label(emission.alloc, emission.table(), c)?;
+    write(emission.alloc, lines, &return_basic(name.as_slice()))
+}
+
+/// Adds what stands before the attributes in the initializer of a class that is not basic. `Err` comes only for want of memory.
+pub(crate) fn add_begin(
+    emission: &Emission<'_>,
+    c: ClassId,
+    lines: &mut Vec<Line>,
+) -> Result<(), AllocError>
+    requires class { c.0 < length emission.now.program.now }
+    ensures { OnOk result (lines_of lines.new.items ≡ lines_of lines.old.items ++ begin_code emission.now.program.now c) }
+{
     let alloc = emission.alloc;
     let name = initializer_label(alloc, emission.table(), c)?;
-    if c.0 < BASIC_CLASSES {
-        return write(alloc, lines, &return_basic(name.as_slice()));
-    }
     write(alloc, lines, &begin_init(name.as_slice()))?;
     write(alloc, lines, &enter())?;
-    add_parent(emission, c, lines)?;
-    emission.add_features(c, Part::Attributes, consts, lines)?;
+    add_parent(emission, c, lines)
+}
+
+/// Adds what stands behind the attributes there. `Err` comes only for want of memory.
+pub(crate) fn add_end(alloc: Global, lines: &mut Vec<Line>) -> Result<(), AllocError>
+    ensures { OnOk result (lines_of lines.new.items ≡ lines_of lines.old.items ++ end_code) }
+{
     write(alloc, lines, &take_self())?;
     write(alloc, lines, &leave(12))
 }

@@ -1,17 +1,23 @@
 //! The assembly of a whole program, and its image.
 //!
 //! Comes in: a typed program, and the names of its files. Goes out: the lines, or the image that the assembler makes of them
-//! (`specs/Programs.antt`).
+//! (`specs/Programs.antt`), or the table of its code (`specs/CodeTables.antt`, `specs/TableLines.antt`).
 #![tactic(auto)]
 
 mod building;
+mod code_table;
 mod emission;
 mod initializer;
+mod laws;
 mod program;
+mod row;
 mod section;
 
 pub use building::build;
+pub use code_table::table;
+pub use laws::law_rows_stand;
 pub use program::lines;
+pub use row::place_text;
 
 /// The most bytes of the name of a file that a program is built with.
 pub const MOST_FILE_NAME: usize = 4_096;

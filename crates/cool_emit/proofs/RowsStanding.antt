@@ -1,0 +1,130 @@
+-- The rows of the table of code are true of each machine in whose text the program stands.
+use Rattle.std.proofs.Common.{◌≡◌, ◌∙◌, ℕ, suc, ◌+◌, ◌≤◌, List, [], ◌∷◌, ◌++◌, length, flat_map, map, take, refl, sym, ap, subst, append-nil, append_assoc, arith}
+use Rattle.std.specs.Prelude.{Option, Some, None, Contains}
+use Rattle.std.specs.List.{AllByRecursion}
+use Rattle.std.proofs.lemmas.List.{length-append}
+use Rattle.std.proofs.lemmas.List.Elements.{All-contains, All-from_recursion}
+use Rattle.cool_syntax.specs.declared.file_tree.Feature.{Feature}
+use Rattle.cool_syntax.specs.declared.file_tree.Feature.TheVariants.{Method, Attribute}
+use Rattle.cool_syntax.specs.Tree.{Tree}
+use Rattle.mips_isa.specs.declared.address_map.TheConstants.{TEXT_START}
+use Rattle.mips_isa.specs.Lines.{Line}
+use Rattle.cool_classes.specs.declared.class_id.ClassId.{ClassId}
+use Rattle.cool_classes.specs.Chains.{Class, name_of}
+use Rattle.cool_runtime.specs.Reaches.{World}
+use Rattle.cool_runtime.specs.Standing.{sizes, HasLines}
+use Rattle.cool_runtime.proofs.Pieces.{has_front, has_back}
+use Rattle.cool_layout.specs.Preorder.{numbers_from}
+use Rattle.cool_codegen.specs.Features as scopes
+use Rattle.cool_codegen.specs.Shown.{Shown, shown}
+use Rattle.cool_codegen.specs.Spans.{Span, StandsBehind, code_of, feature_spans}
+use Rattle.cool_codegen.specs.Variables.{Named}
+use Rattle.cool_codegen.proofs.SpansOfCode.{Stands, law_feature}
+use Rattle.cool_codegen.proofs.SpansStand.{behind_front, behind_back, behind_stands}
+use Rattle.cool_emit.specs.CodeTables.{Row, class_row, attribute_row, initial_row, method_row, formal_row, code_row, class_rows, head_rows, initial_rows, behind, shown_row, feature_rows, code_rows, table_rows}
+use Rattle.cool_emit.specs.Programs.{Placed, placed_code, program_constants, program_text}
+use Rattle.cool_emit.specs.SpansOfPrograms.{context_of}
+use Rattle.cool_emit.specs.StandingRows.{StandsBetween, HasFeature, HasExpression, IsTrue, RowsStand}
+use Rattle.cool_emit.proofs.SpansOfPrograms.{all_mapped, in_text}
+use Rattle.cool_emit.proofs.TellingParts.{sizes_append, take_front}
+use Rattle.lists.proofs.AllItems.{all_append}
+
+-- what holds of each with what else does
+pub member_all : {X : Type 0} (P Q : X → Type 0) (xs : List X) → AllByRecursion P xs → ((x : X) → Contains xs x → P x → Q x) → AllByRecursion Q xs
+member_all P Q [] all h = tt
+member_all {X = X} P Q (x ∷ xs) all h = (h x (0, omega arith, refl) all.0, member_all P Q xs all.1 (λ y there. h y (later y there)))
+  where
+    later : (y : X) → Contains xs y → Contains (x ∷ xs) y
+    later y (k, less, is) = (suc k, omega arith, is)
+
+-- what stands behind so many lines stands behind these lines
+module _ (text part : List Line) (n : ℕ) (h : StandsBehind text n part) where
+  pub front_taken : h.front ≡ take n text
+  front_taken = sym (ap (take n) h.whole ∙ ap (λ (k : ℕ). take k (h.front ++ (part ++ h.rest))) (sym h.many) ∙ take_front h.front (part ++ h.rest))
+
+  pub both_taken : take (n + length part) text ≡ h.front ++ part
+  both_taken =
+      ap (take (n + length part)) (h.whole ∙ sym (append_assoc h.front part h.rest))
+      ∙ ap (λ (k : ℕ). take k ((h.front ++ part) ++ h.rest)) (let l = length-append h.front part in let m = h.many in omega arith)
+      ∙ take_front (h.front ++ part) h.rest
+
+  pub within : n + length part ≤ length text
+  within =
+      let l = ap length h.whole ∙ length-append h.front (part ++ h.rest) in
+      let r = length-append part h.rest in
+      let m = h.many in omega arith
+
+module _ (w : World) (p : List Class) (files : List (List ℕ)) where
+  of_class : (cs : List ClassId) → AllByRecursion (IsTrue w p files) (flat_map (class_rows p) cs)
+  of_class [] = tt
+  of_class (c ∷ cs) = (tt, all_append (IsTrue w p files) (map attribute_row (scopes.attributes_in p c)) (flat_map (class_rows p) cs) (attributes (scopes.attributes_in p c)) (of_class cs))
+    where
+      attributes : (vs : List Named) → AllByRecursion (IsTrue w p files) (map attribute_row vs)
+      attributes [] = tt
+      attributes (v ∷ vs) = (tt, attributes vs)
+
+  of_formals : (vs : List Named) → AllByRecursion (IsTrue w p files) (map formal_row vs)
+  of_formals [] = tt
+  of_formals (v ∷ vs) = (tt, of_formals vs)
+
+  module _ (c : ClassId) (pc : ℕ) (f : Placed) (has : HasLines w pc (placed_code p files (program_constants p files) c f)) where
+    abbrev lines : List Line
+    lines = placed_code p files (program_constants p files) c f
+
+    stands : StandsBetween w pc (pc + sizes lines) lines
+    stands = record { begins = has; ends = refl }
+
+    of_head : AllByRecursion (IsTrue w p files) (head_rows p pc (pc + sizes lines) f.feature)
+    of_head = by f.feature refl
+      where
+        of_initial : (name : List ℕ) (o : Option Tree) → ((row : Row) → Contains (initial_rows pc (pc + sizes lines) name o) row → HasFeature w p files row pc (pc + sizes lines))
+            → AllByRecursion (IsTrue w p files) (initial_rows pc (pc + sizes lines) name o)
+        of_initial name None h = tt
+        of_initial name (Some t) h = (h (initial_row pc (pc + sizes lines) name) (0, omega arith, refl), tt)
+
+        by : (x : Feature) → f.feature ≡ x → AllByRecursion (IsTrue w p files) (head_rows p pc (pc + sizes lines) x)
+        by (Method m) e = (
+          record { class = c; feature = f; is = subst (λ (x : Feature). Contains (head_rows p pc (pc + sizes lines) x) (method_row pc (pc + sizes lines) m.name)) (sym e) (0, omega arith, refl); stands = stands },
+          of_formals (scopes.with_formals p m.formals []),
+        )
+        by (Attribute a) e =
+            of_initial a.name a.init
+            (λ row there. record { class = c; feature = f; is = subst (λ (x : Feature). Contains (head_rows p pc (pc + sizes lines) x) row) (sym e) there; stands = stands })
+
+    -- what stands behind so many of the lines stands at the address behind those
+    of_span : (x : Span) → Contains (feature_spans length (context_of p files c f.place) (program_constants p files) 0 f.feature) x
+        → StandsBehind lines x.from (code_of (context_of p files c f.place) (program_constants p files) x)
+        → IsTrue w p files (shown_row pc lines (shown (context_of p files c f.place) (program_constants p files) x))
+    of_span x there h =
+        let part = code_of (context_of p files c f.place) (program_constants p files) x in
+        let from : pc + sizes h.front ≡ behind pc lines x.from = ap (λ (ls : List Line). pc + sizes ls) (front_taken lines part x.from h) in
+        let to : behind pc lines (x.from + length part) ≡ pc + sizes (h.front ++ part) = ap (λ (ls : List Line). pc + sizes ls) (both_taken lines part x.from h) in
+        let all = sizes_append h.front part in
+        record {
+          class = c;
+          feature = f;
+          span = x;
+          within = there;
+          is = refl;
+          stands = record { begins = subst (λ (n : ℕ). HasLines w n part) from (behind_stands w lines part pc x.from h has); ends = omega arith };
+        }
+
+    pub of_feature : AllByRecursion (IsTrue w p files) (feature_rows p files (program_constants p files) c pc f)
+    of_feature =
+        let s = context_of p files c f.place in
+        let g = program_constants p files in
+        let whole : StandsBehind lines 0 lines = record { front = []; rest = []; whole = sym (append-nil lines); many = refl } in
+        let all = law_feature length (StandsBehind lines) (behind_front lines) (behind_back lines) s g 0 f.feature whole in
+        let rows = member_all (Stands length (StandsBehind lines) (behind_front lines) (behind_back lines) s g) (λ (x : Span). IsTrue w p files (shown_row pc lines (shown s g x)))
+        (feature_spans length s g 0 f.feature) all of_span in
+        let seen = all_mapped (λ (x : Span). IsTrue w p files (shown_row pc lines (shown s g x))) (λ (v : Shown). IsTrue w p files (shown_row pc lines v)) (shown s g) (feature_spans length s g 0 f.feature) (λ x h. h) rows in
+        all_append (IsTrue w p files) (head_rows p pc (pc + sizes lines) f.feature) _ of_head
+        (all_mapped (λ (v : Shown). IsTrue w p files (shown_row pc lines v)) (IsTrue w p files) (shown_row pc lines) (map (shown s g) (feature_spans length s g 0 f.feature)) (λ x h. h) seen)
+
+pub rows_stand : RowsStand
+rows_stand w p files has =
+    let g = program_constants p files in
+    let front : (xs ys : List Line) (pc : ℕ) → HasLines w pc (xs ++ ys) → HasLines w pc xs = has_front w in
+    let back : (xs ys : List Line) (pc : ℕ) → HasLines w pc (xs ++ ys) → HasLines w (pc + sizes xs) ys = λ xs ys pc h. has_back w xs ys pc (pc + sizes xs) refl h in
+    all_append (IsTrue w p files) (flat_map (class_rows p) (numbers_from 0 (length p))) _ (of_class w p files (numbers_from 0 (length p)))
+    (in_text sizes (HasLines w) front back p files g (feature_rows p files g) (IsTrue w p files) (of_feature w p files) TEXT_START has)
