@@ -1,2 +1,3 @@
 mod FreshDevices
+mod ShortNames
 mod TreesOfTokens

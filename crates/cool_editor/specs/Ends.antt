@@ -1,11 +1,17 @@
--- How a call ends: the lines of the marks of the files are written, or the files are no class table, or not read, or a write fails.
-use Rattle.std.specs.Prelude.{◌≡◌, ℕ, List, [], ◌∷◌, ◌++◌, map, codes, Option, Some, None}
+-- How a call ends: the lines of the marks of the files, or of the table of their code, are written, or the files have none, or are not read, or
+-- a write fails.
+use Rattle.std.specs.Prelude.{◌≡◌, ◌⊎◌, ℕ, List, [], ◌∷◌, ◌++◌, length, map, codes, nat_le, Bool, true, false, Option, Some, None}
+use Rattle.std.specs.List.{list_all}
 use Rattle.std.specs.Global.{Vec}
 use Rattle.cool_syntax.specs.declared.token.Token.{Token}
 use Rattle.cool_syntax.specs.declared.file_tree.FileTree.{FileTree}
 use Rattle.cool_syntax.specs.Grammar.{Parses}
 use Rattle.cool_lexer.specs.declared.lexer.Lexed.{Lexed}
 use Rattle.cool_classes.specs.Definitions.{definitions}
+use Rattle.cool_classes.specs.Chains.{Class}
+use Rattle.cool_emit.specs.TableLines.{table_text}
+use Rattle.cool_emit.specs.declared.TheConstants.{MOST_FILE_NAME}
+use Rattle.cool_faults.specs.Verdicts.{IsAccepted, IsRefused as IsRefusedFor}
 use Rattle.cool_faults.specs.declared.fault.Fault.{Fault}
 use Rattle.cool_faults.specs.declared.fault.Untyped.{Untyped}
 use Rattle.cool_faults.specs.Untyped.{IsRefusedEarly, IsUntyped}
@@ -20,6 +26,8 @@ use Rattle.cool_sources.specs.Reading.{AreUnread}
 use Rattle.cool_sources.specs.declared.status.Status.{Status}
 use Rattle.cool_sources.specs.declared.status.Status.TheVariants.{Done, Refused, Usage, WriteFault, Memory, FileFault}
 use Rattle.cool_editor.specs.Lines.{mark_lines}
+use Rattle.cool_editor.specs.declared.form.Form.{Form}
+use Rattle.cool_editor.specs.declared.form.Form.TheVariants.{Marks, Code}
 
 -- the tokens of each file are the tree that has its place
 abbrev pub AreTrees : List Lexed → List FileTree → Type 0
@@ -48,70 +56,103 @@ abbrev pub IsAnswer : List (List ℕ) → Option (Vec Mark) → Type 0
 IsAnswer files (Some marks) = AreMarks files marks.items
 IsAnswer files None = AreNoTable files
 
--- the lines of the marks of files
-abbrev pub IsTextOf : List (List ℕ) → Option (Vec ℕ) → Type 0
-IsTextOf contents (Some text) = (marks : List Mark) × AreMarks contents marks × (text.items ≡ mark_lines marks)
-IsTextOf contents None = AreNoTable contents
+-- these bytes are what is written of files of these names in a form: the lines of their marks, or of the table of the program that they are
+abbrev pub IsWritten : Form → List (List ℕ) → List (List ℕ) → List ℕ → Type 0
+IsWritten Marks names contents text = (marks : List Mark) × AreMarks contents marks × (text ≡ mark_lines marks)
+IsWritten Code names contents text = (p : List Class) × IsAccepted contents p × (text ≡ table_text p names)
+
+-- why nothing is: they are no class table, or no program
+abbrev pub HaveNone : Form → List (List ℕ) → Type 0
+HaveNone Marks contents = AreNoTable contents
+HaveNone Code contents = (faults : List Fault) × IsRefusedFor contents faults
+
+-- what is written of files, or nothing
+abbrev pub IsTextOf : Form → List (List ℕ) → List (List ℕ) → Option (Vec ℕ) → Type 0
+IsTextOf form names contents (Some text) = IsWritten form names contents text.items
+IsTextOf form names contents None = HaveNone form contents
 
 -- the same of the files of these names, which were read
-abbrev pub IsText : ShelfUse → List (List ℕ) → Option (Vec ℕ) → Type 0
-IsText shelf names text = (contents : List (List ℕ)) × AreRead shelf names contents × IsTextOf contents text
+abbrev pub IsText : Form → ShelfUse → List (List ℕ) → Option (Vec ℕ) → Type 0
+IsText form shelf names text = (contents : List (List ℕ)) × AreRead shelf names contents × IsTextOf form names contents text
 
--- a sink got the lines of the marks of the files of these names, which were read, in pieces of 4,096 bytes
-pub record IsListed (shelf : ShelfUse) (names : List (List ℕ)) (out : SinkUse) : Type 0 where
+-- a sink got what is written of the files of these names, which were read, in pieces of 4,096 bytes
+pub record IsListed (form : Form) (shelf : ShelfUse) (names : List (List ℕ)) (out : SinkUse) : Type 0 where
   pub contents : List (List ℕ)
   pub read : AreRead shelf names contents
-  pub marks : List Mark
-  pub are : AreMarks contents marks
-  pub written : out.held_after ≡ appended out.held_before (mark_lines marks)
-  pub put : out.puts_after ≡ out.puts_before ++ pieces_of 4096 (mark_lines marks)
+  pub text : List ℕ
+  pub is : IsWritten form names contents text
+  pub written : out.held_after ≡ appended out.held_before text
+  pub put : out.puts_after ≡ out.puts_before ++ pieces_of 4096 text
 
--- the files of these names, which were read, are no class table
-pub record IsRefused (shelf : ShelfUse) (names : List (List ℕ)) : Type 0 where
+-- nothing is written of the files of these names, which were read
+pub record IsRefused (form : Form) (shelf : ShelfUse) (names : List (List ℕ)) : Type 0 where
   pub contents : List (List ℕ)
   pub read : AreRead shelf names contents
-  pub none : AreNoTable contents
+  pub none : HaveNone form contents
+
+-- names fit a form: those of a program whose code is told are as short as a build wants them
+abbrev pub fit : Form → List (List ℕ) → Bool
+fit Marks names = true
+fit Code names = list_all (λ (name : List ℕ). nat_le (length name) MOST_FILE_NAME) names
+
+-- there is no name, or one that does not fit
+abbrev pub IsNoCall : Form → List (List ℕ) → Type 0
+IsNoCall form names = (names ≡ []) ⊎ (fit form names ≡ false)
+
+-- why there is nothing to write of the files of these names
+abbrev pub IsUntold : Form → ShelfUse → List (List ℕ) → Status → Type 0
+IsUntold form shelf names Usage = IsNoCall form names × IsUnused shelf
+IsUntold form shelf names FileFault = AreUnread shelf names
+IsUntold form shelf names Memory = Unit {0}
+IsUntold form shelf names Done = ⊥
+IsUntold form shelf names Refused = ⊥
+IsUntold form shelf names WriteFault = ⊥
+
+-- the note of files of which nothing is written
+abbrev pub refusal_note : Form → List ℕ
+refusal_note Marks = codes "cool_editor: no class table\n"
+refusal_note Code = codes "cool_editor: not a program\n"
 
 -- the note of a call that ends so
-abbrev pub note_of : Status → List ℕ
-note_of Usage = codes "cool_editor: bad command line\n"
-note_of Refused = codes "cool_editor: no class table\n"
-note_of FileFault = codes "cool_editor: files not read\n"
-note_of Done = []
-note_of WriteFault = []
-note_of Memory = []
+abbrev pub note_of : Form → Status → List ℕ
+note_of form Usage = codes "cool_editor: bad command line\n"
+note_of form Refused = refusal_note form
+note_of form FileFault = codes "cool_editor: files not read\n"
+note_of form Done = []
+note_of form WriteFault = []
+note_of form Memory = []
 
 -- what is put to the notes of a call that ends so: its note, at once, where it has one
-abbrev pub puts_of : Status → List (List ℕ)
-puts_of Usage = note_of Usage ∷ []
-puts_of Refused = note_of Refused ∷ []
-puts_of FileFault = note_of FileFault ∷ []
-puts_of Done = []
-puts_of WriteFault = []
-puts_of Memory = []
+abbrev pub puts_of : Form → Status → List (List ℕ)
+puts_of form Usage = note_of form Usage ∷ []
+puts_of form Refused = note_of form Refused ∷ []
+puts_of form FileFault = note_of form FileFault ∷ []
+puts_of form Done = []
+puts_of form WriteFault = []
+puts_of form Memory = []
 
 -- why a note of this status is written
-abbrev pub IsDue : ShelfUse → List (List ℕ) → Status → Type 0
-IsDue shelf names Usage = (names ≡ []) × IsUnused shelf
-IsDue shelf names Refused = IsRefused shelf names
-IsDue shelf names FileFault = AreUnread shelf names
-IsDue shelf names Done = ⊥
-IsDue shelf names WriteFault = ⊥
-IsDue shelf names Memory = ⊥
+abbrev pub IsDue : Form → ShelfUse → List (List ℕ) → Status → Type 0
+IsDue form shelf names Usage = IsNoCall form names × IsUnused shelf
+IsDue form shelf names Refused = IsRefused form shelf names
+IsDue form shelf names FileFault = AreUnread shelf names
+IsDue form shelf names Done = ⊥
+IsDue form shelf names WriteFault = ⊥
+IsDue form shelf names Memory = ⊥
 
 -- the note that was due was put at once, and a sink got a prefix of it
-pub record IsNoteCut (shelf : ShelfUse) (names : List (List ℕ)) (notes : SinkUse) : Type 0 where
+pub record IsNoteCut (form : Form) (shelf : ShelfUse) (names : List (List ℕ)) (notes : SinkUse) : Type 0 where
   pub due : Status
-  pub is : IsDue shelf names due
-  pub got : GotPrefix notes.held_before (note_of due) notes.held_after
-  pub put : notes.puts_after ≡ notes.puts_before ++ note_of due ∷ []
+  pub is : IsDue form shelf names due
+  pub got : GotPrefix notes.held_before (note_of form due) notes.held_after
+  pub put : notes.puts_after ≡ notes.puts_before ++ note_of form due ∷ []
 
--- A write failed: a sink got a prefix of the lines of the marks of the files of these names, which were read, and some of their pieces were put.
-pub record IsCutShort (shelf : ShelfUse) (names : List (List ℕ)) (out : SinkUse) : Type 0 where
+-- A write failed: a sink got a prefix of what is written of the files of these names, which were read, and some of its pieces were put.
+pub record IsCutShort (form : Form) (shelf : ShelfUse) (names : List (List ℕ)) (out : SinkUse) : Type 0 where
   pub failed : Rose out.faults_before out.faults_after
   pub contents : List (List ℕ)
   pub read : AreRead shelf names contents
-  pub marks : List Mark
-  pub are : AreMarks contents marks
-  pub got : GotPrefix out.held_before (mark_lines marks) out.held_after
-  pub put : PutFront out.puts_before (pieces_of 4096 (mark_lines marks)) out.puts_after
+  pub text : List ℕ
+  pub is : IsWritten form names contents text
+  pub got : GotPrefix out.held_before text out.held_after
+  pub put : PutFront out.puts_before (pieces_of 4096 text) out.puts_after

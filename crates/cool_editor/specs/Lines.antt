@@ -1,9 +1,9 @@
 -- The line of a mark: FILE:LINE:BYTE ROLE NAME TYPE DEFINITION, with a blank between them and a newline at the end. FILE is the number of the
 -- file in the order of the words, from 0; DEFINITION is FILE:LINE:BYTE, or - of what no file defines, or ? where none is known.
-use Rattle.std.specs.Prelude.{◌≡◌, refl, ℕ, List, ◌++◌, map, codes, decimal}
+use Rattle.std.specs.Prelude.{◌≡◌, refl, ℕ, List, ◌++◌, map, codes}
 use Rattle.std.specs.List.{concat}
 use Rattle.std.specs.Fmt as decimals
-use Rattle.cool_syntax.specs.declared.place.Place.{Place}
+use Rattle.cool_emit.specs.TableLines.{place_text}
 use Rattle.cool_names.specs.declared.mark.Mark.{Mark}
 use Rattle.cool_names.specs.declared.mark.Role.{Role}
 use Rattle.cool_names.specs.declared.mark.Role.TheVariants as role
@@ -21,9 +21,6 @@ role_word role.Case = codes "case"
 role_word role.Variable = codes "variable"
 role_word role.Assigned = codes "assigned"
 role_word role.Call = codes "call"
-
-abbrev pub place_text : Place → List ℕ
-place_text p = decimal p.file ++ (codes ":" ++ (decimal p.line ++ (codes ":" ++ decimal p.byte)))
 
 abbrev pub target_text : Target → List ℕ
 target_text Unknown = codes "?"

@@ -2,10 +2,10 @@
 
 ghost use Rattle.std.specs.Prelude.{◌≡◌, IfOk, map};
 ghost use Rattle.std.specs.List.{concat};
-ghost use Rattle.cool_editor.specs.Lines.{mark_line, place_text, role_word, target_text};
+ghost use Rattle.cool_editor.specs.Lines.{mark_line, role_word, target_text};
 
+use cool_emit::place_text;
 use cool_names::{Mark, Role, Target};
-use cool_syntax::Place;
 use std::alloc::{AllocError, Global};
 
 /// The lines of marks. `Err` comes only for want of memory.
@@ -45,14 +45,6 @@ fn target_text(alloc: Global, target: Target) -> Result<Vec<u8>, AllocError>
         Target::Given => Vec::from_slice(alloc, b"-"),
         Target::At(at) => place_text(alloc, at),
     }
-}
-
-/// A place: the number of its file, its line and its byte. `Err` comes only for want of memory.
-fn place_text(alloc: Global, at: Place) -> Result<Vec<u8>, AllocError>
-    ensures { IfOk result (λ text. text.items ≡ place_text at) }
-{
-    let Place { file, line, byte } = at;
-    Ok(format!(in alloc; "{file}:{line}:{byte}")?.into_bytes())
 }
 
 fn role_word(role: Role) -> &'static [u8]

@@ -1,59 +1,60 @@
 //! The call: from the words to the lines.
 
-ghost use Rattle.std.specs.Prelude.{◌≡◌, ◌≢◌, ◌<◌, ◌≤◌, ◌⊎◌, [], ◌++◌, length, map, string_bytes, IfOk, IfErr, IsErrOf, OnOk};
-ghost use Rattle.cool_syntax.specs.declared.TheConstants.{MOST_FILES, MOST_SOURCE_BYTES};
-ghost use Rattle.cool_faults.specs.Files.{bytes_of, total};
+ghost use Rattle.std.specs.Prelude.{◌≡◌, ◌≢◌, ◌<◌, ◌≤◌, ◌⊎◌, [], ◌++◌, length, map, string_bytes, IfOk, IfErr, IsErrOf, OnOk, true, false};
+ghost use Rattle.cool_syntax.specs.declared.TheConstants.{MOST_FILES};
 ghost use Rattle.cool_ports.specs.Counts.{Rose};
 ghost use Rattle.cool_ports.specs.ShelfFiles.{AskedFront};
 ghost use Rattle.cool_ports.specs.SinkBytes.{appended};
 ghost use Rattle.cool_sources.specs.Devices.{shelf_use, sink_use, GotNothing};
-ghost use Rattle.cool_sources.specs.Reading.{AreUnread, IsUntold};
-ghost use Rattle.cool_editor.specs.Ends.{IsCutShort, IsListed, IsNoteCut, IsRefused, IsText, IsTextOf, note_of, puts_of};
+ghost use Rattle.cool_sources.specs.Reading.{AreUnread};
+ghost use Rattle.cool_editor.specs.Ends.{IsCutShort, IsListed, IsNoCall, IsNoteCut, IsRefused, IsText, IsUntold, fit, note_of, puts_of};
 
-use crate::files::file_marks;
-use crate::line::lines;
-use crate::note::{BAD_COMMAND_LINE, FILES_NOT_READ, NO_CLASS_TABLE};
+use crate::answer::{files_text, fit, refusal_note};
+use crate::form::Form;
+use crate::note::{BAD_COMMAND_LINE, FILES_NOT_READ};
 use cool_ports::{Failed, Shelf, Sink, put_pieces};
 use cool_sources::{Status, read_files, tell};
 use cool_syntax::MOST_FILES;
-use std::alloc::{AllocError, Global};
+use std::alloc::Global;
 
 /// The most bytes of a piece of the output.
 const MOST_PIECE_BYTES: usize = 4_096;
 
-/// Writes the lines of the marks of the files of these names, and answers how that ended.
+/// Writes what a form asks for of the files of these names, and answers how that ended.
 pub fn list_names<F: Shelf, O: Sink, E: Sink>(
     alloc: Global,
+    form: Form,
     names: &[String],
     files: &mut F,
     out: &mut O,
     notes: &mut E,
 ) -> Status
-    // The lines of the marks were written, and nothing else.
+    // What is written of the files in this form was written, and nothing else.
     ensures listed { result ≡ Status.Done
-        → IsListed (shelf_use F.files F.faults F.asked F.gave files.old files.new) (map string_bytes names.now) (sink_use O.held O.faults O.puts out.old out.new) }
-    // The files are no class table.
-    ensures refused { result ≡ Status.Refused → IsRefused (shelf_use F.files F.faults F.asked F.gave files.old files.new) (map string_bytes names.now) }
-    // There is no name.
-    ensures usage { result ≡ Status.Usage → names.now ≡ [] }
+        → IsListed form (shelf_use F.files F.faults F.asked F.gave files.old files.new) (map string_bytes names.now) (sink_use O.held O.faults O.puts out.old out.new) }
+    // The files are no class table, or no program.
+    ensures refused { result ≡ Status.Refused → IsRefused form (shelf_use F.files F.faults F.asked F.gave files.old files.new) (map string_bytes names.now) }
+    // There is no name, or one that does not fit the form.
+    ensures usage { result ≡ Status.Usage → IsNoCall form (map string_bytes names.now) }
     ensures no_name { names.now ≡ [] → (result ≡ Status.Usage) ⊎ (result ≡ Status.WriteFault) }
+    ensures unfit { fit form (map string_bytes names.now) ≡ false → (result ≡ Status.Usage) ⊎ (result ≡ Status.WriteFault) }
     // There are too many names, or a file was refused when those in front of it were read.
     ensures file_fault { result ≡ Status.FileFault → AreUnread (shelf_use F.files F.faults F.asked F.gave files.old files.new) (map string_bytes names.now) }
-    ensures too_many { MOST_FILES < length names.now → (result ≡ Status.FileFault) ⊎ (result ≡ Status.WriteFault) }
-    // A write of the lines failed, and a prefix of them was written, or one of the note.
+    ensures too_many { fit form (map string_bytes names.now) ≡ true → MOST_FILES < length names.now → (result ≡ Status.FileFault) ⊎ (result ≡ Status.WriteFault) }
+    // A write of it failed, and a prefix of it was written, or one of the note.
     ensures write_fault { result ≡ Status.WriteFault
-        → IsCutShort (shelf_use F.files F.faults F.asked F.gave files.old files.new) (map string_bytes names.now) (sink_use O.held O.faults O.puts out.old out.new)
+        → IsCutShort form (shelf_use F.files F.faults F.asked F.gave files.old files.new) (map string_bytes names.now) (sink_use O.held O.faults O.puts out.old out.new)
         ⊎ (Rose (E.faults notes.old) (E.faults notes.new) × GotNothing (sink_use O.held O.faults O.puts out.old out.new)) }
     // Nothing is written but where a write fails.
     ensures nothing { result ≢ Status.Done → result ≢ Status.WriteFault → GotNothing (sink_use O.held O.faults O.puts out.old out.new) }
     // Just the note of the status is written.
-    ensures note { result ≢ Status.WriteFault → E.held notes.new ≡ appended (E.held notes.old) (note_of result) }
+    ensures note { result ≢ Status.WriteFault → E.held notes.new ≡ appended (E.held notes.old) (note_of form result) }
     // It is put at once.
-    ensures put { result ≢ Status.WriteFault → E.puts notes.new ≡ E.puts notes.old ++ puts_of result }
-    // Where a write of the lines failed nothing is noted, and where that of the note failed a prefix of it was written.
+    ensures put { result ≢ Status.WriteFault → E.puts notes.new ≡ E.puts notes.old ++ puts_of form result }
+    // Where a write of it failed nothing is noted, and where that of the note failed a prefix of it was written.
     ensures unnoted { O.faults out.old < O.faults out.new → GotNothing (sink_use E.held E.faults E.puts notes.old notes.new) }
     ensures note_cut { E.faults notes.old < E.faults notes.new
-        → IsNoteCut (shelf_use F.files F.faults F.asked F.gave files.old files.new) (map string_bytes names.now) (sink_use E.held E.faults E.puts notes.old notes.new) }
+        → IsNoteCut form (shelf_use F.files F.faults F.asked F.gave files.old files.new) (map string_bytes names.now) (sink_use E.held E.faults E.puts notes.old notes.new) }
     // No failure is passed over.
     ensures out_fault { O.faults out.old < O.faults out.new → result ≡ Status.WriteFault }
     ensures notes_fault { E.faults notes.old < E.faults notes.new → result ≡ Status.WriteFault }
@@ -66,12 +67,12 @@ pub fn list_names<F: Shelf, O: Sink, E: Sink>(
     // The shelf is asked for files of these names alone, from the first on, in order, each once.
     ensures asked { AskedFront (map string_bytes names.now) (F.asked files.old) (F.asked files.new) }
 {
-    match names_text(alloc, names, files) {
+    match names_text(alloc, form, names, files) {
         Ok(Some(text)) => match put_pieces(out, &text, MOST_PIECE_BYTES) {
             Ok(()) => Status::Done,
             Err(Failed) => Status::WriteFault,
         },
-        Ok(None) => tell(notes, Status::Refused, NO_CLASS_TABLE),
+        Ok(None) => tell(notes, Status::Refused, refusal_note(form)),
         Err(status) => match status {
             Status::Usage => tell(notes, Status::Usage, BAD_COMMAND_LINE),
             Status::FileFault => tell(notes, Status::FileFault, FILES_NOT_READ),
@@ -80,18 +81,20 @@ pub fn list_names<F: Shelf, O: Sink, E: Sink>(
     }
 }
 
-/// The lines of the marks of the files of these names, or none where they are no class table.
+/// What is written of the files of these names, or none where they are no class table, or no program.
 #[tactic(auto, using(cool_ports::proofs::AskedNames::asked_none, cool_ports::proofs::AskedNames::asked_whole))]
 fn names_text<F: Shelf>(
     alloc: Global,
+    form: Form,
     names: &[String],
     files: &mut F,
 ) -> Result<Option<Vec<u8>>, Status>
-    ensures text { IfOk result (IsText (shelf_use F.files F.faults F.asked F.gave files.old files.new) (map string_bytes names.now)) }
+    ensures text { IfOk result (IsText form (shelf_use F.files F.faults F.asked F.gave files.old files.new) (map string_bytes names.now)) }
     ensures calm { OnOk result (F.faults files.new ≡ F.faults files.old) }
-    ensures untold { IfErr result (IsUntold (shelf_use F.files F.faults F.asked F.gave files.old files.new) (map string_bytes names.now)) }
+    ensures untold { IfErr result (IsUntold form (shelf_use F.files F.faults F.asked F.gave files.old files.new) (map string_bytes names.now)) }
     ensures no_name { names.now ≡ [] → IsErrOf result Status.Usage }
-    ensures too_many { MOST_FILES < length names.now → IsErrOf result Status.FileFault }
+    ensures unfit { fit form (map string_bytes names.now) ≡ false → IsErrOf result Status.Usage }
+    ensures too_many { fit form (map string_bytes names.now) ≡ true → MOST_FILES < length names.now → IsErrOf result Status.FileFault }
     ensures kept { F.files files.new ≡ F.files files.old }
     ensures no_less { F.faults files.old ≤ F.faults files.new }
     ensures asked { AskedFront (map string_bytes names.now) (F.asked files.old) (F.asked files.new) }
@@ -99,21 +102,12 @@ fn names_text<F: Shelf>(
     if names.is_empty() {
         return Err(Status::Usage);
     }
+    if !fit(form, names) {
+        return Err(Status::Usage);
+    }
     if names.len() > MOST_FILES {
         return Err(Status::FileFault);
     }
     let contents = read_files(alloc, names, files)?;
-    Ok(marks_text(alloc, &contents)?)
-}
-
-/// The lines of the marks of files, or none where they are no class table. `Err` comes only for want of memory.
-fn marks_text(alloc: Global, contents: &[Vec<u8>]) -> Result<Option<Vec<u8>>, AllocError>
-    requires few { length contents.now ≤ MOST_FILES }
-    requires small { total (bytes_of contents.now) ≤ MOST_SOURCE_BYTES }
-    ensures { IfOk result (IsTextOf (bytes_of contents.now)) }
-{
-    match file_marks(alloc, contents)? {
-        Some(marks) => Ok(Some(lines(alloc, &marks)?)),
-        None => Ok(None),
-    }
+    Ok(files_text(alloc, form, names, &contents)?)
 }

@@ -1,17 +1,21 @@
-//! The program for editors: `cool_editor FILES` writes where each name of the files stands, what it is, and which definition it means.
+//! The program for editors: `cool_editor FILES` writes where each name of the files stands, what it is, and which definition it means;
+//! `cool_editor --code FILES` where the code of each expression of the program stands, and which names are in scope there.
 //!
-//! Comes in: names of files. Goes out: a line for each mark of `cool_names`, as `specs/Lines.antt` defines it, or a status. It meets
-//! `specs/Ends.antt`, and over the system's files and streams `specs/Processes.antt`.
+//! Comes in: a form, and names of files. Goes out: a line for each mark of `cool_names`, as `specs/Lines.antt` defines it, or the table of code of
+//! `cool_emit`, or a status. It meets `specs/Ends.antt`, and over the system's files and streams `specs/Processes.antt`.
 #![tactic(auto)]
 
+mod answer;
 mod files;
+mod form;
 mod line;
 mod listing;
 mod note;
 mod process;
 
 use cool_ports::StdSink;
-use cool_sources::{Status, tell};
+use cool_sources::{Status, call_of, tell};
+use form::Form;
 use note::BAD_COMMAND_LINE;
 use process::list_over_system;
 use std::alloc::Global;
@@ -21,15 +25,26 @@ use std::{env, io};
 
 fn main(rt: HostRuntime) -> ExitCode {
     let status = match words(&rt) {
-        Ok(words) => list_over_system(rt.alloc(), &words, &rt, rt.stdout(), rt.stderr()).status,
+        Ok(words) => match call_of("--code", &words) {
+            Some(call) => {
+                let form = if call.other { Form::Code } else { Form::Marks };
+                list_over_system(rt.alloc(), form, call.names, &rt, rt.stdout(), rt.stderr()).status
+            }
+            None => bad_command_line(&rt),
+        },
         Err(error) if error.kind() == ErrorKind::OutOfMemory => Status::Memory,
-        Err(_) => tell(
-            &mut StdSink::new(rt.stderr()),
-            Status::Usage,
-            BAD_COMMAND_LINE,
-        ),
+        Err(_) => bad_command_line(&rt),
     };
     ExitCode::from(status.code())
+}
+
+/// Notes that the words are no command line, and answers how that ended.
+fn bad_command_line(rt: &HostRuntime) -> Status {
+    tell(
+        &mut StdSink::new(rt.stderr()),
+        Status::Usage,
+        BAD_COMMAND_LINE,
+    )
 }
 
 /// The words of the command line after the program's own name.

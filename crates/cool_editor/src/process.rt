@@ -6,6 +6,7 @@ ghost use Rattle.cool_sources.specs.GivenFiles.{WereUnread};
 ghost use Rattle.cool_editor.specs.Ends.{note_of};
 ghost use Rattle.cool_editor.specs.Processes.{HasListed, HasRefused, WasCutShort};
 
+use crate::form::Form;
 use crate::listing::list_names;
 use cool_ports::{FileShelf, Shelf, Sink, StdSink};
 use cool_sources::Status;
@@ -26,41 +27,42 @@ pub struct Process<R, O, E> {
     pub notes: StdSink<E>,
 }
 
-/// Writes the lines of the marks of the files of these names, as `list_names` does: the files are those that a runtime opens, and writers of std
-/// take the lines and the notes.
+/// Writes what a form asks for of the files of these names, as `list_names` does: the files are those that a runtime opens, and writers of std
+/// take it and the notes.
 pub fn list_over_system<R: Files, O: Write, E: Write>(
     alloc: Global,
+    form: Form,
     names: &[String],
     files: R,
     out: O,
     notes: E,
 ) -> Process<R, O, E>
-    // The output took the lines of the marks of the files that were given, and nothing else.
+    // The output took what is written of the files that were given, and nothing else.
     ensures listed { result.status ≡ Status.Done
-        → HasListed (map string_bytes names.now) (⟦<FileShelf<R> as Shelf>⟧.asked result.files) (⟦<FileShelf<R> as Shelf>⟧.gave result.files)
+        → HasListed form (map string_bytes names.now) (⟦<FileShelf<R> as Shelf>⟧.asked result.files) (⟦<FileShelf<R> as Shelf>⟧.gave result.files)
         (⟦<StdSink<O> as Sink>⟧.held result.out) }
-    // The files that were given are no class table.
+    // The files that were given are no class table, or no program.
     ensures refused { result.status ≡ Status.Refused
-        → HasRefused (map string_bytes names.now) (⟦<FileShelf<R> as Shelf>⟧.asked result.files) (⟦<FileShelf<R> as Shelf>⟧.gave result.files) }
+        → HasRefused form (map string_bytes names.now) (⟦<FileShelf<R> as Shelf>⟧.asked result.files) (⟦<FileShelf<R> as Shelf>⟧.gave result.files) }
     // There are too many names, or the file that was last asked for was not given.
     ensures file_fault { result.status ≡ Status.FileFault
         → WereUnread (map string_bytes names.now) (⟦<FileShelf<R> as Shelf>⟧.asked result.files) (⟦<FileShelf<R> as Shelf>⟧.gave result.files) }
-    // A write of the lines failed, after a prefix of them, or one of the note.
+    // A write of it failed, after a prefix of it, or one of the note.
     ensures write_fault { result.status ≡ Status.WriteFault
-        → WasCutShort (map string_bytes names.now) (⟦<FileShelf<R> as Shelf>⟧.asked result.files) (⟦<FileShelf<R> as Shelf>⟧.gave result.files)
+        → WasCutShort form (map string_bytes names.now) (⟦<FileShelf<R> as Shelf>⟧.asked result.files) (⟦<FileShelf<R> as Shelf>⟧.gave result.files)
         (⟦<StdSink<O> as Sink>⟧.held result.out)
         ⊎ (⟦<StdSink<O> as Sink>⟧.puts result.out ≡ []) }
-    // Nothing is put to the output but lines.
+    // Nothing is put to the output but that.
     ensures nothing { result.status ≢ Status.Done → result.status ≢ Status.WriteFault → ⟦<StdSink<O> as Sink>⟧.puts result.out ≡ [] }
     // The files of these names alone are asked for, from the first on, in order, each once.
     ensures asked { AskedFront (map string_bytes names.now) [] (⟦<FileShelf<R> as Shelf>⟧.asked result.files) }
     // The notes took just the note of the status.
-    ensures note { result.status ≢ Status.WriteFault → ⟦<StdSink<E> as Sink>⟧.held result.notes ≡ Some (note_of result.status) }
+    ensures note { result.status ≢ Status.WriteFault → ⟦<StdSink<E> as Sink>⟧.held result.notes ≡ Some (note_of form result.status) }
 {
     let mut files = FileShelf::new(files);
     let mut out = StdSink::new(out);
     let mut notes = StdSink::new(notes);
-    let status = list_names(alloc, names, &mut files, &mut out, &mut notes);
+    let status = list_names(alloc, form, names, &mut files, &mut out, &mut notes);
     Process {
         status,
         files,

@@ -1,0 +1,102 @@
+//! What is written of files.
+
+ghost use Rattle.std.specs.Prelude.{◌≡◌, ◌≤◌, length, map, string_bytes, IfOk, true};
+ghost use Rattle.std.specs.List.{list_all};
+ghost use Rattle.cool_syntax.specs.declared.TheConstants.{MOST_FILES, MOST_SOURCE_BYTES};
+ghost use Rattle.cool_faults.specs.Files.{bytes_of, total};
+ghost use Rattle.cool_editor.specs.Ends.{IsTextOf, fit, refusal_note};
+ghost use Rattle.cool_editor.specs.declared.form.Form.TheVariants.{Code, Marks};
+
+use crate::files::file_marks;
+use crate::form::Form;
+use crate::line::lines;
+use crate::note::{NO_CLASS_TABLE, NO_PROGRAM};
+use cool_emit::{MOST_FILE_NAME, table};
+use cool_faults::{Verdict, accept};
+use std::alloc::{AllocError, Global};
+
+/// What a form asks for of files of these names, or none where they are no class table, or no program. `Err` comes only for want of memory.
+pub fn files_text(
+    alloc: Global,
+    form: Form,
+    names: &[String],
+    contents: &[Vec<u8>],
+) -> Result<Option<Vec<u8>>, AllocError>
+    requires each { length contents.now ≡ length names.now }
+    requires fit { fit form (map string_bytes names.now) ≡ true }
+    requires few { length contents.now ≤ MOST_FILES }
+    requires small { total (bytes_of contents.now) ≤ MOST_SOURCE_BYTES }
+    ensures { IfOk result (IsTextOf form (map string_bytes names.now) (bytes_of contents.now)) }
+{
+    match form {
+        Form::Marks => marks_text(alloc, names, contents),
+        Form::Code => code_text(alloc, names, contents),
+    }
+}
+
+/// The lines of the marks of files, or none where they are no class table. `Err` comes only for want of memory.
+fn marks_text(
+    alloc: Global,
+    names: &[String],
+    contents: &[Vec<u8>],
+) -> Result<Option<Vec<u8>>, AllocError>
+    requires few { length contents.now ≤ MOST_FILES }
+    requires small { total (bytes_of contents.now) ≤ MOST_SOURCE_BYTES }
+    ensures { IfOk result (IsTextOf Marks (map string_bytes names.now) (bytes_of contents.now)) }
+{
+    let _names = names;
+    match file_marks(alloc, contents)? {
+        Some(marks) => Ok(Some(lines(alloc, &marks)?)),
+        None => Ok(None),
+    }
+}
+
+/// The lines of the table of code of files of these names, or none where they are no program. `Err` comes only for want of memory.
+fn code_text(
+    alloc: Global,
+    names: &[String],
+    contents: &[Vec<u8>],
+) -> Result<Option<Vec<u8>>, AllocError>
+    requires each { length contents.now ≡ length names.now }
+    requires fit { fit Code (map string_bytes names.now) ≡ true }
+    requires few { length contents.now ≤ MOST_FILES }
+    requires small { total (bytes_of contents.now) ≤ MOST_SOURCE_BYTES }
+    ensures { IfOk result (IsTextOf Code (map string_bytes names.now) (bytes_of contents.now)) }
+{
+    match accept(alloc, contents)? {
+        Verdict::Accepted(program) => Ok(Some(table(alloc, &program, names)?)),
+        Verdict::Refused(_) => Ok(None),
+    }
+}
+
+/// Whether names fit a form: those of a program whose code is told are as short as a build wants them.
+pub fn fit(form: Form, names: &[String]) -> bool
+    ensures { result ≡ fit form (map string_bytes names.now) }
+{
+    match form {
+        Form::Marks => true,
+        Form::Code => are_short(names),
+    }
+}
+
+/// Whether each name has at most 4,096 bytes.
+fn are_short(names: &[String]) -> bool
+    ensures { result ≡ fit Code (map string_bytes names.now) }
+{
+    for name in names {
+        if name.len() > MOST_FILE_NAME {
+            return false;
+        }
+    }
+    true
+}
+
+/// The note of files of which nothing is written.
+pub fn refusal_note(form: Form) -> &'static [u8]
+    ensures { result.now ≡ refusal_note form }
+{
+    match form {
+        Form::Marks => NO_CLASS_TABLE,
+        Form::Code => NO_PROGRAM,
+    }
+}

@@ -1,0 +1,10 @@
+//! What is written of files.
+
+/// What is written of files.
+#[derive(Clone, Copy, Debug, PartialEq, Eq)]
+pub enum Form {
+    /// The marks of their names.
+    Marks,
+    /// The table of their code.
+    Code,
+}
