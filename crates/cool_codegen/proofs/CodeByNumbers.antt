@@ -1,11 +1,12 @@
 -- What the expression at a number is, is what its node is by the numbers of its parts: the lines, the constants after them, the size.
-use Rattle.std.proofs.Common.{◌≡◌, ℕ, ◌+◌, List, [], ◌∷◌, ◌++◌, Some, length, refl, sym, ◌∙◌, ap, subst, arith}
+use Rattle.std.proofs.Common.{◌≡◌, ℕ, ◌+◌, List, [], ◌∷◌, ◌++◌, Some, length, map, refl, sym, ◌∙◌, ap, subst, arith}
 use Rattle.std.specs.Prelude.{slice_get, codes}
 use Rattle.std.proofs.lemmas.Option.{same_Some}
 use Rattle.cool_syntax.specs.declared.place.Place.{Place}
 use Rattle.cool_syntax.specs.declared.operator.ArithOp.{ArithOp}
 use Rattle.cool_syntax.specs.declared.operator.ArithOp.TheVariants as arith_op
 use Rattle.cool_syntax.specs.declared.node.Node.{Node}
+use Rattle.cool_syntax.specs.declared.node.NodeBranch.{NodeBranch}
 use Rattle.cool_syntax.specs.declared.node.NodeId.{NodeId}
 use Rattle.cool_syntax.specs.Tree.{Tree, Trees, MaybeTree, Cases, Last, More, Without, With, NoCase, CaseOf, tree_size, trees_size, maybe_size, cases_size}
 use Rattle.cool_syntax.specs.Tree as trees
@@ -24,9 +25,13 @@ use Rattle.cool_consts.specs.Labels.{int_constant, string_constant}
 use Rattle.cool_codegen.specs.Variables.{Named, bind, scope_of}
 use Rattle.cool_codegen.specs.Types.{class_meant, trees_count}
 use Rattle.cool_codegen.specs.Arms.{Arm, with_arm}
+use Rattle.cool_codegen.specs.Pieces.{turn_lines}
+use Rattle.cool_codegen.specs.Spans.{Branch, with_branch}
+use Rattle.cool_codegen.specs.Shown.{Shown}
+use Rattle.cool_codegen.proofs.ArmsInOrder.{arm_put}
 use Rattle.cool_codegen.specs.Asked.{Extends, integers_in, integers_in_all, integers_in_maybe, integers_in_cases, strings_in, strings_in_all, strings_in_maybe, strings_in_cases, files_of, file_of}
-use Rattle.cool_codegen.specs.Code.{Context, code, arguments_code, items_code, initial_code, arms_code, string_label, label_at}
-use Rattle.cool_codegen.specs.Numbered.{size_at, sizes_at, maybe_size_at, branch_sizes_at, node_size, after, with_value, with_bytes, with_file, operation_asked, asked_at, all_asked, maybe_asked, branches_asked, node_asked, receiver_class, nodes_before, lines_at, items_lines, arguments_lines, initial_lines, branch_lines, branches_arms, node_lines}
+use Rattle.cool_codegen.specs.Code.{Context, code, arguments_code, items_code, initial_code, arms_code, string_label, label_at, range_code}
+use Rattle.cool_codegen.specs.Numbered.{size_at, sizes_at, maybe_size_at, branch_sizes_at, node_size, after, with_value, with_bytes, with_file, operation_asked, asked_at, all_asked, maybe_asked, branches_asked, node_asked, receiver_class, nodes_before, lines_at, items_lines, arguments_lines, initial_lines, branch_lines, branch_spans, branches_made, node_lines}
 use Rattle.cool_rules.proofs.PartsStand.{Stands, tree_there, top, first_stands, others_stand, first_branch_stands, other_branches_stand, one_stands, two_stand, maybe_stands, three_stand, all_stand, part_node}
 use Rattle.cool_codegen.proofs.NumbersAgree.{SameIntegers, SameStrings, agrees, after_both, after_strings, extends_same, extends_before, integer_stays, string_stays}
 
@@ -181,7 +186,7 @@ split_maybe files b t g k o ns bs s x = (
 )
 
 -- there are as many roots as trees
-count_is : (k : ℕ) (ts : Trees) → trees_count ts ≡ length (roots k ts)
+pub count_is : (k : ℕ) (ts : Trees) → trees_count ts ≡ length (roots k ts)
 count_is k Last = refl
 count_is k (More e ts) = omega (arith, count_is (k + tree_size e) ts)
 
@@ -205,18 +210,21 @@ initial_is : (s : Context) (b : Tree) (t g : Constants) (vs : List Named) (d k :
 initial_is s b t g vs d k type Without there x = refl
 initial_is s b t g vs d k type (With e) there x = lines_is s b t g vs d k e there x
 
-arms_are : (s : Context) (b : Tree) (t g : Constants) (vs : List Named) (d k : ℕ) (end : Name) (before : List Arm) (cs : Cases) → Lies (nodes 0 b) k (nodes_of_cases k cs) → Extends (after t (integers_in_cases cs) (strings_in_cases s.files cs)) g
-    → arms_code s g vs d k end before cs ≡ branches_arms s b t vs d end before (branch_roots k cs)
+arms_are : (s : Context) (b : Tree) (t g : Constants) (vs : List Named) (d k : ℕ) (end : Name) (before : List (Branch (List Shown))) (cs : Cases) → Lies (nodes 0 b) k (nodes_of_cases k cs) → Extends (after t (integers_in_cases cs) (strings_in_cases s.files cs)) g
+    → arms_code s g vs d k end (map (λ (x : Branch (List Shown)). x.arm) before) cs ≡ map (λ (x : Branch (List Shown)). x.arm) (branches_made s b t vs d end before (branch_roots k cs))
 arms_are s b t g vs d k end before NoCase there x = refl
 arms_are s b t g vs d k end before (CaseOf at name declared e cs) there x =
-    let two = split s.files b t g k e (integers_in_cases cs) (strings_in_cases s.files cs) (first_branch_stands e cs there) x in
-    simp (lines_is s b t g (bind d name (type_meant s.table declared.name) vs) (d + 1) k e (first_branch_stands e cs there) two.0)
-    (arms_are s b (asked_at s.files b t (root k e)) g vs d (k + tree_size e) end
-    (with_arm before (record {
-      depth = length (above s.table (class_meant s.table s.class declared.name));
-      lines = branch_lines s b t vs d end (record { at = at; name = name; declared = declared; body = root k e });
-    }))
-    cs (other_branches_stand e cs there) two.1)
+    let here = first_branch_stands e cs there in
+    let two = split s.files b t g k e (integers_in_cases cs) (strings_in_cases s.files cs) here x in
+    let class = class_meant s.table s.class declared.name in
+    let next = label_at s (codes "next") (root k e) in
+    let w : NodeBranch = record { at = at; name = name; declared = declared; body = root k e } in
+    let made : Branch (List Shown) = record { arm = record { depth = length (above s.table class); lines = branch_lines s b t vs d end w }; inside = branch_spans s b vs d [] w } in
+    let lines = lines_is s b t g (bind d name (type_meant s.table declared.name) vs) (d + 1) k e here two.0 in
+    (λ i. arms_code s g vs d (k + tree_size e) end
+    (with_arm (map (λ (y : Branch (List Shown)). y.arm) before) (record { depth = length (above s.table class); lines = range_code s class next ++ (lines i ++ turn_lines end next) })) cs)
+    ∙ ap (λ (xs : List Arm). arms_code s g vs d (k + tree_size e) end xs cs) (arm_put before made)
+    ∙ arms_are s b (asked_at s.files b t (root k e)) g vs d (k + tree_size e) end (with_branch before made) cs (other_branches_stand e cs there) two.1
 
 -- the file of a place has its number in the table after it was asked for
 file_is : (t g : Constants) (bytes : List ℕ) → Extends (with_bytes t bytes) g → string_label g bytes ≡ string_label (with_bytes t bytes) bytes
@@ -363,7 +371,7 @@ node_sized b k (trees.Str at bytes) there = refl
 node_sized b k (trees.Bool at value) there = refl
 
 -- the node at the number of a part, as the last node of its tree
-at_part : (b : TypedBody) (scope : List Binding) (id : NodeId) (n : Node) (h : IsPart b scope id) → slice_get (nodes 0 b.body) id.0 ≡ Some n → n ≡ top h.before h.tree
+pub at_part : (b : TypedBody) (scope : List Binding) (id : NodeId) (n : Node) (h : IsPart b scope id) → slice_get (nodes 0 b.body) id.0 ≡ Some n → n ≡ top h.before h.tree
 at_part b scope id n h e = same_Some n (top h.before h.tree) (sym e ∙ part_node b scope id h)
 
 -- at the number of a part: the lines, the constants and the size

@@ -7,6 +7,8 @@ mod ConstantsKept
 pub mod NumbersAgree
 mod ScopesOfFeatures
 mod ArmsInOrder
+mod SpansNoted
+mod SpansByNumbers
 pub mod FeaturesThere
 mod NumbersStay
 mod SameSettings

@@ -11,7 +11,8 @@ use Rattle.cool_consts.specs.Constants.{Constants}
 use Rattle.cool_codegen.specs.Code.{Context, label_at}
 use Rattle.cool_codegen.specs.Types.{trees_count}
 use Rattle.cool_codegen.specs.Variables.{Named, bind}
-use Rattle.cool_codegen.specs.Spans.{Span, span, spans, arguments_spans, items_spans, initial_spans, Branch, with_branch, branches, along}
+use Rattle.cool_codegen.proofs.ArmsInOrder.{all_put}
+use Rattle.cool_codegen.specs.Spans.{Span, span, spans, arguments_spans, items_spans, initial_spans, Spanned, with_branch, branches, along}
 
 abbrev pub moved : ℕ → Span → Span
 moved n x = record { from = n + x.from; tree = x.tree; scope = x.scope; depth = x.depth; first = x.first }
@@ -25,19 +26,11 @@ module _ (n : ℕ) where
   own vs d k pc q t xs ys e h = ap₂ (λ (r : ℕ) (zs : List Span). span vs d k r t ∷ zs) e h
 
   module _ (size : List Line → ℕ) (s : Context) (g : Constants) where
-    abbrev Moves : Branch → Type 0
+    abbrev Moves : Spanned → Type 0
     Moves b = (pc q : ℕ) → n + pc ≡ q → map (moved n) (b.inside pc) ≡ b.inside q
 
-    put_moves : (bs : List Branch) (b : Branch) → AllByRecursion Moves bs → Moves b → AllByRecursion Moves (with_branch bs b)
-    put_moves [] b h k = (k, tt)
-    put_moves (a ∷ bs) b h k = by (nat_lt a.arm.depth b.arm.depth) (put_moves bs b h.1 k)
-      where
-        by : (t : Truth) → AllByRecursion Moves (with_branch bs b) → AllByRecursion Moves (if t then b ∷ a ∷ bs else a ∷ with_branch bs b)
-        by true more = (k, h)
-        by false more = (h.0, more)
-
-    along_moves : (bs : List Branch) (pc q : ℕ) → AllByRecursion Moves bs → n + pc ≡ q
-        → map (moved n) (along size (λ (b : Branch). b.arm.lines) (λ pc b. b.inside pc) pc bs) ≡ along size (λ (b : Branch). b.arm.lines) (λ pc b. b.inside pc) q bs
+    along_moves : (bs : List Spanned) (pc q : ℕ) → AllByRecursion Moves bs → n + pc ≡ q
+        → map (moved n) (along size (λ (b : Spanned). b.arm.lines) (λ pc b. b.inside pc) pc bs) ≡ along size (λ (b : Spanned). b.arm.lines) (λ pc b. b.inside pc) q bs
     along_moves [] pc q h e = refl
     along_moves (b ∷ bs) pc q h e = both (b.inside pc) _ _ _ (h.0 pc q e) (along_moves bs (pc + size b.arm.lines) (q + size b.arm.lines) h.1 (omega arith))
 
@@ -86,7 +79,7 @@ module _ (n : ℕ) where
       moved_initial vs d k pc q Without e = refl
       moved_initial vs d k pc q (With t) e = moved_spans vs d k pc q t e
 
-      branches_move : (vs : List Named) (d k : ℕ) (end : Name) (before : List Branch) (cs : Cases) → AllByRecursion Moves before → AllByRecursion Moves (branches size s g vs d k end before cs)
+      branches_move : (vs : List Named) (d k : ℕ) (end : Name) (before : List Spanned) (cs : Cases) → AllByRecursion Moves before → AllByRecursion Moves (branches size s g vs d k end before cs)
       branches_move vs d k end before NoCase h = h
       branches_move vs d k end before (CaseOf at name declared t cs) h =
-          branches_move vs d (k + tree_size t) end (with_branch before _) cs (put_moves before _ h (λ pc q e. moved_spans (bind d name (type_meant s.table declared.name) vs) (d + 1) k _ _ t (omega arith)))
+          branches_move vs d (k + tree_size t) end (with_branch before _) cs (all_put Moves before _ h (λ pc q e. moved_spans (bind d name (type_meant s.table declared.name) vs) (d + 1) k _ _ t (omega arith)))

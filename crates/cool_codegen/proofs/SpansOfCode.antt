@@ -22,7 +22,8 @@ use Rattle.cool_codegen.specs.Pieces.{case_begin_lines, case_end_lines, mark_lin
 use Rattle.cool_codegen.specs.Types.{class_meant, trees_count}
 use Rattle.cool_codegen.specs.Variables.{Named, bind}
 use Rattle.lists.proofs.AllItems.{all_append}
-use Rattle.cool_codegen.specs.Spans.{Span, code_of, spans, arguments_spans, items_spans, initial_spans, Branch, with_branch, branches, along, initial_value_spans, feature_spans}
+use Rattle.cool_codegen.proofs.ArmsInOrder.{all_put, arm_put}
+use Rattle.cool_codegen.specs.Spans.{Span, code_of, spans, arguments_spans, items_spans, initial_spans, Spanned, with_branch, branches, along, initial_value_spans, feature_spans}
 
 -- what is said of lines from an address on, and with them of their parts
 module _ (size : List Line → ℕ) (P : ℕ → List Line → Type 0)
@@ -34,25 +35,8 @@ module _ (size : List Line → ℕ) (P : ℕ → List Line → Type 0)
     Stands x = P x.from (code_of s g x)
 
     -- of a branch, wherever it begins
-    abbrev Fits : Branch → Type 0
+    abbrev Fits : Spanned → Type 0
     Fits b = (pc : ℕ) → P pc b.arm.lines → AllByRecursion Stands (b.inside pc)
-
-    arm_put : (bs : List Branch) (b : Branch) → with_arm (each (λ (x : Branch). x.arm) bs) b.arm ≡ each (λ (x : Branch). x.arm) (with_branch bs b)
-    arm_put [] b = refl
-    arm_put (a ∷ bs) b = by (nat_lt a.arm.depth b.arm.depth) (arm_put bs b)
-      where
-        by : (t : Truth) → with_arm (each (λ (x : Branch). x.arm) bs) b.arm ≡ each (λ (x : Branch). x.arm) (with_branch bs b)
-            → (if t then b.arm ∷ a.arm ∷ each (λ (x : Branch). x.arm) bs else a.arm ∷ with_arm (each (λ (x : Branch). x.arm) bs) b.arm) ≡ each (λ (x : Branch). x.arm) (if t then b ∷ a ∷ bs else a ∷ with_branch bs b)
-        by true h = refl
-        by false h = ap (λ (xs : List Arm). a.arm ∷ xs) h
-
-    fits_put : (bs : List Branch) (b : Branch) → AllByRecursion Fits bs → Fits b → AllByRecursion Fits (with_branch bs b)
-    fits_put [] b h k = (k, tt)
-    fits_put (a ∷ bs) b h k = by (nat_lt a.arm.depth b.arm.depth) (fits_put bs b h.1 k)
-      where
-        by : (t : Truth) → AllByRecursion Fits (with_branch bs b) → AllByRecursion Fits (if t then b ∷ a ∷ bs else a ∷ with_branch bs b)
-        by true more = (k, h)
-        by false more = (h.0, more)
 
     -- parts one behind the other
     pub law_along : {X Y : Type 0} (Q : Y → Type 0) (code_at : X → List Line) (inside : ℕ → X → List Y) → ((pc : ℕ) (x : X) → P pc (code_at x) → AllByRecursion Q (inside pc x))
@@ -62,15 +46,15 @@ module _ (size : List Line → ℕ) (P : ℕ → List Line → Type 0)
         let rest = flat_map code_at xs in
         all_append Q (inside pc x) _ (h pc x (front (code_at x) rest pc has)) (law_along Q code_at inside h (pc + size (code_at x)) xs (back (code_at x) rest pc has))
 
-    laid : (bs : List Branch) (pc : ℕ) → AllByRecursion Fits bs → P pc (arms_lines (each (λ (x : Branch). x.arm) bs)) → AllByRecursion Stands (along size (λ (b : Branch). b.arm.lines) (λ pc b. b.inside pc) pc bs)
+    laid : (bs : List Spanned) (pc : ℕ) → AllByRecursion Fits bs → P pc (arms_lines (each (λ (x : Spanned). x.arm) bs)) → AllByRecursion Stands (along size (λ (b : Spanned). b.arm.lines) (λ pc b. b.inside pc) pc bs)
     laid [] pc h has = tt
     laid (b ∷ bs) pc h has =
-        let rest = arms_lines (each (λ (x : Branch). x.arm) bs) in
+        let rest = arms_lines (each (λ (x : Spanned). x.arm) bs) in
         all_append Stands (b.inside pc) _ (h.0 pc (front b.arm.lines rest pc has)) (laid bs (pc + size b.arm.lines) h.1 (back b.arm.lines rest pc has))
 
     -- the branches of a case are those of its code
-    arms_are : (vs : List Named) (d k : ℕ) (end : Name) (before : List Branch) (cs : Cases)
-        → arms_code s g vs d k end (each (λ (x : Branch). x.arm) before) cs ≡ each (λ (x : Branch). x.arm) (branches size s g vs d k end before cs)
+    arms_are : (vs : List Named) (d k : ℕ) (end : Name) (before : List Spanned) (cs : Cases)
+        → arms_code s g vs d k end (each (λ (x : Spanned). x.arm) before) cs ≡ each (λ (x : Spanned). x.arm) (branches size s g vs d k end before cs)
     arms_are vs d k end before NoCase = refl
     arms_are vs d k end before (CaseOf at name declared t cs) =
         ap (λ (xs : List Arm). arms_code s g vs d (k + tree_size t) end xs cs) (arm_put before _) ∙ arms_are vs d (k + tree_size t) end (with_branch before _) cs
@@ -176,13 +160,13 @@ module _ (size : List Line → ℕ) (P : ℕ → List Line → Type 0)
       law_initial vs d k pc type Without has = tt
       law_initial vs d k pc type (With t) has = law_spans vs d k pc t has
 
-      law_branches : (vs : List Named) (d k : ℕ) (end : Name) (before : List Branch) (cs : Cases) → AllByRecursion Fits before → AllByRecursion Fits (branches size s g vs d k end before cs)
+      law_branches : (vs : List Named) (d k : ℕ) (end : Name) (before : List Spanned) (cs : Cases) → AllByRecursion Fits before → AllByRecursion Fits (branches size s g vs d k end before cs)
       law_branches vs d k end before NoCase h = h
       law_branches vs d k end before (CaseOf at name declared t cs) h =
           let range = range_code s (class_meant s.table s.class declared.name) (label_at s (codes "next") (root k t)) in
           let scope = bind d name (type_meant s.table declared.name) vs in
           law_branches vs d (k + tree_size t) end (with_branch before _) cs
-          (fits_put before _ h (λ pc has. law_spans scope (d + 1) k (pc + size range) t (front (code s g scope (d + 1) k t) _ _ (back range _ pc has))))
+          (all_put Fits before _ h (λ pc has. law_spans scope (d + 1) k (pc + size range) t (front (code s g scope (d + 1) k t) _ _ (back range _ pc has))))
 
     law_initial_value : (pc : ℕ) (o : Option Tree) → P pc (initial_value_code s g o) → AllByRecursion Stands (initial_value_spans size s g pc o)
     law_initial_value pc None has = tt

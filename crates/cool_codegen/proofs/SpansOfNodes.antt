@@ -15,7 +15,7 @@ use Rattle.cool_codegen.specs.Code.{Context, label_at}
 use Rattle.cool_codegen.specs.Types.{trees_count}
 use Rattle.cool_codegen.specs.Variables.{Named, bind}
 use Rattle.lists.proofs.Membership.{first_there, later_there}
-use Rattle.cool_codegen.specs.Spans.{Span, spans, arguments_spans, items_spans, initial_spans, Branch, with_branch, branches, along}
+use Rattle.cool_codegen.specs.Spans.{Span, spans, arguments_spans, items_spans, initial_spans, Spanned, with_branch, branches, along}
 
 -- a span whose root has a number
 pub record HasNode (xs : List Span) (n : ℕ) : Type 0 where
@@ -46,15 +46,15 @@ own x xs k m n e less inner =
 
 module _ (size : List Line → ℕ) (s : Context) (g : Constants) where
   -- a branch has a node, wherever it begins
-  abbrev InBranch : Branch → ℕ → Type 0
+  abbrev InBranch : Spanned → ℕ → Type 0
   InBranch b n = (pc : ℕ) → HasNode (b.inside pc) n
 
   -- one of the branches has it
-  abbrev InSome : List Branch → ℕ → Type 0
+  abbrev InSome : List Spanned → ℕ → Type 0
   InSome [] n = ⊥
   InSome (b ∷ bs) n = InBranch b n ⊎ InSome bs n
 
-  put_one : (bs : List Branch) (b : Branch) (n : ℕ) → InBranch b n → InSome (with_branch bs b) n
+  put_one : (bs : List Spanned) (b : Spanned) (n : ℕ) → InBranch b n → InSome (with_branch bs b) n
   put_one [] b n h = inl h
   put_one (a ∷ bs) b n h = by (nat_lt a.arm.depth b.arm.depth) (put_one bs b n h)
     where
@@ -62,7 +62,7 @@ module _ (size : List Line → ℕ) (s : Context) (g : Constants) where
       by true more = inl h
       by false more = inr more
 
-  put_keeps : (bs : List Branch) (b : Branch) (n : ℕ) → InSome bs n → InSome (with_branch bs b) n
+  put_keeps : (bs : List Spanned) (b : Spanned) (n : ℕ) → InSome bs n → InSome (with_branch bs b) n
   put_keeps [] b n h = absurd h
   put_keeps (a ∷ bs) b n h = by (nat_lt a.arm.depth b.arm.depth) (λ later. put_keeps bs b n later)
     where
@@ -70,11 +70,11 @@ module _ (size : List Line → ℕ) (s : Context) (g : Constants) where
       by true keeps = inr h
       by false keeps = elim h [ inl here ↦ inl here | inr later ↦ inr (keeps later) ]
 
-  shown : (bs : List Branch) (pc n : ℕ) → InSome bs n → HasNode (along size (λ (b : Branch). b.arm.lines) (λ pc b. b.inside pc) pc bs) n
+  shown : (bs : List Spanned) (pc n : ℕ) → InSome bs n → HasNode (along size (λ (b : Spanned). b.arm.lines) (λ pc b. b.inside pc) pc bs) n
   shown [] pc n h = absurd h
   shown (b ∷ bs) pc n h = elim h [ inl here ↦ left (b.inside pc) _ n (here pc) | inr later ↦ right (b.inside pc) _ n (shown bs (pc + size b.arm.lines) n later) ]
 
-  branches_keep : (vs : List Named) (d k n : ℕ) (end : Name) (before : List Branch) (cs : Cases) → InSome before n → InSome (branches size s g vs d k end before cs) n
+  branches_keep : (vs : List Named) (d k n : ℕ) (end : Name) (before : List Spanned) (cs : Cases) → InSome before n → InSome (branches size s g vs d k end before cs) n
   branches_keep vs d k n end before NoCase h = h
   branches_keep vs d k n end before (CaseOf at name declared t cs) h = branches_keep vs d (k + tree_size t) n end (with_branch before _) cs (put_keeps before _ n h)
 
@@ -145,7 +145,7 @@ module _ (size : List Line → ℕ) (s : Context) (g : Constants) where
     every_initial vs d k pc n Without from to = absurd (omega arith)
     every_initial vs d k pc n (With t) from to = every_node vs d k pc n t from to
 
-    every_branch : (vs : List Named) (d k n : ℕ) (end : Name) (before : List Branch) (cs : Cases) → k ≤ n → n < k + cases_size cs → InSome (branches size s g vs d k end before cs) n
+    every_branch : (vs : List Named) (d k n : ℕ) (end : Name) (before : List Spanned) (cs : Cases) → k ≤ n → n < k + cases_size cs → InSome (branches size s g vs d k end before cs) n
     every_branch vs d k n end before NoCase from to = absurd (omega arith)
     every_branch vs d k n end before (CaseOf at name declared t cs) from to =
         choose (k + tree_size t) n
@@ -156,22 +156,22 @@ module _ (size : List Line → ℕ) (s : Context) (g : Constants) where
   -- as many spans as nodes
 
   -- a branch has as many spans wherever it begins
-  abbrev IsSteady : Branch → Type 0
+  abbrev IsSteady : Spanned → Type 0
   IsSteady b = (pc : ℕ) → length (b.inside pc) ≡ length (b.inside 0)
 
-  abbrev total : List Branch → ℕ
+  abbrev total : List Spanned → ℕ
   total [] = 0
   total (b ∷ bs) = length (b.inside 0) + total bs
 
-  along_many : (bs : List Branch) (pc : ℕ) → AllByRecursion IsSteady bs → length (along size (λ (b : Branch). b.arm.lines) (λ pc b. b.inside pc) pc bs) ≡ total bs
+  along_many : (bs : List Spanned) (pc : ℕ) → AllByRecursion IsSteady bs → length (along size (λ (b : Spanned). b.arm.lines) (λ pc b. b.inside pc) pc bs) ≡ total bs
   along_many [] pc h = refl
   along_many (b ∷ bs) pc h =
-      let one = length-append (b.inside pc) (along size (λ (b : Branch). b.arm.lines) (λ pc b. b.inside pc) (pc + size b.arm.lines) bs) in
+      let one = length-append (b.inside pc) (along size (λ (b : Spanned). b.arm.lines) (λ pc b. b.inside pc) (pc + size b.arm.lines) bs) in
       let own = h.0 pc in
       let more = along_many bs (pc + size b.arm.lines) h.1 in
       omega arith
 
-  total_put : (bs : List Branch) (b : Branch) → total (with_branch bs b) ≡ length (b.inside 0) + total bs
+  total_put : (bs : List Spanned) (b : Spanned) → total (with_branch bs b) ≡ length (b.inside 0) + total bs
   total_put [] b = refl
   total_put (a ∷ bs) b = by (nat_lt a.arm.depth b.arm.depth) (total_put bs b)
     where
@@ -179,10 +179,10 @@ module _ (size : List Line → ℕ) (s : Context) (g : Constants) where
       by true h = refl
       by false h = omega (arith, h)
 
-  summed : (bs : List Branch) (b : Branch) (x m c : ℕ) → x ≡ total (with_branch bs b) + c → length (b.inside 0) ≡ m → x ≡ total bs + (m + c)
+  summed : (bs : List Spanned) (b : Spanned) (x m c : ℕ) → x ≡ total (with_branch bs b) + c → length (b.inside 0) ≡ m → x ≡ total bs + (m + c)
   summed bs b x m c h k = let put = total_put bs b in omega arith
 
-  steady_put : (bs : List Branch) (b : Branch) → AllByRecursion IsSteady bs → IsSteady b → AllByRecursion IsSteady (with_branch bs b)
+  steady_put : (bs : List Spanned) (b : Spanned) → AllByRecursion IsSteady bs → IsSteady b → AllByRecursion IsSteady (with_branch bs b)
   steady_put [] b h k = (k, tt)
   steady_put (a ∷ bs) b h k = by (nat_lt a.arm.depth b.arm.depth) (steady_put bs b h.1 k)
     where
@@ -239,7 +239,7 @@ module _ (size : List Line → ℕ) (s : Context) (g : Constants) where
     many_initial vs d k pc Without = refl
     many_initial vs d k pc (With t) = as_many vs d k pc t
 
-    many_branches : (vs : List Named) (d k : ℕ) (end : Name) (before : List Branch) (cs : Cases) → AllByRecursion IsSteady before
+    many_branches : (vs : List Named) (d k : ℕ) (end : Name) (before : List Spanned) (cs : Cases) → AllByRecursion IsSteady before
         → AllByRecursion IsSteady (branches size s g vs d k end before cs) × (total (branches size s g vs d k end before cs) ≡ total before + cases_size cs)
     many_branches vs d k end before NoCase h = (h, omega arith)
     many_branches vs d k end before (CaseOf at name declared t cs) h =

@@ -10,7 +10,7 @@ use Rattle.cool_consts.specs.Constants.{Constants}
 use Rattle.cool_codegen.specs.Code.{Context, label_at}
 use Rattle.cool_codegen.specs.Types.{trees_count}
 use Rattle.cool_codegen.specs.Variables.{Named, bind}
-use Rattle.cool_codegen.specs.Spans.{Span, span, spans, arguments_spans, items_spans, initial_spans, Branch, with_branch, branches, along}
+use Rattle.cool_codegen.specs.Spans.{Span, span, spans, arguments_spans, items_spans, initial_spans, Spanned, with_branch, branches, along}
 use Rattle.cool_codegen.proofs.LinesInAll.{behind, before, as_many_lines, many_arguments, many_initial, same_begin}
 
 both : (xs ys xs' ys' : List Span) → xs ≡ xs' → ys ≡ ys' → xs ++ ys ≡ xs' ++ ys'
@@ -20,13 +20,13 @@ own : (vs : List Named) (d k pc q : ℕ) (t : Tree) (xs ys : List Span) → pc �
 own vs d k pc q t xs ys e h = ap₂ (λ (r : ℕ) (zs : List Span). span vs d k r t ∷ zs) e h
 
 -- branches of the same depths, with as many lines and the same spans
-abbrev AreSame : List Branch → List Branch → Type 0
+abbrev AreSame : List Spanned → List Spanned → Type 0
 AreSame [] [] = Unit {0}
 AreSame [] (b ∷ bs) = ⊥
 AreSame (a ∷ as') [] = ⊥
 AreSame (a ∷ as') (b ∷ bs) = (a.arm.depth ≡ b.arm.depth) × (length a.arm.lines ≡ length b.arm.lines) × ((pc q : ℕ) → pc ≡ q → a.inside pc ≡ b.inside q) × AreSame as' bs
 
-same_put : (xs ys : List Branch) (x y : Branch) → AreSame xs ys → x.arm.depth ≡ y.arm.depth → length x.arm.lines ≡ length y.arm.lines → ((pc q : ℕ) → pc ≡ q → x.inside pc ≡ y.inside q)
+same_put : (xs ys : List Spanned) (x y : Spanned) → AreSame xs ys → x.arm.depth ≡ y.arm.depth → length x.arm.lines ≡ length y.arm.lines → ((pc q : ℕ) → pc ≡ q → x.inside pc ≡ y.inside q)
     → AreSame (with_branch xs x) (with_branch ys y)
 same_put [] [] x y h e l i = (e, l, i, tt)
 same_put [] (b ∷ bs) x y h e l i = absurd h
@@ -39,8 +39,8 @@ same_put (a ∷ as') (b ∷ bs) x y h e l i = by (nat_lt a.arm.depth x.arm.depth
     by true false w more = absurd (cc)
     by false true w more = absurd (cc)
 
-same_along : (xs ys : List Branch) (pc q : ℕ) → AreSame xs ys → pc ≡ q
-    → along length (λ (b : Branch). b.arm.lines) (λ pc b. b.inside pc) pc xs ≡ along length (λ (b : Branch). b.arm.lines) (λ pc b. b.inside pc) q ys
+same_along : (xs ys : List Spanned) (pc q : ℕ) → AreSame xs ys → pc ≡ q
+    → along length (λ (b : Spanned). b.arm.lines) (λ pc b. b.inside pc) pc xs ≡ along length (λ (b : Spanned). b.arm.lines) (λ pc b. b.inside pc) q ys
 same_along [] [] pc q h e = refl
 same_along [] (b ∷ bs) pc q h e = absurd h
 same_along (a ∷ as') [] pc q h e = absurd h
@@ -105,7 +105,7 @@ module _ (s : Context) (g g' : Constants) where
     same_initial vs d k pc q Without e = refl
     same_initial vs d k pc q (With t) e = same_spans vs d k pc q t e
 
-    same_branches : (vs : List Named) (d k : ℕ) (end : Name) (xs ys : List Branch) (cs : Cases) → AreSame xs ys → AreSame (branches length s g vs d k end xs cs) (branches length s g' vs d k end ys cs)
+    same_branches : (vs : List Named) (d k : ℕ) (end : Name) (xs ys : List Spanned) (cs : Cases) → AreSame xs ys → AreSame (branches length s g vs d k end xs cs) (branches length s g' vs d k end ys cs)
     same_branches vs d k end xs ys NoCase h = h
     same_branches vs d k end xs ys (CaseOf at name declared t cs) h =
         let scope = bind d name (type_meant s.table declared.name) vs in

@@ -1,11 +1,11 @@
 -- What a part of a body asks for before its code is made, and what the code adds to the lines and to the constants.
-use Rattle.std.specs.Prelude.{◌≡◌, ℕ, ◌+◌, ◌*◌, ◌-◌, ◌^◌, ◌<◌, ◌≤◌, List, ◌++◌, length, map, Result, OnOk}
+use Rattle.std.specs.Prelude.{◌≡◌, ℕ, ◌+◌, ◌*◌, ◌-◌, ◌^◌, ◌<◌, ◌≤◌, List, ◌++◌, length, map, Result, IfOk, OnOk}
 use Rattle.std.specs.List.{AllByRecursion}
-use Rattle.mips_isa.specs.declared.line.Line as declared_line
 use Rattle.mips_isa.specs.Lines.{Line, lines_of}
 use Rattle.cool_syntax.specs.declared.node.Node.{Node}
 use Rattle.cool_syntax.specs.declared.node.NodeId.{NodeId}
 use Rattle.cool_syntax.specs.declared.place.Place.{Place}
+use Rattle.cool_syntax.specs.declared.file_tree.Feature.{Feature}
 use Rattle.cool_syntax.specs.Tree.{of_list}
 use Rattle.cool_syntax.specs.NodeLists.{all_trees, at_id, made, tree_at, HasPartsBelow}
 use Rattle.cool_syntax.specs.TreesWithinLimits.{AreTreesWithin, IsTreeWithin}
@@ -13,9 +13,14 @@ use Rattle.cool_rules.specs.Scopes.{Binding}
 use Rattle.cool_rules.specs.TypedParts.{AreParts, HasParts, IsPart}
 use Rattle.cool_consts.specs.Constants.{Constants}
 use Rattle.cool_codegen.specs.declared.code.Code.{Code}
+use Rattle.cool_codegen.specs.declared.feature.FeatureCode.{FeatureCode}
 use Rattle.cool_codegen.specs.declared.setting.Setting.{Setting}
 use Rattle.cool_codegen.specs.Asked.{integers_in, strings_in, with_integers, with_strings, Extends, Keeps}
-use Rattle.cool_codegen.specs.Numbered.{node_asked, node_lines, node_size}
+use Rattle.cool_codegen.specs.Code.{Context}
+use Rattle.cool_codegen.specs.Features.{feature_code, feature_integers, feature_names, feature_strings}
+use Rattle.cool_codegen.specs.Spans.{feature_spans}
+use Rattle.cool_codegen.specs.Shown.{Shown, shown, shown_of}
+use Rattle.cool_codegen.specs.Numbered.{node_asked, node_lines, node_size, node_spans}
 use Rattle.cool_codegen.specs.Settings.{context, typed_body, HaveTypes, IsSound}
 use Rattle.cool_codegen.specs.Variables.{Named}
 
@@ -47,21 +52,23 @@ pub record IsNodeOf (s : Setting) (scope : List Binding) (id : NodeId) (node : N
   pub below : HasPartsBelow id.0 node
   pub places : IsTreeWithin (length s.names.now) (made (all_trees s.body.now) node)
 
--- Code was added for so many nodes, and the constants are those after it, of which those before it have kept their numbers. The setting
--- and the names in scope are as before.
-pub record Adds {X E : Type 0} (code : List Line) (named : Constants) (size : ℕ) (before after : Code) (result : Result X E) : Type 0 where
+-- Code was added for so many nodes, with what its spans show, and the constants are those after it, of which those before it have kept
+-- their numbers. The setting and the names in scope are as before.
+pub record Adds {X E : Type 0} (code : List Line) (shows : List Shown) (named : Constants) (size : ℕ) (before after : Code) (result : Result X E) : Type 0 where
   pub setting : after.setting ≡ before.setting
   pub scope : OnOk result (after.variables ≡ before.variables)
   pub lines : OnOk result (lines_of after.lines.items ≡ lines_of before.lines.items ++ code)
+  pub spans : OnOk result (map shown_of after.spans.items ≡ map shown_of before.spans.items ++ shows)
   pub asked : OnOk result (after.consts ≡ named)
   pub more_integers : OnOk result (length after.consts.integers ≤ length before.consts.integers + size)
   pub more_strings : OnOk result (length after.consts.strings ≤ length before.consts.strings + 2 * size)
   pub kept : Keeps before.consts after.consts
 
--- The code of the node of this number was added at this depth.
+-- The code of the node of this number was added at this depth, with the spans of its parts.
 abbrev pub AddsNode : {X E : Type 0} → ℕ → NodeId → Node → Code → Code → Result X E → Type 0
 AddsNode depth id node before after result =
     Adds (node_lines (context before.setting) before.setting.body.now before.consts before.variables depth id node)
+    (node_spans (context before.setting) before.setting.body.now before.consts before.variables depth (lines_of before.lines.items) id node)
     (node_asked (context before.setting).files before.setting.body.now before.consts node)
     (node_size before.setting.body.now node) before after result
 
@@ -70,8 +77,28 @@ pub record CanName (s : Setting) (t : Constants) (at : Place) : Type 0 where
   pub few : length t.strings + 2 < 2 ^ 32 - 1
   pub file : at.file < length s.names.now
 
--- Code for the whole body was added, which is the same by each table that goes on from the constants after it.
-pub record AddsBody {X E : Type 0} (s : Setting) (code : Constants → List Line) (t u : Constants) (before after : List declared_line.Line) (result : Result X E) : Type 0 where
-  pub lines : OnOk result ((g : Constants) → Extends u g → lines_of after ≡ lines_of before ++ code g)
+-- But for the spans, code is as before.
+pub record NotesAlone (before after : Code) : Type 0 where
+  pub setting : after.setting ≡ before.setting
+  pub scope : after.variables ≡ before.variables
+  pub lines : after.lines ≡ before.lines
+  pub consts : after.consts ≡ before.consts
+
+-- Code of a feature was made with these names in scope in all of it, whose lines are the same by each table that goes on from the constants
+-- after it, and what its spans show by each table.
+pub record MakesCode {E : Type 0} (s : Setting) (code : Constants → List Line) (shows : Constants → List Shown) (variables : List Named) (t u : Constants) (result : Result FeatureCode E) : Type 0 where
+  pub lines : IfOk result (λ made. (g : Constants) → Extends u g → lines_of made.lines.items ≡ code g)
+  pub spans : IfOk result (λ made. (g : Constants) → map shown_of made.spans.items ≡ shows g)
+  pub names : IfOk result (λ made. made.names ≡ variables)
   pub integers : OnOk result (u.integers ≡ with_integers t.integers (integers_in s.body.now))
   pub strings : OnOk result (u.strings ≡ with_strings t.strings (strings_in (context s).files s.body.now))
+  pub kept : Keeps t u
+
+-- The code of a feature was made: its lines are the same by each table that goes on from the constants after it, and what its spans show by
+-- each table. The names are those in scope in all of it.
+pub record MakesFeature {E : Type 0} (s : Context) (x : Feature) (t u : Constants) (result : Result FeatureCode E) : Type 0 where
+  pub lines : IfOk result (λ made. (g : Constants) → Extends u g → lines_of made.lines.items ≡ feature_code s g x)
+  pub spans : IfOk result (λ made. (g : Constants) → map shown_of made.spans.items ≡ map (shown s g) (feature_spans length s g 0 x))
+  pub names : IfOk result (λ made. made.names ≡ feature_names s x)
+  pub integers : OnOk result (u.integers ≡ with_integers t.integers (feature_integers x))
+  pub strings : OnOk result (u.strings ≡ with_strings t.strings (feature_strings s.files x))

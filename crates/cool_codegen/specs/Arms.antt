@@ -8,7 +8,7 @@ pub record Arm : Type 0 where
   pub depth : ℕ
   pub lines : List Line
 
-abbrev pub arm_of : declared_arm.Arm → Arm
+abbrev pub arm_of : {S : Type 0} → declared_arm.Arm S → Arm
 arm_of a = record { depth = a.depth; lines = lines_of a.lines.items }
 
 -- a branch after those of classes that are no less deep

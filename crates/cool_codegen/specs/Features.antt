@@ -44,6 +44,11 @@ with_formals p (f ∷ fs) vs =
 abbrev pub attributes_in : List Class → ClassId → List Named
 attributes_in p c = with_attributes p c (attributes_of p (chain p c)) []
 
+-- the names in scope in all of a feature
+abbrev pub feature_names : Context → Feature → List Named
+feature_names s (Method m) = with_formals s.table m.formals (attributes_in s.table s.class)
+feature_names s (Attribute a) = attributes_in s.table s.class
+
 abbrev pub method_code : Context → Constants → List Formal → Tree → List Line
 method_code s g formals body =
     mark_lines (method_label s.table (User s.class s.feature))

@@ -1,6 +1,6 @@
--- Expressions by the numbers of their nodes in a body: their lines, the constants after them and their sizes, as functions of the numbers,
--- and the same for a node by the numbers of its parts. Lines name constants by the table after the expression.
-use Rattle.std.specs.Prelude.{ℕ, ◌+◌, ◌-◌, List, [], ◌∷◌, ◌++◌, length, codes, Option, Some, None, get_or}
+-- Expressions by the numbers of their nodes in a body: their lines, what the spans of these show, the constants after them and their sizes,
+-- as functions of the numbers, and the same for a node by the numbers of its parts. Lines name constants by the table after the expression.
+use Rattle.std.specs.Prelude.{ℕ, ◌+◌, ◌-◌, List, [], ◌∷◌, ◌++◌, length, map, codes, Option, Some, None, get_or}
 use Rattle.cool_syntax.specs.declared.place.Place.{Place}
 use Rattle.cool_syntax.specs.declared.operator.ArithOp.{ArithOp}
 use Rattle.cool_syntax.specs.declared.operator.ArithOp.TheVariants as arith
@@ -9,7 +9,7 @@ use Rattle.cool_syntax.specs.declared.node.Node.TheVariants as node
 use Rattle.cool_syntax.specs.declared.node.NodeId.{NodeId}
 use Rattle.cool_syntax.specs.declared.node.NodeBranch.{NodeBranch}
 use Rattle.cool_syntax.specs.Tree.{Tree, tree_size}
-use Rattle.cool_syntax.specs.NodeLists.{tree_at}
+use Rattle.cool_syntax.specs.NodeLists.{all_trees, made, tree_at}
 use Rattle.mips_isa.specs.Lines.{Name, Line}
 use Rattle.cool_classes.specs.declared.class_id.ClassId.{ClassId}
 use Rattle.cool_classes.specs.declared.class_id.Ty.{Ty}
@@ -23,7 +23,9 @@ use Rattle.cool_consts.specs.Constants.{Constants, with_integer, with_string}
 use Rattle.cool_codegen.specs.Pieces.{pop_lines, take_lines, test_lines, mark_lines, turn_lines, repeat_lines, values_lines, is_void_lines, complement_lines, negate_lines, case_begin_lines, case_end_lines}
 use Rattle.cool_codegen.specs.Variables.{Named, bind, scope_of}
 use Rattle.cool_codegen.specs.Types.{class_meant}
-use Rattle.cool_codegen.specs.Arms.{Arm, with_arm, arms_lines}
+use Rattle.cool_codegen.specs.Arms.{arms_lines}
+use Rattle.cool_codegen.specs.Spans.{Branch, spans, with_branch}
+use Rattle.cool_codegen.specs.Shown.{Shown, arms_spans, shown, whole}
 use Rattle.cool_codegen.specs.Asked.{integers_in, strings_in, with_integers, with_strings}
 use Rattle.cool_codegen.specs.Code.{Context, code, name_code, assign_code, new_code, default_code, truth_label, integer_label, string_label, file_label, label_at, bool_code, int_code, operation_code, compare_code, slot_code, static_code, range_code}
 
@@ -140,6 +142,10 @@ class_of_branch s w = class_meant s.table s.class w.declared.name
 abbrev pub within_branch : Context → List Named → ℕ → NodeBranch → List Named
 within_branch s vs d w = bind d w.name (type_meant s.table w.declared.name) vs
 
+-- no constants
+abbrev pub no_constants : Constants
+no_constants = record { integers = []; strings = [] }
+
 -- lines: after a table, which names constants by the table after the expression
 
 -- how many nodes stand before the expression at a number
@@ -169,12 +175,29 @@ branch_lines s b t vs d end w =
     range_code s (class_of_branch s w) (label_at s (codes "next") w.body)
     ++ (lines_at s b t (within_branch s vs d w) (d + 1) w.body ++ turn_lines end (label_at s (codes "next") w.body))
 
+-- what the spans of an expression show whose code begins behind so many lines: the same by each table of constants, and so by none
+unfoldable pub spans_at : Context → Tree → List Named → ℕ → ℕ → NodeId → List Shown
+spans_at s b vs d from id = map (shown s no_constants) (spans length s no_constants vs d (nodes_before b id) from (tree_at b id))
+
+-- those in a branch that stands behind lines
+abbrev pub branch_spans : Context → Tree → List Named → ℕ → List Line → NodeBranch → List Shown
+branch_spans s b vs d before w =
+    spans_at s b (within_branch s vs d w) (d + 1) (length (before ++ range_code s (class_of_branch s w) (label_at s (codes "next") w.body))) w.body
+
 -- the branches put among those before them
-abbrev pub branches_arms : Context → Tree → Constants → List Named → ℕ → Name → List Arm → List NodeBranch → List Arm
-branches_arms s b t vs d end before [] = before
-branches_arms s b t vs d end before (w ∷ ws) =
-    branches_arms s b (asked_at s.files b t w.body) vs d end
-    (with_arm before (record { depth = length (above s.table (class_of_branch s w)); lines = branch_lines s b t vs d end w })) ws
+abbrev pub branches_made : Context → Tree → Constants → List Named → ℕ → Name → List (Branch (List Shown)) → List NodeBranch → List (Branch (List Shown))
+branches_made s b t vs d end before [] = before
+branches_made s b t vs d end before (w ∷ ws) =
+    branches_made s b (asked_at s.files b t w.body) vs d end
+    (with_branch before (record {
+      arm = record { depth = length (above s.table (class_of_branch s w)); lines = branch_lines s b t vs d end w };
+      inside = branch_spans s b vs d [] w;
+    }))
+    ws
+
+-- the lines of branches, one behind the other
+abbrev pub made_lines : List (Branch (List Shown)) → List Line
+made_lines bs = arms_lines (map (λ b. b.arm) bs)
 
 -- an operation, after a table
 abbrev pub operation_lines : Context → Constants → ArithOp → Place → NodeId → List Line
@@ -211,7 +234,7 @@ node_lines s b t vs d id (node.Case at a ws) =
     lines_at s b t vs d a
     ++ (case_begin_lines (file_label s (with_file s.files (asked_at s.files b t a) at) at) at.line
     ++ (push_lines
-    ++ (arms_lines (branches_arms s b (with_file s.files (asked_at s.files b t a) at) vs d (label_at s (codes "end") id) [] ws)
+    ++ (made_lines (branches_made s b (with_file s.files (asked_at s.files b t a) at) vs d (label_at s (codes "end") id) [] ws)
     ++ case_end_lines (label_at s (codes "end") id))))
 node_lines s b t vs d id (node.New at class) = new_code s.table (type_meant s.table class.name)
 node_lines s b t vs d id (node.IsVoid at a) = lines_at s b t vs d a ++ (is_void_lines ++ bool_code s id)
@@ -228,3 +251,61 @@ node_lines s b t vs d id (node.Id at name) = name_code vs name
 node_lines s b t vs d id (node.Int at value) = take_lines (integer_label (with_value t value) value)
 node_lines s b t vs d id (node.Str at bytes) = take_lines (string_label (with_bytes t bytes) bytes)
 node_lines s b t vs d id (node.Bool at value) = take_lines (truth_label value)
+
+-- spans: of parts whose code stands behind lines, after a table
+
+abbrev pub items_spans : Context → Tree → Constants → List Named → ℕ → List Line → List NodeId → List Shown
+items_spans s b t vs d before [] = []
+items_spans s b t vs d before (id ∷ ids) =
+    spans_at s b vs d (length before) id ++ items_spans s b (asked_at s.files b t id) vs d (before ++ lines_at s b t vs d id) ids
+
+abbrev pub arguments_spans : Context → Tree → Constants → List Named → ℕ → List Line → List NodeId → List Shown
+arguments_spans s b t vs d before [] = []
+arguments_spans s b t vs d before (id ∷ ids) =
+    spans_at s b vs d (length before) id ++ arguments_spans s b (asked_at s.files b t id) vs (d + 1) ((before ++ lines_at s b t vs d id) ++ push_lines) ids
+
+abbrev pub initial_spans : Context → Tree → List Named → ℕ → List Line → Option NodeId → List Shown
+initial_spans s b vs d before None = []
+initial_spans s b vs d before (Some id) = spans_at s b vs d (length before) id
+
+-- those of two operands, the left one of which goes to the stack
+abbrev pub operands_spans : Context → Tree → Constants → List Named → ℕ → List Line → NodeId → NodeId → List Shown
+operands_spans s b t vs d before l r = spans_at s b vs d (length before) l ++ spans_at s b vs (d + 1) (length ((before ++ lines_at s b t vs d l) ++ push_lines)) r
+
+-- those of the parts of a node
+abbrev pub node_spans : Context → Tree → Constants → List Named → ℕ → List Line → NodeId → Node → List Shown
+node_spans s b t vs d before id (node.Assign at name a) = spans_at s b vs d (length before) a
+node_spans s b t vs d before id (node.Dispatch at a name ids) =
+    arguments_spans s b t vs d before ids ++ spans_at s b vs (d + length ids) (length (before ++ arguments_lines s b t vs d ids)) a
+node_spans s b t vs d before id (node.StaticDispatch at a class name ids) =
+    arguments_spans s b t vs d before ids ++ spans_at s b vs (d + length ids) (length (before ++ arguments_lines s b t vs d ids)) a
+node_spans s b t vs d before id (node.If at c y n) =
+    let yes = (before ++ lines_at s b t vs d c) ++ test_lines (label_at s (codes "else") id) in
+    let no = (yes ++ lines_at s b (asked_at s.files b t c) vs d y) ++ turn_lines (label_at s (codes "end") id) (label_at s (codes "else") id) in
+    spans_at s b vs d (length before) c ++ (spans_at s b vs d (length yes) y ++ spans_at s b vs d (length no) n)
+node_spans s b t vs d before id (node.While at c a) =
+    let predicate = before ++ mark_lines (label_at s (codes "loop") id) in
+    let body = (predicate ++ lines_at s b t vs d c) ++ test_lines (label_at s (codes "end") id) in
+    spans_at s b vs d (length predicate) c ++ spans_at s b vs d (length body) a
+node_spans s b t vs d before id (node.Block at ids) = items_spans s b t vs d before ids
+node_spans s b t vs d before id (node.Let at name declared o a) =
+    initial_spans s b vs d before o
+    ++ spans_at s b (bind d name (type_meant s.table declared.name) vs) (d + 1) (length ((before ++ initial_lines s b t vs d (type_meant s.table declared.name) o) ++ push_lines)) a
+node_spans s b t vs d before id (node.Case at a ws) =
+    let begun = (before ++ lines_at s b t vs d a) ++ case_begin_lines (file_label s (with_file s.files (asked_at s.files b t a) at) at) at.line in
+    spans_at s b vs d (length before) a
+    ++ arms_spans (begun ++ push_lines) (branches_made s b (with_file s.files (asked_at s.files b t a) at) vs d (label_at s (codes "end") id) [] ws)
+node_spans s b t vs d before id (node.New at class) = []
+node_spans s b t vs d before id (node.IsVoid at a) = spans_at s b vs d (length before) a
+node_spans s b t vs d before id (node.Arith at op l r) = operands_spans s b t vs d before l r
+node_spans s b t vs d before id (node.Neg at a) = spans_at s b vs d (length before) a
+node_spans s b t vs d before id (node.Compare at op l r) = operands_spans s b t vs d before l r
+node_spans s b t vs d before id (node.Not at a) = spans_at s b vs d (length before) a
+node_spans s b t vs d before id (node.Id at name) = []
+node_spans s b t vs d before id (node.Int at value) = []
+node_spans s b t vs d before id (node.Str at bytes) = []
+node_spans s b t vs d before id (node.Bool at value) = []
+
+-- that of a node itself
+abbrev pub own_span : Context → Tree → Constants → List Named → ℕ → List Line → NodeId → Node → Shown
+own_span s b t vs d before id n = whole vs d (length before) (length (before ++ node_lines s b t vs d id n)) (made (all_trees b) n)

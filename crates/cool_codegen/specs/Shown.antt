@@ -1,17 +1,22 @@
 -- What the spans of code show: of each expression its place and its form, the lines of its feature from the first of its code to behind the
 -- last, how many words are pushed in the frame where it begins, how many names are in scope there, and the one that was entered last.
-use Rattle.std.specs.Prelude.{ℕ, ◌+◌, List, length, slice_get, Option}
+use Rattle.std.specs.Prelude.{ℕ, ◌+◌, ◌≤◌, List, [], ◌∷◌, ◌++◌, length, map, slice_get, Option}
+use Rattle.std.specs.List.{AllByRecursion}
+use Rattle.std.specs.Global.{Vec}
 use Rattle.std.specs.Option.{option_map}
 use Rattle.cool_syntax.specs.declared.place.Place.{Place}
 use Rattle.cool_syntax.specs.Tree.{Tree, place_of}
 use Rattle.cool_syntax.specs.Tree as trees
+use Rattle.mips_isa.specs.Lines.{Line}
 use Rattle.cool_consts.specs.Constants.{Constants}
+use Rattle.cool_codegen.specs.declared.arm.Arm as declared_arm
 use Rattle.cool_codegen.specs.declared.span.Form.{Form}
 use Rattle.cool_codegen.specs.declared.span.Form.TheVariants as forms
 use Rattle.cool_codegen.specs.declared.span.Span as declared_span
+use Rattle.cool_codegen.specs.Arms.{arm_of}
 use Rattle.cool_codegen.specs.Variables.{Named, named_of}
 use Rattle.cool_codegen.specs.Code.{Context}
-use Rattle.cool_codegen.specs.Spans.{Span, code_of}
+use Rattle.cool_codegen.specs.Spans.{Span, Branch, code_of}
 
 abbrev pub form_of : Tree → Form
 form_of (trees.Assign at name t) = forms.Assign
@@ -42,17 +47,21 @@ pub record Shown : Type 0 where
   pub names : ℕ
   pub latest : Option Named
 
+-- of a tree whose code stands from a line to another, with these names in scope
+abbrev pub whole : List Named → ℕ → ℕ → ℕ → Tree → Shown
+whole vs d from to t = record { at = place_of t; form = form_of t; from = from; to = to; depth = d; names = length vs; latest = slice_get vs 0 }
+
 -- what a span shows, by lines
 abbrev pub shown : Context → Constants → Span → Shown
-shown s g x = record {
-  at = place_of x.tree;
-  form = form_of x.tree;
-  from = x.from;
-  to = x.from + length (code_of s g x);
-  depth = x.depth;
-  names = length x.scope;
-  latest = slice_get x.scope 0;
-}
+shown s g x = whole x.scope x.depth x.from (x.from + length (code_of s g x)) x.tree
+
+-- the same, but for the end
+abbrev pub ended : ℕ → Shown → Shown
+ended to x = record { at = x.at; form = x.form; from = x.from; to = to; depth = x.depth; names = x.names; latest = x.latest }
+
+-- the same, so many lines later
+abbrev pub later : ℕ → Shown → Shown
+later n x = record { at = x.at; form = x.form; from = n + x.from; to = n + x.to; depth = x.depth; names = x.names; latest = x.latest }
 
 -- what a span that was noted shows
 abbrev pub shown_of : declared_span.Span → Shown
@@ -65,3 +74,16 @@ shown_of x = record {
   names = x.names;
   latest = option_map named_of x.latest;
 }
+
+-- a branch whose code was made, with what its spans show, by the lines from its first
+abbrev pub made_of : declared_arm.Arm (Vec declared_span.Span) → Branch (List Shown)
+made_of a = record { arm = arm_of a; inside = map shown_of a.spans.items }
+
+-- the spans lie within the lines of the branch
+abbrev pub IsWithin : Branch (List Shown) → Type 0
+IsWithin b = AllByRecursion (λ x. (x.from ≤ length b.arm.lines) × (x.to ≤ length b.arm.lines)) b.inside
+
+-- the spans of branches whose lines stand one behind the other, behind others
+abbrev pub arms_spans : List Line → List (Branch (List Shown)) → List Shown
+arms_spans before [] = []
+arms_spans before (b ∷ bs) = map (later (length before)) b.inside ++ arms_spans (before ++ b.arm.lines) bs

@@ -19,7 +19,8 @@ use Rattle.cool_runtime.specs.Routines.{push_lines}
 use Rattle.cool_runtime.specs.Standing.{sizes}
 use Rattle.cool_layout.specs.Labels.{method_label}
 use Rattle.cool_consts.specs.Constants.{Constants}
-use Rattle.cool_codegen.specs.Arms.{Arm}
+use Rattle.cool_codegen.specs.declared.arm.Arm as declared_arm
+use Rattle.cool_codegen.specs.Arms.{Arm, arm_of}
 use Rattle.cool_codegen.specs.Code.{Context, code, arguments_code, initial_code, file_label, label_at, range_code}
 use Rattle.cool_codegen.specs.Features.{attributes_in, with_formals}
 use Rattle.cool_codegen.specs.Pieces.{case_begin_lines, mark_lines, take_lines, test_lines, turn_lines}
@@ -37,15 +38,22 @@ pub record Span : Type 0 where
 abbrev pub code_of : Context → Constants → Span → List Line
 code_of s g span = code s g span.scope span.depth span.first span.tree
 
--- a branch of a case with its spans, by where it begins
-pub record Branch : Type 0 where
+-- a branch of a case with what is inside it
+pub record Branch (Inside : Type 0) : Type 0 where
   pub arm : Arm
-  pub inside : ℕ → List Span
+  pub inside : Inside
 
 -- in the order in which branches are tried
-abbrev pub with_branch : List Branch → Branch → List Branch
+abbrev pub with_branch : {I : Type 0} → List (Branch I) → Branch I → List (Branch I)
 with_branch [] b = b ∷ []
 with_branch (a ∷ as') b = if nat_lt a.arm.depth b.arm.depth then b ∷ a ∷ as' else a ∷ with_branch as' b
+
+abbrev pub branch_of : {S : Type 0} → declared_arm.Arm S → Branch S
+branch_of a = record { arm = arm_of a; inside = a.spans }
+
+-- a branch with its spans, by where it begins
+abbrev pub Spanned : Type 0
+Spanned = Branch (ℕ → List Span)
 
 -- the span of a whole tree
 abbrev pub span : List Named → ℕ → ℕ → ℕ → Tree → Span
@@ -122,7 +130,7 @@ module _ (size : List Line → ℕ) where
     initial_spans s g vs d k pc (With t) = spans s g vs d k pc t
 
     -- the branches of a case, put among those before them
-    pub branches : Context → Constants → List Named → ℕ → ℕ → Name → List Branch → Cases → List Branch
+    pub branches : Context → Constants → List Named → ℕ → ℕ → Name → List Spanned → Cases → List Spanned
     branches s g vs d k end before NoCase = before
     branches s g vs d k end before (CaseOf at name declared t cs) =
         branches s g vs d (k + tree_size t) end

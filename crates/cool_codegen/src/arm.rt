@@ -1,23 +1,22 @@
 //! The branches of a case, in the order in which they are tried.
 
 ghost use Rattle.std.specs.Prelude.{◌≡◌, ◌≤◌, ◌++◌, ◌∷◌, length, map, take, drop, OnOk};
-ghost use Rattle.cool_codegen.specs.Arms.{arm_of, with_arm, Arm as View};
+ghost use Rattle.cool_codegen.specs.Spans.{branch_of, with_branch, Branch};
 
-use crate::span::Span;
 use mips_isa::Line;
 use std::alloc::AllocError;
 
-/// The lines of a branch, the spans of its expressions, counted from its first line, and how many classes stand above its class.
+/// The lines of a branch, the spans inside it, counted from its first line, and how many classes stand above its class.
 #[derive(Drop)]
-pub struct Arm<'a> {
+pub struct Arm<S> {
     pub depth: u32,
     pub lines: Vec<Line>,
-    pub spans: Vec<Span<'a>>,
+    pub spans: S,
 }
 
 /// Puts a branch after those of classes that are no less deep, and before the others.
-pub fn insert_arm<'a>(arms: &mut Vec<Arm<'a>>, arm: Arm<'a>) -> Result<(), AllocError>
-    ensures { OnOk result (map arm_of arms.new.items ≡ with_arm (map arm_of arms.old.items) (arm_of arm)) }
+pub fn insert_arm<S: Drop>(arms: &mut Vec<Arm<S>>, arm: Arm<S>) -> Result<(), AllocError>
+    ensures { OnOk result (map branch_of arms.new.items ≡ with_branch (map branch_of arms.old.items) (branch_of arm)) }
 {
     let place = place_among(arms, arm.depth);
     arms.insert(place, arm)?;
@@ -25,9 +24,9 @@ pub fn insert_arm<'a>(arms: &mut Vec<Arm<'a>>, arm: Arm<'a>) -> Result<(), Alloc
 }
 
 /// How many branches stand before the first one of a class that is less deep.
-fn place_among(arms: &[Arm<'_>], depth: u32) -> usize
+fn place_among<S>(arms: &[Arm<S>], depth: u32) -> usize
     ensures within { result ≤ length arms.now }
-    ensures put { (b : View) → b.depth ≡ depth → with_arm (map arm_of arms.now) b ≡ take result (map arm_of arms.now) ++ b ∷ drop result (map arm_of arms.now) }
+    ensures put { (b : Branch S) → b.arm.depth ≡ depth → with_branch (map branch_of arms.now) b ≡ take result (map branch_of arms.now) ++ b ∷ drop result (map branch_of arms.now) }
 {
     for index in 0..arms.len() {
         if arms[index].depth < depth {

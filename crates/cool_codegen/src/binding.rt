@@ -14,10 +14,10 @@ ghost use Rattle.cool_rules.specs.TypedParts.{AreBranches, MayBePart};
 ghost use Rattle.cool_rules.specs.Typing.{with_name};
 ghost use Rattle.cool_codegen.specs.AddedCode.{Adds, AddsNode, CanName, HasRoom, IsExpressionOf, IsNodeOf, IsReady};
 ghost use Rattle.cool_codegen.specs.Asked.{Keeps};
-ghost use Rattle.cool_codegen.specs.Arms.{arm_of, arms_lines};
+ghost use Rattle.cool_codegen.specs.Shown.{arms_spans, later, made_of, shown_of, IsWithin};
 ghost use Rattle.cool_codegen.specs.Code.{file_label, range_code};
 ghost use Rattle.cool_codegen.specs.Pieces.{case_begin_lines};
-ghost use Rattle.cool_codegen.specs.Numbered.{asked_at, branch_lines, branch_sizes_at, branches_arms, branches_asked, class_of_branch, initial_lines, lines_at, maybe_asked, maybe_size_at, node_size, size_at, with_file};
+ghost use Rattle.cool_codegen.specs.Numbered.{asked_at, branch_lines, branch_sizes_at, branch_spans, branches_asked, branches_made, class_of_branch, initial_lines, initial_spans, lines_at, made_lines, maybe_asked, maybe_size_at, node_size, size_at, spans_at, with_file};
 ghost use Rattle.cool_codegen.specs.Settings.{context, typed_body, IsSound};
 ghost use Rattle.cool_codegen.specs.Variables.{bind, pushed, scope_of};
 
@@ -105,7 +105,7 @@ impl<'a> Code<'a> {
         requires places { IsMaybeWithin (length self.old.setting.names.now) (of_option (option_map (at_id (all_trees self.old.setting.body.now)) init)) }
         requires ready { IsReady self.old.setting self.old.variables }
         requires room { HasRoom self.old.consts depth (maybe_size_at self.old.setting.body.now init) }
-        ensures made { Adds (initial_lines (context self.old.setting) self.old.setting.body.now self.old.consts self.old.variables depth bound init) (maybe_asked (context self.old.setting).files self.old.setting.body.now self.old.consts init) (maybe_size_at self.old.setting.body.now init) self.old self.new result }
+        ensures made { Adds (initial_lines (context self.old.setting) self.old.setting.body.now self.old.consts self.old.variables depth bound init) (initial_spans (context self.old.setting) self.old.setting.body.now self.old.variables depth (lines_of self.old.lines.items) init) (maybe_asked (context self.old.setting).files self.old.setting.body.now self.old.consts init) (maybe_size_at self.old.setting.body.now init) self.old self.new result }
     {
         match init {
             Some(value) => {
@@ -132,7 +132,7 @@ impl<'a> Code<'a> {
         requires bound { IsType self.old.setting.table.now bound }
         requires ready { IsReady self.old.setting self.old.variables }
         requires room { HasRoom self.old.consts (depth + 1) (size_at self.old.setting.body.now body) }
-        ensures made { Adds (lines_at (context self.old.setting) self.old.setting.body.now self.old.consts (bind depth name.now bound self.old.variables) (depth + 1) body) (asked_at (context self.old.setting).files self.old.setting.body.now self.old.consts body) (size_at self.old.setting.body.now body) self.old self.new result }
+        ensures made { Adds (lines_at (context self.old.setting) self.old.setting.body.now self.old.consts (bind depth name.now bound self.old.variables) (depth + 1) body) (spans_at (context self.old.setting) self.old.setting.body.now (bind depth name.now bound self.old.variables) (depth + 1) (length (lines_of self.old.lines.items)) body) (asked_at (context self.old.setting).files self.old.setting.body.now self.old.consts body) (size_at self.old.setting.body.now body) self.old self.new result }
     {
         self.variables.enter(name, pushed(depth, bound))?;
         self.expression(depth + 1, body)?;
@@ -154,7 +154,7 @@ impl<'a> Code<'a> {
         requires places { AreCasesWithin (length self.old.setting.names.now) (of_twigs (map (twig_at (all_trees self.old.setting.body.now)) branches.now)) }
         requires ready { IsReady self.old.setting self.old.variables }
         requires room { HasRoom self.old.consts (depth + 1) (branch_sizes_at self.old.setting.body.now branches.now) }
-        ensures made { Adds (arms_lines (branches_arms (context self.old.setting) self.old.setting.body.now self.old.consts self.old.variables depth end.now [] branches.now)) (branches_asked (context self.old.setting).files self.old.setting.body.now self.old.consts branches.now) (branch_sizes_at self.old.setting.body.now branches.now) self.old self.new result }
+        ensures made { Adds (made_lines (branches_made (context self.old.setting) self.old.setting.body.now self.old.consts self.old.variables depth end.now [] branches.now)) (arms_spans (lines_of self.old.lines.items) (branches_made (context self.old.setting) self.old.setting.body.now self.old.consts self.old.variables depth end.now [] branches.now)) (branches_asked (context self.old.setting).files self.old.setting.body.now self.old.consts branches.now) (branch_sizes_at self.old.setting.body.now branches.now) self.old self.new result }
     {
         let setting = self.setting;
         let mut sorted = Vec::new(setting.alloc);
@@ -195,7 +195,7 @@ impl<'a> Code<'a> {
         requires declared { class ≡ class_of_branch (context self.old.setting) branch.now }
         requires ready { IsReady self.old.setting self.old.variables }
         requires room { HasRoom self.old.consts (depth + 1) (size_at self.old.setting.body.now branch.now.body) }
-        ensures made { Adds (branch_lines (context self.old.setting) self.old.setting.body.now self.old.consts self.old.variables depth end.now branch.now) (asked_at (context self.old.setting).files self.old.setting.body.now self.old.consts branch.now.body) (size_at self.old.setting.body.now branch.now.body) self.old self.new result }
+        ensures made { Adds (branch_lines (context self.old.setting) self.old.setting.body.now self.old.consts self.old.variables depth end.now branch.now) (branch_spans (context self.old.setting) self.old.setting.body.now self.old.variables depth (lines_of self.old.lines.items) branch.now) (asked_at (context self.old.setting).files self.old.setting.body.now self.old.consts branch.now.body) (size_at self.old.setting.body.now branch.now.body) self.old self.new result }
     {
         let alloc = self.setting.alloc;
         let next = inner_label(&self.setting, "next", branch.body)?;
@@ -211,6 +211,7 @@ impl<'a> Code<'a> {
         requires { CanName self.old.setting self.old.consts at }
         ensures setting { self.new.setting ≡ self.old.setting }
         ensures scope { self.new.variables ≡ self.old.variables }
+        ensures spans { self.new.spans ≡ self.old.spans }
         ensures lines { OnOk result (lines_of self.new.lines.items ≡ lines_of self.old.lines.items ++ case_begin_lines (file_label (context self.old.setting) (with_file (context self.old.setting).files self.old.consts at) at) at.line) }
         ensures asked { OnOk result (self.new.consts ≡ with_file (context self.old.setting).files self.old.consts at) }
         ensures more_integers { OnOk result (length self.new.consts.integers ≡ length self.old.consts.integers) }
@@ -238,11 +239,13 @@ fn pushed(depth: u32, ty: Ty) -> Variable
 
 /// Adds the lines of branches, in order, and their spans.
 fn add_arms<'a>(
-    arms: Vec<Arm<'a>>,
+    arms: Vec<Arm<Vec<Span<'a>>>>,
     lines: &mut Vec<Line>,
     spans: &mut Vec<Span<'a>>,
 ) -> Result<(), AllocError>
-    ensures lines { OnOk result (lines_of lines.new.items ≡ lines_of lines.old.items ++ arms_lines (map arm_of arms.items)) }
+    requires within { AllByRecursion IsWithin (map made_of arms.items) }
+    ensures lines { OnOk result (lines_of lines.new.items ≡ lines_of lines.old.items ++ made_lines (map made_of arms.entry.items)) }
+    ensures spans { OnOk result (map shown_of spans.new.items ≡ map shown_of spans.old.items ++ arms_spans (lines_of lines.old.items) (map made_of arms.entry.items)) }
 {
     for arm in arms {
         let Arm {
@@ -262,7 +265,10 @@ fn add_moved<'a>(
     own: &[Span<'a>],
     before: usize,
     spans: &mut Vec<Span<'a>>,
-) -> Result<(), AllocError> {
+) -> Result<(), AllocError>
+    requires within { AllByRecursion (λ x. (before + x.from < 2 ^ 64) × (before + x.to < 2 ^ 64)) own.now }
+    ensures { OnOk result (map shown_of spans.new.items ≡ map shown_of spans.old.items ++ map (later before) (map shown_of own.now)) }
+{
     for span in own {
         spans.push(Span {
             from: before + span.from,

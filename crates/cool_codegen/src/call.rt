@@ -7,7 +7,7 @@ ghost use Rattle.cool_rules.specs.TypedParts.{IsPart};
 ghost use Rattle.cool_codegen.specs.AddedCode.{Adds, AddsNode, AreExpressionsOf, CanName, HasRoom, IsNodeOf, IsReady};
 ghost use Rattle.cool_codegen.specs.Asked.{Keeps};
 ghost use Rattle.cool_codegen.specs.Code.{slot_code, static_code};
-ghost use Rattle.cool_codegen.specs.Numbered.{all_asked, arguments_lines, node_size, receiver_class, sizes_at, with_file};
+ghost use Rattle.cool_codegen.specs.Numbered.{all_asked, arguments_lines, arguments_spans, node_size, receiver_class, sizes_at, with_file};
 ghost use Rattle.cool_codegen.specs.Settings.{context, typed_body, IsSound};
 ghost use Rattle.cool_codegen.specs.Variables.{scope_of};
 
@@ -84,7 +84,7 @@ impl<'a> Code<'a> {
         requires room { HasRoom self.old.consts depth (sizes_at self.old.setting.body.now args.now) }
         ensures pushed { IfOk result (λ inner. inner ≡ depth + length args.now) }
         ensures within { IfOk result (λ inner. inner ≤ depth + sizes_at self.old.setting.body.now args.now) }
-        ensures made { Adds (arguments_lines (context self.old.setting) self.old.setting.body.now self.old.consts self.old.variables depth args.now) (all_asked (context self.old.setting).files self.old.setting.body.now self.old.consts args.now) (sizes_at self.old.setting.body.now args.now) self.old self.new result }
+        ensures made { Adds (arguments_lines (context self.old.setting) self.old.setting.body.now self.old.consts self.old.variables depth args.now) (arguments_spans (context self.old.setting) self.old.setting.body.now self.old.consts self.old.variables depth (lines_of self.old.lines.items) args.now) (all_asked (context self.old.setting).files self.old.setting.body.now self.old.consts args.now) (sizes_at self.old.setting.body.now args.now) self.old self.new result }
     {
         let mut inner = depth;
         for arg in args {
@@ -113,6 +113,7 @@ impl<'a> Code<'a> {
         requires names { CanName self.old.setting self.old.consts at }
         ensures setting { self.new.setting ≡ self.old.setting }
         ensures scope { self.new.variables ≡ self.old.variables }
+        ensures spans { self.new.spans ≡ self.old.spans }
         ensures lines { OnOk result (lines_of self.new.lines.items ≡ lines_of self.old.lines.items ++ slot_code (context self.old.setting) (with_file (context self.old.setting).files self.old.consts at) at class name.now) }
         ensures asked { OnOk result (self.new.consts ≡ with_file (context self.old.setting).files self.old.consts at) }
         ensures more_integers { OnOk result (length self.new.consts.integers ≡ length self.old.consts.integers) }
@@ -133,6 +134,7 @@ impl<'a> Code<'a> {
         requires names { CanName self.old.setting self.old.consts at }
         ensures setting { self.new.setting ≡ self.old.setting }
         ensures scope { self.new.variables ≡ self.old.variables }
+        ensures spans { self.new.spans ≡ self.old.spans }
         ensures lines { OnOk result (lines_of self.new.lines.items ≡ lines_of self.old.lines.items ++ static_code (context self.old.setting) (with_file (context self.old.setting).files self.old.consts at) at class name.now) }
         ensures asked { OnOk result (self.new.consts ≡ with_file (context self.old.setting).files self.old.consts at) }
         ensures more_integers { OnOk result (length self.new.consts.integers ≡ length self.old.consts.integers) }

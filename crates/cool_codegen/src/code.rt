@@ -1,5 +1,12 @@
 //! The code of a feature while it is made.
 
+ghost use Rattle.std.specs.Prelude.{◌≡◌, ◌<◌, [], ◌∷◌, ◌++◌, List, length, map, IfOk, OnOk};
+ghost use Rattle.mips_isa.specs.Lines.{lines_of};
+ghost use Rattle.cool_syntax.specs.NodeLists.{made};
+ghost use Rattle.cool_syntax.specs.Tree.{Tree};
+ghost use Rattle.cool_codegen.specs.AddedCode.{NotesAlone};
+ghost use Rattle.cool_codegen.specs.Shown.{ended, shown_of, whole, Shown};
+
 use crate::setting::Setting;
 use crate::span::{Span, form_of};
 use crate::variables::Variables;
@@ -22,7 +29,11 @@ pub struct Code<'a> {
 impl<'a> Code<'a> {
     /// Notes that the code of a node begins here, at this depth, and answers the number of its span, which ends where it begins until
     /// `end_span`.
-    pub(crate) fn begin_span(&mut self, depth: u32, node: &Node) -> Result<usize, AllocError> {
+    pub(crate) fn begin_span(&mut self, depth: u32, node: &Node) -> Result<usize, AllocError>
+        ensures alone { NotesAlone self.old self.new }
+        ensures number { IfOk result (λ number. number ≡ length self.old.spans.items) }
+        ensures spans { OnOk result ((ts : List Tree) → map shown_of self.new.spans.items ≡ map shown_of self.old.spans.items ++ whole self.old.variables depth (length (lines_of self.old.lines.items)) (length (lines_of self.old.lines.items)) (made ts node.now) ∷ []) }
+    {
         let number = self.spans.len();
         let from = self.lines.len();
         self.spans.push(Span {
@@ -38,7 +49,11 @@ impl<'a> Code<'a> {
     }
 
     /// Notes that the code whose span has this number ends here.
-    pub(crate) fn end_span(&mut self, number: usize) {
+    pub(crate) fn end_span(&mut self, number: usize)
+        requires noted { number < length self.old.spans.items }
+        ensures alone { NotesAlone self.old self.new }
+        ensures spans { (before rest : List Shown) (x : Shown) → map shown_of self.old.spans.items ≡ before ++ x ∷ rest → length before ≡ number → map shown_of self.new.spans.items ≡ before ++ ended (length (lines_of self.old.lines.items)) x ∷ rest }
+    {
         self.spans[number].to = self.lines.len();
     }
 }

@@ -1,22 +1,27 @@
 //! The code of methods, and of the initial values of attributes.
 
-ghost use Rattle.std.specs.Prelude.{◌≡◌, ◌^◌, ◌<◌, length, map, slice_get, string_bytes, Contains, IfOk, OnOk, Some};
+ghost use Rattle.std.specs.Prelude.{◌≡◌, ◌^◌, ◌<◌, ◌++◌, length, map, slice_get, string_bytes, Contains, IfOk, OnOk, Some};
 ghost use Rattle.mips_isa.specs.Lines.{lines_of};
 ghost use Rattle.cool_syntax.specs.declared.file_tree.Feature as syntax;
 ghost use Rattle.cool_syntax.specs.Tree.{tree_size};
 ghost use Rattle.cool_syntax.specs.TreesWithinLimits.{IsTreeWithin};
 ghost use Rattle.cool_classes.specs.Chains.{features_of};
-ghost use Rattle.cool_classes.specs.Features.{HasMethod};
+ghost use Rattle.cool_classes.specs.Features.{attribute_type, HasAttribute, HasMethod};
+ghost use Rattle.cool_classes.specs.Tables.{IsWholeTable};
 ghost use Rattle.cool_classes.specs.declared.method.MethodRef.TheVariants.{User};
 ghost use Rattle.cool_consts.specs.Constants.{Constants};
 ghost use Rattle.cool_layout.specs.Layouts.{IsLayoutOf};
 ghost use Rattle.cool_layout.specs.Members.{attributes};
+ghost use Rattle.cool_rules.specs.Conformance.{IsType};
 ghost use Rattle.cool_rules.specs.Fits.{Fits};
-ghost use Rattle.cool_codegen.specs.AddedCode.{AddsBody, HasRoom, IsReady};
-ghost use Rattle.cool_codegen.specs.Asked.{with_integers, with_strings, Extends, Keeps};
+ghost use Rattle.cool_rules.specs.Rules.{type_meant};
+ghost use Rattle.cool_codegen.specs.AddedCode.{HasRoom, IsReady, MakesCode, MakesFeature};
+ghost use Rattle.cool_codegen.specs.Asked.{with_integers, with_strings, Extends};
 ghost use Rattle.cool_codegen.specs.Code.{code};
 ghost use Rattle.cool_codegen.specs.Features.{attributes_in, feature_code, feature_integers, feature_strings, initial_value_code, method_code, with_formals};
-ghost use Rattle.cool_codegen.specs.Settings.{attribute_of, context, HasTypesIn, IsSound};
+ghost use Rattle.cool_codegen.specs.Settings.{attribute_of, context, HasTypesIn, HaveTypes, IsSound};
+ghost use Rattle.cool_codegen.specs.Shown.{shown};
+ghost use Rattle.cool_codegen.specs.Spans.{initial_value_spans, method_spans, spans};
 ghost use Rattle.cool_codegen.specs.Variables.{scope_of};
 
 use crate::code::Code;
@@ -25,7 +30,7 @@ use crate::piece::{leave, mark, store};
 use crate::setting::Setting;
 use crate::span::Span;
 use crate::variables::{Variable, Variables};
-use cool_classes::{AttributeRef, ClassId, ClassTable, MethodRef};
+use cool_classes::{AttributeRef, ClassId, ClassTable, MethodRef, Ty};
 use cool_consts::Consts;
 use cool_layout::{Layout, method_label};
 use cool_rules::{TypedProgram, type_meant};
@@ -86,7 +91,16 @@ pub fn feature_code<'a>(
     names: &'a [String],
     c: ClassId,
     feature: u32,
-) -> Result<FeatureCode<'a>, AllocError> {
+) -> Result<FeatureCode<'a>, AllocError>
+    requires layout { IsLayoutOf layout.now p.now }
+    requires fits { Fits p.now (length names.now) }
+    requires class { c.0 < length p.now }
+    requires feature { feature < length (features_of p.now c) }
+    requires few_integers { length consts.old.integers < 2 ^ 31 }
+    requires few_strings { length consts.old.strings < 2 ^ 31 }
+    ensures made { (x : syntax.Feature) → slice_get (features_of p.now c) feature ≡ Some x → MakesFeature (record { table = p.now; class = c; feature = feature; files = map string_bytes names.now }) x consts.old consts.new result }
+    ensures kept { Extends consts.old consts.new }
+{
     let table = p.table();
     let types = p.types(c, feature);
     match &table.features(c)[feature as usize] {
@@ -134,7 +148,13 @@ fn body_code<'a>(
     variables: Variables<'a>,
     consts: &mut Consts,
     lines: Vec<Line>,
-) -> Result<FeatureCode<'a>, AllocError> {
+) -> Result<FeatureCode<'a>, AllocError>
+    requires places { IsTreeWithin (length setting.now.names.now) setting.now.body.now }
+    requires types { HasTypesIn setting.now (scope_of variables) }
+    requires ready { IsReady setting.now variables }
+    requires room { HasRoom consts.old 0 (tree_size setting.now.body.now) }
+    ensures made { MakesCode setting.now (λ g. lines_of lines.items ++ code (context setting.now) g variables.entry 0 0 setting.now.body.now) (λ g. map (shown (context setting.now) g) (spans length (context setting.now) g variables.entry 0 0 (length (lines_of lines.items)) setting.now.body.now)) variables.entry consts.old consts.new result }
+{
     let root = setting.body.root();
     let mut code = Code {
         setting: *setting,
@@ -178,11 +198,21 @@ pub fn attribute_variables<'a>(
         let variable = Variable {
             base: S0,
             offset: signed(layout.offset(class, attribute)),
-            ty: table.attribute_type(attribute),
+            ty: declared_type(table, attribute),
         };
         variables.enter(table.attribute_name(attribute), variable)?;
     }
     Ok(variables)
+}
+
+/// The declared type of an attribute.
+fn declared_type(table: &ClassTable, attribute: AttributeRef) -> Ty
+    requires whole { IsWholeTable table.now }
+    requires has { HasAttribute table.now attribute }
+    ensures is_type { IsType table.now result }
+    ensures attribute { result ≡ type_meant table.now (attribute_type table.now attribute) }
+{
+    table.attribute_type(attribute)
 }
 
 /// Adds the formals of a method to the names in scope: the last one is nearest to the frame.
@@ -214,7 +244,15 @@ fn method_code<'a>(
     setting: &Setting<'a>,
     formals: &'a [Formal],
     consts: &mut Consts,
-) -> Result<FeatureCode<'a>, AllocError> {
+) -> Result<FeatureCode<'a>, AllocError>
+    requires sound { IsSound setting.now }
+    requires has { HasMethod setting.now.table.now (User setting.now.class setting.now.feature) }
+    requires few { length formals.now < 2 ^ 28 }
+    requires types { HasTypesIn setting.now (scope_of (with_formals setting.now.table.now formals.now (attributes_in setting.now.table.now setting.now.class))) }
+    requires places { IsTreeWithin (length setting.now.names.now) setting.now.body.now }
+    requires room { HasRoom consts.old 0 (tree_size setting.now.body.now) }
+    ensures made { MakesCode setting.now (λ g. method_code (context setting.now) g formals.now setting.now.body.now) (λ g. map (shown (context setting.now) g) (method_spans length (context setting.now) g formals.now 0 setting.now.body.now)) (with_formals setting.now.table.now formals.now (attributes_in setting.now.table.now setting.now.class)) consts.old consts.new result }
+{
     let alloc = setting.alloc;
     let method = MethodRef::User {
         owner: setting.class,
@@ -236,7 +274,14 @@ fn method_code<'a>(
 fn initial_value_code<'a>(
     setting: &Setting<'a>,
     consts: &mut Consts,
-) -> Result<FeatureCode<'a>, AllocError> {
+) -> Result<FeatureCode<'a>, AllocError>
+    requires sound { IsSound setting.now }
+    requires there { Contains (attributes setting.now.table.now setting.now.class) (attribute_of setting.now) }
+    requires types { HasTypesIn setting.now (scope_of (attributes_in setting.now.table.now setting.now.class)) }
+    requires places { IsTreeWithin (length setting.now.names.now) setting.now.body.now }
+    requires room { HasRoom consts.old 0 (tree_size setting.now.body.now) }
+    ensures made { MakesCode setting.now (λ g. initial_value_code (context setting.now) g (Some setting.now.body.now)) (λ g. map (shown (context setting.now) g) (initial_value_spans length (context setting.now) g 0 (Some setting.now.body.now))) (attributes_in setting.now.table.now setting.now.class) consts.old consts.new result }
+{
     let alloc = setting.alloc;
     let attribute = AttributeRef {
         owner: setting.class,

@@ -5,7 +5,7 @@ ghost use Rattle.mips_isa.specs.Lines.{lines_of};
 ghost use Rattle.cool_syntax.specs.NodeGroups.{IsBinary, IsUnary};
 ghost use Rattle.cool_runtime.specs.Routines.{push_lines};
 ghost use Rattle.cool_codegen.specs.AddedCode.{Adds, AddsNode, CanName, HasRoom, IsExpressionOf, IsNodeOf, IsReady};
-ghost use Rattle.cool_codegen.specs.Numbered.{asked_at, lines_at, node_size, operation_asked, operation_lines, size_at, tested_strings};
+ghost use Rattle.cool_codegen.specs.Numbered.{asked_at, lines_at, node_size, operands_spans, operation_asked, operation_lines, size_at, tested_strings};
 ghost use Rattle.cool_consts.specs.Constants.{Constants};
 ghost use Rattle.cool_codegen.specs.Asked.{Extends, Keeps};
 ghost use Rattle.cool_codegen.specs.Code.{operation_code};
@@ -118,7 +118,7 @@ impl<'a> Code<'a> {
         requires right { IsExpressionOf self.old.setting (scope_of self.old.variables) right }
         requires ready { IsReady self.old.setting self.old.variables }
         requires room { HasRoom self.old.consts depth (size_at self.old.setting.body.now left + size_at self.old.setting.body.now right + 1) }
-        ensures made { Adds (lines_at (context self.old.setting) self.old.setting.body.now self.old.consts self.old.variables depth left ++ (push_lines ++ lines_at (context self.old.setting) self.old.setting.body.now (asked_at (context self.old.setting).files self.old.setting.body.now self.old.consts left) self.old.variables (depth + 1) right)) (asked_at (context self.old.setting).files self.old.setting.body.now (asked_at (context self.old.setting).files self.old.setting.body.now self.old.consts left) right) (size_at self.old.setting.body.now left + size_at self.old.setting.body.now right) self.old self.new result }
+        ensures made { Adds (lines_at (context self.old.setting) self.old.setting.body.now self.old.consts self.old.variables depth left ++ (push_lines ++ lines_at (context self.old.setting) self.old.setting.body.now (asked_at (context self.old.setting).files self.old.setting.body.now self.old.consts left) self.old.variables (depth + 1) right)) (operands_spans (context self.old.setting) self.old.setting.body.now self.old.consts self.old.variables depth (lines_of self.old.lines.items) left right) (asked_at (context self.old.setting).files self.old.setting.body.now (asked_at (context self.old.setting).files self.old.setting.body.now self.old.consts left) right) (size_at self.old.setting.body.now left + size_at self.old.setting.body.now right) self.old self.new result }
     {
         self.expression(depth, left)?;
         write(self.setting.alloc, &mut self.lines, &push())?;
@@ -131,6 +131,7 @@ impl<'a> Code<'a> {
         requires { CanName self.old.setting self.old.consts at }
         ensures setting { self.new.setting ≡ self.old.setting }
         ensures scope { self.new.variables ≡ self.old.variables }
+        ensures spans { self.new.spans ≡ self.old.spans }
         ensures lines { OnOk result (lines_of self.new.lines.items ≡ lines_of self.old.lines.items ++ operation_lines (context self.old.setting) self.old.consts op at id) }
         ensures asked { OnOk result (self.new.consts ≡ operation_asked (context self.old.setting).files op at self.old.consts) }
         ensures more_integers { OnOk result (length self.new.consts.integers ≡ length self.old.consts.integers) }

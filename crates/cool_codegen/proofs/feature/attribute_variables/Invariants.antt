@@ -9,8 +9,8 @@ use Rattle.cool_codegen.proofs.feature.attribute_variables.Given as goal
 
 abbrev pub invariant-loop-attribute : goal.invariant-loop-attribute
 invariant-loop-attribute l = record {
-  types : HaveTypes l.setting.table.now l.variables;
-  has : AllByRecursion (HasAttribute l.setting.table.now) l.attribute-iterator.rest.items;
-  there : AllByRecursion (Contains (attributes l.setting.table.now l.setting.class)) l.attribute-iterator.rest.items;
-  variables : with_attributes l.setting.table.now l.setting.class l.attribute-iterator.rest.items l.variables ≡ attributes_in l.setting.table.now l.setting.class;
+  types : HaveTypes l.table l.variables;
+  has : AllByRecursion (HasAttribute l.table) l.attribute-iterator.rest.items;
+  there : AllByRecursion (Contains (attributes l.table l.class)) l.attribute-iterator.rest.items;
+  variables : with_attributes l.table l.class l.attribute-iterator.rest.items l.variables ≡ attributes_in l.table l.class;
 }

@@ -1,9 +1,11 @@
 -- A constant is named by its number in the table after it was asked for.
-use Rattle.std.proofs.Common.{◌≡◌, ◌++◌, ap, refl, sym, ◌∙◌, rules, arith}
+use Rattle.std.proofs.Common.{◌≡◌, ◌++◌, map, ap, refl, sym, ◌∙◌, rules, arith}
 use Rattle.std.proofs.lemmas.Grind.{common_steps}
+use Rattle.std.proofs.lemmas.List.{append-nil}
 use Rattle.mips_isa.specs.Lines.{lines_of}
 use Rattle.cool_codegen.specs.Code.{integer_label, string_label}
-use Rattle.cool_codegen.specs.Numbered.{node_lines, with_bytes, with_value}
+use Rattle.cool_codegen.specs.Numbered.{node_lines, node_spans, with_bytes, with_value}
+use Rattle.cool_codegen.specs.Shown.{shown_of}
 use Rattle.cool_codegen.specs.Pieces.{take_lines}
 use Rattle.cool_codegen.specs.Settings.{context}
 use Rattle.cool_codegen.proofs.NumbersAgree.{extends_same}
@@ -25,6 +27,9 @@ returns-in_ok-write-in-Int c =
             ∙ ap (λ xs. lines_of c.args.self.now.lines.items ++ xs) c.take.ensures
             ∙ ap (λ n. lines_of c.args.self.now.lines.items ++ take_lines n) name
             ∙ ap (λ n. lines_of c.args.self.now.lines.items ++ node_lines (context c.args.self.now.setting) c.args.self.now.setting.body.now old c.args.self.now.variables c.args.depth c.args.id n) (sym c.in-Int.is);
+        spans =
+            sym (append-nil (map shown_of c.args.self.now.spans.items))
+            ∙ ap (λ n. map shown_of c.args.self.now.spans.items ++ node_spans (context c.args.self.now.setting) c.args.self.now.setting.body.now old c.args.self.now.variables c.args.depth (lines_of c.args.self.now.lines.items) c.args.id n) (sym c.in-Int.is);
         asked = search rules;
         more_integers = first_of (search rules, grind (arith, common_steps));
         more_strings = first_of (search rules, grind (arith, common_steps));
@@ -48,6 +53,9 @@ returns-in_ok-write-in-Str c =
             ∙ ap (λ xs. lines_of c.args.self.now.lines.items ++ xs) c.take-in-Str.ensures
             ∙ ap (λ n. lines_of c.args.self.now.lines.items ++ take_lines n) name
             ∙ ap (λ n. lines_of c.args.self.now.lines.items ++ node_lines (context c.args.self.now.setting) c.args.self.now.setting.body.now old c.args.self.now.variables c.args.depth c.args.id n) (sym c.in-Str.is);
+        spans =
+            sym (append-nil (map shown_of c.args.self.now.spans.items))
+            ∙ ap (λ n. map shown_of c.args.self.now.spans.items ++ node_spans (context c.args.self.now.setting) c.args.self.now.setting.body.now old c.args.self.now.variables c.args.depth (lines_of c.args.self.now.lines.items) c.args.id n) (sym c.in-Str.is);
         asked = search rules;
         more_integers = first_of (search rules, grind (arith, common_steps));
         more_strings = first_of (search rules, grind (arith, common_steps));

@@ -1,0 +1,11 @@
+-- The spans that are left come after those that were added.
+use Rattle.std.proofs.Common.{◌≡◌, ◌+◌, ◌<◌, ◌^◌, ◌++◌, map, drop}
+use Rattle.std.specs.List.{AllByRecursion}
+use Rattle.cool_codegen.specs.Shown.{later, shown_of}
+use Rattle.cool_codegen.proofs.binding.add_moved.Given as goal
+
+abbrev pub invariant-loop-span : goal.invariant-loop-span
+invariant-loop-span l = record {
+  within : AllByRecursion (λ x. (l.before + x.from < 2 ^ 64) × (l.before + x.to < 2 ^ 64)) (drop l.span-index l.own);
+  spans : map shown_of l.spans.items ++ map (later l.before) (map shown_of (drop l.span-index l.own)) ≡ map shown_of l.fn.spans.items ++ map (later l.before) (map shown_of l.own);
+}
