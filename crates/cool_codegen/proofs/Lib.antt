@@ -15,7 +15,6 @@ mod SameSettings
 mod VariablesInOrder
 pub mod SpansOfCode
 pub mod SpansStand
-pub mod SpansOfNodes
 pub mod MovedSpans
 pub mod LinesInAll
 pub mod SpansOfTables
