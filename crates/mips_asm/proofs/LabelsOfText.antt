@@ -9,7 +9,7 @@ use Rattle.mips_isa.specs.Lines.{Name, Line}
 use Rattle.mips_isa.specs.Assembly.{need, Position, start_position, after_line, has, is_text, in_text, place_in, place_from, place_of, address_or_zero, start_name, main_name, added_lines, image_of_all}
 use Rattle.mips_asm.specs.Completing.{segment_after_need, segment_of_name}
 use Rattle.mips_asm.specs.TextWords.{words_needed, words_in, words_before}
-use Rattle.mips_asm.specs.TextLabels.{address_before, address_or_start, text_label}
+use Rattle.mips_asm.specs.TextLabels.{address_before, address_or_start, text_end, text_label}
 use Rattle.mips_asm.proofs.Completions.{after_segment}
 use Rattle.mips_asm.proofs.WordsOfText.{words_after, length_of_text, words_with_added}
 
@@ -87,9 +87,6 @@ completed_label name end a p (line ∷ rest) h below =
     either false x y o u e f = f
 
 -- the label of a word of lines that are already completed
-abbrev label_of_all : List Line → Name → Option ℕ
-label_of_all lines name = address_before (TEXT_START + 4 * length (image_of_all lines).text) (place_of lines name)
-
 -- whether lines are to be completed
 abbrev is_to_complete : List Line → Bool
 is_to_complete lines = not (is_some (place_of lines start_name)) && in_text (place_of lines main_name)
@@ -97,21 +94,32 @@ is_to_complete lines = not (is_some (place_of lines start_name)) && in_text (pla
 end_of_all : (lines : List Line) (n : ℕ) → words_in lines ≡ n → length (image_of_all lines).text ≡ n
 end_of_all lines n h = length_of_text (λ name. address_or_zero (place_of lines name)) start_position lines ∙ h
 
+-- a text that is completed, whose own words end at an address, ends three words later
+pub end_completed : (lines : List Line) (a end : ℕ) → is_to_complete lines ≡ true → a ≡ TEXT_START + 4 * words_in lines → end ≡ a + 12 → end ≡ text_end lines
+end_completed lines a end b here behind =
+    let all : List Line = lines ++ added_lines in
+    let text : length (image_of_all all).text ≡ words_in lines + 3 = end_of_all all (words_in lines + 3) (words_with_added lines) in
+    last_of (words_in lines) (length (image_of_all all).text) text here behind
+    ∙ ap (λ (t : Bool). TEXT_START + 4 * length (image_of_all (if t then lines ++ added_lines else lines)).text) (sym b)
+  where
+    last_of : (w n : ℕ) → n ≡ w + 3 → a ≡ TEXT_START + 4 * w → end ≡ a + 12 → end ≡ TEXT_START + 4 * n
+    last_of w n e f g = omega arith
+
+-- and one that stands as it is ends there
+pub end_alone : (lines : List Line) (a : ℕ) → is_to_complete lines ≡ false → a ≡ TEXT_START + 4 * words_in lines → a ≡ text_end lines
+end_alone lines a b here =
+    here ∙ ap (λ (n : ℕ). TEXT_START + 4 * n) (sym (end_of_all lines (words_in lines) refl))
+    ∙ ap (λ (t : Bool). TEXT_START + 4 * length (image_of_all (if t then lines ++ added_lines else lines)).text) (sym b)
+
 -- the labels of a text that is completed, whose own words end at an address
 pub label_completed : (lines : List Line) (name : Name) (a end : ℕ) → is_to_complete lines ≡ true → a ≡ TEXT_START + 4 * words_in lines → end ≡ a + 12
     → address_or_start (Some a) end name (place_of lines name) ≡ text_label lines name
 label_completed lines name a end b here behind =
     let below : nat_lt a end ≡ true = grind arith in
     let own : a ≡ TEXT_START + 4 * (0 + words_in lines) = omega arith in
-    let all : List Line = lines ++ added_lines in
-    let text : length (image_of_all all).text ≡ words_in lines + 3 = end_of_all all (words_in lines + 3) (words_with_added lines) in
-    let last : end ≡ TEXT_START + 4 * length (image_of_all all).text = last_of (words_in lines) (length (image_of_all all).text) text here behind in
     sym (completed_label name end a start_position lines own below)
-    ∙ ap (λ (e : ℕ). address_before e (place_of all name)) last
-    ∙ ap (λ (t : Bool). label_of_all (if t then lines ++ added_lines else lines) name) (sym b)
-  where
-    last_of : (w n : ℕ) → n ≡ w + 3 → a ≡ TEXT_START + 4 * w → end ≡ a + 12 → end ≡ TEXT_START + 4 * n
-    last_of w n e f g = omega arith
+    ∙ ap (λ (e : ℕ). address_before e (place_of (lines ++ added_lines) name)) (end_completed lines a end b here behind)
+    ∙ ap (λ (t : Bool). address_before (text_end lines) (place_of (if t then lines ++ added_lines else lines) name)) (sym b)
 
 no_start : (end : ℕ) (name : Name) (o : Option Place) → address_or_start None end name o ≡ address_before end o
 no_start end name None = by (bytes_eq name start_name)
@@ -128,8 +136,6 @@ no_start end name (Some place) = refl
 pub label_alone : (lines : List Line) (name : Name) (a : ℕ) → is_to_complete lines ≡ false → a ≡ TEXT_START + 4 * words_in lines
     → address_or_start None a name (place_of lines name) ≡ text_label lines name
 label_alone lines name a b here =
-    let last : TEXT_START + 4 * words_in lines ≡ TEXT_START + 4 * length (image_of_all lines).text =
-    ap (λ (n : ℕ). TEXT_START + 4 * n) (sym (end_of_all lines (words_in lines) refl)) in
     no_start a name (place_of lines name)
-    ∙ ap (λ (e : ℕ). address_before e (place_of lines name)) (here ∙ last)
-    ∙ ap (λ (t : Bool). label_of_all (if t then lines ++ added_lines else lines) name) (sym b)
+    ∙ ap (λ (e : ℕ). address_before e (place_of lines name)) (end_alone lines a b here)
+    ∙ ap (λ (t : Bool). address_before (text_end lines) (place_of (if t then lines ++ added_lines else lines) name)) (sym b)

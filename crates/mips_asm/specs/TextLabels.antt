@@ -1,5 +1,5 @@
 -- The labels of words of the text, by which the instructions of a program are named.
-use Rattle.std.specs.Prelude.{◌≡◌, refl, ℕ, ◌+◌, ◌*◌, ◌&&◌, nat_lt, pos, if◌then◌else◌, List, [], ◌∷◌, length, codes, bytes_eq, Option, Some, None}
+use Rattle.std.specs.Prelude.{◌≡◌, refl, ℕ, ◌+◌, ◌-◌, ◌*◌, ◌%◌, ◌==◌, ◌&&◌, nat_le, nat_lt, Bool, true, false, pos, if◌then◌else◌, List, [], ◌∷◌, length, codes, bytes_eq, Option, Some, None}
 use Rattle.mips_isa.specs.declared.address_map.TheConstants.{TEXT_START}
 use Rattle.mips_isa.specs.declared.place.Place.{Place}
 use Rattle.mips_isa.specs.Lines.{Name, Line, Data, Instruction, Byte, Nop, ToText, ToData}
@@ -11,10 +11,18 @@ abbrev pub address_before : ℕ → Option Place → Option ℕ
 address_before end None = None
 address_before end (Some place) = if is_text place.segment && nat_lt place.address end then Some place.address else None
 
+-- the address after the text of lines, with the words that complete the program
+abbrev pub text_end : List Line → ℕ
+text_end lines = TEXT_START + 4 * length (image_of lines).text
+
 -- The address of the word that a name is the label of; none where it is no label, that of data, or that of the text's end. Labels of the
 -- lines that complete the program count, too.
 abbrev pub text_label : List Line → Name → Option ℕ
-text_label lines name = address_before (TEXT_START + 4 * length (image_of lines).text) (place_of (completed lines) name)
+text_label lines name = address_before (text_end lines) (place_of (completed lines) name)
+
+-- whether a text that ends at an address has a word at another one
+abbrev pub has_word : ℕ → ℕ → Bool
+has_word end a = nat_le TEXT_START a && (a - TEXT_START) % 4 == 0 && nat_lt a end
 
 -- A table of labels: those of lines, the address of a `__start` that completes them, and the address after the text.
 pub record TextLabelParts : Type 0 where
@@ -49,3 +57,16 @@ no_text = refl
 
 no_name : text_label two_labels (codes "n") ≡ None
 no_name = refl
+
+-- the words of a text of two, before it, in its second word, and behind it
+second_word : has_word 0x00400008 0x00400004 ≡ true
+second_word = refl
+
+before_it : has_word 0x00400008 0x003ffffc ≡ false
+before_it = refl
+
+within_a_word : has_word 0x00400008 0x00400006 ≡ false
+within_a_word = refl
+
+behind_it : has_word 0x00400008 0x00400008 ≡ false
+behind_it = refl

@@ -3,7 +3,7 @@
 ghost use Rattle.std.specs.Prelude.{◌≡◌, ◌<◌, nat_lt, List, ℕ, Some, None, length, bytes_eq, if◌then◌else◌, IfOk};
 ghost use Rattle.mips_isa.specs.Lines.{lines_of, AreInRange};
 ghost use Rattle.mips_isa.specs.Assembly.{fault_of, place_of, start_name};
-ghost use Rattle.mips_asm.specs.TextLabels.{text_label, address_of, address_or_start};
+ghost use Rattle.mips_asm.specs.TextLabels.{text_label, text_end, has_word, address_of, address_or_start};
 
 use crate::completing::{ADDED_WORDS, lacks_start, segment_of};
 use crate::labels::Labels;
@@ -42,7 +42,8 @@ impl TextEnd {
     /// Where the text of lines that have an image ends.
     fn find(lines: &[Line]) -> TextEnd
         requires image { fault_of (lines_of lines.now) ≡ None }
-        ensures { (name : List ℕ) → address_or_start result.start result.end name (place_of (lines_of lines.now) name) ≡ text_label (lines_of lines.now) name }
+        ensures labels { (name : List ℕ) → address_or_start result.start result.end name (place_of (lines_of lines.now) name) ≡ text_label (lines_of lines.now) name }
+        ensures end { result.end ≡ text_end (lines_of lines.now) }
     {
         let end = TEXT_START + 4 * words_in(lines);
         if lacks_start(lines) {
@@ -74,7 +75,7 @@ impl TextEnd {
     }
 }
 
-/// The labels of words of the text of lines. A contract sees the address of each name.
+/// The labels of words of the text of lines, and where that text ends. A contract sees the address of each name.
 #[derive(Drop)]
 pub struct TextLabels {
     labels: Labels,
@@ -95,7 +96,8 @@ impl TextLabels {
         requires few { length lines.now < 4294967292 }
         requires ranges { AreInRange (lines_of lines.now) }
         requires image { fault_of (lines_of lines.now) ≡ None }
-        ensures { IfOk result (λ labels. (name : List ℕ) → address_of labels name ≡ text_label (lines_of lines.now) name) }
+        ensures labels { IfOk result (λ labels. (name : List ℕ) → address_of labels name ≡ text_label (lines_of lines.now) name) }
+        ensures end { IfOk result (λ labels. labels.end ≡ text_end (lines_of lines.now)) }
     {
         let text = TextEnd::find(lines);
         match Labels::find(alloc, lines) {
@@ -116,5 +118,12 @@ impl TextLabels {
             Segment::Text => self.text.label(place.address),
             Segment::Data => None,
         }
+    }
+
+    /// Whether the text has a word at this address.
+    pub fn has_word(&self, address: u32) -> bool
+        ensures { result ≡ has_word self.now.end address }
+    {
+        TEXT_START <= address && (address - TEXT_START) % 4 == 0 && address < self.text.end
     }
 }

@@ -32,7 +32,7 @@ returns-in-Some-Text c =
     let lines = lines_of c.args.lines.now in
     let name = c.args.name.now in
     c.label.ensures
-    ∙ found text.start text.end lines name c.words_before.result (Some Text) (c.find-text.ensures name)
+    ∙ found text.start text.end lines name c.words_before.result (Some Text) (c.find-text.ensures.labels name)
     (ap Some (sym c.in-Some-Text.field-0-is) ∙ sym c.in-Some-Text.is ∙ c.segment_of.ensures) c.words_before.ensures.exact
 
 pub returns-in-Some-Data : goal.returns-in-Some-Data
@@ -40,7 +40,7 @@ returns-in-Some-Data c =
     let text = c.find-text.result in
     let lines = lines_of c.args.lines.now in
     let name = c.args.name.now in
-    found text.start text.end lines name (words_before lines name) (Some Data) (c.find-text.ensures name)
+    found text.start text.end lines name (words_before lines name) (Some Data) (c.find-text.ensures.labels name)
     (ap Some (sym c.in-Some-Data.field-0-is) ∙ sym c.in-Some-Data.is ∙ c.segment_of.ensures) refl
 
 pub returns-in-None : goal.returns-in-None
@@ -49,4 +49,4 @@ returns-in-None c =
     let lines = lines_of c.args.lines.now in
     let name = c.args.name.now in
     c.added_label.ensures
-    ∙ found text.start text.end lines name (words_before lines name) None (c.find-text.ensures name) (sym c.in-None.is ∙ c.segment_of.ensures) refl
+    ∙ found text.start text.end lines name (words_before lines name) None (c.find-text.ensures.labels name) (sym c.in-None.is ∙ c.segment_of.ensures) refl

@@ -9,10 +9,10 @@ use Rattle.mips_asm.specs.TextLabels.{address_or_start}
 use Rattle.mips_asm.proofs.WordsOfText.{fine_lines}
 use Rattle.mips_asm.proofs.text_labels.TextLabels.find.Goals as goal
 
-pub returns-in-Ok : goal.returns-in-Ok
-returns-in-Ok c = λ name.
+pub returns-in-Ok-clause-labels : goal.returns-in-Ok-clause-labels
+returns-in-Ok-clause-labels c = λ name.
     let text = c.find-text.result in
-    ap (λ (place : Name → Option Place). address_or_start text.start text.end name (place name)) c.in-Ok.ensures.1 ∙ c.find-text.ensures name
+    ap (λ (place : Name → Option Place). address_or_start text.start text.end name (place name)) c.in-Ok.ensures.1 ∙ c.find-text.ensures.labels name
 
 pub unreachable-requires : goal.unreachable-requires
 unreachable-requires c =
