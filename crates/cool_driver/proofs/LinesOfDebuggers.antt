@@ -1,13 +1,13 @@
 -- The notes of the debugger: each ends in a line feed.
-use Rattle.std.proofs.Common.{◌≡◌, ℕ, ◌+◌, Bool, true, false, inl, inr, List, [], ◌∷◌, ◌++◌, refl}
+use Rattle.std.proofs.Common.{◌≡◌, ℕ, ◌+◌, Bool, true, false, inl, inr, List, [], ◌∷◌, ◌++◌, length, refl}
 use Rattle.std.specs.{Prelude.{flat_map, codes, decimal, Option}, List.{range_with_len}}
 use Rattle.cool_ports.specs.{Answers.{Past, Leaves}, Taking.{Took}}
 use Rattle.cool_ports.proofs.InputsInParts.{leaves_none}
 use Rattle.mips_isa.specs.{Calls.{Outcome, Running, Exited, Trapped}, Decoding.{decoded}}
-use Rattle.spim_debug.specs.{Debugging.{PutInCommand, NotesPut}, Moves.{Debuggee, Progress, beginning, outcome, moves, all_moves}}
+use Rattle.spim_debug.specs.{ByteCounts.{counted}, Debugging.{PutInCommand, NotesPut}, Moves.{Debuggee, Progress, beginning, outcome, moves, all_moves}}
 use Rattle.spim_debug.specs.Notes.{word_text, place_note, ended_note, spaced, instruction_text, listed_from, words_from, state_in, notes, all_notes}
 use Rattle.spim_debug.specs.{declared.debugger.DebugEnd.{DebugEnd}, declared.script.DebugCommand.{DebugCommand}}
-use Rattle.spim_debug.specs.declared.script.DebugCommand.TheVariants.{Break, Delete, Step, Run, Regs, Show, List as ListWords}
+use Rattle.spim_debug.specs.declared.script.DebugCommand.TheVariants.{Break, Delete, Step, Run, Regs, Out, Show, Words, List as ListWords}
 use Rattle.spim_debug.specs.declared.debugger.DebugEnd.TheVariants as end
 use Rattle.spim_machine.specs.declared.halt.Halt.TheVariants.{Exit, Trap, StepLimit, ReadFault, WriteFault}
 use Rattle.cool_driver.specs.Telling.{AreLines, PutsLines, ends_line}
@@ -37,7 +37,9 @@ command_lines d Regs n =
     let c = (state_in (outcome d n)).core in
     let registers = flat_map (λ k. spaced (c.registers k)) (range_with_len 0 32) in
     (ends_after (codes "regs") _ (ends_after (spaced c.pc) _ (ends_after registers (codes "\n") feed)), tt)
+command_lines d Out n = (ends_after (codes "out ") _ (ends_after (decimal (counted (length (state_in (outcome d n)).output))) (codes "\n") feed), tt)
 command_lines d (Show a) n = (ends_after (word_text a) _ (ends_after (codes ": ") _ (ends_after _ (codes "\n") feed)), tt)
+command_lines d (Words a count) n = (ends_after (word_text a) _ (ends_after (codes ":") _ (ends_after _ (codes "\n") feed)), tt)
 command_lines d (ListWords a most) n = listed_lines a (words_from d.text a most)
 
 script_lines : (d : Debuggee) (script : List DebugCommand) (p : Progress) → AreLines (all_notes d script p)

@@ -16,7 +16,7 @@ use Rattle.spim_debug.specs.declared.script.DebugCommand.{DebugCommand}
 use Rattle.spim_debug.specs.declared.script.DebugCommand.TheVariants as commands
 use Rattle.spim_debug.specs.BreakSets.{in_set}
 use Rattle.spim_debug.specs.Moves.{Debuggee, Progress, moves, is_break}
-use Rattle.spim_debug.specs.Notes.{registers_note, memory_note, listed_from, words_from, notes}
+use Rattle.spim_debug.specs.Notes.{registers_note, counted_note, memory_note, words_note, listed_from, words_from, notes}
 use Rattle.spim_debug.specs.Obeying.{Stands}
 
 -- with other break addresses it stands where it stood
@@ -32,6 +32,7 @@ with_breaks d p first x left held marks breaks st agree = record {
   state = st.state;
   halted = st.halted;
   breaks = agree;
+  printed = st.printed;
 }
 
 pub stands_broken : (d : Debuggee) (p : Progress) (first : Option (List ℕ)) (x : Debugger) (left held : Option (List ℕ))
@@ -80,6 +81,19 @@ memory_text d p first x left held a bytes st is =
     ap (λ (note : List ℕ). note ∷ [])
     (ap (λ (c : Core). memory_note d.segments c.memory a) (sym st.state.core)
     ∙ ap (λ (b : Segments). memory_note b (bytes_of x.machine.cpu.memory) a) (sym st.segments) ∙ sym is)
+
+pub output_text : (d : Debuggee) (p : Progress) (first : Option (List ℕ)) (x : Debugger) (left held : Option (List ℕ))
+    (bytes : List ℕ) → Stands d p first x left held → bytes ≡ counted_note x.printed
+    → notes d commands.Out p.executed ≡ bytes ∷ []
+output_text d p first x left held bytes st is = ap (λ (note : List ℕ). note ∷ []) (ap (λ (n : ℕ). counted_note n) (sym st.printed) ∙ sym is)
+
+pub words_noted : (d : Debuggee) (p : Progress) (first : Option (List ℕ)) (x : Debugger) (left held : Option (List ℕ)) (a n : ℕ)
+    → Stands d p first x left held
+    → notes d (commands.Words a n) p.executed ≡ words_note (segments x.machine.cpu.memory) (bytes_of x.machine.cpu.memory) a n ∷ []
+words_noted d p first x left held a n st =
+    ap (λ (note : List ℕ). note ∷ [])
+    (ap (λ (c : Core). words_note d.segments c.memory a n) (sym st.state.core)
+    ∙ ap (λ (b : Segments). words_note b (bytes_of x.machine.cpu.memory) a n) (sym st.segments))
 
 pub listed_text : (d : Debuggee) (p : Progress) (first : Option (List ℕ)) (x : Debugger) (left held : Option (List ℕ)) (a n : ℕ)
     (text : List ℕ) → Stands d p first x left held → x.machine.cpu.memory.text ≡ text

@@ -1,22 +1,22 @@
--- The commands of a script are those for a text, where each label has the address of a word of it.
+-- The commands of a script are those for a text, where each place is the address of a word of it.
 use Rattle.std.proofs.Common.{subst, ℕ, suc, Bool, true, false, List, [], ◌∷◌}
-use Rattle.std.specs.Prelude.{if◌then◌else◌, codes, bytes_eq, Option, Some, None, IfSome, Result, Ok, Err, IfOk, Vec}
+use Rattle.std.specs.Prelude.{◌||◌, if◌then◌else◌, codes, bytes_eq, Option, Some, None, IfSome, Result, Ok, Err, IfOk, Vec}
 use Rattle.std.specs.Global.{Global}
-use Rattle.mips_isa.specs.Lines as lines
+use Rattle.std.specs.Option.{is_some}
 use Rattle.mips_text.specs.Names.{is_name}
 use Rattle.spim_debug.specs.declared.script.DebugCommand.{DebugCommand}
-use Rattle.spim_debug.specs.declared.script.DebugCommand.TheVariants.{Break, Delete, Step, Run, Regs, Show, List as ListWords}
+use Rattle.spim_debug.specs.declared.script.DebugCommand.TheVariants.{Break, Delete, Step, Run, Regs, Out, Show, Words, List as ListWords}
 use Rattle.spim_debug.specs.declared.script.ScriptKind.TheVariants.{B1}
 use Rattle.spim_debug.specs.declared.script.ScriptFault.{ScriptFault}
 use Rattle.spim_debug.specs.declared.script.ScriptError.{ScriptError}
 use Rattle.spim_debug.specs.declared.script.ScriptError.TheVariants.{Memory, Fault}
 use Rattle.spim_debug.specs.Debugging.{IsTextAddress, IsCommandFor, IsScriptFor}
-use Rattle.spim_debug.specs.Scripts.{Said, says, IsReadAs, number_in, address_in, with_number, at_label, with_label, with_both, alone, with_operand, with_operands, said_by, said, then_commands, commands_from}
+use Rattle.spim_debug.specs.Scripts.{Said, says, IsReadAs, number_in, address_in, with_number, with_numbers, at_place, with_place, with_both, alone, with_operand, with_operands, said_by, said, then_commands, commands_from}
 use Rattle.lists.specs.Words.{words_in}
 
--- each name has the address of a word of the text, or none
-abbrev pub NamesWords : List ℕ → (lines.Name → Option ℕ) → Type 0
-NamesWords text place = (name : lines.Name) → IfSome (place name) (IsTextAddress text)
+-- each place is the address of a word of the text, or none
+abbrev pub NamesWords : List ℕ → (List ℕ → Option ℕ) → Type 0
+NamesWords text place = (name : List ℕ) → IfSome (place name) (IsTextAddress text)
 
 -- what a line says is for the text
 abbrev SaysFor : List ℕ → Said → Type 0
@@ -39,49 +39,57 @@ number_for : (text : List ℕ) (o : Option ℕ) (command : ℕ → DebugCommand)
 number_for text None command f = tt
 number_for text (Some n) command f = f n
 
--- with a label
-at_for : (text : List ℕ) (o : Option ℕ) (command : ℕ → DebugCommand) → IfSome o (IsTextAddress text) → ((a : ℕ) → IsTextAddress text a → IsCommandFor text (command a)) → SaysFor text (at_label o command)
+-- with an address and a number
+numbers_for : (text : List ℕ) (a n : Option ℕ) → SaysFor text (with_numbers a n Words)
+numbers_for text None n = tt
+numbers_for text (Some a) n = number_for text n (Words a) (λ k. tt)
+
+-- at a place
+at_for : (text : List ℕ) (o : Option ℕ) (command : ℕ → DebugCommand) → IfSome o (IsTextAddress text) → ((a : ℕ) → IsTextAddress text a → IsCommandFor text (command a)) → SaysFor text (at_place o command)
 at_for text None command h f = tt
 at_for text (Some a) command h f = f a h
 
-label_for : (text : List ℕ) (place : lines.Name → Option ℕ) (word : List ℕ) (command : ℕ → DebugCommand) → NamesWords text place → ((a : ℕ) → IsTextAddress text a → IsCommandFor text (command a)) → SaysFor text (with_label place word command)
-label_for text place word command h f = either_for text (is_name word) (at_label (place word) command) (Err B1) (at_for text (place word) command (h word) f) tt
+place_for : (text : List ℕ) (place : List ℕ → Option ℕ) (word : List ℕ) (command : ℕ → DebugCommand) → NamesWords text place → ((a : ℕ) → IsTextAddress text a → IsCommandFor text (command a)) → SaysFor text (with_place place word command)
+place_for text place word command h f = either_for text (is_name word || is_some (address_in word)) (at_place (place word) command) (Err B1) (at_for text (place word) command (h word) f) tt
 
 -- with both
-both_for : (text : List ℕ) (place : lines.Name → Option ℕ) (word : List ℕ) (o : Option ℕ) → NamesWords text place → SaysFor text (with_both place word o ListWords)
+both_for : (text : List ℕ) (place : List ℕ → Option ℕ) (word : List ℕ) (o : Option ℕ) → NamesWords text place → SaysFor text (with_both place word o ListWords)
 both_for text place word None h = tt
-both_for text place word (Some n) h = label_for text place word (λ a. ListWords a n) h (λ a k. k)
+both_for text place word (Some n) h = place_for text place word (λ a. ListWords a n) h (λ a k. k)
 
 alone_for : (text verb : List ℕ) → SaysFor text (alone verb)
 alone_for text verb =
-    either_for text (bytes_eq verb (codes "run")) (says Run) (if bytes_eq verb (codes "regs") then says Regs else Err B1) tt
-    (either_for text (bytes_eq verb (codes "regs")) (says Regs) (Err B1) tt tt)
+    let out_or : Said = if bytes_eq verb (codes "out") then says Out else Err B1 in
+    either_for text (bytes_eq verb (codes "run")) (says Run) (if bytes_eq verb (codes "regs") then says Regs else out_or) tt
+    (either_for text (bytes_eq verb (codes "regs")) (says Regs) out_or tt (either_for text (bytes_eq verb (codes "out")) (says Out) (Err B1) tt tt))
 
-operand_for : (text : List ℕ) (place : lines.Name → Option ℕ) (verb word : List ℕ) → NamesWords text place → SaysFor text (with_operand place verb word)
+operand_for : (text : List ℕ) (place : List ℕ → Option ℕ) (verb word : List ℕ) → NamesWords text place → SaysFor text (with_operand place verb word)
 operand_for text place verb word h =
     let show_or : Said = if bytes_eq verb (codes "show") then with_number (address_in word) Show else Err B1 in
     let step_or : Said = if bytes_eq verb (codes "step") then with_number (number_in 10 1000000000 word) Step else show_or in
-    let delete_or : Said = if bytes_eq verb (codes "delete") then with_label place word Delete else step_or in
+    let delete_or : Said = if bytes_eq verb (codes "delete") then with_place place word Delete else step_or in
     let shows : SaysFor text show_or =
     either_for text (bytes_eq verb (codes "show")) (with_number (address_in word) Show) (Err B1) (number_for text (address_in word) Show (λ n. tt)) tt in
     let steps : SaysFor text step_or =
     either_for text (bytes_eq verb (codes "step")) (with_number (number_in 10 1000000000 word) Step) show_or (number_for text (number_in 10 1000000000 word) Step (λ n. tt)) shows in
     let deletes : SaysFor text delete_or =
-    either_for text (bytes_eq verb (codes "delete")) (with_label place word Delete) step_or (label_for text place word Delete h (λ a k. k)) steps in
-    either_for text (bytes_eq verb (codes "break")) (with_label place word Break) delete_or (label_for text place word Break h (λ a k. k)) deletes
+    either_for text (bytes_eq verb (codes "delete")) (with_place place word Delete) step_or (place_for text place word Delete h (λ a k. k)) steps in
+    either_for text (bytes_eq verb (codes "break")) (with_place place word Break) delete_or (place_for text place word Break h (λ a k. k)) deletes
 
-operands_for : (text : List ℕ) (place : lines.Name → Option ℕ) (verb first second : List ℕ) → NamesWords text place → SaysFor text (with_operands place verb first second)
+operands_for : (text : List ℕ) (place : List ℕ → Option ℕ) (verb first second : List ℕ) → NamesWords text place → SaysFor text (with_operands place verb first second)
 operands_for text place verb first second h =
-    either_for text (bytes_eq verb (codes "list")) (with_both place first (number_in 4 1000 second) ListWords) (Err B1) (both_for text place first (number_in 4 1000 second) h) tt
+    let words_or : Said = if bytes_eq verb (codes "words") then with_numbers (address_in first) (number_in 4 1000 second) Words else Err B1 in
+    either_for text (bytes_eq verb (codes "list")) (with_both place first (number_in 4 1000 second) ListWords) words_or (both_for text place first (number_in 4 1000 second) h)
+    (either_for text (bytes_eq verb (codes "words")) (with_numbers (address_in first) (number_in 4 1000 second) Words) (Err B1) (numbers_for text (address_in first) (number_in 4 1000 second)) tt)
 
-words_for : (text : List ℕ) (place : lines.Name → Option ℕ) (words : List (List ℕ)) → NamesWords text place → SaysFor text (said_by place words)
+words_for : (text : List ℕ) (place : List ℕ → Option ℕ) (words : List (List ℕ)) → NamesWords text place → SaysFor text (said_by place words)
 words_for text place [] h = tt
 words_for text place (verb ∷ []) h = alone_for text verb
 words_for text place (verb ∷ word ∷ []) h = operand_for text place verb word h
 words_for text place (verb ∷ first ∷ second ∷ []) h = operands_for text place verb first second h
 words_for text place (verb ∷ first ∷ second ∷ third ∷ more) h = tt
 
-line_for : (text : List ℕ) (place : lines.Name → Option ℕ) (line : List ℕ) → NamesWords text place → SaysFor text (said place line)
+line_for : (text : List ℕ) (place : List ℕ → Option ℕ) (line : List ℕ) → NamesWords text place → SaysFor text (said place line)
 line_for text place [] h = tt
 line_for text place (b ∷ bs) h = words_for text place (words_in (b ∷ bs)) h
 
@@ -93,7 +101,7 @@ then_for text number (Ok (Some command)) (Err fault) h g = tt
 then_for text number (Ok (Some command)) (Ok commands) h g = (h, g)
 
 -- all lines
-pub commands_for : (text : List ℕ) (place : lines.Name → Option ℕ) (number : ℕ) (rows : List (List ℕ)) → NamesWords text place → AreFor text (commands_from place number rows)
+pub commands_for : (text : List ℕ) (place : List ℕ → Option ℕ) (number : ℕ) (rows : List (List ℕ)) → NamesWords text place → AreFor text (commands_from place number rows)
 commands_for text place number [] h = tt
 commands_for text place number (row ∷ rows) h =
     then_for text number (said place row) (commands_from place (suc number) rows) (line_for text place row h) (commands_for text place (suc number) rows h)

@@ -1,8 +1,11 @@
 mod Disassembled
 mod HexDigits
+mod CountedBytes
+mod OneReference
 mod GoingOn
 mod RegistersInOrder
 mod ListedWords
+mod WordsInMemory
 mod LinesOfWords
 mod ObeyedCommands
 mod ChangedBreaks
@@ -12,5 +15,6 @@ mod ScriptNumbers
 mod ScriptCommands
 mod ReadScripts
 mod LabelsOfText
+mod PlacesOfText
 mod CommandsForText
 pub mod RunsLeft

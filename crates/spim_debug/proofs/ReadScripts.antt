@@ -8,13 +8,16 @@ use Rattle.mips_isa.specs.Lines as lines
 use Rattle.spim_debug.specs.declared.script.DebugCommand.{DebugCommand}
 use Rattle.spim_debug.specs.declared.script.ScriptFault.{ScriptFault}
 use Rattle.spim_debug.specs.declared.script.ScriptError.{ScriptError}
-use Rattle.spim_debug.specs.Scripts.{IsReadAs, commands_from, commands_in}
+use Rattle.spim_debug.specs.Scripts.{IsReadAs, commands_from, commands_in, place_in}
 use Rattle.spim_debug.proofs.ScriptParts.{parts_say}
 
--- the table has the addresses that names have, and the parts are those of the script
-pub script_read : (table place : lines.Name → Option ℕ) (bytes : List ℕ) (parts : List (List ℕ)) (answer : Result (Vec DebugCommand Global) ScriptError)
-    → ((name : lines.Name) → table name ≡ place name) → parts ≡ slice_split (λ b. b == 10) bytes → IsReadAs (commands_from table 1 parts) answer → IsReadAs (commands_in place bytes) answer
-script_read table place bytes parts answer same cut h =
-    let names : table ≡ place = fun_ext same in
+-- the table has the addresses that labels have and the end of the text, and the parts are those of the script
+pub script_read : (own end : ℕ) (table label : lines.Name → Option ℕ) (bytes : List ℕ) (parts : List (List ℕ)) (answer : Result (Vec DebugCommand Global) ScriptError)
+    → own ≡ end → ((name : lines.Name) → table name ≡ label name) → parts ≡ slice_split (λ b. b == 10) bytes → IsReadAs (commands_from (place_in own table) 1 parts) answer
+    → IsReadAs (commands_in (place_in end label) bytes) answer
+script_read own end table label bytes parts answer ends same cut h =
+    let labels : table ≡ label = fun_ext same in
+    let place : List ℕ → Option ℕ = place_in end label in
     subst (λ (told : Result (List DebugCommand) ScriptFault). IsReadAs told answer)
-    (ap (λ (p : lines.Name → Option ℕ). commands_from p 1 parts) names ∙ (ap (commands_from place 1) cut ∙ parts_say place bytes)) h
+    (ap (λ (e : ℕ). commands_from (place_in e table) 1 parts) ends ∙ ap (λ (l : lines.Name → Option ℕ). commands_from (place_in end l) 1 parts) labels
+    ∙ (ap (commands_from place 1) cut ∙ parts_say place bytes)) h

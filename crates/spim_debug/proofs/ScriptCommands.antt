@@ -4,7 +4,6 @@ use Rattle.std.specs.Prelude.{Option, Some, None, Result, Ok, Err}
 use Rattle.std.proofs.lemmas.List.{drop_more}
 use native.Mathlib.Numerals.{add-one}
 use denote.Ref.{Bor}
-use Rattle.mips_isa.specs.Lines as lines
 use Rattle.spim_debug.specs.declared.script.DebugCommand.{DebugCommand}
 use Rattle.spim_debug.specs.declared.script.ScriptKind.TheVariants.{B1}
 use Rattle.spim_debug.specs.declared.script.ScriptFault.{ScriptFault}
@@ -17,7 +16,7 @@ behind done (Ok commands) = Ok (done ++ commands)
 behind done (Err fault) = Err fault
 
 -- a line of more than three words is in no form
-pub more_words : (place : lines.Name → Option ℕ) (words : List (Bor (List ℕ))) → 4 ≤ length words → Err B1 ≡ said_by place (map (λ word. word.now) words)
+pub more_words : (place : List ℕ → Option ℕ) (words : List (Bor (List ℕ))) → 4 ≤ length words → Err B1 ≡ said_by place (map (λ word. word.now) words)
 more_words place [] many = absurd (omega arith)
 more_words place (a ∷ []) many = absurd (omega arith)
 more_words place (a ∷ b ∷ []) many = absurd (omega arith)
@@ -32,7 +31,7 @@ behind_line done (Some command) number (Ok commands) = ap Ok (append_assoc done 
 behind_line done (Some command) number (Err fault) = refl
 
 -- one line on, with its command behind those so far, the rest says the same
-pub line_on : (place : lines.Name → Option ℕ) (ls : List (Bor (List ℕ))) (i : ℕ) (d : Bor (List ℕ)) (done next : List DebugCommand) (command : Option DebugCommand) → i < length ls
+pub line_on : (place : List ℕ → Option ℕ) (ls : List (Bor (List ℕ))) (i : ℕ) (d : Bor (List ℕ)) (done next : List DebugCommand) (command : Option DebugCommand) → i < length ls
     → Ok command ≡ said place (get_or ls i d).now → next ≡ with_command done command
     → behind next (commands_from place (suc (i + 1)) (map (λ line. line.now) (drop (i + 1) ls))) ≡ behind done (commands_from place (suc i) (map (λ line. line.now) (drop i ls)))
 line_on place ls i d done next command less is put =

@@ -7,7 +7,6 @@ use Rattle.std.proofs.lemmas.List.{length-map}
 use Rattle.std.proofs.lemmas.List.Splits.{length-slice_split}
 use Rattle.std.proofs.lemmas.List.Sums.{count_by-le-length}
 use denote.Ref.{Bor}
-use Rattle.mips_isa.specs.Lines as lines
 use Rattle.mips_text.specs.Reading.{lines_in, with_byte}
 use Rattle.spim_debug.specs.Scripts.{said, then_commands, commands_from, commands_in}
 
@@ -58,12 +57,12 @@ parts_are_lines (b ∷ c ∷ bs) =
     by false parts rows line rest first are = byte_before b parts rows line rest first are
 
 -- an empty line after others says nothing
-empty_last : (place : lines.Name → Option ℕ) (number : ℕ) (rows : List (List ℕ)) → commands_from place number (rows ++ [] ∷ []) ≡ commands_from place number rows
+empty_last : (place : List ℕ → Option ℕ) (number : ℕ) (rows : List (List ℕ)) → commands_from place number (rows ++ [] ∷ []) ≡ commands_from place number rows
 empty_last place number [] = refl
 empty_last place number (row ∷ rows) = ap (then_commands number (said place row)) (empty_last place (suc number) rows)
 
 -- what the parts of a script at its newlines say is what the script says
-pub parts_say : (place : lines.Name → Option ℕ) (bytes : List ℕ) → commands_from place 1 (slice_split (λ b. b == 10) bytes) ≡ commands_in place bytes
+pub parts_say : (place : List ℕ → Option ℕ) (bytes : List ℕ) → commands_from place 1 (slice_split (λ b. b == 10) bytes) ≡ commands_in place bytes
 parts_say place bytes = by (slice_split (λ b. b == 10) bytes) (parts_are_lines bytes)
   where
     by : (parts : List (List ℕ)) → AreLines parts (lines_in bytes) → commands_from place 1 parts ≡ commands_in place bytes

@@ -16,7 +16,7 @@ use Rattle.spim_machine.specs.Ends.{Ran, Counted}
 use Rattle.spim_debug.specs.declared.debugger.DebugEnd.{DebugEnd}
 use Rattle.spim_debug.specs.declared.debugger.DebugEnd.TheVariants as end
 use Rattle.spim_debug.specs.declared.script.DebugCommand.{DebugCommand}
-use Rattle.spim_debug.specs.declared.script.DebugCommand.TheVariants.{Break, Delete, Step, Run, Regs, Show, List as ListWords}
+use Rattle.spim_debug.specs.declared.script.DebugCommand.TheVariants.{Break, Delete, Step, Run, Regs, Out, Show, Words, List as ListWords}
 use Rattle.spim_debug.specs.Moves.{Debuggee, Progress, beginning, outcome, moves, all_moves, next_span}
 use Rattle.spim_debug.specs.Notes.{state_in, notes, all_notes}
 
@@ -42,7 +42,9 @@ IsCommandFor text (Delete a) = IsTextAddress text a
 IsCommandFor text (Step n) = Unit {0}
 IsCommandFor text Run = Unit {0}
 IsCommandFor text Regs = Unit {0}
+IsCommandFor text Out = Unit {0}
 IsCommandFor text (Show a) = Unit {0}
+IsCommandFor text (Words a n) = Unit {0}
 IsCommandFor text (ListWords a n) = IsTextAddress text a
 
 abbrev pub IsScriptFor : List ℕ → List DebugCommand → Type 0

@@ -2,6 +2,7 @@ pub mod Scripts
 pub mod ScriptLines
 pub mod Disassembly
 pub mod Moves
+pub mod ByteCounts
 pub mod Notes
 pub mod Debugging
 pub mod BreakSets

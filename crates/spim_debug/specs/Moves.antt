@@ -7,7 +7,7 @@ use Rattle.mips_isa.specs.Calls.{State, Outcome, Running, Exited, Trapped}
 use Rattle.mips_isa.specs.Run.{run}
 use Rattle.spim_machine.specs.Counting.{moved}
 use Rattle.spim_debug.specs.declared.script.DebugCommand.{DebugCommand}
-use Rattle.spim_debug.specs.declared.script.DebugCommand.TheVariants.{Break, Delete, Step, Run, Regs, Show, List as ListWords}
+use Rattle.spim_debug.specs.declared.script.DebugCommand.TheVariants.{Break, Delete, Step, Run, Regs, Out, Show, Words, List as ListWords}
 
 -- What is debugged: a text within segments, the state in which its run begins, and how many instructions may be executed in all.
 pub record Debuggee : Type 0 where
@@ -51,7 +51,9 @@ moves d (Delete a) p = record p { breaks = filter (λ other. not (other == a)) p
 moves d (Step n) p = go_on d no_break n p
 moves d Run p = go_on d (is_break p.breaks) d.budget p
 moves d Regs p = p
+moves d Out p = p
 moves d (Show a) p = p
+moves d (Words a n) p = p
 moves d (ListWords a n) p = p
 
 -- after commands

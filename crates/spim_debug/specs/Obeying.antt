@@ -13,6 +13,7 @@ use Rattle.spim_debug.specs.declared.debugger.DebugEnd.TheVariants as end
 use Rattle.spim_debug.specs.declared.debugger.Debugger.{Debugger}
 use Rattle.spim_debug.specs.declared.script.DebugCommand.{DebugCommand}
 use Rattle.spim_debug.specs.BreakSets.{in_set}
+use Rattle.spim_debug.specs.ByteCounts.{counted}
 use Rattle.spim_debug.specs.Moves.{Debuggee, Progress, outcome, is_break, moves}
 use Rattle.spim_debug.specs.Notes.{at_note, ended_note, state_in, notes}
 use Rattle.spim_debug.specs.Debugging.{StandsAtEnd, FailsWithin, CountedBy}
@@ -50,7 +51,7 @@ halted_in (Exited code s) = Some (Exit code)
 halted_in (Trapped trap s) = Some (Trap trap)
 
 -- The debugger is so far: its machine is in the state of the run, its source has the state's input left, and its sink, which held
--- `first`, got the state's output.
+-- `first`, got the state's output, whose bytes are counted.
 pub record Stands (d : Debuggee) (p : Progress) (first : Option (List ℕ)) (x : Debugger) (left held : Option (List ℕ)) : Type 0 where
   pub text : x.machine.cpu.memory.text ≡ d.text
   pub segments : segments x.machine.cpu.memory ≡ d.segments
@@ -60,6 +61,7 @@ pub record Stands (d : Debuggee) (p : Progress) (first : Option (List ℕ)) (x :
   pub state : IsIn first (state_in (outcome d p.executed)) x.machine left held
   pub halted : x.machine.halted ≡ halted_in (outcome d p.executed)
   pub breaks : (a : ℕ) → in_set x.breaks a ≡ is_break p.breaks a
+  pub printed : x.printed ≡ counted (length (state_in (outcome d p.executed)).output)
 
 -- How the whole run ends where a call failed among the next n instructions.
 pub record Fails (d : Debuggee) (p : Progress) (n : ℕ) (first : Option (List ℕ)) (halt : Halt) (left held : Option (List ℕ)) : Type 0 where

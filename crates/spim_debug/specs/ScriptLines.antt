@@ -1,9 +1,16 @@
--- What the readers of a script's lines hand to one another: what is asked for at a label, and a command that is added if there is one.
+-- What the readers of a script's lines hand to one another: which words of the text a script names by a table of labels, what is asked for at
+-- one of them, and a command that is added if there is one.
 use Rattle.std.specs.Prelude.{ℕ, List, [], ◌∷◌, ◌++◌, Option, Some, None}
+use Rattle.mips_asm.specs.TextLabels.{TextLabelParts, address_of}
 use Rattle.spim_debug.specs.declared.script.DebugCommand.{DebugCommand}
 use Rattle.spim_debug.specs.declared.script.DebugCommand.TheVariants as command
 use Rattle.spim_debug.specs.declared.script_lines.Asked.{Asked}
 use Rattle.spim_debug.specs.declared.script_lines.Asked.TheVariants.{Break, Delete, List as Listed}
+use Rattle.spim_debug.specs.Scripts.{place_in}
+
+-- the address of the word that a label or an address names, by a table
+abbrev pub place_by : TextLabelParts → List ℕ → Option ℕ
+place_by table = place_in table.end (address_of table)
 
 -- what is asked for, at an address
 abbrev pub asked : Asked → ℕ → DebugCommand

@@ -5,22 +5,26 @@ ghost use Rattle.cool_ports.specs.Answers.{Leaves};
 ghost use Rattle.cool_ports.specs.SinkPuts.{seen};
 ghost use Rattle.cool_ports.specs.Taking.{Took, OfAnyInput};
 ghost use Rattle.mips_isa.specs.declared.address_map.TheConstants.{MOST_TEXT_WORDS};
-ghost use Rattle.spim_memory.specs.Memory.{IsLimits};
+ghost use Rattle.spim_memory.specs.Memory.{IsLimits, segments, bytes_of};
 ghost use Rattle.spim_debug.specs.declared.script.DebugCommand.TheVariants as commands;
 ghost use Rattle.spim_debug.specs.Moves.{Debuggee, Progress, beginning};
-ghost use Rattle.spim_debug.specs.Notes.{listed, listed_from, words_from};
+ghost use Rattle.spim_debug.specs.ByteCounts.{counted};
+ghost use Rattle.spim_debug.specs.Notes.{listed, listed_from, words_from, words_note};
 ghost use Rattle.spim_debug.specs.Debugging.{IsTextAddress, IsCommandFor, IsScriptFor, debuggee, Debugged, NotesPut, CountedBy};
 ghost use Rattle.spim_debug.specs.Obeying.{IsDebuggerOf, IsReady, KeepsText, Stands, EndsFrom, IsPut, ArePut, StopNoted, Obeyed, CountedUnless, NotesCounted};
 ghost use Rattle.spim_machine.specs.Ends.{Counted};
 
 use crate::DebugCommand;
 use crate::break_set::BreakSet;
-use crate::notes::{at_note, ended_note, listed, memory_note, registers_note};
+use crate::counted_run::{CountedRun, run_counted};
+use crate::notes::{
+    at_note, counted_note, ended_note, listed, memory_note, registers_note, words_note,
+};
 use cool_ports::{Failed, Sink, Source};
 use mips_isa::Image;
 use spim_cpu::{NoBreaks, word_index};
-use spim_machine::{Halt, Machine, Stopped};
-use spim_memory::Limits;
+use spim_machine::{Halt, Machine};
+use spim_memory::{Limits, Memory};
 use std::alloc::{AllocError, Global};
 
 /// How a debugged run ended.
@@ -69,13 +73,15 @@ pub fn debug<S: Source, K: Sink, E: Sink>(
     DebugEnd::Halt(debugger.finish(source, sink))
 }
 
-/// A machine that is debugged, its break addresses, how many instructions it has executed, and how many it may execute in all.
+/// A machine that is debugged, its break addresses, how many instructions it has executed, how many it may execute in all, and how many
+/// bytes it has put, up to the largest number.
 #[derive(Drop)]
 struct Debugger {
     machine: Machine,
     breaks: BreakSet,
     executed: u64,
     budget: u64,
+    printed: u64,
 }
 
 impl Debugger {
@@ -96,6 +102,7 @@ impl Debugger {
             breaks: BreakSet::new(alloc, image.text.len())?,
             executed: 0,
             budget,
+            printed: 0,
         })
     }
 
@@ -134,6 +141,7 @@ impl Debugger {
                     registers_note(self.machine.cpu()).as_str().as_bytes(),
                 )
             }
+            DebugCommand::Out => put_note(notes, counted_note(self.printed).as_str().as_bytes()),
             DebugCommand::Show(address) => {
                 put_note(
                     notes,
@@ -141,6 +149,10 @@ impl Debugger {
                         .as_str()
                         .as_bytes(),
                 )
+            }
+            DebugCommand::Words(address, count) => {
+                let memory = self.machine.cpu().memory();
+                put_words(alloc, memory, address, count, notes)
             }
             DebugCommand::List(address, most) => list(alloc, text, address, most, notes),
         }
@@ -163,8 +175,8 @@ impl Debugger {
         ensures counts { CountedUnless result (S.faults source.old) (S.faults source.new) (K.faults sink.old) (K.faults sink.new) (E.faults notes.old) (E.faults notes.new) }
     {
         let left = self.budget - self.executed;
-        let stopped = self.machine.run_to(most.min(left), &NoBreaks, source, sink);
-        self.note_stop(stopped, notes)
+        let run = run_counted(&mut self.machine, most.min(left), &NoBreaks, source, sink);
+        self.note_stop(run, notes)
     }
 
     /// Executes an instruction, where the budget has one, and goes on up to a break address, and notes where the machine is.
@@ -183,19 +195,21 @@ impl Debugger {
         ensures counts { CountedUnless result (S.faults source.old) (S.faults source.new) (K.faults sink.old) (K.faults sink.new) (E.faults notes.old) (E.faults notes.new) }
     {
         let left = self.budget - self.executed;
-        let stopped = self.machine.run_to(left, &self.breaks, source, sink);
-        self.note_stop(stopped, notes)
+        let run = run_counted(&mut self.machine, left, &self.breaks, source, sink);
+        self.note_stop(run, notes)
     }
 
-    /// Counts the instructions that a run executed, and notes where it stopped, unless a read or a write failed in it.
-    fn note_stop<E: Sink>(&mut self, stopped: Stopped, notes: &mut E) -> Result<(), DebugEnd>
-        requires { self.old.executed + stopped.executed ≤ self.old.budget }
-        ensures debugger { self.new ≡ record self.old { executed = self.old.executed + stopped.executed } }
-        ensures noted { StopNoted stopped.halt self.old.machine.cpu.pc (self.old.executed + stopped.executed) result (seen (E.held notes.old) (E.puts notes.old)) (seen (E.held notes.new) (E.puts notes.new)) }
+    /// Counts the instructions that a run executed, and the bytes that it put, and notes where it stopped, unless a read or a write failed
+    /// in it.
+    fn note_stop<E: Sink>(&mut self, run: CountedRun, notes: &mut E) -> Result<(), DebugEnd>
+        requires { self.old.executed + run.stopped.executed ≤ self.old.budget }
+        ensures debugger { self.new ≡ record self.old { executed = self.old.executed + run.stopped.executed; printed = counted (self.old.printed + run.bytes) } }
+        ensures noted { StopNoted run.stopped.halt self.old.machine.cpu.pc (self.old.executed + run.stopped.executed) result (seen (E.held notes.old) (E.puts notes.old)) (seen (E.held notes.new) (E.puts notes.new)) }
         ensures counts { NotesCounted result (E.faults notes.old) (E.faults notes.new) }
     {
-        self.executed += stopped.executed;
-        match stopped.halt {
+        self.executed += run.stopped.executed;
+        self.printed = self.printed.saturating_add(run.bytes);
+        match run.stopped.halt {
             Halt::StepLimit => {
                 let pc = self.machine.cpu().pc();
                 put_note(notes, at_note(pc, self.executed).as_str().as_bytes())
@@ -203,7 +217,7 @@ impl Debugger {
             Halt::Exit(_) | Halt::Trap(_) => {
                 put_note(notes, ended_note(self.executed).as_str().as_bytes())
             }
-            Halt::ReadFault | Halt::WriteFault => Err(DebugEnd::Halt(stopped.halt)),
+            Halt::ReadFault | Halt::WriteFault => Err(DebugEnd::Halt(run.stopped.halt)),
         }
     }
 
@@ -250,6 +264,23 @@ fn list_word<E: Sink>(alloc: Global, at: u32, word: u32, notes: &mut E) -> Resul
     ensures counts { NotesCounted result (E.faults notes.old) (E.faults notes.new) }
 {
     let Ok(note) = listed(alloc, at, word) else {
+        return Err(DebugEnd::Memory);
+    };
+    put_note(notes, &note)
+}
+
+/// Puts a note of so many words from an address on. `Memory` comes only for want of memory.
+fn put_words<E: Sink>(
+    alloc: Global,
+    memory: &Memory,
+    address: u32,
+    count: u32,
+    notes: &mut E,
+) -> Result<(), DebugEnd>
+    ensures put { ArePut (words_note (segments memory.now) (bytes_of memory.now) address count ∷ []) result (seen (E.held notes.old) (E.puts notes.old)) (seen (E.held notes.new) (E.puts notes.new)) }
+    ensures counts { NotesCounted result (E.faults notes.old) (E.faults notes.new) }
+{
+    let Ok(note) = words_note(alloc, memory, address, count) else {
         return Err(DebugEnd::Memory);
     };
     put_note(notes, &note)

@@ -6,11 +6,14 @@
 #![tactic(auto)]
 
 mod break_set;
+mod counted_run;
+mod counting_sink;
 mod debugger;
 mod digits;
 mod disassembly;
 mod laws;
 mod notes;
+mod places;
 mod script;
 mod script_lines;
 mod script_words;

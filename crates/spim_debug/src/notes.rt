@@ -59,6 +59,17 @@ pub fn registers_note(cpu: &Cpu) -> Note
     note
 }
 
+/// How many bytes of output there are.
+pub fn counted_note(bytes: u64) -> Note
+    ensures { result.bytes ≡ spec.counted_note bytes }
+{
+    let mut note = Note::new();
+    note.push_str("out ");
+    push_decimal(&mut note, bytes);
+    note.push_str("\n");
+    note
+}
+
 /// The word at an address, or why it may not be loaded.
 pub fn memory_note(memory: &Memory, a: u32) -> Note
     ensures { result.bytes ≡ spec.memory_note (segments memory.now) (bytes_of memory.now) a }
@@ -68,6 +79,45 @@ pub fn memory_note(memory: &Memory, a: u32) -> Note
     note.push_str(": ");
     push_loaded(&mut note, memory.load_word(a));
     note.push_str("\n");
+    note
+}
+
+/// So many words from an address on, up to the first that may not be loaded. `Err` comes only for want of memory.
+pub fn words_note(alloc: Global, memory: &Memory, a: u32, count: u32) -> Result<Vec<u8>, AllocError>
+    ensures { IfOk result (λ note. note.items ≡ spec.words_note (segments memory.now) (bytes_of memory.now) a count) }
+{
+    let mut head = Note::new();
+    push_word(&mut head, a);
+    head.push_str(":");
+    let mut note = Vec::from_slice(alloc, head.as_str().as_bytes())?;
+    push_words(&mut note, memory, a, count)?;
+    note.push(b'\n')?;
+    Ok(note)
+}
+
+/// Adds so many words from an address on, up to the first that may not be loaded. `Err` comes only for want of memory.
+fn push_words(note: &mut Vec<u8>, memory: &Memory, a: u32, count: u32) -> Result<(), AllocError>
+    ensures { IfOk result (λ done. note.new.items ≡ note.old.items ++ spec.words_text (segments memory.now) (bytes_of memory.now) a count) }
+{
+    let mut at = a;
+    for _done in 0..count {
+        let loaded = memory.load_word(at);
+        note.extend_from_slice(loaded_note(loaded).as_str().as_bytes())?;
+        match loaded {
+            Ok(_) => at = at.wrapping_add(4),
+            Err(_) => return Ok(()),
+        }
+    }
+    Ok(())
+}
+
+/// A space, and what a load answers.
+fn loaded_note(loaded: Result<u32, MemFault>) -> Note
+    ensures { result.bytes ≡ codes " " ++ spec.loaded_text loaded }
+{
+    let mut note = Note::new();
+    note.push_str(" ");
+    push_loaded(&mut note, loaded);
     note
 }
 

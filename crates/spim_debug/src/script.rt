@@ -3,8 +3,7 @@
 ghost use Rattle.std.specs.Prelude.{◌≡◌, ◌<◌, ◌≤◌, length, IfOk, None};
 ghost use Rattle.mips_isa.specs.Lines.{lines_of, AreInRange};
 ghost use Rattle.mips_isa.specs.Assembly.{fault_of, image_of};
-ghost use Rattle.mips_asm.specs.TextLabels.{text_label};
-ghost use Rattle.spim_debug.specs.Scripts.{IsReadAs, commands_in};
+ghost use Rattle.spim_debug.specs.Scripts.{IsReadAs, commands_in, place_of};
 ghost use Rattle.spim_debug.specs.Debugging.{IsScriptFor};
 ghost use Rattle.spim_debug.specs.declared.script.ScriptError.TheVariants.{Memory};
 
@@ -30,8 +29,12 @@ pub enum DebugCommand {
     Run,
     /// To note pc and the registers.
     Regs,
+    /// To note how many bytes of output there are.
+    Out,
     /// To note the word at this address.
     Show(u32),
+    /// To note so many words from this address on.
+    Words(u32, u32),
     /// To note so many instructions from this address on.
     List(u32, u32),
 }
@@ -41,7 +44,7 @@ pub enum DebugCommand {
 pub enum ScriptKind {
     /// It is in no form.
     B1,
-    /// Its label is no label of a word of the text.
+    /// Its label is no label of a word of the text, or its address is that of no such word.
     B2,
 }
 
@@ -69,8 +72,8 @@ impl From<AllocError> for ScriptError {
 
 /// The commands of a script for a program of these lines: one for each line of the script that is not empty.
 ///
-/// B1 comes where a line is in no form, and B2 where it names no label of a word of the program's text; the first faulty line
-/// counts. `Memory` comes only for want of memory. The forms are those of `docs/debugger.md`.
+/// B1 comes where a line is in no form, and B2 where it names no word of the program's text, by a label or by an address; the first
+/// faulty line counts. `Memory` comes only for want of memory. The forms are those of `docs/debugger.md`.
 pub fn read_script(
     alloc: Global,
     bytes: &[u8],
@@ -80,7 +83,7 @@ pub fn read_script(
     requires few { length lines.now < 4294967292 }
     requires ranges { AreInRange (lines_of lines.now) }
     requires image { fault_of (lines_of lines.now) ≡ None }
-    ensures exact { IsReadAs (commands_in (text_label (lines_of lines.now)) bytes.now) result }
+    ensures exact { IsReadAs (commands_in (place_of (lines_of lines.now)) bytes.now) result }
     ensures for_text { IfOk result (λ commands. IsScriptFor (image_of (lines_of lines.now)).text commands.items) }
 {
     let labels = TextLabels::find(alloc, lines)?;

@@ -1,15 +1,14 @@
 //! The lines of a script, each by itself.
 
 ghost use Rattle.std.specs.Prelude.{◌≡◌, ◌≤◌, IfOk, length, map, suc};
-ghost use Rattle.mips_asm.specs.TextLabels.{address_of};
-ghost use Rattle.spim_debug.specs.Scripts.{IsReadAs, address_in, alone, commands_from, number_in, said, said_by, with_label, with_number, with_operand, with_operands};
-ghost use Rattle.spim_debug.specs.ScriptLines.{asked, with_command};
-ghost use Rattle.spim_debug.specs.declared.script.DebugCommand.TheVariants.{Show, Step};
+ghost use Rattle.spim_debug.specs.Scripts.{IsReadAs, address_in, alone, commands_from, number_in, said, said_by, with_number, with_numbers, with_operand, with_operands, with_place};
+ghost use Rattle.spim_debug.specs.ScriptLines.{asked, place_by, with_command};
+ghost use Rattle.spim_debug.specs.declared.script.DebugCommand.TheVariants.{Show, Step, Words};
 
+use crate::places::{is_place, place};
 use crate::script::{DebugCommand, ScriptError, ScriptFault, ScriptKind};
 use crate::script_words::{parts, read_address, read_number};
 use mips_asm::TextLabels;
-use mips_text::is_name;
 use std::alloc::{AllocError, Global};
 
 /// The most instructions of a `step`.
@@ -18,7 +17,7 @@ const MOST_STEPS: u64 = 1_000_000_000;
 /// The most digits of their number.
 const STEP_DIGITS: usize = 10;
 
-/// The most instructions of a `list`.
+/// The most instructions of a `list`, and words of a `words`.
 const MOST_LISTED: u64 = 1_000;
 
 /// The most digits of their number.
@@ -31,7 +30,7 @@ pub(crate) fn read_lines(
     labels: &TextLabels,
 ) -> Result<Vec<DebugCommand>, ScriptError>
     requires { length lines.now ≤ 65537 }
-    ensures { IsReadAs (commands_from (address_of labels.now) 1 (map (λ line. line.now) lines.now)) result }
+    ensures { IsReadAs (commands_from (place_by labels.now) 1 (map (λ line. line.now) lines.now)) result }
 {
     let mut commands = Vec::new(alloc);
     for (index, line) in lines.iter().enumerate() {
@@ -62,7 +61,7 @@ fn read_line(
     line: &[u8],
     labels: &TextLabels,
 ) -> Result<Result<Option<DebugCommand>, ScriptKind>, AllocError>
-    ensures { IfOk result (λ told. told ≡ said (address_of labels.now) line.now) }
+    ensures { IfOk result (λ told. told ≡ said (place_by labels.now) line.now) }
 {
     if line.is_empty() {
         return Ok(Ok(None));
@@ -74,12 +73,12 @@ fn read_line(
 /// What the words of a line say.
 #[tactic(auto, using(crate::proofs::ScriptCommands::more_words))]
 fn said_by(words: &[&[u8]], labels: &TextLabels) -> Result<Option<DebugCommand>, ScriptKind>
-    ensures { result ≡ said_by (address_of labels.now) (map (λ word. word.now) words.now) }
+    ensures { result ≡ said_by (place_by labels.now) (map (λ word. word.now) words.now) }
 {
     match words {
         [verb] => alone(verb),
-        [verb, word] => with_operand(verb, word, labels.address(word)),
-        [verb, first, second] => with_operands(verb, first, second, labels.address(first)),
+        [verb, word] => with_operand(verb, word, labels),
+        [verb, first, second] => with_operands(verb, first, second, labels),
         _ => Err(ScriptKind::B1),
     }
 }
@@ -92,23 +91,25 @@ fn alone(verb: &[u8]) -> Result<Option<DebugCommand>, ScriptKind>
         Ok(Some(DebugCommand::Run))
     } else if verb == b"regs".as_slice() {
         Ok(Some(DebugCommand::Regs))
+    } else if verb == b"out".as_slice() {
+        Ok(Some(DebugCommand::Out))
     } else {
         Err(ScriptKind::B1)
     }
 }
 
-/// What a word with an operand says, where the operand has this address if it is a label.
+/// What a word with an operand says.
 fn with_operand(
     verb: &[u8],
     word: &[u8],
-    address: Option<u32>,
+    labels: &TextLabels,
 ) -> Result<Option<DebugCommand>, ScriptKind>
-    ensures { result ≡ with_operand (λ name. address) verb.now word.now }
+    ensures { result ≡ with_operand (place_by labels.now) verb.now word.now }
 {
     if verb == b"break".as_slice() {
-        at_label(Asked::Break, word, address)
+        at_place(Asked::Break, word, labels)
     } else if verb == b"delete".as_slice() {
-        at_label(Asked::Delete, word, address)
+        at_place(Asked::Delete, word, labels)
     } else if verb == b"step".as_slice() {
         step(word)
     } else if verb == b"show".as_slice() {
@@ -118,25 +119,28 @@ fn with_operand(
     }
 }
 
-/// What a word with two operands says, where the first has this address if it is a label.
+/// What a word with two operands says.
 fn with_operands(
     verb: &[u8],
     first: &[u8],
     second: &[u8],
-    address: Option<u32>,
+    labels: &TextLabels,
 ) -> Result<Option<DebugCommand>, ScriptKind>
-    ensures { result ≡ with_operands (λ name. address) verb.now first.now second.now }
+    ensures { result ≡ with_operands (place_by labels.now) verb.now first.now second.now }
 {
-    if verb != b"list".as_slice() {
-        return Err(ScriptKind::B1);
-    }
-    match read_number(second, LIST_DIGITS, MOST_LISTED) {
-        Some(count) => at_label(Asked::List(count as u32), first, address),
-        None => Err(ScriptKind::B1),
+    if verb == b"list".as_slice() {
+        match read_number(second, LIST_DIGITS, MOST_LISTED) {
+            Some(count) => at_place(Asked::List(count as u32), first, labels),
+            None => Err(ScriptKind::B1),
+        }
+    } else if verb == b"words".as_slice() {
+        words(first, second)
+    } else {
+        Err(ScriptKind::B1)
     }
 }
 
-/// What is asked for at a label.
+/// What is asked for at a word of the text.
 #[derive(Clone, Copy)]
 enum Asked {
     Break,
@@ -158,18 +162,18 @@ impl Asked {
     }
 }
 
-/// The command at a label. B1 comes where the word is no name, and B2 where it has no address.
-fn at_label(
+/// The command at a place. B1 comes where the word is neither a name nor an address, and B2 where it names no word of the text.
+fn at_place(
     what: Asked,
     word: &[u8],
-    address: Option<u32>,
+    labels: &TextLabels,
 ) -> Result<Option<DebugCommand>, ScriptKind>
-    ensures { result ≡ with_label (λ name. address) word.now (asked what) }
+    ensures { result ≡ with_place (place_by labels.now) word.now (asked what) }
 {
-    if !is_name(word) {
+    if !is_place(word) {
         return Err(ScriptKind::B1);
     }
-    match address {
+    match place(labels, word) {
         Some(address) => Ok(Some(what.at(address))),
         None => Err(ScriptKind::B2),
     }
@@ -191,6 +195,19 @@ fn show(word: &[u8]) -> Result<Option<DebugCommand>, ScriptKind>
 {
     match read_address(word) {
         Some(address) => Ok(Some(DebugCommand::Show(address))),
+        None => Err(ScriptKind::B1),
+    }
+}
+
+/// The command to note so many words from an address on.
+fn words(first: &[u8], second: &[u8]) -> Result<Option<DebugCommand>, ScriptKind>
+    ensures { result ≡ with_numbers (address_in first.now) (number_in 4 1000 second.now) Words }
+{
+    let Some(address) = read_address(first) else {
+        return Err(ScriptKind::B1);
+    };
+    match read_number(second, LIST_DIGITS, MOST_LISTED) {
+        Some(count) => Ok(Some(DebugCommand::Words(address, count as u32))),
         None => Err(ScriptKind::B1),
     }
 }

@@ -24,9 +24,8 @@ use Rattle.cool_ports.specs.{Counts.{Rose}, ShelfFiles.{FileMap}, SinkBytes.{app
 use Rattle.cool_simulation.specs.Accord.{Means}
 use Rattle.cool_syntax.specs.declared.TheConstants.{MOST_SOURCE_BYTES}
 use Rattle.cool_words.specs.{Plans.{IsBounded}, declared.plan.RunLimits.{RunLimits}}
-use Rattle.mips_asm.specs.TextLabels.{text_label}
 use Rattle.mips_isa.specs.{Assembly.{image_of}, Calls.{Exited, Outcome, Running, Trapped}, ImageBounds.{ImageParts}, Lines.{Line}, Run.{start}}
-use Rattle.spim_debug.specs.{Debugging.{CountedBy, Debugged, StandsEarlier, debuggee}, Scripts.{commands_in}, declared.debugger.DebugEnd.{DebugEnd}}
+use Rattle.spim_debug.specs.{Debugging.{CountedBy, Debugged, StandsEarlier, debuggee}, Scripts.{commands_in, place_of}, declared.debugger.DebugEnd.{DebugEnd}}
 use Rattle.spim_debug.specs.{declared.script.DebugCommand.{DebugCommand}, declared.script.ScriptFault.{ScriptFault}, declared.script.TheConstants.{MOST_SCRIPT_BYTES}}
 use Rattle.spim_debug.specs.Notes.{state_in}
 use Rattle.spim_machine.specs.{Machine.{IsIn, MachineParts}, declared.halt.Halt.{Halt}}
@@ -37,7 +36,7 @@ use Rattle.lists.specs.Bytes.{AreBytes}
 
 -- what a script says for lines is what it says for the program of these lines
 pub said_for : (lines : List Line) (p : List Class) (names : List (List ℕ)) (script : List ℕ) → lines ≡ program_lines p names
-    → commands_for p names script ≡ commands_in (text_label lines) script
+    → commands_for p names script ≡ commands_in (place_of lines) script
 unfolding commands_for
 said_for lines p names script same = rw (← same)
 

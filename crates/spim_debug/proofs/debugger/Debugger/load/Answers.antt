@@ -1,8 +1,9 @@
-use Rattle.std.proofs.Common.{◌∙◌, refl, sym, ap, [], arith}
+use Rattle.std.proofs.Common.{◌∙◌, refl, sym, ap, [], length, arith}
 use Rattle.std.specs.Prelude.{Some}
 use Rattle.cool_ports.specs.SinkBytes.{appended}
 use Rattle.cool_ports.proofs.GettingBytes.{appended-nil}
 use Rattle.mips_isa.specs.Calls.{State}
+use Rattle.spim_debug.specs.ByteCounts.{counted}
 use Rattle.spim_debug.proofs.debugger.Debugger.load.Goals as goal
 
 -- no instruction is executed yet
@@ -25,6 +26,7 @@ returns-clause-stands c input first =
       };
       halted = loaded.goes_on;
       breaks = c.in_ok-new.ensures.none;
+      printed = ap (λ (s : State). counted (length s.output)) state;
     }
 
 pub returns-clause-fresh : goal.returns-clause-fresh

@@ -1,11 +1,13 @@
-use Rattle.std.proofs.Common.{◌≡◌, ◌∙◌, refl, sym, ap, subst, ◌-◌}
+use Rattle.std.proofs.Common.{◌≡◌, ◌∙◌, refl, sym, ap, subst, ◌+◌, ◌-◌}
 use Rattle.std.specs.Prelude.{min, Some}
 use Rattle.cool_ports.specs.SinkPuts.{seen}
 use Rattle.spim_debug.specs.declared.debugger.Debugger.{Debugger}
 use Rattle.spim_debug.specs.declared.script.DebugCommand.TheVariants as commands
+use Rattle.spim_debug.specs.declared.counted_run.CountedRun.{CountedRun}
+use Rattle.spim_debug.specs.ByteCounts.{counted}
 use Rattle.spim_debug.specs.Moves.{no_break}
 use Rattle.spim_debug.specs.Obeying.{Obeyed}
-use Rattle.spim_debug.proofs.GoingOn.{span, answers_of, went_on, room_is, after_run}
+use Rattle.spim_debug.proofs.GoingOn.{Counts, span, answers_of, went_on, room_is, after_run}
 use Rattle.spim_debug.proofs.ObeyedCommands.{obeyed_stop}
 use Rattle.spim_debug.proofs.debugger.Debugger.step.Goals as goal
 
@@ -13,11 +15,16 @@ use Rattle.spim_debug.proofs.debugger.Debugger.step.Goals as goal
 pub returns-clause-obeyed : goal.returns-clause-obeyed
 returns-clause-obeyed g c d p first input rest leaves st =
     let x = c.args.self.now in
-    let run = c.run_to-stopped.ensures in
+    let m = c.run_counted-run.new.machine in
+    let stopped = c.run_counted-run.result.stopped in
+    let bytes = c.run_counted-run.result.bytes in
+    let run = c.run_counted-run.ensures in
     let room : x.budget - x.executed ≡ d.budget - p.executed = room_is d p first x _ _ st in
-    let answers = answers_of no_break _ (span d p c.args.most) first x c.run_to-stopped.result c.run_to-stopped.new.self _ _ input rest _ _
-    (c.min.ensures ∙ ap (min c.args.most) room) leaves run.memory (λ s none is. run.ran first s none input rest leaves is) run.halted run.again run.machine
+    let answers = answers_of no_break _ (span d p c.args.most) first x stopped m _ _ input rest _ _
+    (c.min.ensures ∙ ap (min c.args.most) room) leaves run.memory (λ s none is. run.ran first s none input rest leaves is) run.halted
+    (λ halt h. ap (λ (r : CountedRun). r.stopped) (run.again halt h)) run.machine
     (λ halt h. ap g.S.Source.past (run.source halt h)) (λ halt h. ap g.K.Sink.held (run.sink halt h)) in
-    let went = went_on d p no_break c.args.most first x c.run_to-stopped.result c.run_to-stopped.new.self _ _ _ _ st answers in
-    subst (λ (y : Debugger). Obeyed d (commands.Step c.args.most) p first c.note_stop.result y (Some rest) (g.K.Sink.held c.run_to-stopped.new.sink) (seen (g.E.Sink.held c.args.notes.now) (g.E.Sink.puts c.args.notes.now)) (seen (g.E.Sink.held c.note_stop.new.notes) (g.E.Sink.puts c.note_stop.new.notes))) (sym c.note_stop.ensures.debugger)
-    (obeyed_stop d (commands.Step c.args.most) p first c.run_to-stopped.result.halt c.note_stop.result (after_run x c.run_to-stopped.new.self c.run_to-stopped.result.executed) _ _ _ _ refl went c.note_stop.ensures.noted)
+    let counts : Counts first x stopped bytes _ _ = record { grew = λ none s is. run.bytes first s none input rest leaves is; none = λ halt h. ap (λ (r : CountedRun). r.bytes) (run.again halt h) } in
+    let went = went_on d p no_break c.args.most first x stopped bytes m _ _ _ _ st answers counts in
+    subst (λ (y : Debugger). Obeyed d (commands.Step c.args.most) p first c.note_stop.result y (Some rest) (g.K.Sink.held c.run_counted-run.new.sink) (seen (g.E.Sink.held c.args.notes.now) (g.E.Sink.puts c.args.notes.now)) (seen (g.E.Sink.held c.note_stop.new.notes) (g.E.Sink.puts c.note_stop.new.notes))) (sym c.note_stop.ensures.debugger)
+    (obeyed_stop d (commands.Step c.args.most) p first stopped.halt c.note_stop.result (after_run x m stopped.executed (counted (x.printed + bytes))) _ _ _ _ refl went c.note_stop.ensures.noted)
