@@ -15,15 +15,19 @@ use crate::instructions::instruction;
 use crate::mnemonics::Mnemonic;
 use crate::operands::{has_colon, has_name, label_at};
 use crate::wanted::row_fault;
-use crate::words::{Word, words_of};
+use crate::words::{Word, fill_words};
 use mips_isa::{AsmKind, Label, Line, LineLabels, Statement};
 use std::alloc::Global;
 
-/// The line of these bytes.
-pub(crate) fn read_line(alloc: Global, bytes: &[u8]) -> Result<Line, Flaw>
+/// The line of these bytes. Its words are put into a list in place of what that held, so that all lines share its memory.
+pub(crate) fn read_line<'a>(
+    alloc: Global,
+    bytes: &'a [u8],
+    words: &mut Vec<Word<'a>>,
+) -> Result<Line, Flaw>
     ensures { Meets line_of result (line_read (words_of bytes.now)) }
 {
-    let words = words_of(alloc, bytes)?;
+    fill_words(words, bytes)?;
     line_of_words(alloc, words.as_slice())
 }
 

@@ -24,10 +24,11 @@ pub fn read_asm(alloc: Global, bytes: &[u8]) -> Result<Vec<Line>, AsmError>
     ensures few { IfOk result (λ lines. vec_len lines ≤ length bytes.now) }
 {
     let mut lines = Vec::new(alloc);
+    let mut words = Vec::new(alloc);
     let mut rest = bytes;
     while !rest.is_empty() {
         let Parted { line, behind } = part(rest);
-        match read_line(alloc, line) {
+        match read_line(alloc, line, &mut words) {
             Ok(line) => lines.push(line)?,
             Err(Flaw::Memory) => return Err(AsmError::Memory),
             Err(Flaw::Fault(kind)) => {

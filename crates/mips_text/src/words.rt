@@ -1,12 +1,12 @@
 //! The words of a line.
 
-ghost use Rattle.std.specs.Prelude.{◌≡◌, ◌∷◌, [], ◌<◌, ◌≤◌, IfOk, IfSome, MatchOption, length, map, option_map};
+ghost use Rattle.std.specs.Prelude.{◌≡◌, ◌∷◌, [], ◌<◌, ◌≤◌, IfSome, MatchOption, OnOk, length, map, option_map};
 ghost use Rattle.mips_text.specs.Words.{words_behind, words_of, with_front};
 ghost use Rattle.mips_text.specs.Views.{found_seen, word_seen};
 
 use crate::class::{Class, class_of};
 use crate::fronts::{Found, front_at};
-use std::alloc::{AllocError, Global};
+use std::alloc::AllocError;
 
 /// A word of a line.
 #[derive(Clone, Copy)]
@@ -25,17 +25,17 @@ pub(crate) enum Word<'a> {
     Stray,
 }
 
-/// The words of a line, up to the first one that is none. `Err` comes only for want of memory.
-pub(crate) fn words_of(alloc: Global, line: &[u8]) -> Result<Vec<Word<'_>>, AllocError>
-    ensures { IfOk result (λ words. map word_seen words.items ≡ words_of line.now) }
+/// Fills the list with the words of a line, up to the first one that is none. `Err` comes only for want of memory.
+pub(crate) fn fill_words<'a>(words: &mut Vec<Word<'a>>, line: &'a [u8]) -> Result<(), AllocError>
+    ensures { OnOk result (map word_seen words.new.items ≡ words_of line.now) }
 {
-    let mut words = Vec::new(alloc);
+    words.clear();
     let mut rest = line;
     while let Some(Cut { word, behind }) = next_word(rest) {
         words.push(word)?;
         rest = behind;
     }
-    Ok(words)
+    Ok(())
 }
 
 /// A word, and the bytes in which the words behind it stand.
