@@ -1,5 +1,6 @@
 pub mod CappedNumbers
 mod CutTexts
+mod FirstLetters
 mod FrontsAreLongest
 mod KindsOfReading
 mod LabelsOfLines

@@ -1,5 +1,5 @@
 -- The names of mnemonics, of directives and of registers.
-use Rattle.std.specs.Prelude.{ℕ, List, [], ◌∷◌, codes, get_or, bytes_eq, Option, Bool, false, ◌&&◌}
+use Rattle.std.specs.Prelude.{ℕ, List, [], ◌∷◌, codes, get_or, bytes_eq, Option, Bool, false, ◌&&◌, ◌==◌}
 use Rattle.std.specs.List.{find, list_all}
 use Rattle.mips_text.specs.Letters.{name_rest, name_start}
 use Rattle.mips_isa.specs.declared.instr.ThreeOp.{ThreeOp}
@@ -185,6 +185,11 @@ directive_named name = find (λ directive. bytes_eq (directive_text directive) n
 abbrev pub is_name : List ℕ → Bool
 is_name [] = false
 is_name (b ∷ bs) = name_start b && list_all name_rest bs
+
+-- whether a text begins with this letter
+abbrev pub begins_with : ℕ → List ℕ → Bool
+begins_with letter [] = false
+begins_with letter (b ∷ bs) = b == letter
 
 -- the names of registers, without the `$`, in the order of their numbers
 abbrev pub register_texts : List (List ℕ)

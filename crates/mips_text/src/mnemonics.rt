@@ -38,16 +38,81 @@ pub(crate) enum Mnemonic {
     Mul,
 }
 
-/// All mnemonics.
-static ALL: [Mnemonic; 64] = [
+/// Those that begin with `a`.
+static WITH_A: [Mnemonic; 6] = [
     Mnemonic::Three(ThreeOp::Add),
     Mnemonic::Three(ThreeOp::Addu),
+    Mnemonic::Three(ThreeOp::And),
+    Mnemonic::Imm(ImmOp::Addi),
+    Mnemonic::Imm(ImmOp::Addiu),
+    Mnemonic::Imm(ImmOp::Andi),
+];
+
+/// Those that begin with `b`.
+static WITH_B: [Mnemonic; 13] = [
+    Mnemonic::BranchTwo(TwoOp::Beq),
+    Mnemonic::BranchTwo(TwoOp::Bne),
+    Mnemonic::BranchOne(OneOp::Blez),
+    Mnemonic::BranchOne(OneOp::Bgtz),
+    Mnemonic::BranchOne(OneOp::Bltz),
+    Mnemonic::BranchOne(OneOp::Bgez),
+    Mnemonic::B,
+    Mnemonic::BranchZero(ZeroOp::Beqz),
+    Mnemonic::BranchZero(ZeroOp::Bnez),
+    Mnemonic::BranchOrder(OrderOp::Bgt),
+    Mnemonic::BranchOrder(OrderOp::Bge),
+    Mnemonic::BranchOrder(OrderOp::Blt),
+    Mnemonic::BranchOrder(OrderOp::Ble),
+];
+
+/// Those that begin with `d`.
+static WITH_D: [Mnemonic; 2] = [
+    Mnemonic::MulDiv(MulDivOp::Div),
+    Mnemonic::MulDiv(MulDivOp::Divu),
+];
+
+/// Those that begin with `j`.
+static WITH_J: [Mnemonic; 4] = [
+    Mnemonic::Jr,
+    Mnemonic::Jalr,
+    Mnemonic::Jump(JumpOp::J),
+    Mnemonic::Jump(JumpOp::Jal),
+];
+
+/// Those that begin with `l`.
+static WITH_L: [Mnemonic; 8] = [
+    Mnemonic::Lui,
+    Mnemonic::Mem(MemOp::Lb),
+    Mnemonic::Mem(MemOp::Lh),
+    Mnemonic::Mem(MemOp::Lw),
+    Mnemonic::Mem(MemOp::Lbu),
+    Mnemonic::Mem(MemOp::Lhu),
+    Mnemonic::La,
+    Mnemonic::Li,
+];
+
+/// Those that begin with `m`.
+static WITH_M: [Mnemonic; 8] = [
+    Mnemonic::MoveFrom(FromOp::Mfhi),
+    Mnemonic::MoveFrom(FromOp::Mflo),
+    Mnemonic::MoveTo(ToOp::Mthi),
+    Mnemonic::MoveTo(ToOp::Mtlo),
+    Mnemonic::MulDiv(MulDivOp::Mult),
+    Mnemonic::MulDiv(MulDivOp::Multu),
+    Mnemonic::Move,
+    Mnemonic::Mul,
+];
+
+/// Those that begin with `n`.
+static WITH_N: [Mnemonic; 3] = [Mnemonic::Three(ThreeOp::Nor), Mnemonic::Neg, Mnemonic::Nop];
+
+/// Those that begin with `o`.
+static WITH_O: [Mnemonic; 2] = [Mnemonic::Three(ThreeOp::Or), Mnemonic::Imm(ImmOp::Ori)];
+
+/// Those that begin with `s`.
+static WITH_S: [Mnemonic; 16] = [
     Mnemonic::Three(ThreeOp::Sub),
     Mnemonic::Three(ThreeOp::Subu),
-    Mnemonic::Three(ThreeOp::And),
-    Mnemonic::Three(ThreeOp::Or),
-    Mnemonic::Three(ThreeOp::Xor),
-    Mnemonic::Three(ThreeOp::Nor),
     Mnemonic::Three(ThreeOp::Slt),
     Mnemonic::Three(ThreeOp::Sltu),
     Mnemonic::Shift(ShiftOp::Sll),
@@ -56,63 +121,35 @@ static ALL: [Mnemonic; 64] = [
     Mnemonic::ShiftReg(ShiftRegOp::Sllv),
     Mnemonic::ShiftReg(ShiftRegOp::Srlv),
     Mnemonic::ShiftReg(ShiftRegOp::Srav),
-    Mnemonic::Jr,
-    Mnemonic::Jalr,
     Mnemonic::Syscall,
-    Mnemonic::MoveFrom(FromOp::Mfhi),
-    Mnemonic::MoveFrom(FromOp::Mflo),
-    Mnemonic::MoveTo(ToOp::Mthi),
-    Mnemonic::MoveTo(ToOp::Mtlo),
-    Mnemonic::MulDiv(MulDivOp::Mult),
-    Mnemonic::MulDiv(MulDivOp::Multu),
-    Mnemonic::MulDiv(MulDivOp::Div),
-    Mnemonic::MulDiv(MulDivOp::Divu),
-    Mnemonic::Imm(ImmOp::Addi),
-    Mnemonic::Imm(ImmOp::Addiu),
     Mnemonic::Imm(ImmOp::Slti),
     Mnemonic::Imm(ImmOp::Sltiu),
-    Mnemonic::Imm(ImmOp::Andi),
-    Mnemonic::Imm(ImmOp::Ori),
-    Mnemonic::Imm(ImmOp::Xori),
-    Mnemonic::Lui,
-    Mnemonic::BranchTwo(TwoOp::Beq),
-    Mnemonic::BranchTwo(TwoOp::Bne),
-    Mnemonic::BranchOne(OneOp::Blez),
-    Mnemonic::BranchOne(OneOp::Bgtz),
-    Mnemonic::BranchOne(OneOp::Bltz),
-    Mnemonic::BranchOne(OneOp::Bgez),
-    Mnemonic::Jump(JumpOp::J),
-    Mnemonic::Jump(JumpOp::Jal),
-    Mnemonic::Mem(MemOp::Lb),
-    Mnemonic::Mem(MemOp::Lh),
-    Mnemonic::Mem(MemOp::Lw),
-    Mnemonic::Mem(MemOp::Lbu),
-    Mnemonic::Mem(MemOp::Lhu),
     Mnemonic::Mem(MemOp::Sb),
     Mnemonic::Mem(MemOp::Sh),
     Mnemonic::Mem(MemOp::Sw),
-    Mnemonic::La,
-    Mnemonic::Li,
-    Mnemonic::Move,
-    Mnemonic::Neg,
-    Mnemonic::Nop,
-    Mnemonic::B,
-    Mnemonic::BranchZero(ZeroOp::Beqz),
-    Mnemonic::BranchZero(ZeroOp::Bnez),
-    Mnemonic::BranchOrder(OrderOp::Bgt),
-    Mnemonic::BranchOrder(OrderOp::Bge),
-    Mnemonic::BranchOrder(OrderOp::Blt),
-    Mnemonic::BranchOrder(OrderOp::Ble),
-    Mnemonic::Mul,
 ];
+
+/// Those that begin with `x`.
+static WITH_X: [Mnemonic; 2] = [Mnemonic::Three(ThreeOp::Xor), Mnemonic::Imm(ImmOp::Xori)];
 
 impl Mnemonic {
     /// The mnemonic of this name.
-    #[tactic(auto, unfolding(crate::specs::Names::mnemonic_named))]
     pub(crate) fn named(name: &[u8]) -> Option<Mnemonic>
         ensures { result ≡ mnemonic_named name.now }
     {
-        named_in(&ALL, name)
+        match name {
+            [b'a', ..] => named_in(&WITH_A, name),
+            [b'b', ..] => named_in(&WITH_B, name),
+            [b'd', ..] => named_in(&WITH_D, name),
+            [b'j', ..] => named_in(&WITH_J, name),
+            [b'l', ..] => named_in(&WITH_L, name),
+            [b'm', ..] => named_in(&WITH_M, name),
+            [b'n', ..] => named_in(&WITH_N, name),
+            [b'o', ..] => named_in(&WITH_O, name),
+            [b's', ..] => named_in(&WITH_S, name),
+            [b'x', ..] => named_in(&WITH_X, name),
+            _ => None,
+        }
     }
 
     /// The name.
