@@ -1,12 +1,13 @@
--- A mnemonic is found among those that begin with the first letter of its name.
-use Rattle.std.proofs.Common.{◌≡◌, ◌≢◌, ap, refl, arith, ℕ, ◌<◌, ◌≤◌, Bool, true, false, cond, List, [], ◌∷◌, length, get_or, filter, find, Decides}
-use Rattle.std.specs.Prelude.{◌==◌, ◌||◌, bytes_eq, Some, None}
+-- A name is found among those that begin with its first letter.
+use Rattle.std.proofs.Common.{◌≡◌, ◌≢◌, ap, refl, arith, ℕ, zero, suc, ◌+◌, ◌<◌, ◌≤◌, Bool, true, false, cond, List, [], ◌∷◌, length, map, take, drop, get_or, filter, find, Decides}
+use Rattle.std.specs.Prelude.{◌==◌, ◌||◌, not, bytes_eq, Some, None}
 use Rattle.std.specs.List.{list_all}
-use Rattle.std.proofs.lemmas.Bool.{and_parts}
+use Rattle.std.proofs.lemmas.Bool.{and_parts, not-true}
 use Rattle.std.proofs.lemmas.Bool.Decides.{nat_tests}
 use Rattle.std.proofs.lemmas.Slice.Eq.{bytes_eq-Decides}
 use Rattle.mips_text.specs.declared.mnemonics.Mnemonic.{Mnemonic}
 use Rattle.mips_text.specs.Names.{all_mnemonics, begins_with, mnemonic_named, mnemonic_text}
+use Rattle.mips_text.specs.Operands.{place_from}
 
 -- a text that begins with another letter is no name that begins with this one
 other_letter : (letter : ℕ) (text name : List ℕ) → 1 ≤ length name → get_or name 0 0 ≡ letter → begins_with letter text ≡ false → bytes_eq text name ≡ false
@@ -72,3 +73,14 @@ pub none_empty : (name : List ℕ) → length name < 1 → None ≡ mnemonic_nam
 unfolding mnemonic_named
 none_empty [] short = refl
 none_empty (b ∷ name) short = absurd (omega arith)
+
+-- a name has the same place in a table where it is looked for behind texts that begin with another letter
+pub place_behind : {X : Type 0} (seen : X → List ℕ) (xs : List X) (passed start place letter : ℕ) (name : List ℕ) → start + passed ≡ place
+    → 1 ≤ length name → get_or name 0 0 ≡ letter → list_all (λ text. not (begins_with letter text)) (take passed (map seen xs)) ≡ true
+    → place_from place (map seen (drop passed xs)) name ≡ place_from start (map seen xs) name
+place_behind seen xs zero start place letter name there some first others = ap (λ k. place_from k (map seen xs) name) (omega arith)
+place_behind seen [] (suc passed) start place letter name there some first others = refl
+place_behind seen (x ∷ xs) (suc passed) start place letter name there some first others =
+    let parts = and_parts (not (begins_with letter (seen x))) (list_all (λ text. not (begins_with letter text)) (take passed (map seen xs))) others in
+    let other : bytes_eq (seen x) name ≡ false = other_letter letter (seen x) name some first (not-true (begins_with letter (seen x)) parts.0) in
+    rw other (place_behind seen xs passed (start + 1) place letter name (omega arith) some first parts.1)

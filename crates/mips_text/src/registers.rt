@@ -1,7 +1,8 @@
 //! The names of registers.
 
-ghost use Rattle.std.specs.Prelude.{◌≡◌, ◌<◌, IfSome, bytes_eq, map};
-ghost use Rattle.mips_text.specs.Names.{register_text};
+ghost use Rattle.std.specs.Prelude.{◌≡◌, ◌<◌, ◌≤◌, IfSome, IsTrue, bytes_eq, drop, map, not, take};
+ghost use Rattle.std.specs.List.{list_all};
+ghost use Rattle.mips_text.specs.Names.{begins_with, register_text, register_texts};
 ghost use Rattle.mips_text.specs.Operands.{place_from, register_named};
 
 use mips_isa::Reg;
@@ -25,20 +26,50 @@ pub(crate) fn register_named(name: &[u8]) -> Option<Reg>
     ensures { result ≡ register_named name.now }
 {
     let number = match name {
-        [b'0'..=b'9', ..] => place_of(&NUMBERS, name)?,
-        _ => place_of(&NAMES, name)?,
+        [b'0'..=b'9', ..] => place_of(&NUMBERS, 0, name)?,
+        _ => place_of_name(name)?,
     };
     Some(Reg::new(number as u32))
 }
 
-/// The place of a name in a table.
-fn place_of(table: &[&str; 32], name: &[u8]) -> Option<usize>
-    ensures exact { result ≡ place_from 0 (map (λ known. known.now) table.now) name.now }
+/// The place of a name in the table of names.
+fn place_of_name(name: &[u8]) -> Option<usize>
+    ensures exact { result ≡ place_from 0 register_texts name.now }
     ensures below { IfSome result (λ place. place < 32) }
 {
-    for (index, known) in table.iter().enumerate() {
-        if is_spelled(known.as_bytes(), name) {
-            return Some(index);
+    match name {
+        [letter, ..] => place_of(&NAMES, first_with(*letter), name),
+        [] => None,
+    }
+}
+
+/// A place in the table of names before which none begins with this letter.
+fn first_with(letter: u8) -> usize
+    ensures none_before { IsTrue (list_all (λ text. not (begins_with letter text)) (take result register_texts)) }
+    ensures within { result ≤ 32 }
+{
+    match letter {
+        b'a' => 1,
+        b'v' => 2,
+        b't' => 8,
+        b's' => 16,
+        b'k' => 26,
+        b'g' => 28,
+        b'f' => 30,
+        b'r' => 31,
+        _ => 0,
+    }
+}
+
+/// The place of a name in a table, where it is looked for from this place on.
+fn place_of(table: &[&str; 32], start: usize, name: &[u8]) -> Option<usize>
+    requires { start ≤ 32 }
+    ensures exact { result ≡ place_from start (map (λ known. known.now) (drop start table.now)) name.now }
+    ensures below { IfSome result (λ place. place < 32) }
+{
+    for place in start..table.len() {
+        if is_spelled(table[place].as_bytes(), name) {
+            return Some(place);
         }
     }
     None
