@@ -87,7 +87,7 @@ class Adapter {
             const { debuggee } = this;
             if (this.settings.noDebug) return this.ended();
             await debuggee.stand(0);
-            if (this.settings.stopOnEntry) return this.stopped({ steps: (await debuggee.entry()).steps }, "entry");
+            if (this.settings.stopOnEntry) return this.arrived(await debuggee.forward(debuggee.logic.begin), "entry");
             return this.arrived(await debuggee.forward(debuggee.logic.goOn, this.breakpoints));
         });
     }
@@ -188,7 +188,7 @@ class Adapter {
 
     // Answers what is told of the breaks that are asked for, which `set` sets where there is a program.
     setBreaks(asked, set) {
-        if (!this.debuggee?.listing) return { breakpoints: asked.map(() => ({ verified: false })) };
+        if (!this.debuggee?.table) return { breakpoints: asked.map(() => ({ verified: false })) };
         const breakpoints = set(this.debuggee);
         if (this.runs) this.debuggee.changeBreaks();
         return { breakpoints };
@@ -205,7 +205,7 @@ class Adapter {
 
     breakpointLocations({ source, line, endLine = line }) {
         const { debuggee } = this, name = debuggee?.program.nameOf(source.path);
-        const lines = (debuggee?.listing?.places ?? []).filter((it) => it.file === name && it.line >= line && it.line <= endLine).map((it) => it.line);
+        const lines = (debuggee?.table?.stops ?? []).filter((it) => it.file === name && it.line >= line && it.line <= endLine).map((it) => it.line);
         return { breakpoints: [...new Set(lines)].sort((a, b) => a - b).map((it) => ({ line: it })) };
     }
 

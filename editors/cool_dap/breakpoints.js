@@ -1,16 +1,16 @@
-// Breaks at lines of files and at methods, as the client asks for them, and as the places and labels at which a run stops.
+// Breaks at lines of files and at methods, as the client asks for them, and as the places and addresses at which a run stops.
 "use strict";
 const { Unread, readConditions } = require("./conditions.js");
 const { NotTold } = require("./frames.js");
 
 // One break. `told` is what the client is told of it; `asked` is what it asked for, and `reads` that as conditions.js reads it.
 class Breakpoint {
-    constructor(kind, asked, told, { places = [], labels = [] } = {}, reads = {}) {
-        Object.assign(this, { kind, asked, told, places, labels, reads, hits: [], holding: new Map(), known: new Map() });
+    constructor(kind, asked, told, { places = [], addresses = [] } = {}, reads = {}) {
+        Object.assign(this, { kind, asked, told, places, addresses, reads, hits: [], holding: new Map(), known: new Map() });
     }
 
     isAt(stop) {
-        return stop.label ? this.labels.includes(stop.label) : this.places.includes(stop.place);
+        return this.places.includes(stop.place) || this.addresses.includes(stop.pc);
     }
 
     // Whether it depends on the state that it stops there.
@@ -80,11 +80,11 @@ class Breakpoints {
         return this.lines.get(file).map((it) => it.told);
     }
 
-    lineAt(file, asked, { program, logic, listing, outline }) {
+    lineAt(file, asked, { program, logic, view }) {
         const { line } = asked, name = program.nameOf(file);
-        const found = name === undefined ? undefined : logic.breakOfLine(name, line, { listing, outline });
+        const found = name === undefined ? undefined : logic.breakOfLine(name, line, view);
         if (found) return this.made("breakpoint", asked, { line: found.line, source: { name, path: file } }, found);
-        const message = name === undefined ? "this file is no part of the program" : "no line from here on has a call or an operation";
+        const message = name === undefined ? "this file is no part of the program" : "no line from here on has an expression";
         return this.refused(asked, { line, message });
     }
 
@@ -95,11 +95,11 @@ class Breakpoints {
     }
 
     functionAt(asked, { program, logic, listing, outline }) {
-        const labels = labelsOf(asked.name.trim(), listing, outline, logic);
+        const labels = labelsOf(asked.name.trim(), listing, logic);
         if (labels.length === 0) return this.refused(asked, { message: `${asked.name} is no method: write Class.method` });
-        const method = logic.methodOf(outline, labels[0]), file = outline.get(labels[0].split(".")[0])?.file;
-        const where = method && file !== undefined ? { line: method.line, source: { name: file, path: program.pathOf(file) } } : {};
-        return this.made("function breakpoint", asked, where, { labels });
+        const { line, file } = outline.get(labels[0]) ?? {};
+        const where = file === undefined ? {} : { line, source: { name: file, path: program.pathOf(file) } };
+        return this.made("function breakpoint", asked, where, { addresses: labels.map((it) => listing.labels.get(it)) });
     }
 
     made(kind, asked, told, where) {
@@ -130,7 +130,7 @@ class Breakpoints {
     get breaks() {
         const { all } = this;
         return {
-            places: all.flatMap((it) => it.places), labels: all.flatMap((it) => it.labels), areOpen: all.some((it) => it.isOpen),
+            places: all.flatMap((it) => it.places), addresses: all.flatMap((it) => it.addresses), areOpen: all.some((it) => it.isOpen),
             isOpen: (stop) => this.at(stop).some((it) => it.isOpen),
         };
     }
@@ -170,15 +170,12 @@ class Breakpoints {
 
 const sameIn = (all, asked) => all.find((it) => JSON.stringify(it.asked) === JSON.stringify(asked));
 
-// The labels of a method's name: with its class, or those that inherit it; or alone, for each class that has one; or of any other label of the code.
-function labelsOf(name, { labels }, outline, { DATA_START }) {
+// The labels of a method's name: with its class, that of the method which an object of the class has; or alone, for each class that has one; or of any other
+// label of the code.
+function labelsOf(name, { labels, classes }, { DATA_START }) {
     const [, owner, method] = /^(?:(\w+)\.)?(\w+)$/.exec(name) ?? [];
-    const isCode = (it) => labels.get(it) < DATA_START;
-    if (owner === undefined) return [...labels.keys()].filter((it) => isCode(it) && (it === name || it.endsWith(`.${method}`)));
-    for (let it = owner, i = 0; it && i < 1000; it = outline.get(it)?.parent ?? (it === "Object" ? undefined : "Object"), i += 1) {
-        if (isCode(`${it}.${method}`)) return [`${it}.${method}`];
-    }
-    return [];
+    if (owner === undefined) return [...labels.keys()].filter((it) => labels.get(it) < DATA_START && (it === name || it.endsWith(`.${method}`)));
+    return (classes.find((it) => it.name === owner)?.methods ?? []).filter((it) => it.endsWith(`.${method}`));
 }
 
 module.exports = { Breakpoints };

@@ -4,13 +4,13 @@
 const WORD = 4;
 
 // So many instructions from an address on, some before it where the offset is below 0: what stands outside of the text is told as invalid.
-function disassembled({ listing, logic, program }, { memoryReference, offset, instructionOffset, instructionCount }) {
+function disassembled({ listing, table, logic, program }, { memoryReference, offset, instructionOffset, instructionCount }) {
     const { rows } = listing, address = Number(memoryReference) + offset;
     const first = rows.findIndex((it) => it.address + WORD * it.words > address), from = (first < 0 ? rows.length : first) + instructionOffset;
     return Array.from({ length: instructionCount }, (_, i) => {
         const row = rows[from + i];
         if (row === undefined) return { address: logic.hex(address + WORD * (instructionOffset + i)), instruction: "", presentationHint: "invalid" };
-        const place = listing.places.find((it) => it.address === row.address), path = place && program.pathOf(place.file);
+        const place = logic.placeAt(table, row.address, listing), path = place && program.pathOf(place.file);
         const at = path ? { location: { name: place.file, path }, line: place.line } : {};
         return { address: logic.hex(row.address), instruction: row.text, ...(row.labels[0] ? { symbol: row.labels[0] } : {}), ...at };
     });

@@ -1,4 +1,4 @@
-// The program `cool`: where it is, and its runs.
+// The program `cool`, and `cool_editor`, which tells the table of code: where they are, and their runs.
 "use strict";
 const { execFileSync, spawn } = require("child_process");
 const fs = require("fs");
@@ -15,7 +15,7 @@ const TOP = path.join(EDITORS, ".."), PICKS = path.join(TOP, "release", "program
 function coolOf(named) {
     const given = named || process.env.COOL;
     if (given) return given;
-    const found = fs.existsSync(PICKS) ? ofRepository() : path.join(TOP, "cool");
+    const found = fs.existsSync(PICKS) ? ofRepository("cool") : path.join(TOP, "cool");
     if (found && fs.existsSync(found)) return found;
     const isOnPath = (process.env.PATH ?? "").split(path.delimiter).some((it) => fs.existsSync(path.join(it, "cool")));
     if (isOnPath) return "cool";
@@ -23,12 +23,23 @@ function coolOf(named) {
     throw new LaunchFailed('There is no program `cool`: run ./install in the repository, or set "cool" in the launch to the path of one.');
 }
 
-// The path of the repository's program, if it has one for this machine.
-function ofRepository() {
-    const released = path.join(TOP, "release", "cool.exe"), how = { timeout: MOST_MILLISECONDS, stdio: ["ignore", "pipe", "ignore"] };
+// The program that tells the table of code of `cool`: the one that COOL_EDITOR names, or the one beside `cool`, that of the repository, or the one on PATH.
+function editorOf(cool) {
+    if (process.env.COOL_EDITOR) return process.env.COOL_EDITOR;
+    if (cool === "module") return cool;
+    if (path.basename(cool) === cool) return "cool_editor";
+    const real = fs.existsSync(cool) ? fs.realpathSync(cool) : cool;
+    const beside = path.join(path.dirname(real), path.basename(real).replace(/^cool/, "cool_editor"));
+    if (beside !== real && fs.existsSync(beside)) return beside;
+    return (fs.existsSync(PICKS) ? ofRepository("cool_editor") : undefined) ?? "cool_editor";
+}
+
+// The path of a program of the repository, if it has one for this machine.
+function ofRepository(name) {
+    const released = path.join(TOP, "release", `${name}.exe`), how = { timeout: MOST_MILLISECONDS, stdio: ["ignore", "pipe", "ignore"] };
     if (process.platform === "win32") return released;
     try {
-        return execFileSync(PICKS, { ...how, env: { ...process.env, COOL_BUILD: "no" } }).toString().trimEnd();
+        return execFileSync(PICKS, [name], { ...how, env: { ...process.env, COOL_BUILD: "no" } }).toString().trimEnd();
     } catch {
         return undefined;
     }
@@ -44,13 +55,13 @@ class Cool {
     }
 
     // A process, and whether it fails to start. `comes` is called with its output, and how much came before.
-    start(words, comes, fail) {
-        const how = { cwd: this.program.sources, stdio: "pipe" };
-        const child = this.command === "module" ? spawnModule(words, how) : spawn(this.command, words, how);
+    start(words, comes, fail, name = "cool") {
+        const how = { cwd: this.program.sources, stdio: "pipe" }, command = name === "cool" ? this.command : editorOf(this.command);
+        const child = command === "module" ? spawnModule(words, how, name) : spawn(command, words, how);
         let length = 0;
         this.running.add(child);
         child.on("close", () => this.running.delete(child));
-        child.on("error", (error) => fail(new LaunchFailed(`${this.command} does not start: ${error.message}`)));
+        child.on("error", (error) => fail(new LaunchFailed(`${command} does not start: ${error.message}`)));
         child.stdin.on("error", () => {});
         child.stdout.on("data", (bytes) => {
             comes(bytes, length);
@@ -67,10 +78,10 @@ class Cool {
         for (const it of this.running) it.stopped = it.kill("SIGKILL");
     }
 
-    // A run to its end: a promise of { status, stopped, notes }.
-    run(words, comes) {
+    // A run of the program of a name to its end: a promise of { status, stopped, notes }.
+    run(words, comes, name) {
         return new Promise((answer, fail) => {
-            const child = (this.last = this.start(words, comes, fail)), notes = [];
+            const child = (this.last = this.start(words, comes, fail, name)), notes = [];
             child.stderr.on("data", (bytes) => notes.push(bytes));
             child.on("close", (status) => {
                 this.last = undefined;
@@ -85,9 +96,18 @@ class Cool {
         else this.last?.stdin.write(text);
     }
 
-    async asm() {
+    // The assembly, and the table of code.
+    asm() {
+        return this.read(["asm", "--", ...this.program.names]);
+    }
+
+    code() {
+        return this.read(["--code", ...this.program.names], "cool_editor");
+    }
+
+    async read(words, name) {
         const output = [];
-        const came = await this.run(["asm", "--", ...this.program.names], (bytes) => output.push(bytes));
+        const came = await this.run(words, (bytes) => output.push(bytes), name);
         return { ...came, output: Buffer.concat(output).toString() };
     }
 

@@ -21,12 +21,19 @@ class Debuggee {
         this.logic = logicWith((...all) => this.debug(...all));
     }
 
-    // Makes the listing of the assembly; answers the notes of `cool` where there is none.
+    // Reads the assembly and the table of code; answers the notes of `cool` where there is none.
     async prepare() {
+        const told = this.cool.code();
+        told.catch(() => {});
         const { status, output, notes } = await this.cool.asm();
         if (status !== 0) return notes;
+        const code = await told, { files } = this.program;
+        if (code.status !== 0) throw new LaunchFailed(`cool_editor --code ended with status ${code.status}: ${code.notes}`);
         this.listing = this.logic.listingOf(output);
-        this.outline = this.logic.outlineOf(this.program.files);
+        this.table = this.logic.tableOf(code.output, files, this.listing);
+        this.outline = this.logic.outlineOf(files);
+        this.textOf = this.logic.textsOf(files);
+        this.numbers = new Map();
     }
 
     async debug(lines, wanted, more) {
@@ -46,7 +53,8 @@ class Debuggee {
     }
 
     get view() {
-        return { state: this.state, listing: this.listing, outline: this.outline };
+        const { state, listing, table, outline, textOf, numbers } = this;
+        return { state, listing, table, outline, textOf, numbers };
     }
 
     // Where the program stands, with so many frames. Words of memory that are lacking are read.
@@ -84,11 +92,11 @@ class Debuggee {
 
     // The breaks of the user, and those before a read of what was not given.
     allBreaks(breakpoints) {
-        const { places, labels, areOpen, isOpen } = breakpoints?.breaks ?? { ...this.logic.NO_BREAKS, areOpen: false, isOpen: () => false };
-        const own = new Set(labels);
-        const takes = (label, stop) => (READERS.includes(label) && this.input.isWanted(stop.steps)) || own.has(label);
+        const { places, addresses, areOpen, isOpen } = breakpoints?.breaks ?? { ...this.logic.NO_BREAKS, areOpen: false, isOpen: () => false };
+        const own = new Set(addresses);
+        const takes = (address, stop) => (this.readers.includes(address) && this.input.isWanted(stop.steps)) || own.has(address);
         return {
-            places, labels: [...own, ...READERS.filter((it) => this.listing.labels.has(it))], takes, areOpen,
+            places, addresses: [...own, ...this.readers], takes, areOpen,
             isOpen: (stop) => !this.readsAt(stop) && isOpen(stop), first: (stops) => this.firstOf(stops, breakpoints),
         };
     }
@@ -117,7 +125,12 @@ class Debuggee {
     }
 
     readsAt(stop) {
-        return READERS.includes(stop.label) && this.input.isWanted(stop.steps);
+        return this.readers.includes(stop.pc) && this.input.isWanted(stop.steps);
+    }
+
+    // The addresses of the routines that read.
+    get readers() {
+        return READERS.map((it) => this.listing.labels.get(it));
     }
 
     // Moves on as `go` does, with these breaks, and past each read that has to wait for its line. Answers the stop, or { steps, paused }.
@@ -141,7 +154,7 @@ class Debuggee {
     }
 
     atReader() {
-        return READERS.some((it) => this.listing.labels.get(it) === this.state.registers.pc);
+        return this.readers.includes(this.state.registers.pc);
     }
 
     // Moves in parts of more and more instructions, so that it is known how far a run is that is paused. Where the breaks changed the move is made anew.
@@ -209,12 +222,10 @@ class Debuggee {
         if (this.isStoppable) this.cool.stop();
     }
 
-    // The first state at which a move by lines stops, or the call of main where none comes soon.
+    // The first line of the first method, or where the run ends before.
     async entry() {
-        const { into, goOn, NO_BREAKS, State } = this.logic;
-        const beginning = { listing: this.listing, outline: this.outline, state: await State.after(0), frames: [] };
-        const first = await into(beginning, NO_BREAKS, { budget: FIRST_PART });
-        return first.ended || first.limit ? goOn(beginning, { places: [], labels: ["Main.main"] }, { budget: FIRST_PART }) : first;
+        const { begin, NO_BREAKS, State } = this.logic;
+        return begin({ ...this.view, state: await State.after(0), frames: [] }, NO_BREAKS);
     }
 
     // A line of input, or its end. A run without breaks reads it itself.

@@ -2,7 +2,6 @@
 // forgotten with the next.
 "use strict";
 
-const NAME = /^\w+(?: or \w+)*$/;
 const MOST_FRAMES = 20_000;
 
 // A name that stands for nothing that can be told.
@@ -34,9 +33,7 @@ class Frames {
 
     told({ title, place, unit, pc }, number) {
         const { logic, outline, program } = this.debuggee;
-        const method = logic.methodOf(outline, title);
-        const begins = method && (place === undefined || pc === unit?.from);
-        const at = begins ? { file: outline.get(title.split(".")[0]).file, line: method.line } : place;
+        const method = outline.get(title), at = method && (place === undefined || pc === unit?.from) ? method : place;
         const source = at && program.pathOf(at.file) ? { source: { name: at.file, path: program.pathOf(at.file) } } : { presentationHint: "subtle" };
         const code = pc === undefined ? {} : { instructionPointerReference: logic.hex(pc) };
         return { id: number + 1, name: title, line: at?.line ?? 0, column: at ? 1 : 0, ...source, ...code };
@@ -53,8 +50,8 @@ class Frames {
         return debuggee.state.settled(() => {
             const words = debuggee.logic.wordsIn(frame, debuggee.view);
             const self = frame.self === undefined ? [] : [{ name: "self", word: frame.self }];
-            const named = words.filter((it) => NAME.test(it.name));
-            return { variables: [...self, ...named], computed: words.filter((it) => !named.includes(it)), attributes: this.attributesOf(frame.self) };
+            const [variables, computed] = [true, false].map((is) => words.filter((it) => (it.isVariable ?? false) === is));
+            return { variables: [...self, ...variables], computed, attributes: this.attributesOf(frame.self) };
         });
     }
 
@@ -97,14 +94,14 @@ class Frames {
         return found.map((it) => this.variable(it));
     }
 
-    variable({ name, word, is, isRegister }) {
-        const { hex } = this.debuggee.logic;
+    variable({ name, word, type, is, isRegister }) {
+        const { logic, table } = this.debuggee;
         const text = is.value ?? is.text;
-        const value = isRegister ? `${hex(word)}${is.type ? ` ${is.text}` : ""}` : text;
-        const opens = is.object !== undefined && is.class.attributes > 0;
+        const value = isRegister ? `${logic.hex(word)}${is.type ? ` ${is.text}` : ""}` : text;
+        const opens = is.object !== undefined && logic.attributesOf(is.class, table).length > 0;
         const reference = opens ? this.reference(() => this.attributesOf(word)) : 0;
-        const place = word > 0 ? { memoryReference: hex(word) } : {};
-        return { name, value, ...(is.type && !isRegister ? { type: is.type } : {}), variablesReference: reference, ...place };
+        const place = word > 0 ? { memoryReference: logic.hex(word) } : {}, known = is.type ?? type;
+        return { name, value, ...(known && !isRegister ? { type: known } : {}), variablesReference: reference, ...place };
     }
 
     // The value of a name, and of attributes behind it: `x`, `self.x`, `x.y.z`, `$a0`. The innermost variable of a name counts, then the attribute.
@@ -113,7 +110,7 @@ class Frames {
         if (!names) throw new NotTold("only names are told, as count or self.count");
         if (names[1][0] === "$") return this.named(this.registers(), names[1]);
         const { variables, attributes } = await this.contents(id);
-        let found = lastNamed(variables, names[1]) ?? attributes.find((it) => it.name === names[1]);
+        let found = variables.findLast((it) => it.name === names[1]) ?? attributes.find((it) => it.name === names[1]);
         for (const it of names[2].split(".").slice(1)) {
             const parts = await this.debuggee.state.settled(() => this.attributesOf(found?.word));
             found = parts.find((part) => part.name === it.trim());
@@ -127,7 +124,5 @@ class Frames {
         return found;
     }
 }
-
-const lastNamed = (all, name) => all.findLast((it) => it.name.split(" or ").includes(name));
 
 module.exports = { Frames, NotTold };

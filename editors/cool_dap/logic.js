@@ -1,14 +1,14 @@
-// The logic of the page's machine, which reads assembly, memory and the text: the scripts of web/logic, which tell what stands where, and move. They are one
-// script, as in the page, each time with a `debug` of their own.
+// The logic of the page's machine, which reads the table of code, assembly and memory: the scripts of web/logic, which tell what stands where, and move. They
+// are one script, as in the page, each time with a `debug` of their own.
 "use strict";
 const fs = require("fs");
 const path = require("path");
 const vm = require("vm");
 
-const SCRIPTS = ["bytes.js", "outline.js", "listing.js", "pushes.js", "moves.js", "objects.js", "stops.js", "backwards.js"];
+const SCRIPTS = ["bytes.js", "outline.js", "listing.js", "table.js", "moves.js", "objects.js", "stops.js", "backwards.js"];
 const NAMES = `({
-    DATA_START, ERRORS, MoveFailed, NO_BREAKS, REGISTERS, State, attributesAt, attributesOf, backOver, backTo, breakOfLine, decode, described, goOn, hex, into,
-    listingOf, methodOf, out, outlineOf, over, placeAt, placeOf, runOn, stackOf, unitAt, wordsIn })`;
+    DATA_START, ERRORS, FIRST, MoveFailed, NO_BREAKS, State, attributesAt, attributesOf, backOver, backTo, begin, breakOfLine, described, goOn, hex, into,
+    listingOf, out, outlineOf, over, placeAt, stackOf, tableOf, textsOf, wordsIn })`;
 const FOLDER = path.join(__dirname, "..", "..", "web", "logic");
 
 function logicWith(debug) {

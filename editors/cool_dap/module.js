@@ -1,4 +1,4 @@
-// The page's module, run in a worker as if it were a process of the program: for systems for which there is no program `cool`.
+// The page's modules, each run in a worker as if it were a process of its program: for systems for which there is no program `cool`.
 "use strict";
 const { EventEmitter } = require("events");
 const fs = require("fs");
@@ -8,14 +8,18 @@ const { MessageChannel, Worker } = require("worker_threads");
 
 const WEB = path.join(__dirname, "..", "..", "web");
 const MODULE = path.join(WEB, "module.js");
+// Of each program the script that holds its module, and the name that the script gives it.
+const SCRIPTS = { cool: [MODULE, "COOL_MODULE"], cool_editor: [path.join(WEB, "editor-module.js"), "COOL_EDITOR_MODULE"] };
 // The stack of a worker, and how long one may go on that was told to end.
 const STACK = 64, MOST_MILLISECONDS = 30;
 
-let compiled, worker;
+// By the names of the programs.
+const compiled = new Map(), workers = new Map();
 
-function compile() {
-    const { load } = require(path.join(WEB, "program.js"));
-    return (compiled ??= load(vm.runInNewContext(`${fs.readFileSync(MODULE)}; COOL_MODULE`)));
+function compile(name) {
+    const { load } = require(path.join(WEB, "program.js")), [script, constant] = SCRIPTS[name];
+    if (!compiled.has(name)) compiled.set(name, load(vm.runInNewContext(`${fs.readFileSync(script)}; ${constant}`)));
+    return compiled.get(name);
 }
 
 function newWorker(module) {
@@ -26,8 +30,9 @@ function newWorker(module) {
 
 // A run, with the face of a child process.
 class ModuleRun extends EventEmitter {
-    constructor(words, { cwd }) {
+    constructor(words, { cwd }, name) {
         super();
+        this.name = name;
         const { port1, port2 } = new MessageChannel();
         this.flags = new Int32Array(new SharedArrayBuffer(8));
         this.stdout = Object.assign(new EventEmitter(), { pause() {}, resume() {} });
@@ -45,11 +50,11 @@ class ModuleRun extends EventEmitter {
 
     // One run goes at a time.
     async begin(job, transfer) {
-        const module = await compile(), before = ModuleRun.last;
+        const module = await compile(this.name), before = ModuleRun.last;
         ModuleRun.last = new Promise((done) => this.once("close", done));
         await before;
-        worker ??= newWorker(module);
-        const mine = worker;
+        if (!workers.has(this.name)) workers.set(this.name, newWorker(module));
+        const mine = workers.get(this.name);
         mine.on("message", (this.hear = ({ to, bytes, status }) => {
             if (to === 1) this.stdout.emit("data", Buffer.from(bytes));
             else if (to === 2) this.stderr.emit("data", Buffer.from(bytes));
@@ -73,7 +78,7 @@ class ModuleRun extends EventEmitter {
         Atomics.notify(this.flags, 1);
         setTimeout(() => {
             if (this.isClosed || !this.worker) return;
-            if (worker === this.worker) worker = undefined;
+            if (workers.get(this.name) === this.worker) workers.delete(this.name);
             this.worker.terminate();
             this.end(this.worker);
         }, MOST_MILLISECONDS);
@@ -81,4 +86,4 @@ class ModuleRun extends EventEmitter {
     }
 }
 
-module.exports = { MODULE, spawnModule: (words, how) => new ModuleRun(words, how) };
+module.exports = { MODULE, spawnModule: (words, how, name) => new ModuleRun(words, how, name) };

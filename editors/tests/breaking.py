@@ -63,8 +63,8 @@ def conditions_by_steps(room, words):
     """A step into a line stops there though its condition does not hold; over it, it does not; and back leads to where it holds."""
     client, stop, _ = begun(room, words, LOOP, lines=[{"line": ADDS, "condition": "n = 2"}, {"line": 11, "condition": "i = 5"}])
     expect("where it holds", (client.where(), client.value("n"), client.output), (("Main.add", ADDS), "2", "12"))
-    expect("over and over", [client.at("next")[1:] for _ in range(4)], [(it, "step") for it in (11, 10, 11, 10)])
-    expect("into", (client.at("stepIn")[1:], client.value("n")), ((ADDS, "step"), "4"))
+    expect("over and over", [client.at("next")[1:] for _ in range(5)], [(it, "step") for it in (10, 11, 8, 9, 10)])
+    expect("into", (client.at("stepIn")[1:], client.value("n")), ((ADDS, "step"), "3"))
     expect("on", (client.at("continue")[1:], client.output), ((11, "breakpoint"), "1234"))
     expect("back", (client.at("reverseContinue")[1:], client.value("n")), ((ADDS, "breakpoint"), "2"))
     expect("back to the first line", client.stop("reverseContinue")["reason"], "entry")

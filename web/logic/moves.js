@@ -6,7 +6,7 @@
 // of the notes, and where it answers true the rest is not needed. No more than `budget` instructions need to be executed.
 "use strict";
 
-const MOST_SCRIPT_BYTES = 65_000, MOST_STEP = 1_000_000_000;
+const MOST_SCRIPT_BYTES = 65_000, MOST_STEP = 1_000_000_000, USUAL_STOPS = 40;
 const MOST_WORDS_READ = 3500, MOST_READS = 12, BLOCK_WORDS = 16, STACK_BLOCKS = 32, LOW_STACK = 0x70000000;
 // In the order of `regs`.
 const REGISTERS = "pc zero at v0 v1 a0 a1 a2 a3 t0 t1 t2 t3 t4 t5 t6 t7 s0 s1 s2 s3 s4 s5 s6 s7 t8 t9 k0 k1 gp sp fp ra".split(" ");
@@ -120,15 +120,15 @@ class State {
     }
 }
 
-// Runs on from a state to the first stop at one of the labels that `accept` answers something for, and answers that, or { steps, ended } or
-// { steps, limit } at the end of the run or of the budget. A stop has steps, pc, and registers, a note of them. After each script `settle` makes the
-// answer, where there is one, of what was found by it.
-async function runOn(steps, labels, accept, { tellProgress = () => {}, budget, settle = (found) => found } = {}) {
-    const breaks = [...new Set(labels)].map((it) => `break ${it}`);
-    const size = breaks.reduce((sum, it) => sum + it.length + 1, 0) + 100;
+// Runs on from a state to the first stop at one of the addresses that `accept` answers something for, and answers that, or { steps, ended } or
+// { steps, limit } at the end of the run or of the budget. A stop has steps, pc, and registers, a note of them. The first script goes on to so many `stops`
+// at most, and a later one to more. After each script `settle` makes the answer, where there is one, of what was found by it.
+async function runOn(steps, addresses, accept, { tellProgress = () => {}, budget, settle = (found) => found, stops = USUAL_STOPS } = {}) {
+    const breaks = [...new Set(addresses)].map((it) => `break ${hex(it)}`);
+    const size = breaks.length * "break 0x00000000\n".length + 100;
     const most = Math.floor((MOST_SCRIPT_BYTES - size) / "run\nregs\n".length);
-    if (most < 10) throw new MoveFailed("The program has too many places for one script of the debugger: set a break at a label.");
-    for (let from = steps, count = 40; ; count = Math.min(most, count * 4)) {
+    if (most < 10) throw new MoveFailed("The program has too many lines for one script of the debugger: set a break at one of them.");
+    for (let from = steps, count = stops; ; count = Math.min(most, count * 4)) {
         const moves = linesTo(from), runs = Math.min(count, most);
         let passed = 0, stop, found;
         const seen = (note) => {

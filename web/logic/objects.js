@@ -1,11 +1,12 @@
 // What stands in the machine's memory, by the conventions of docs/runtime.md: objects with the names of their classes and attributes, and the
-// stack as frames. Functions of a state, a listing and an outline; they peek at memory, and are called again once what they lacked is read.
+// stack as frames. Functions of a view, { state, listing, table, numbers, textOf }; they peek at memory, and are called again once what they lacked is read.
 "use strict";
 
 const MOST_LETTERS = 80, MOST_PUSHED = 100, MOST_FRAMES = 40, FRAME_BYTES = 12;
 
 // Describes a word: its text, and of an object its type, of an Int its value, and of others but Bools and Strings { object, class }, the address.
-function described(word, { state, listing }) {
+function described(word, view) {
+    const { state, listing } = view;
     if (word === undefined || word === null) return { text: "" };
     if (word === 0) return { text: "void" };
     if (word >= TEXT_START && word < DATA_START) return { text: inText(word, listing) };
@@ -15,7 +16,16 @@ function described(word, { state, listing }) {
     if (type === "Int") return { text: `Int ${number}`, type, value: String(number) };
     if (type === "Bool") return { text: number === 1 ? "true" : "false", type };
     if (type === "String") return { text: `"${lettersAt(word, state)}"`, type };
-    return { text: type, type, object: word, class: found };
+    return { text: `${type}#${numberOf(word, type, view)}`, type, object: word, class: found };
+}
+
+// Which of its class an object is: the first that was shown has the number 1, and each has one number in all states, for objects do not move.
+function numberOf(object, type, { numbers }) {
+    if (!numbers.has(object)) {
+        numbers.set(type, (numbers.get(type) ?? 0) + 1);
+        numbers.set(object, numbers.get(type));
+    }
+    return numbers.get(object);
 }
 
 function inText(address, listing) {
@@ -41,19 +51,15 @@ function lettersAt(address, state) {
     return length > MOST_LETTERS ? `${shown}…` : shown;
 }
 
-// The attributes of the object at an address: { name, word }.
-function attributesAt(object, its, { state, outline }) {
-    const names = attributesOf(outline, its.name);
-    return Array.from({ length: its.attributes }, (_, i) => {
-        const name = names.length === its.attributes ? names[i].name : `attribute ${i + 1}`;
-        return { name, word: state.peek(object + 12 + 4 * i) };
-    });
-}
+// The attributes of the object at an address: { name, type, word }.
+const attributesAt = (object, its, { state, table }) => attributesOf(its, table).map((it) => ({ ...it, word: state.peek(object + it.offset) }));
+
+const attributesOf = (its, table) => table.attributes.get(its.name) ?? [];
 
 // A line of the view: a name, a word and what it is; the attributes below an object whose path is open.
 function entry(name, word, path, view) {
     const { text, object, class: its } = described(word, view);
-    const made = { name, word, text, path, opens: its !== undefined && its.attributes > 0 };
+    const made = { name, word, text, path, opens: its !== undefined && attributesOf(its, view.table).length > 0 };
     if (made.opens && view.open.has(path)) made.entries = attributesAt(object, its, view).map((it, i) => entry(it.name, it.word, `${path}.${i}`, view));
     return made;
 }
@@ -75,13 +81,13 @@ function innermost(view) {
 // The frames from the innermost one on, so many at most: { title, place } and, but for that of an error and the one that stands for more, what frameOf
 // tells, and `below`, the last word of the stack that is the frame's. Frames whose words are read stand in `known` then, and are not made anew.
 function stackOf(view, most, known = []) {
-    const { state, listing } = view;
+    const { state, listing, table } = view;
     const error = listing.errorAt.get(unitAt(listing, state.registers.pc)?.from);
     if (error) return [{ title: error, place: { file: listing.strings.get(state.registers.t8), line: state.registers.t9 } }];
     let next = known.length > 0 ? callerOf(known.at(-1), view) : { ...innermost(view), below: state.registers.sp };
     while (!state.ended && next.unit && next.unit.name !== "__start") {
         if (known.length >= most) return [...known.slice(0, most), { title: "…" }];
-        const frame = { ...next, title: next.unit.name, place: placeAt(listing, next.pc) };
+        const frame = { ...next, title: next.unit.name, place: placeAt(table, next.pc, listing) };
         if (next.returns === undefined) return [...known, frame];
         known.push(frame);
         next = callerOf(frame, view);
@@ -95,25 +101,28 @@ function callerOf({ unit, fp, below, returns, next, caller }, view) {
     return { ...frameOf(its, returns - 4, next, caller, view), below: fp === undefined ? below : fp + FRAME_BYTES + 4 * unit.formals };
 }
 
-// The frames with what stands in each: { title, place, entries }.
-const framesOf = (view) => stackOf(view, MOST_FRAMES).map((it, number) => ({ title: it.title, place: it.place, entries: entriesOf(it, number, view) }));
+// The frames with what stands in each as `entries`.
+const framesOf = (view) => stackOf(view, MOST_FRAMES).map((it, number) => ({ ...it, entries: entriesOf(it, number, view) }));
 
 function entriesOf(frame, number, view) {
     const words = wordsIn(frame, view).map((it) => entry(it.name, it.word, `${number}.${it.key}`, view));
     return frame.self === undefined ? words : [entry("self", frame.self, `${number}.self`, view), ...words];
 }
 
-// The words of a frame: { name, word, key }; the arguments by their names, and what was pushed in the body, the last at `below`.
-function wordsIn({ unit, pc, fp, below }, view) {
+// The words of a frame: { name, type, word, key, isVariable }; the arguments by their names, and what was pushed in the body, the last at `below`.
+function wordsIn({ pc, fp, below }, { state, table, textOf }) {
     if (fp === undefined) return [];
-    const [owner, method] = unit.name.split(".");
-    const names = view.outline.get(owner)?.methods.find((it) => it.name === method)?.formals ?? [];
-    const words = Array.from({ length: unit.formals }, (_, k) => {
-        return { name: names[k] ?? `argument ${k + 1}`, word: view.state.peek(fp + FRAME_BYTES + 4 * (unit.formals - 1 - k)), key: `a${k}` };
-    });
-    const pushed = pushedAt(unit, pc, view);
+    const formals = featureAt(table, pc)?.formals ?? [], spans = spansAt(table, pc);
+    const words = formals.map((it, k) => ({ ...it, word: state.peek(fp + it.offset), key: `a${k}`, isVariable: true }));
     for (let i = 0, address = fp - 4; address >= below && i < MOST_PUSHED; i += 1, address -= 4) {
-        words.push({ name: pushed[i] ?? `pushed ${i + 1}`, word: view.state.peek(address), key: `p${i}` });
+        const { name = `pushed ${i + 1}`, ...more } = pushedBy(spans, i, textOf);
+        words.push({ name, ...more, word: state.peek(address), key: `p${i}` });
     }
     return words;
+}
+
+// The name in the text at the place of an expression, of a program's files.
+function textsOf(files) {
+    const bytes = new Map(files.map((it) => [it.name, encode(it.text)]));
+    return ({ file, byte }) => /^\w*/.exec(decode(bytes.get(file).subarray(byte, byte + MOST_LETTERS)))[0];
 }
