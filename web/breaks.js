@@ -16,10 +16,29 @@ function toggleBreak(line) {
     showMarks();
     paint();
     showBreaks();
+    if (compiledModule) prepare().then(showBreaks, () => {});
+}
+
+// A map of the lines of a file that its breaks are at, or stop at, to what is told of that, where these are two; known once the table is there.
+function stopsOfBreaks(file) {
+    const found = new Map();
+    for (const line of machine.listing === undefined ? [] : file.breaks) {
+        const to = stopOfBreak(file, line)?.line;
+        if (to === line) continue;
+        found.set(line, to === undefined ? "The break here never stops" : `The break here stops at line ${to}`);
+        if (to !== undefined && !found.has(to)) found.set(to, `The break at line ${line} stops here`);
+    }
+    return found;
+}
+
+// The name of a break at a line, with the line where it stops.
+function breakWords(file, line) {
+    const to = machine.listing && stopOfBreak(file, line)?.line;
+    return `${file.name}:${line}${to === undefined || to === line ? "" : ` → ${to}`}`;
 }
 
 function showBreaks() {
-    const lines = files.flatMap((file) => [...file.breaks].map((line) => ({ words: `${file.name}:${line}`, remove: () => file.breaks.delete(line) })));
+    const lines = files.flatMap((file) => [...file.breaks].map((line) => ({ words: breakWords(file, line), remove: () => file.breaks.delete(line) })));
     const labels = [...machine.labels].map((it) => ({ words: it, remove: () => machine.labels.delete(it) }));
     at("breaks").replaceChildren(...[...lines, ...labels].map(({ words, remove }) => {
         const onclick = () => (remove(), showBreaks(), showMarks(), paint(), at("label").focus());

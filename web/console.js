@@ -16,8 +16,8 @@ function numberOf(id, least, most) {
     return String(Math.min(most, Math.max(least, Number.isFinite(value) ? value : least)));
 }
 
-const steps = () => ["--steps", numberOf("steps", 1, 1e15)];
-const machineLimits = () => [...steps(), "--heap", numberOf("heap", 4, 262_144), "--stack", numberOf("stack", 4, 65_536)];
+const steps = (most = Infinity) => ["--steps", String(Math.min(most, Number(numberOf("steps", 1, 1e15))))];
+const machineLimits = (most) => [...steps(most), "--heap", numberOf("heap", 4, 262_144), "--stack", numberOf("stack", 4, 65_536)];
 
 // What comes is shown in parts, with pauses as long as it took to lay the last one out; and of a text without end its last part.
 let waiting = [], waitingLetters = 0, waitingLines = 0, showing, pause = SHOW_DELAY;

@@ -4,16 +4,17 @@
 const debugged = new Runner();
 
 // As moves.js tells. The worker ends a run after its last note; until then none of its notes comes.
-async function debug(lines, wanted, { seen = () => false } = {}) {
+async function debug(lines, wanted, { seen = () => false, budget = Infinity } = {}) {
     const all = sources();
     let script = "script";
     while (all.has(script)) script += "'";
     all.set(script, encode(lines.join("\n")));
-    const came = await debugged.run(["debug", ...machineLimits(), "--", script, ...fileNames()], all, { notes: wanted, input: encode(at("input").value) });
+    const words = ["debug", ...machineLimits(budget), "--", script, ...fileNames()];
+    const came = await debugged.run(words, all, { notes: wanted, input: encode(inputGiven()) });
     if (came.killed) throw new MoveFailed("stopped");
     if (came.broken !== undefined) throw new MoveFailed(came.broken);
     const notes = came.notes.split("\n").slice(0, -1);
     if (notes.length < wanted) throw new MoveFailed(came.status === 1 ? "The program has faults." : endWords(came) ?? "the run ended before");
     notes.some(seen);
-    return { notes, output: came.output, short: came.short };
+    return { notes, output: came.output };
 }

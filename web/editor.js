@@ -8,9 +8,9 @@ let coloured = { lines: [""], states: [0] };
 const lineHeight = () => parseFloat(getComputedStyle(text).lineHeight);
 const cursorLine = () => text.value.slice(0, text.selectionStart).split("\n").length;
 
-// What is marked in the file that is shown: maps of a line's number to what is said of it and to its marked ranges, [from, to, kind], and the line at which
-// the machine stands.
-const marks = { faults: new Map(), ranges: new Map(), breaks: new Set(), here: undefined };
+// What is marked in the file that is shown: maps of a line's number to what is said of it, to its marked ranges, [from, to, kind], to what is said of the
+// breaks that stop there or elsewhere, and to the colour of its code; and the lines at which the machine stands, and whose code is marked.
+const marks = { faults: new Map(), ranges: new Map(), breaks: new Set(), stops: new Map(), tints: new Map(), here: undefined, lit: undefined };
 
 function paint() {
     const height = lineHeight(), { scrollTop, scrollLeft, clientHeight } = text;
@@ -27,7 +27,10 @@ function paint() {
 const kindsOf = (...kinds) => kinds.filter(Boolean).join(" ");
 
 // The ranges stand in the row as text, for a row is compared by its text.
-const lineRow = (i) => [kindsOf("line", marks.here === i + 1 && "here"), coloured.states[i], coloured.lines[i], JSON.stringify(marks.ranges.get(i + 1) ?? [])];
+function lineRow(i) {
+    const kinds = kindsOf("line", marks.here === i + 1 && "here", marks.lit === i + 1 && "lit");
+    return [kinds, coloured.states[i], coloured.lines[i], JSON.stringify(marks.ranges.get(i + 1) ?? [])];
+}
 
 function paintedLine(kinds, state, line, ranges) {
     const parts = markedParts(colouredLine(line, state).parts, line, JSON.parse(ranges));
@@ -57,8 +60,9 @@ function markedParts(parts, line, ranges) {
 }
 
 function numberRow(line) {
-    const kinds = kindsOf("number", marks.faults.has(line) && "bad", marks.breaks.has(line) && "break", marks.here === line && "here");
-    return [kinds, line, marks.faults.get(line) ?? ""];
+    const stop = marks.stops.get(line);
+    const own = [marks.faults.has(line) && "bad", marks.breaks.has(line) && "break", stop && !marks.breaks.has(line) && "stop", marks.here === line && "here"];
+    return [kindsOf("number", ...own, marks.tints.get(line)), line, marks.faults.get(line) ?? stop ?? ""];
 }
 
 const paintedNumber = (kinds, line, words) => element("div", { className: kinds, textContent: line, title: words });

@@ -108,7 +108,11 @@ function showMarks() {
     marks.ranges = rangesIn(shownFile.name);
     marks.faults = new Map(faults.filter((it) => it.file === shownFile.name).map((it) => [it.line, it.words]));
     marks.breaks = shownFile.breaks;
-    marks.here = here?.file === shownFile.name ? here.line : undefined;
+    const lineHere = (place) => (place?.file === shownFile.name ? place.line : undefined);
+    marks.here = lineHere(here);
+    marks.lit = lineHere(light);
+    marks.stops = stopsOfBreaks(shownFile);
+    marks.tints = isShownCode() && tints.file === shownFile.name ? tints.lines : new Map();
 }
 
 // Shows a line of a file.

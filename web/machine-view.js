@@ -1,4 +1,4 @@
-// Shows a state of the machine: frames, registers, code, memory and output. What changed since the state shown before is marked.
+// Shows a state of the machine: frames, registers, memory and output. What changed since the state shown before is marked.
 "use strict";
 
 const ROLES = {
@@ -6,7 +6,7 @@ const ROLES = {
     sp: "the last word that was pushed", gp: "where the next object begins", s7: "the end of the heap", s6: "the lowest address of the stack",
     t8: "the name of the file of the next error", t9: "its line", ra: "the return address",
 };
-const MEMORY_WORDS = 32, MOST_CODE_ROWS = 300;
+const MEMORY_WORDS = 32;
 
 // The address that the field asks for: a number, a label, or a register with or without an offset; or undefined.
 function addressAsked(field, { state, listing }) {
@@ -89,28 +89,11 @@ function lettersOf(word) {
     return bytes.map((it) => (it > 31 && it < 127 ? String.fromCharCode(it) : "·")).join("");
 }
 
-// The unit of pc, with the lines of the source at its calls and operations.
-function showCode({ state, listing }) {
-    const { pc } = state.registers;
-    const unit = unitAt(listing, pc);
-    const middle = listing.rowAt.get(pc) ?? listing.rowAt.get(pc - 4);
-    const code = at("code");
-    if (unit === undefined || middle === undefined) return code.replaceChildren();
-    const first = Math.max(listing.rowAt.get(unit.from), middle - MOST_CODE_ROWS / 2);
-    const places = new Map(listing.places.map((it) => [it.address, it]));
-    const made = [];
-    let current;
-    for (let i = first; i < listing.rows.length && i < first + MOST_CODE_ROWS && listing.rows[i].address < unit.to; i += 1) {
-        const { address, text: words, labels } = listing.rows[i];
-        for (const it of labels) made.push(element("span", { className: "label", textContent: `${it}:` }), "\n");
-        const row = element("span", { className: i === middle ? "here" : "", textContent: `  ${hex(address).slice(2)}  ${words}` });
-        const place = places.get(address);
-        if (place) row.append(element("span", { className: "place", textContent: `   ${place.file}:${place.line}` }));
-        if (i === middle) current = row;
-        made.push(row, "\n");
-    }
-    code.replaceChildren(...made);
-    if (current) code.scrollTop = current.offsetTop - code.offsetTop - code.clientHeight / 3;
+// Beside the machine stands the line again at which it stands: on a phone the text is out of sight.
+function showSourceLine(place) {
+    const i = place && fileNamed(place.file) === shownFile ? place.line - 1 : -1;
+    const shown = coloured.lines[i] === undefined ? [] : [element("span", { className: "number" }, String(place.line)), paintedLine(...lineRow(i))];
+    at("source-here").replaceChildren(...shown);
 }
 
 function showOutput(output) {

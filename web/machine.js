@@ -2,18 +2,23 @@
 "use strict";
 
 const CHANGED = "The program changed: the next move begins anew.";
-const SHORT = " It read to the end of what is given beforehand (in Output).";
 
 let here;
-// Of the program as it is: listing, outline, state, and what is shown of it; of the user: open (paths of objects), labels (breaks) and earlier (steps).
+// Of the program as it is: listing, table, outline, textOf, numbers (of objects), reads and typed (lines), state, and what is shown of it; of the user: open
+// (paths of objects), labels (breaks) and earlier (steps).
 const machine = { open: new Set(["0.self"]), labels: new Set(), earlier: [] };
 
 // Forgotten is what was made of other files.
 function forgetMachine() {
     debugged.stop();
-    Object.assign(machine, { listing: undefined, state: undefined, entries: undefined, earlier: [] });
+    coded = undefined;
+    Object.assign(machine, { prepared: undefined, listing: undefined, state: undefined, frames: undefined, entries: undefined, earlier: [] });
     at("where").textContent = CHANGED;
-    if (here) markHere(undefined);
+    at("source-here").replaceChildren();
+    at("code").replaceChildren();
+    forgetReads();
+    forgetLength();
+    if (shownFile) showLight(undefined), markHere(undefined);
 }
 
 function leaveMachine() {
@@ -37,33 +42,43 @@ function showHere(place) {
 
 function showMachine() {
     showBreaks();
-    if (machine.state === undefined) move(() => 0);
+    if (machine.state === undefined) restart();
     else markHere(placeShown());
 }
 
-async function prepare() {
-    const made = assembly();
-    const { text: all, fault } = await made;
-    if (made !== assembled) throw new MoveFailed(CHANGED);
+// Has the listing, the table and what else is made of the files at hand; a promise.
+function prepare() {
+    const prepared = (machine.prepared ??= prepareNow());
+    prepared.catch(() => machine.prepared === prepared && (machine.prepared = undefined));
+    return prepared;
+}
+
+async function prepareNow() {
+    const made = assembly(), told = codeTable();
+    const { text: all, fault = (await told).fault } = await made, { rows } = await told;
+    if (made !== assembled || told !== coded) throw new MoveFailed(CHANGED);
     if (fault) throw new MoveFailed(fault);
-    machine.listing = listingOf(all);
-    machine.outline = outlineOf(files);
-    at("break-labels").replaceChildren(...machine.listing.units.map((it) => element("option", { value: it.name })));
+    const listing = listingOf(all), table = tableOf(rows, files, listing);
+    Object.assign(machine, { listing, table, outline: outlineOf(files), textOf: textsOf(files), numbers: new Map() });
+    at("break-labels").replaceChildren(...listing.units.map((it) => element("option", { value: it.name })));
+    showMarks();
+    paint();
 }
 
 // Goes to what `find` answers: a number of instructions; { steps, and why the run stopped there, or returns for an earlier state }; or "again".
 async function move(find) {
     if (machine.moves) return;
     machine.moves = true;
+    machine.interrupted = undefined;
     at("halt").disabled = false;
     try {
-        if (machine.listing === undefined) await prepare();
-        if (machine.state === undefined) await showAfter(0);
+        await prepare();
+        if (machine.state === undefined) machine.state = await State.after(0);
         const found = await find(machine.state);
         if (machine.state === undefined) throw new MoveFailed(CHANGED);
         if (found === "again") return await show(machine.state, machine.before, machine.why);
         const to = typeof found === "number" ? { steps: found } : found;
-        if (to.steps !== machine.state.steps && !to.returns) machine.earlier.push(machine.state.steps);
+        if (to.steps !== machine.state.steps && !to.returns && machine.frames) machine.earlier.push(machine.state.steps);
         await showAfter(to.steps, to);
     } catch (error) {
         if (!(error instanceof MoveFailed)) throw error;
@@ -74,7 +89,10 @@ async function move(find) {
     }
 }
 
-const viewOf = (state) => ({ state, listing: machine.listing, outline: machine.outline, open: machine.open });
+function viewOf(state) {
+    const { listing, table, outline, textOf, numbers, open } = machine;
+    return { state, listing, table, outline, textOf, numbers, open };
+}
 
 async function showAfter(steps, why = {}) {
     const state = await State.after(steps, machine.state);
@@ -92,10 +110,13 @@ async function show(state, before, why) {
     showMemory(picture.memory, before.state);
     showCode(viewOf(state));
     showOutput(state.output);
+    showSteps(state, why);
+    showRead();
     at("where").textContent = whereWords(state, why);
     at("where").classList.toggle("bad", why.error !== undefined);
     at("previous").disabled = machine.earlier.length === 0;
     showHere(placeShown());
+    showSourceLine(placeShown());
 }
 
 // Shows the state anew, with other attributes open or other memory.
@@ -105,17 +126,14 @@ function showAgain() {
 
 const placeShown = () => placeOf(machine);
 
-function whereWords(state, { error, limit }) {
-    return `${stopWords(state, error, limit)}${state.short ? SHORT : ""}`;
-}
-
-function stopWords(state, error, limit) {
+function whereWords(state, { error, limit, reads }) {
     const count = `after ${state.steps.toLocaleString("en")} instructions`;
     if (state.ended) return `The run has ended ${count}.`;
     if (limit) return `The step limit is reached ${count}.`;
     const place = placeShown();
     const line = place ? `line ${place.line} of ${place.file}` : "no line of the source";
     if (error) return `Ends by an error: ${ERRORS[error]}, ${line}, ${count}.`;
+    if (reads) return `The program reads a line at ${line}, ${count}: type it here.`;
     return `At ${line}, in ${machine.frames[0]?.title ?? "the start"}, ${count}.`;
 }
 
@@ -126,10 +144,25 @@ function openPath(path) {
     showAgain();
 }
 
-at("restart").onclick = () => move(() => 0);
+// From the first line on; what was typed is asked for again.
+function restart() {
+    forgetReads();
+    Object.assign(machine, { frames: undefined, earlier: [] });
+    move(async () => {
+        const state = await State.after(0);
+        return pastReads(toFirstLine, { ...viewOf(state), frames: [] }, NO_BREAKS).then(findLength);
+    });
+}
+
+// Moves to so many instructions, or to a read before.
+function moveTo(steps, why = {}) {
+    return move(async (state) => ({ steps: steps > state.steps ? await stepsOrRead(state.steps, steps) : Math.max(0, steps), ...why }));
+}
+
+at("restart").onclick = restart;
 at("previous").onclick = () => move(() => ({ steps: machine.earlier.pop() ?? 0, returns: true }));
-at("step").onclick = () => move((state) => state.steps + stepCount());
-at("back").onclick = () => move((state) => Math.max(0, state.steps - stepCount()));
+at("step").onclick = () => machine.state && moveTo(machine.state.steps + stepCount());
+at("back").onclick = () => machine.state && moveTo(machine.state.steps - stepCount());
 at("halt").onclick = () => debugged.stop();
 at("address").onchange = showAgain;
 for (const it of ["heap", "stack"]) at(it).onchange = forgetMachine;

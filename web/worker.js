@@ -119,7 +119,6 @@ function coolWorker() {
         let left = job.input;
         const given = (most) => {
             const part = left.subarray(0, most);
-            job.short ||= part.length === 0;
             left = left.subarray(part.length);
             return part;
         };
@@ -140,7 +139,7 @@ function coolWorker() {
         const post = (it) => self.postMessage({ job: job.job, ...it });
         const taker = job.notes === undefined ? new Pieces(post) : new Notes(job.notes);
         const begun = performance.now();
-        const end = (it) => post({ ...taker.end(), ...it, short: job.short, time: performance.now() - begun });
+        const end = (it) => post({ ...taker.end(), ...it, time: performance.now() - begun });
         for (;;) {
             try {
                 return end({ status: await once(job, post, taker) });

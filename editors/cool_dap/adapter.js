@@ -87,7 +87,7 @@ class Adapter {
             const { debuggee } = this;
             if (this.settings.noDebug) return this.ended();
             await debuggee.stand(0);
-            if (this.settings.stopOnEntry) return this.arrived(await debuggee.forward(debuggee.logic.begin), "entry");
+            if (this.settings.stopOnEntry) return this.arrived(await debuggee.forward(debuggee.logic.toFirstLine), "entry");
             return this.arrived(await debuggee.forward(debuggee.logic.goOn, this.breakpoints));
         });
     }

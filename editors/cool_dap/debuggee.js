@@ -3,7 +3,6 @@
 const { StringDecoder } = require("string_decoder");
 const { Cool } = require("./cool.js");
 const { Frames } = require("./frames.js");
-const { READERS } = require("./input.js");
 const { logicWith } = require("./logic.js");
 const { LaunchFailed } = require("./program.js");
 
@@ -19,6 +18,7 @@ class Debuggee {
         Object.assign(this, { program, input, client, told: 0, decoder: new StringDecoder("utf8"), isStoppable: false, isSilent: false });
         this.cool = new Cool(command, program, input, settings, sink);
         this.logic = logicWith((...all) => this.debug(...all));
+        this.reads = new this.logic.Reads();
     }
 
     // Reads the assembly and the table of code; answers the notes of `cool` where there is none.
@@ -94,7 +94,7 @@ class Debuggee {
     allBreaks(breakpoints) {
         const { places, addresses, areOpen, isOpen } = breakpoints?.breaks ?? { ...this.logic.NO_BREAKS, areOpen: false, isOpen: () => false };
         const own = new Set(addresses);
-        const takes = (address, stop) => (this.readers.includes(address) && this.input.isWanted(stop.steps)) || own.has(address);
+        const takes = (address, stop) => (this.readers.includes(address) && this.isWanted(stop.steps)) || own.has(address);
         return {
             places, addresses: [...own, ...this.readers], takes, areOpen,
             isOpen: (stop) => !this.readsAt(stop) && isOpen(stop), first: (stops) => this.firstOf(stops, breakpoints),
@@ -125,12 +125,17 @@ class Debuggee {
     }
 
     readsAt(stop) {
-        return this.readers.includes(stop.pc) && this.input.isWanted(stop.steps);
+        return this.readers.includes(stop.pc) && this.isWanted(stop.steps);
     }
 
     // The addresses of the routines that read.
     get readers() {
-        return READERS.map((it) => this.listing.labels.get(it));
+        return this.logic.readersOf(this.listing);
+    }
+
+    // Whether the line of the read after so many instructions is yet to come.
+    isWanted(steps) {
+        return this.input.lacks(this.reads.numberAt(steps));
     }
 
     // Moves on as `go` does, with these breaks, and past each read that has to wait for its line. Answers the stop, or { steps, paused }.
@@ -138,7 +143,7 @@ class Debuggee {
         this.isPaused = this.isChanged = false;
         const from = await this.from();
         for (;;) {
-            const here = this.atReader() && this.input.isWanted(this.state.steps) ? { steps: this.state.steps } : undefined;
+            const here = this.atReader() && this.isWanted(this.state.steps) ? { steps: this.state.steps } : undefined;
             const found = here ?? (await this.moved(go, from, breakpoints));
             if (!here && !this.readsAt(found)) return found;
             await this.stand(found.steps);
@@ -224,8 +229,8 @@ class Debuggee {
 
     // The first line of the first method, or where the run ends before.
     async entry() {
-        const { begin, NO_BREAKS, State } = this.logic;
-        return begin({ ...this.view, state: await State.after(0), frames: [] }, NO_BREAKS);
+        const { toFirstLine, NO_BREAKS, State } = this.logic;
+        return toFirstLine({ ...this.view, state: await State.after(0), frames: [] }, NO_BREAKS);
     }
 
     // A line of input, or its end. A run without breaks reads it itself.

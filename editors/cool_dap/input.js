@@ -1,14 +1,10 @@
-// What the program reads, line by line. A read is known by how many instructions were executed before it: each call of IO.in_int or IO.in_string
-// takes one line. So it is known before a read whether its line was given.
+// What the program reads, line by line.
 "use strict";
-
-const READERS = ["IO.in_int", "IO.in_string"];
 
 class Input {
     constructor(text = "", ended = false) {
         this.bytes = Buffer.from(text);
         this.ended = ended;
-        this.reads = [];
     }
 
     // The number of lines that were given; a last one without a newline counts once nothing comes behind it.
@@ -18,10 +14,8 @@ class Input {
         return count + (this.ended && this.bytes.length > 0 && this.bytes.at(-1) !== 10 ? 1 : 0);
     }
 
-    // Takes note of a read, and answers whether its line is yet to come.
-    isWanted(steps) {
-        if (!(steps <= this.reads.at(-1))) this.reads.push(steps);
-        const number = this.reads.indexOf(steps);
+    // Whether the line of the read with this number, from 0, is yet to come.
+    lacks(number) {
         return !this.ended && number >= this.lines;
     }
 
@@ -49,4 +43,4 @@ class Input {
     }
 }
 
-module.exports = { Input, READERS };
+module.exports = { Input };

@@ -5,10 +5,10 @@ const fs = require("fs");
 const path = require("path");
 const vm = require("vm");
 
-const SCRIPTS = ["bytes.js", "outline.js", "listing.js", "table.js", "moves.js", "objects.js", "stops.js", "backwards.js"];
+const SCRIPTS = ["bytes.js", "outline.js", "listing.js", "table.js", "moves.js", "objects.js", "stops.js", "backwards.js", "reads.js"];
 const NAMES = `({
-    DATA_START, ERRORS, FIRST, MoveFailed, NO_BREAKS, State, attributesAt, attributesOf, backOver, backTo, begin, breakOfLine, described, goOn, hex, into,
-    listingOf, out, outlineOf, over, placeAt, stackOf, tableOf, textsOf, wordsIn })`;
+    DATA_START, ERRORS, MoveFailed, NO_BREAKS, Reads, State, attributesAt, attributesOf, backOver, backTo, breakOfLine, described, goOn, hex, into,
+    listingOf, out, outlineOf, over, placeAt, readersOf, stackOf, tableOf, textsOf, toFirstLine, wordsIn })`;
 const FOLDER = path.join(__dirname, "..", "..", "web", "logic");
 
 function logicWith(debug) {

@@ -1,9 +1,9 @@
 // Moves of the debugger. A run is the same each time, so a state of the machine is a number: how many instructions were executed since the start.
 // Each look, and each move, runs the program anew by `debug` up to there, with a script of its own; so it can go back, too.
 //
-// What uses this file has a function debug(lines, wanted, { seen, budget }): it runs a script of these lines, and answers { notes, output, short },
-// the notes that they ask for, the output up to the last, and whether the run read to the end of what is given beforehand. `seen` is called with each
-// of the notes, and where it answers true the rest is not needed. No more than `budget` instructions need to be executed.
+// What uses this file has a function debug(lines, wanted, { seen, budget }): it runs a script of these lines, and answers { notes, output }, the notes that
+// they ask for and the output up to the last. `seen` is called with each of the notes, and where it answers true the rest is not needed. No more than
+// `budget` instructions are executed.
 "use strict";
 
 const MOST_SCRIPT_BYTES = 65_000, MOST_STEP = 1_000_000_000, USUAL_STOPS = 40;
@@ -56,13 +56,13 @@ async function runPart(part) {
     const moves = part.map((it, i) => linesTo(it.steps - (i > 0 ? part[i - 1].steps : 0)));
     const lines = part.flatMap((it, i) => [...moves[i], ...it.lines]);
     try {
-        const { notes, output, short } = await debug(lines, lines.length);
+        const { notes, output } = await debug(lines, lines.length);
         let at = 0, last = { steps: 0, pc: 0 };
         part.forEach((it, i) => {
             const begin = at + moves[i].length;
             if (moves[i].length > 0) last = reached(notes[begin - 1]);
             at = begin + it.lines.length;
-            it.answer({ ...last, notes: notes.slice(begin, at), output, short });
+            it.answer({ ...last, notes: notes.slice(begin, at), output });
         });
     } catch (error) {
         for (const it of part) it.fail(error);
@@ -82,8 +82,8 @@ class State {
     static async after(steps, before) {
         const state = new State();
         const shows = before ? wordsOf(before.used).slice(0, MOST_WORDS_READ) : [];
-        const { notes, output, short, ...last } = await noted(steps, ["regs", ...shows.map((it) => `show ${hex(it)}`)]);
-        Object.assign(state, { steps: last.steps, ended: last.pc === undefined, registers: registersIn(notes[0]), output, short });
+        const { notes, output, ...last } = await noted(steps, ["regs", ...shows.map((it) => `show ${hex(it)}`)]);
+        Object.assign(state, { steps: last.steps, ended: last.pc === undefined, registers: registersIn(notes[0]), output });
         state.takeUp(notes.slice(1));
         return state;
     }

@@ -16,11 +16,11 @@ function described(word, view) {
     if (type === "Int") return { text: `Int ${number}`, type, value: String(number) };
     if (type === "Bool") return { text: number === 1 ? "true" : "false", type };
     if (type === "String") return { text: `"${lettersAt(word, state)}"`, type };
-    return { text: `${type}#${numberOf(word, type, view)}`, type, object: word, class: found };
+    return { text: `${type}#${ordinalOf(word, type, view)}`, type, object: word, class: found };
 }
 
 // Which of its class an object is: the first that was shown has the number 1, and each has one number in all states, for objects do not move.
-function numberOf(object, type, { numbers }) {
+function ordinalOf(object, type, { numbers }) {
     if (!numbers.has(object)) {
         numbers.set(type, (numbers.get(type) ?? 0) + 1);
         numbers.set(object, numbers.get(type));

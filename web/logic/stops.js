@@ -117,7 +117,7 @@ function returnsTo({ frames, table }) {
 const goOn = (from, breaks, more) => runTo(from, [], () => false, breaks, more);
 
 // To the first line of the first method, from the beginning of the run.
-function begin(from, breaks, more) {
+function toFirstLine(from, breaks, more) {
     const [first] = stopsIn([FIRST], from.table);
     return runTo(from, [first], (it) => it.place === first, breaks, more);
 }
