@@ -48,11 +48,11 @@ function showLight(place) {
     paint();
 }
 
-const isShownCode = () => !at("machine").hidden && machine.state !== undefined && !machine.moves;
+const isMachineShown = () => !at("machine").hidden && machine.state !== undefined;
 const placeOfRow = (row) => (row?.dataset.line ? { file: row.dataset.file, line: Number(row.dataset.line) } : undefined);
 
 function lightUp(place) {
-    if (isShownCode() && !isOneLine(place, light)) showLight(place);
+    if (isMachineShown() && !machine.moves && !isOneLine(place, light)) showLight(place);
 }
 
 // The line of the text at which a pointer is.
@@ -73,5 +73,9 @@ at("code").addEventListener("click", (event) => {
     if (place) goTo(place.file, place.line);
 });
 text.addEventListener("pointermove", (event) => lightUp(lineAt(event)));
-text.addEventListener("click", (event) => isShownCode() && (showLight(lineAt(event)), showCodeOfLine(lineAt(event))));
+text.addEventListener("click", (event) => {
+    if (!isMachineShown() || machine.moves) return;
+    showLight(lineAt(event));
+    showCodeOfLine(lineAt(event));
+});
 for (const it of [text, at("code")]) it.addEventListener("pointerleave", () => lightUp(undefined));

@@ -112,7 +112,7 @@ function showMarks() {
     marks.here = lineHere(here);
     marks.lit = lineHere(light);
     marks.stops = stopsOfBreaks(shownFile);
-    marks.tints = isShownCode() && tints.file === shownFile.name ? tints.lines : new Map();
+    marks.tints = isMachineShown() && tints.file === shownFile.name ? tints.lines : new Map();
 }
 
 // Shows a line of a file.

@@ -37,8 +37,8 @@ def label(page):
     same(page.moved("go-on"), "At line 14 of average.cl, in Numbers.average, after 346 instructions.")
     same([register(page, it) for it in ("pc", "zero", "at", "v0", "v1", "a0")], ["0x004008c4"] + ["0x00000000"] * 4 + ["0x20000014"])
     lines = page.run("return [...at('registers').children].map((it) => it.textContent);")
-    same([it for it in lines if it.startswith("$a0")], ["$a0   20000014  Numbers"])
-    same(frames(page)[0], ["Numbers.average", 14, ["self = Numbers", "sum = Int 12", "count = Int 0"]])
+    same([it for it in lines if it.startswith("$a0")], ["$a0   20000014  Numbers#1"])
+    same(frames(page)[0], ["Numbers.average", 14, ["self = Numbers#1", "sum = Int 12", "count = Int 0"]])
 
 
 @test("shows memory at an address, a label and a register, and the code around pc")
@@ -51,12 +51,15 @@ def memory(page):
         page.run(f"at('address').value = '{address}'; at('address').onchange();")
         page.moved()
         same(page.text("memory")[:20], line)
-    same(page.run("return at('code').querySelector('.here').textContent;"), "  004008c4  addiu $sp, $sp, -12")
+    same(page.run("return at('code').querySelector('.here').firstChild.textContent;"), "  004008c4  addiu $sp, $sp, -12")
 
 
 @test("steps on and back, and marks what changed")
 def back(page):
     sample(page)
+    same(page.text("where"), "At line 19 of average.cl, in Main.main, after 62 instructions.")
+    page.run("at('count').value = 62;")
+    page.moved("back")
     same(register(page, "pc"), "0x00400000")
     page.run("at('count').value = 1;")
     page.moved("step")
@@ -81,7 +84,7 @@ def frame(page):
     page.run("at('label').value = 'Main.f';")
     page.click("add-break")
     page.moved("go-on")
-    entering = [["Main.f", 3, ["self = Main", "a = Int 1", "b = Int 2"]], ["Main.main", 6, ["self = Main"]]]
+    entering = [["Main.f", 3, ["self = Main#1", "a = Int 1", "b = Int 2"]], ["Main.main", 6, ["self = Main#1"]]]
     same(frames(page), entering)
     page.moved("step")
     same(frames(page), entering)
@@ -113,7 +116,7 @@ def variables(page):
     page.click("add-break")
     page.moved("go-on")
     same(frames(page)[1][:2], ["Main.f", 7])
-    named = ["self = Main", "o = Int 7", "p = Int 5", 's = "é"', "k = Int 0", "all or i = Int 7"]
+    named = ["self = Main#1", "o = Int 7", "p = Int 5", 's = "é"', "k = Int 0", "i = Int 7"]
     same(frames(page)[1][2], named + ["left of + = Int 0", "left of + = Int 1"])
 
 
@@ -124,13 +127,15 @@ def lines(page):
     def line(button):
         words = page.moved(button)
         return words.split(",")[0]
-    same([line("over") for _ in range(4)], [f"At line {it} of average.cl" for it in (20, 21, 22)] + ["Ends by an error: division by zero"])
-    same(line("over"), "The run has ended after 387 instructions.")
+    error = "Ends by an error: division by zero"
+    same([line("over") for _ in range(4)], [f"At line {it} of average.cl" for it in (20, 21, 22)] + [error])
+    same([line("line-back") for _ in range(5)], [f"At line {it} of average.cl" for it in (14, 22, 21, 20, 19)])
+    same([line("line-back"), line("go-on"), line("over")], ["At line 19 of average.cl", error, "The run has ended after 387 instructions."])
     page.moved("restart")
     same([line(it) for it in ("into", "into", "into", "out")], [f"At line {it} of average.cl" for it in (20, 9, 10, 21)])
     page.run("toggleBreak(8); toggleBreak(14);")
     page.moved("restart")
-    same([line("go-on") for _ in range(3)], ["At line 9 of average.cl", "At line 9 of average.cl", "Ends by an error: division by zero"])
+    same([line("go-on") for _ in range(4)], [f"At line {it} of average.cl" for it in (9, 9, 14)] + [error])
     same(page.run("return [...document.querySelectorAll('#gutter .here')].map((it) => it.textContent);"), ["14"])
 
 
@@ -150,11 +155,9 @@ def recursion(page):
   }};
 };
 """))
-    page.run("toggleBreak(9);")
-    page.moved("go-on")
     same([page.moved("over").split(",")[0] for _ in range(2)], ["At line 10 of p.cl", "At line 11 of p.cl"])
     page.moved("restart")
-    page.run("toggleBreak(9); toggleBreak(4);")
+    page.run("toggleBreak(4);")
     same([page.moved("go-on").split(",")[0] for _ in range(3)], ["At line 4 of p.cl"] * 3)
     same([it[0] for it in frames(page)], ["Main.fib", "Main.fib", "Main.fib", "Main.main"])
     page.run("toggleBreak(4); toggleBreak(10);")
@@ -174,21 +177,25 @@ def edges(page):
   }};
 };
 """))
-    same([page.moved(it).split(",")[0] for it in ("into", "over")], ["At line 2 of p.cl", "At line 7 of p.cl"])
+    same(page.moved("over").split(",")[0], "At line 8 of p.cl")
     same(page.moved("over").split(",")[:2], ["Ends by an error: abort called", " line 8 of p.cl"])
     page.moved("restart")
     page.run("toggleBreak(4);")
     same(page.moved("go-on").split(",")[1], " in Main.get")
+    page.run("at('slider').value = 0; at('slider').oninput();")
+    page.moved()
+    same([page.moved(it).split(",")[0] for it in ("into", "over")], ["At line 2 of p.cl", "At line 7 of p.cl"])
 
 
 @test("goes back in a run of a million instructions")
 def far(page):
     debugs(page, ("life.cl", "class Main { main() : Object { let i : Int in while i < 60000 loop i <- i + 1 pool }; };"))
+    begun = page.run("return machine.state.steps;")
     page.run("at('count').value = 1000000;")
     page.moved("step")
     page.run("at('count').value = 1;")
     page.moved("back")
-    same(page.run("return machine.state.steps;"), 999999)
+    same(page.run("return machine.state.steps;") - begun, 999999)
 
 
 @test("uses the addresses that the machine has: of all labels of the examples")
@@ -235,3 +242,115 @@ def stopped(page):
     page.type("class Main { main() : Int { 1 }; };")
     page.checked()
     same(page.moved("go-on").split(" after")[0], "The run has ended")
+
+
+EVERY = """class Main inherits IO {
+  total : Int;
+  main() : Object {
+    let i : Int <- 2,
+        last : Int in {
+      while 0 < i loop {
+        total <-
+          total + i;
+        if i = 1 then
+          last <- i
+        else
+          out_string(
+            "more\\n")
+        fi;
+        i <- i - 1;
+      } pool;
+      case self of
+        o : Object => abort();
+        m : Main =>
+          m;
+      esac;
+    }
+  };
+};
+"""
+
+
+@test("stops at each line on which an expression begins, onwards and backwards")
+def every_line(page):
+    debugs(page, ("p.cl", EVERY))
+    passed = [4, 5, 6, 7, 8, 9, 12, 15, 6, 7, 8, 9, 10, 15, 6, 17, 20]
+    seen = [page.run("return [placeShown().line, machine.state.steps];")]
+    while "has ended" not in page.moved("over"):
+        seen.append(page.run("return [placeShown().line, machine.state.steps];"))
+    same([line for line, _ in seen], passed)
+    page.moved("previous")
+    back = [seen[-1]]
+    for _ in passed[1:]:
+        page.moved("line-back")
+        back.append(page.run("return [placeShown().line, machine.state.steps];"))
+    same(back, seen[::-1])
+
+
+@test("marks where a break stops, within its method")
+def where_breaks_stop(page):
+    debugs(page, ("p.cl", EVERY + "class Other {\n  x : Int;\n\n  f() : Int {\n    -- before\n    x\n  };\n};\n"))
+    page.run("[2, 3, 13, 14, 21, 23, 28, 32].forEach(toggleBreak);")
+    words = page.run("return [...at('breaks').children].map((it) => it.textContent);")
+    same(words, ["p.cl:2 → 4 ×", "p.cl:3 → 4 ×", "p.cl:13 → 12 ×", "p.cl:14 → 15 ×", "p.cl:21 → 20 ×", "p.cl:23 → 20 ×", "p.cl:28 → 30 ×", "p.cl:32 ×"])
+    page.run("text.scrollTop = 0; paint();")
+    shown = page.run("return [...document.querySelectorAll('#gutter .stop')].map((it) => [it.textContent, it.title]);")
+    same(shown, [["4", "The break at line 2 stops here"], ["12", "The break at line 13 stops here"], ["15", "The break at line 14 stops here"],
+                 ["20", "The break at line 21 stops here"], ["30", "The break at line 28 stops here"]])
+    same(page.run("return [...document.querySelectorAll('#gutter .break')].find((it) => it.textContent === '32').title;"), "The break here never stops")
+
+
+@test("asks in place for each line that the program reads, and goes on with the move")
+def reads(page):
+    text = "class Main inherits IO {\n  main() : Object {\n    let n : Int <- in_int() in\n      out_string(in_string())\n        .out_int(n)\n  };\n};\n"
+    debugs(page, ("p.cl", text), input="7")
+    same(page.text("where"), "At line 3 of p.cl, in Main.main, after 62 instructions.")
+    same([page.moved("over").split(",")[0], page.run("return at('read').hidden;")], ["At line 4 of p.cl", True])
+    same(page.moved("go-on").split(",")[0], "The program reads a line at line 4 of p.cl")
+    same(page.run("return [at('read').hidden, document.activeElement.id];"), [False, "read-line"])
+    same(page.moved("over").split(",")[0], "The program reads a line at line 4 of p.cl")
+    page.type("Ada\n")
+    same([page.moved().split(",")[0], page.run("return at('read').hidden;")], ["At line 5 of p.cl", True])
+    same([page.moved("go-on").split(" after")[0], page.text("so-far")], ["The run has ended", "Ada7COOL program successfully executed\n"])
+    page.moved("restart")
+    page.moved("go-on")
+    page.click("read-end")
+    same([page.moved().split(" after")[0], page.text("so-far")], ["The run has ended", "7COOL program successfully executed\n"])
+
+
+@test("shows any state of the run by the slider, and names an object the same in all of them")
+def slider(page):
+    debugs(page, ("p.cl", "class A {\n  other : A;\n  with(a : A) : A {{\n    other <- a;\n    self;\n  }};\n};\nclass Main {\n  main() : Object {\n"
+                          "    let one : A <- new A,\n        two : A <- (new A).with(one) in\n      one.with(two)\n  };\n};\n"))
+    last = page.run("return Number(at('slider').max);")
+    same(page.text("of-steps"), f"{page.run('return machine.state.steps;')} of {last}")
+    page.run(f"at('slider').value = {last}; at('slider').oninput();")
+    same(page.moved(), f"The run has ended after {last} instructions.")
+    page.run("at('slider').value = 0; at('slider').oninput();")
+    page.moved()
+    same(register(page, "pc"), "0x00400000")
+    page.run("toggleBreak(5);")
+    page.moved("go-on")
+    page.moved("go-on")
+    one, two = (it.split(" = ")[1] for it in frames(page)[1][2][-2:])
+    same({one, two}, {"A#1", "A#2"})
+    same(frames(page)[0][2], [f"self = {one}", f"other = {two}", f"a = {two}"])
+    page.moved("line-back")
+    page.moved("line-back")
+    same(frames(page)[0][2][1:], [f"one = {one}", f"two = {two}"])
+
+
+@test("leads from a line to its code, and from code to its line")
+def code_and_lines(page):
+    sample(page)
+    rows = page.run("return [...at('code').querySelectorAll('.row')].map((it) => [it.dataset.line, it.className]);")
+    same(sorted({line for line, _ in rows}), ["18", "19", "20", "21", "22"])
+    same(len({kind.replace("here ", "") for _, kind in rows}), 5)
+    page.run("const row = at('code').querySelector('[data-line=\"21\"]'); row.dispatchEvent(new PointerEvent('pointerover', { bubbles: true }));")
+    same(page.run("return [...document.querySelectorAll('#paint .lit')].map((it) => it.textContent.trim());"), ["numbers.add(8);"])
+    page.run("at('code').querySelector('[data-line=\"22\"]').click();")
+    same(page.run("return cursorLine();"), 22)
+    click = "text.dispatchEvent(new MouseEvent('click', { clientY: text.getBoundingClientRect().top + 8 + 20 * (LINE - 1) + 10 - text.scrollTop }));"
+    page.run(click.replace("LINE", "10"))
+    same(page.run("return [...new Set([...at('code').querySelectorAll('.lit')].map((it) => it.dataset.line))];"), ["10"])
+    same(page.run("return at('code').querySelector('.label').textContent;"), "Numbers.add:")
