@@ -145,7 +145,7 @@ def vscode_debugging(room, words):
     for program in words.cool, "module":
         client = DebugClient(program, command=["node", extension / "editors" / "cool-dap"])
         stop = client.launch(HERE.parent / "examples" / "average.cl", lines=[14], stopOnEntry=True)
-        expect("stop", (stop["reason"], client.where(), client.at("continue")), ("entry", ("Main.main", 20), ("Numbers.average", 14, "exception")))
+        expect("stop", (stop["reason"], client.where(), client.at("continue")), ("entry", ("Main.main", 19), ("Numbers.average", 14, "breakpoint")))
         client.end()
 
 
@@ -157,8 +157,8 @@ def emacs_debugging(room, words):
     (room / "average.cl").write_text((HERE.parent / "examples" / "average.cl").read_text())
     call = ["emacs", "-q", "--batch", "-l", HERE / "tests" / "emacs-debug.el"]
     said, version = said_in(room, words, call, COOL_MODE=str(HERE / "emacs" / "cool-mode.el"), COOL_FILE=str(room / "average.cl"))
-    expect("dap-mode", said, ["Main.main 20", "Main.main 21", "Numbers.add 9", "number = 8", "Main.main 22", "Main.main 21", "Numbers.add 9",
-                              "Numbers.average 14", "count = 0", "Numbers.add 9", "breaks: (average.cl 2)", "Numbers.average 14", "ended"])
+    expect("dap-mode", said, ["Main.main 19", "Main.main 20", "Numbers.add 9", "number = 8", "Main.main 22", "Main.main 21", "Numbers.add 9",
+                              "Numbers.average 14", "count = 0", "Numbers.add 9", "breaks: (average.cl 2)", "Numbers.average 14", "Numbers.average 14", "ended"])
     return version + " with dap-mode"
 
 

@@ -1,39 +1,14 @@
 ;; In Emacs, with dap-mode: debugs $COOL_FILE, and writes where it stops, and what stands there, to $COOL_SAID.  -*- lexical-binding: t -*-
-(package-initialize)
-(setq dap-auto-configure-features nil dap-auto-show-output nil dap-print-io nil)
-(require 'dap-mode)
-(require 'dap-ui)  ; has a variable that dap-mode asks for
-(load (getenv "COOL_MODE"))
+(load (expand-file-name "emacs-dap.el" (file-name-directory load-file-name)))
 (defvar said nil)
-(defvar stops 0)
-(defvar ended nil)
-(add-hook 'dap-stack-frame-changed-hook (lambda (session) (when (dap--debug-session-active-frame session) (setq stops (1+ stops)))))
-(add-hook 'dap-terminated-hook (lambda (_) (setq ended t)))
-
-(defun until (holds)
-  (let ((end (+ 60 (float-time))))
-    (while (and (not (funcall holds)) (< (float-time) end))
-      (accept-process-output nil 0.02))))
-
-(defun answer (command arguments)
-  (let (found (session (dap--cur-session-or-die)))
-    (dap--send-message (dap--make-request command arguments) (lambda (it) (setq found it)) session)
-    (until (lambda () found))
-    (gethash "body" found)))
 
 (defun stop-by (move)
   "Moves, and tells the frame at which the program stands then."
-  (setq stops 0)
-  (funcall move)
-  (until (lambda () (or ended (> stops 0))))
-  (push (if ended "ended"
-          (let ((frame (dap--debug-session-active-frame (dap--cur-session))))
-            (format "%s %s" (gethash "name" frame) (gethash "line" frame))))
-        said))
+  (go-by move)
+  (push (if ended "ended" (format "%s %s" (gethash "name" (frame)) (gethash "line" (frame)))) said))
 
 (defun value (name)
-  (let ((frame (gethash "id" (dap--debug-session-active-frame (dap--cur-session)))))
-    (push (format "%s = %s" name (gethash "result" (answer "evaluate" (list :expression name :frameId frame :context "hover")))) said)))
+  (push (format "%s = %s" name (value-of name)) said))
 
 (defun break-at (line &optional condition)
   "Sets a break at LINE, by the commands of dap-mode."
@@ -59,6 +34,7 @@
 (value "count")
 (stop-by #'cool-reverse-continue)
 (push (format "breaks: %s" (let (all) (maphash (lambda (file its) (push (format "%s %d" (file-name-nondirectory file) (length its)) all)) (dap--get-breakpoints)) all)) said)
+(stop-by (lambda () (call-interactively #'dap-continue)))
 (stop-by (lambda () (call-interactively #'dap-continue)))
 (stop-by (lambda () (call-interactively #'dap-continue)))
 (with-temp-file (getenv "COOL_SAID") (insert (mapconcat #'identity (reverse said) "\n") "\n"))
