@@ -10,8 +10,10 @@ function moveBy(go, breaksNow = () => NO_BREAKS) {
 function moveBackBy(find) {
     move(async (state) => {
         const from = { ...viewOf(state), frames: machine.frames ?? [] };
-        const first = async () => ({ steps: Math.min(state.steps, (await toFirstLine({ ...from, state: await State.after(0), frames: [] }, NO_BREAKS)).steps) });
-        return (await find(from)) ?? first();
+        const found = await find(from);
+        if (found) return found;
+        const first = await toFirstLine({ ...from, state: await State.after(0), frames: [] }, NO_BREAKS);
+        return { steps: Math.min(state.steps, first.steps) };
     });
 }
 

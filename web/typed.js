@@ -22,7 +22,8 @@ const stateReads = ({ steps, registers }) => isRead({ steps, pc: registers.pc })
 
 // Moves as `go` does, or to a read whose line is yet to be typed: the move goes on once it is.
 async function pastReads(go, from, breaks) {
-    const named = new Set(breaks.addresses), tellProgress = (steps) => (at("where").textContent = `Running, ${steps.toLocaleString("en")} instructions so far…`);
+    const tellProgress = (steps) => (at("where").textContent = `Running, ${steps.toLocaleString("en")} instructions so far…`);
+    const named = new Set(breaks.addresses);
     const all = { ...breaks, addresses: [...named, ...readersOf(from.listing)], takes: (address, stop) => named.has(address) || isRead(stop) };
     const found = stateReads(from.state) ? { steps: from.state.steps, pc: from.state.registers.pc } : await go(from, all, { tellProgress });
     const reads = isRead(found);

@@ -158,7 +158,8 @@ def emacs_debugging(room, words):
     call = ["emacs", "-q", "--batch", "-l", HERE / "tests" / "emacs-debug.el"]
     said, version = said_in(room, words, call, COOL_MODE=str(HERE / "emacs" / "cool-mode.el"), COOL_FILE=str(room / "average.cl"))
     expect("dap-mode", said, ["Main.main 19", "Main.main 20", "Numbers.add 9", "number = 8", "Main.main 22", "Main.main 21", "Numbers.add 9",
-                              "Numbers.average 14", "count = 0", "Numbers.add 9", "breaks: (average.cl 2)", "Numbers.average 14", "Numbers.average 14", "ended"])
+                              "Numbers.average 14", "count = 0", "Numbers.add 9", "breaks: (average.cl 2)", "Numbers.average 14", "Numbers.average 14",
+                              "ended"])
     return version + " with dap-mode"
 
 

@@ -143,9 +143,10 @@ def emacs_stepping(room, words):
     file.write_text((EXAMPLES / "list.cl").read_text())
     wanted, names = printed(words.cool, room, file)
     (room / "names").write_text("".join("%s %s\n" % (address, " ".join(its)) for address, its in names.items()))
-    given = {"COOL": words.cool, "COOL_MODE": str(HERE / "emacs" / "cool-mode.el"), "COOL_FILE": str(file), "COOL_NAMES": str(room / "names"), "COOL_STATES": str(MOST_STATES)}
+    given = {"COOL": words.cool, "COOL_MODE": HERE / "emacs" / "cool-mode.el", "COOL_FILE": file, "COOL_NAMES": room / "names", "COOL_SAID": room / "said"}
+    given = {name: str(it) for name, it in {**given, "COOL_STATES": MOST_STATES, "HOME": room}.items()}
     call = ["emacs", "-q", "--batch", "-l", HERE / "tests" / "emacs-step.el"]
-    said = subprocess.run(call, env={**os.environ, **given, "COOL_SAID": str(room / "said"), "HOME": str(room)}, stdout=subprocess.PIPE, stderr=subprocess.STDOUT)
+    said = subprocess.run(call, env={**os.environ, **given}, stdout=subprocess.PIPE, stderr=subprocess.STDOUT)
     expect("status", (said.returncode, said.stdout.decode() if said.returncode else ""), (0, ""))
     onwards, back = [[line.split("\t") for line in part.splitlines()] for part in (room / "said").read_text().split("--\n")]
     states = {steps: (address, dict(zip(names.get(address, ()), map(of_class, its)))) for steps, address, *its in onwards}
