@@ -42,7 +42,7 @@ function showHere(place) {
 
 function showMachine() {
     showBreaks();
-    if (machine.state === undefined) restart();
+    if (machine.state === undefined) machine.opened = restart();
     else markHere(placeShown());
 }
 
@@ -148,7 +148,7 @@ function openPath(path) {
 function restart() {
     forgetReads();
     Object.assign(machine, { frames: undefined, earlier: [] });
-    move(async () => {
+    return move(async () => {
         const state = await State.after(0);
         return pastReads(toFirstLine, { ...viewOf(state), frames: [] }, NO_BREAKS).then(findLength);
     });
@@ -159,7 +159,7 @@ function moveTo(steps, why = {}) {
     return move(async (state) => ({ steps: steps > state.steps ? await stepsOrRead(state.steps, steps) : Math.max(0, steps), ...why }));
 }
 
-at("restart").onclick = restart;
+at("restart").onclick = () => void restart();
 at("previous").onclick = () => move(() => ({ steps: machine.earlier.pop() ?? 0, returns: true }));
 at("step").onclick = () => machine.state && moveTo(machine.state.steps + stepCount());
 at("back").onclick = () => machine.state && moveTo(machine.state.steps - stepCount());

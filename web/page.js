@@ -35,7 +35,7 @@ function pressed(event) {
     else if (event.key === "Escape" && debugged.runs) debugged.stop();
     else if (event.key === "Escape" && at("options").open) at("options").open = false, at("options").firstElementChild.focus();
     else if (event.key === "F9") toggleBreak(cursorLine());
-    else if (event.key === "F8") choose("machine"), at("go-on").onclick();
+    else if (event.key === "F8") choose("machine"), machine.opened.then(at("go-on").onclick);
     else if (event.key === "F10") choose("machine"), at("over").onclick();
     else if (event.key === "s" && control) files.forEach(saveFile);
     else return;

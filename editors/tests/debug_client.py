@@ -153,14 +153,14 @@ def begun(room, words, text=None, name="p.cl", **more):
     if not shutil.which("node"):
         raise NotTried("node is not installed")
     file = room / "a b é" / name
-    file.parent.mkdir(exist_ok=True)
+    file.parent.mkdir(parents=True, exist_ok=True)
     file.write_text(text)
     client = DebugClient(words.cool, TMPDIR=str(kept(room)))
     return client, client.launch(file, **more), file
 
 
 def kept(room):
-    (room / "tmp").mkdir(exist_ok=True)
+    (room / "tmp").mkdir(parents=True, exist_ok=True)
     return room / "tmp"
 
 

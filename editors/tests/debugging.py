@@ -300,6 +300,10 @@ def other_launches(room, words):
     client = DebugClient("/nowhere/cool", TMPDIR=str(kept(room)))
     expect("no program", client.answer("launch", program=str(faulty))["message"], "/nowhere/cool does not start: spawn /nowhere/cool ENOENT")
     done(client, room)
+    client = DebugClient(words.cool, TMPDIR=str(kept(room)), COOL_EDITOR="/nowhere/cool_editor")
+    told = client.answer("launch", program=str(EXAMPLES / "average.cl"))["message"]
+    expect("no table", told, "/nowhere/cool_editor does not start: spawn /nowhere/cool_editor ENOENT")
+    done(client, room)
     client, stop, _ = begun(room, words, READING, noDebug=True, input="Eve\n1\n")
     expect("without debugging", (stop["event"], client.output[-37:]), ("terminated", "!2COOL program successfully executed\n"))
     done(client, room)
@@ -392,5 +396,51 @@ def random_requests(room, words):
     return "%d requests" % count
 
 
-TESTS = [random_requests, by_the_module, average, breaks_at_lines, walks, errors, deep_recursion, reading, two_files, variables, code, pausing,
+LINES = """class Main inherits IO {
+  total : Int;
+  choose(n : Int) : Int {
+    if n = 0 then
+      1 else if n = 1 then 2 else 3 fi
+    fi
+  };
+  main() : Object {{
+    total <-
+      choose(0) +
+      choose(1);
+    out_int(choose(2) + choose(0) + choose(1)); out_int(
+      4);
+
+    case self of m : Main =>
+      while total < 5 loop total <- total + 1 pool;
+    esac;
+  }};
+};
+"""
+
+
+def lines(room, words):
+    """Each line on which an expression begins is stopped at, and each other one at one of its method; in each branch, and in each of several calls."""
+    client, _, file = begun(room, words, LINES, stopOnEntry=True)
+    count = LINES.count("\n")
+    told = client.ask("setBreakpoints", source={"path": str(file)}, breakpoints=[{"line": i + 1} for i in range(count)])["breakpoints"]
+    expect("where breaks stop", [it.get("line") for it in told],
+           [4, 4, 4, 4, 5, 5, 5, 9, 9, 10, 11, 12, 12, 15, 15, 16, 16, 16, 19])
+    expect("whether one does", [it["verified"] for it in told], [True] * (count - 1) + [False])
+    asked = client.ask("breakpointLocations", source={"path": str(file)}, line=1, endLine=count)["breakpoints"]
+    expect("lines", [it["line"] for it in asked], [4, 5, 9, 10, 11, 12, 15, 16])
+    client.ask("setBreakpoints", source={"path": str(file)}, breakpoints=[])
+    passed = [client.where()[1], *(client.at("next")[1] for _ in range(5))]
+    expect("over", (passed, client.at("next")), ([9, 10, 11, 12, 15, 16], "ended"))
+    done(client, room)
+    client, stop, file = begun(room / "again", words, LINES, lines=[5])
+    seen = []
+    while stop["event"] == "stopped":
+        seen.append((client.value("n"), client.stack()[1][1], client.stop("stepOut") and client.stack()[0]))
+        stop = client.stop("continue")
+    expect("each call, and where it returns to", seen, [("0", 10, ("Main.main", 10)), ("1", 11, ("Main.main", 10)), ("2", 12, ("Main.main", 12)),
+                                                        ("0", 12, ("Main.main", 12)), ("1", 12, ("Main.main", 12))])
+    done(client, room / "again")
+
+
+TESTS = [lines, random_requests, by_the_module, average, breaks_at_lines, walks, errors, deep_recursion, reading, two_files, variables, code, pausing,
          output_exactly, other_launches, restarting, end_of_program, nonsense_requests, called_by_hand]

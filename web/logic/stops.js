@@ -47,15 +47,14 @@ function runTo(from, places, accepts, breaks, { addresses = [], ...more } = {}) 
     return runOn(state.steps, all, accept, { ...more, settle });
 }
 
-// The break of a line of a file: { line, places }. Where no expression begins on the line it is one at the next line of its method that has one, else at the
-// last one before. Outside of methods it is one at the next line of the file, and undefined where there is none.
+// The break of a line of a file: { line, places }. Where the line has no stop it is one at the line of the expression around it, else at the next line of its
+// method that has one, else at the last one before. Outside of methods it is one at the next line of the file, and undefined where there is none.
 function breakOfLine(file, line, { table, outline }) {
-    const name = methodAt(outline, file, line);
-    const features = table.features.filter((it) => it.spans[0].file === file && (name === undefined || it.name === name));
-    const around = features.map((it) => it.lines.get(line)).find(Boolean);
+    const all = table.features.filter((it) => it.spans[0].file === file), name = methodAt(outline, file, line);
+    const features = all.filter((it) => name === undefined || it.name === name), around = all.map((it) => it.lines.get(line)).find(Boolean);
     const lines = features.flatMap((it) => it.stops).map((it) => it.line).sort((a, b) => a - b);
     const found = around?.line ?? lines.find((it) => it >= line) ?? (name && lines.at(-1));
-    return found === undefined ? undefined : { line: found, places: features.flatMap((it) => it.stops).filter((it) => it.line === found) };
+    return found === undefined ? undefined : { line: found, places: all.flatMap((it) => it.stops).filter((it) => it.line === found) };
 }
 
 // Whether a stop begins a pass over its line. In one pass over a line its places come in the order of their addresses; so a later place of the line
