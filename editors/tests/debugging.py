@@ -440,6 +440,12 @@ def lines(room, words):
     expect("each call, and where it returns to", seen, [("0", 10, ("Main.main", 10)), ("1", 11, ("Main.main", 10)), ("2", 12, ("Main.main", 12)),
                                                         ("0", 12, ("Main.main", 12)), ("1", 12, ("Main.main", 12))])
     done(client, room / "again")
+    client, stop, file = begun(room / "back", words, LINES, lines=[4])
+    for _ in range(4):
+        client.stop("continue")
+    back = [client.at("stepBack")[:2] for _ in range(3)]
+    expect("back from the last of three calls, to the line that makes it", back, [("Main.main", it) for it in (12, 11, 10)])
+    done(client, room / "back")
 
 
 TESTS = [lines, random_requests, by_the_module, average, breaks_at_lines, walks, errors, deep_recursion, reading, two_files, variables, code, pausing,

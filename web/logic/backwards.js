@@ -23,10 +23,10 @@ async function lastOf(from, addresses, choose) {
 // To the beginning of the last pass over another line of this frame, or to the line of its caller; to the beginning of its own line where that is not here.
 function backOver(from) {
     const { pc } = from.state.registers, entry = unitAt(from.listing, pc)?.from, fp = frameNow(from);
-    const place = from.table.stopAt.get(pc);
+    const place = from.table.stopAt.get(pc), callers = new Set(from.frames.slice(1).map((it) => it.fp));
     return lastOf(from, [...addressesOf(stopsOfStack(from)), ...(entry === undefined ? [] : [entry])], (stops, isAll) => {
         const begun = pc === entry ? stops.length : stops.findLastIndex((it) => it.enters && it.fp === fp);
-        const outer = stops.filter((it, i) => it.place && (it.fp > fp || (it.fp === fp && i > begun)));
+        const outer = stops.filter((it, i) => it.place && (it.fp === fp ? i > begun : callers.has(it.fp)));
         const isHere = (it) => place !== undefined && it.fp === fp && isOneLine(it.place, place);
         let i = outer.length - 1;
         while (i >= 0 && isHere(outer[i])) i -= 1;
