@@ -28,13 +28,17 @@ async function showAssembly() {
     const method = methodAt(outlineOf(files), shownFile.name, cursorLine());
     const label = labels.find((it) => it[1] === method);
     if (label) goToLabel(at("labels").value = label.index);
+    prepare().then(() => colourAssembly(all), () => {});
+}
+
+function scrollAssembly(line) {
+    at("lines").scrollTop = line * parseFloat(getComputedStyle(at("lines")).lineHeight);
 }
 
 // Selects the label, and so scrolls to it.
 function goToLabel(index) {
     const lines = at("lines");
-    const before = lines.textContent.slice(0, index).split("\n").length - 1;
-    lines.scrollTop = before * parseFloat(getComputedStyle(lines).lineHeight);
+    scrollAssembly(lines.textContent.slice(0, index).split("\n").length - 1);
     const end = lines.textContent.indexOf(":", index);
     if (end >= 0) getSelection().setBaseAndExtent(lines.firstChild, index, lines.firstChild, end);
 }

@@ -44,6 +44,7 @@ function showLight(place) {
     for (const it of at("code").querySelectorAll(".row")) {
         it.classList.toggle("lit", place !== undefined && it.dataset.file === place.file && Number(it.dataset.line) === place.line);
     }
+    lightAssembly(place);
     showMarks();
     paint();
 }
@@ -52,7 +53,7 @@ const isMachineShown = () => !at("machine").hidden && machine.state !== undefine
 const placeOfRow = (row) => (row?.dataset.line ? { file: row.dataset.file, line: Number(row.dataset.line) } : undefined);
 
 function lightUp(place) {
-    if (isMachineShown() && !machine.moves && !isOneLine(place, light)) showLight(place);
+    if ((isAssemblyShown() || (isMachineShown() && !machine.moves)) && !isOneLine(place, light)) showLight(place);
 }
 
 // The line of the text at which a pointer is.
@@ -74,8 +75,8 @@ at("code").addEventListener("click", (event) => {
 });
 text.addEventListener("pointermove", (event) => lightUp(lineAt(event)));
 text.addEventListener("click", (event) => {
-    if (!isMachineShown() || machine.moves) return;
-    showLight(lineAt(event));
-    showCodeOfLine(lineAt(event));
+    lightUp(lineAt(event));
+    if (isAssemblyShown()) showAssemblyOfLine(lineAt(event));
+    else if (isMachineShown() && !machine.moves) showCodeOfLine(lineAt(event));
 });
 for (const it of [text, at("code")]) it.addEventListener("pointerleave", () => lightUp(undefined));

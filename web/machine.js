@@ -16,6 +16,7 @@ function forgetMachine() {
     at("where").textContent = CHANGED;
     at("source-here").replaceChildren();
     at("code").replaceChildren();
+    shownCode = undefined;
     forgetReads();
     forgetLength();
     if (shownFile) showLight(undefined), markHere(undefined);

@@ -15,7 +15,7 @@ const ERRORS = {
 const ROUTINE = /\.|_init$|^__start$|^equality_test$|_abort2?$|_limit$/;
 
 // Answers
-//   rows      the instructions in order: { address, words, text, labels }
+//   rows      the instructions in order: { address, words, text, labels, number: of the line of the assembly, from 0 }
 //   labels    a map of labels to addresses, those of the data too
 //   units     the methods, initializers and routines in order: { name, from, to, formals, body: [from, to], leave }
 //   classes   by tag: { name, methods: labels by slot }
@@ -37,12 +37,12 @@ function listingOf(assembly) {
 function textOf(lines) {
     const rows = [], labels = new Map();
     let address = TEXT_START, waiting = [];
-    for (const line of lines) {
+    for (const [number, line] of lines.entries()) {
         const [, label, text] = LINE.exec(line);
         if (label !== undefined) labels.set(label, address), waiting.push(label);
         if (text === "" || text[0] === ".") continue;
         const words = TWO_WORDS.test(text) ? 2 : 1;
-        rows.push({ address, words, text, labels: waiting });
+        rows.push({ address, words, text, labels: waiting, number });
         waiting = [];
         address += 4 * words;
     }

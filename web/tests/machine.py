@@ -1,4 +1,5 @@
 """The machine. Expected values stand in docs/debugger.md and docs/runtime.md, or come from `debug` itself."""
+from browser import Missing
 from page import example, same, test
 
 TWO = ("p.cl", "class Main {\n  f(a : Int, b : Int) : Int {\n    a + b\n  };\n  main() : Object {\n    f(1, 2)\n  };\n};\n")
@@ -354,3 +355,19 @@ def code_and_lines(page):
     page.run(click.replace("LINE", "10"))
     same(page.run("return [...new Set([...at('code').querySelectorAll('.lit')].map((it) => it.dataset.line))];"), ["10"])
     same(page.run("return at('code').querySelector('.label').textContent;"), "Numbers.add:")
+
+
+@test("colours the assembly by lines, and leads from a line to its code and back")
+def assembly_and_lines(page):
+    page.start(("average.cl", example("average.cl")))
+    page.click("tab-assembly")
+    if page.run("return !canColour;"):
+        raise Missing("this browser colours no ranges of a text")
+    page.wait("shownCode !== undefined")
+    page.run("text.scrollTop = 0; lightUp({ file: 'average.cl', line: 14 }); showAssemblyOfLine(light);")
+    lit = page.run("return [...litCode].map((it) => at('lines').textContent.slice(it.startOffset, it.endOffset).trim());")
+    same([it for it in lit if it.startswith(("lw $a0", "div"))], ["lw $a0, 12($s0)", "lw $a0, 16($s0)", "div $t3, $t4"])
+    place = "const it = at('lines').getBoundingClientRect(); const place = lineAtAssembly({ clientX: it.left + 90, clientY: it.top + 4.5 * 20 });"
+    same(page.run(place + " return place.line;"), 14)
+    page.run("text.focus();")
+    page.click("tab-console")
