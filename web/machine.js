@@ -87,6 +87,7 @@ async function move(find) {
     } finally {
         machine.moves = false;
         at("halt").disabled = true;
+        setTimeout(slide);
     }
 }
 
@@ -147,6 +148,7 @@ function openPath(path) {
 
 // From the first line on; what was typed is asked for again.
 function restart() {
+    if (machine.moves) return machine.opened;
     forgetReads();
     Object.assign(machine, { frames: undefined, earlier: [] });
     return move(async () => {

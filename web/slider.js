@@ -7,7 +7,7 @@ const MOST_LOOKED_FOR = 2_000_000;
 let runLength, isWhole, slidTo;
 
 function forgetLength() {
-    [runLength, isWhole] = [0, false];
+    [runLength, isWhole, slidTo] = [0, false, undefined];
 }
 
 // Looks how far the run goes, up to a read that lacks its line, and answers what it is given.
@@ -28,13 +28,12 @@ function showSteps({ steps: shown, ended }) {
     at("of-steps").textContent = `${shown.toLocaleString("en")} of ${runLength.toLocaleString("en")}${isWhole ? "" : " or more"}`;
 }
 
-// While a state is looked up the slider may have gone on.
+// While a state is looked up the slider may have gone on: each move calls this at its end.
 async function slide() {
-    if (machine.moves || slidTo === undefined || machine.state === undefined) return;
+    if (machine.moves || slidTo === undefined) return;
     const wanted = slidTo;
     await moveTo(wanted, { returns: true });
     if (slidTo === wanted) slidTo = undefined;
-    else slide();
 }
 
 at("slider").oninput = () => {
