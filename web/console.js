@@ -117,7 +117,8 @@ function showEnd(came) {
     tell(came.status === undefined ? endWords(came) : `${endWords(came)}, status ${came.status}, ${time}`, came.status !== 0);
     if (PAST_LIMIT[came.status] && at("how").value === "run") at("end").append(PAST_LIMIT[came.status]);
     const fault = came.status === 3 ? placed(at("output").textContent.trimEnd().split("\n").at(-1)) : undefined;
-    if (fault) at("end").append(element("button", { onclick: () => goTo(fault.file, fault.line) }, `Show line ${fault.line} of ${fault.file}`));
+    const look = element("button", { onclick: lookInMachine }, "Look in the machine");
+    if (fault) at("end").append(element("button", { onclick: () => goTo(fault.file, fault.line) }, `Show line ${fault.line} of ${fault.file}`), " ", look);
 }
 
 // Gives the run a line, or null for the end of the input.

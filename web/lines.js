@@ -26,6 +26,13 @@ function breaksSet() {
     return { places: found.flatMap((it) => it.places), addresses };
 }
 
+// From the first line on to where the run ends by an error.
+function lookInMachine() {
+    choose("machine");
+    machine.opened = restart();
+    machine.opened.then(() => moveBy(goOn));
+}
+
 at("go-on").onclick = () => moveBy(goOn, breaksSet);
 at("over").onclick = () => moveBy(over);
 at("into").onclick = () => moveBy(into);

@@ -97,6 +97,7 @@ function showSourceLine(place) {
 }
 
 function showOutput(output) {
+    at("said").hidden = output === "";
     at("so-far").textContent = output;
     at("so-far").scrollTop = at("so-far").scrollHeight;
 }

@@ -110,13 +110,18 @@ async function show(state, before, why) {
     showFrames(picture.frames, before.entries);
     showRegisters(picture.registers, before.state?.registers);
     showMemory(picture.memory, before.state);
-    showCode(viewOf(state));
     showOutput(state.output);
-    showSteps(state, why);
+    showSteps(state);
     showRead();
     at("where").textContent = whereWords(state, why);
     at("where").classList.toggle("bad", why.error !== undefined);
     at("previous").disabled = machine.earlier.length === 0;
+    if (!state.ended) showPlace(state);
+}
+
+// At the end of a run the last line and its code stay.
+function showPlace(state) {
+    showCode(viewOf(state));
     showHere(placeShown());
     showSourceLine(placeShown());
 }

@@ -82,10 +82,11 @@ function innermost(view) {
 // tells, and `below`, the last word of the stack that is the frame's. Frames whose words are read stand in `known` then, and are not made anew.
 function stackOf(view, most, known = []) {
     const { state, listing, table } = view;
+    if (state.ended) return [];
     const error = listing.errorAt.get(unitAt(listing, state.registers.pc)?.from);
     if (error) return [{ title: error, place: { file: listing.strings.get(state.registers.t8), line: state.registers.t9 } }];
     let next = known.length > 0 ? callerOf(known.at(-1), view) : { ...innermost(view), below: state.registers.sp };
-    while (!state.ended && next.unit && next.unit.name !== "__start") {
+    while (next.unit && next.unit.name !== "__start") {
         if (known.length >= most) return [...known.slice(0, most), { title: "…" }];
         const frame = { ...next, title: next.unit.name, place: placeAt(table, next.pc, listing) };
         if (next.returns === undefined) return [...known, frame];

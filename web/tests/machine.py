@@ -288,6 +288,20 @@ def every_line(page):
     same(back, seen[::-1])
 
 
+@test("leads from an error of a run to the machine, where all that led to it is in place, and stays at its line when it ends")
+def from_error(page):
+    page.start(("average.cl", example("average.cl")))
+    page.click("run")
+    page.ended()
+    page.run("[...at('end').querySelectorAll('button')].find((it) => it.textContent === 'Look in the machine').click();")
+    page.wait("!machine.moves && machine.state?.steps === 370")
+    same(page.text("where"), "Ends by an error: division by zero, line 14 of average.cl, after 370 instructions.")
+    same(page.run("return at('said').hidden;"), True)
+    code = page.text("code")
+    same([page.moved("go-on"), page.text("so-far")], ["The run has ended after 387 instructions.", "average.cl:14: Division by zero.\n"])
+    same([page.text("code") == code, page.run("return marks.here;")], [True, 14])
+
+
 @test("marks where a break stops, within its method")
 def where_breaks_stop(page):
     debugs(page, ("p.cl", EVERY + "class Other {\n  x : Int;\n\n  f() : Int {\n    -- before\n    x\n  };\n};\n"))
