@@ -190,6 +190,15 @@ def deep_recursion(room, words):
     return "%d frames in %.1f s" % (len(stack), took)
 
 
+def stacks(room, words):
+    """The stack is whole wherever its frames stand in memory, and whatever was read of it before."""
+    client, _, _ = begun(room, words, (EXAMPLES / "shapes.cl").read_text(), functions=["move"])
+    for i in range(16):
+        expect("the outermost method after %d moves" % i, client.stack()[-1][0], "Main.main")
+        client.stop(("stepIn", "next", "stepBack", "continue")[i % 4])
+    done(client, room)
+
+
 def reading(room, words):
     client, _, _ = begun(room, words, READING, lines=[8], stopOnEntry=True)
     client.ask("continue", threadId=1)
@@ -448,5 +457,5 @@ def lines(room, words):
     done(client, room / "back")
 
 
-TESTS = [lines, random_requests, by_the_module, average, breaks_at_lines, walks, errors, deep_recursion, reading, two_files, variables, code, pausing,
+TESTS = [lines, stacks, random_requests, by_the_module, average, breaks_at_lines, walks, errors, deep_recursion, reading, two_files, variables, code, pausing,
          output_exactly, other_launches, restarting, end_of_program, nonsense_requests, called_by_hand]

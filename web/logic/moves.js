@@ -7,7 +7,9 @@
 "use strict";
 
 const MOST_SCRIPT_BYTES = 65_000, MOST_STEP = 1_000_000_000, USUAL_STOPS = 40;
-const MOST_WORDS_READ = 3500, MOST_READS = 12, BLOCK_WORDS = 16, STACK_BLOCKS = 32, LOW_STACK = 0x70000000;
+// Memory is read in blocks, each by a line of a script.
+const MOST_BLOCKS = 2500, MOST_READS = 12, BLOCK_WORDS = 16, BLOCK_BYTES = 4 * BLOCK_WORDS, STACK_BLOCKS = 32, LOW_STACK = 0x70000000;
+const MOST_ADDRESS = 0xffffffff;
 // In the order of `regs`.
 const REGISTERS = "pc zero at v0 v1 a0 a1 a2 a3 t0 t1 t2 t3 t4 t5 t6 t7 s0 s1 s2 s3 s4 s5 s6 s7 t8 t9 k0 k1 gp sp fp ra".split(" ");
 
@@ -46,7 +48,7 @@ function runWaiting() {
     waitingLooks = [];
     for (const it of all) {
         const count = parts.at(-1).reduce((sum, { lines }) => sum + lines.length + 2, 0);
-        if (count + it.lines.length > MOST_WORDS_READ && count > 0) parts.push([]);
+        if (count + it.lines.length > MOST_BLOCKS && count > 0) parts.push([]);
         parts.at(-1).push(it);
     }
     return parts.reduce((before, part) => before.then(() => runPart(part)), Promise.resolve());
@@ -69,7 +71,7 @@ async function runPart(part) {
     }
 }
 
-const wordsOf = (blocks) => [...blocks].flatMap((from) => Array.from({ length: BLOCK_WORDS }, (_, i) => from + 4 * i));
+const wordsLine = (from) => `words ${hex(from)} ${BLOCK_WORDS}`;
 
 // The state after so many instructions, or at the end where the program ended before. Words of memory are read when they are asked for:
 // `peek` answers undefined for one that is yet to be read, and null for one that cannot be.
@@ -81,19 +83,23 @@ class State {
     // `before` is a state whose words are read at once again, since most looks are at the same.
     static async after(steps, before) {
         const state = new State();
-        const shows = before ? wordsOf(before.used).slice(0, MOST_WORDS_READ) : [];
-        const { notes, output, ...last } = await noted(steps, ["regs", ...shows.map((it) => `show ${hex(it)}`)]);
+        const blocks = before ? [...before.used].slice(0, MOST_BLOCKS - 1) : [];
+        const { notes, output, ...last } = await noted(steps, ["regs", ...blocks.map(wordsLine)]);
         Object.assign(state, { steps: last.steps, ended: last.pc === undefined, registers: registersIn(notes[0]), output });
         state.takeUp(notes.slice(1));
         return state;
     }
 
+    // Behind the first word of a block that cannot be read there is none.
     takeUp(notes) {
-        for (const it of notes) this.words.set(parseInt(it.slice(2, 10), 16), it.startsWith("0x", 12) ? parseInt(it.slice(14), 16) : null);
+        for (const it of notes) {
+            const from = parseInt(it.slice(2, 10), 16), words = it.slice(12).split(" ");
+            for (let i = 0; i < BLOCK_WORDS; i += 1) this.words.set(from + 4 * i, words[i]?.startsWith("0x") ? parseInt(words[i].slice(2), 16) : null);
+        }
     }
 
     peek(address) {
-        const block = (address >>> 0) - ((address >>> 0) % (4 * BLOCK_WORDS));
+        const block = (address >>> 0) - ((address >>> 0) % BLOCK_BYTES);
         const found = this.words.get(address >>> 0);
         if (found === undefined) this.wanted.add(block);
         this.used.add(block);
@@ -102,10 +108,10 @@ class State {
 
     // Of the stack, what stands behind is read at once as well, more each time: the frames of the callers, each of which leads to the next.
     async read(round = 0) {
-        const blocks = new Set(this.wanted), ahead = Math.min(STACK_BLOCKS << round, MOST_WORDS_READ / BLOCK_WORDS);
-        for (const from of this.wanted) if (from >= LOW_STACK) for (let i = 1; i < ahead; i += 1) blocks.add(from + 4 * BLOCK_WORDS * i);
-        const addresses = wordsOf(blocks).filter((it) => !this.words.has(it)).slice(0, MOST_WORDS_READ);
-        const { notes } = await noted(this.steps, addresses.map((it) => `show ${hex(it)}`));
+        const blocks = new Set(this.wanted), ahead = Math.min(STACK_BLOCKS << round, MOST_BLOCKS);
+        for (const from of this.wanted) if (from >= LOW_STACK) for (let i = 1; i < ahead; i += 1) blocks.add(from + BLOCK_BYTES * i);
+        const lacking = [...blocks].filter((it) => !this.words.has(it) && it <= MOST_ADDRESS).slice(0, MOST_BLOCKS);
+        const { notes } = await noted(this.steps, lacking.map(wordsLine));
         this.takeUp(notes);
     }
 

@@ -89,7 +89,7 @@ function stackOf(view, most, known = []) {
     while (next.unit && next.unit.name !== "__start") {
         if (known.length >= most) return [...known.slice(0, most), { title: "…" }];
         const frame = { ...next, title: next.unit.name, place: placeAt(table, next.pc, listing) };
-        if (next.returns === undefined) return [...known, frame];
+        if ([next.caller, next.next, next.returns].includes(undefined)) return [...known, frame];
         known.push(frame);
         next = callerOf(frame, view);
     }
