@@ -7,6 +7,8 @@ const { MODULE, spawnModule } = require("./module.js");
 const { EDITORS, LaunchFailed } = require("./program.js");
 
 const USUAL_STEPS = 1_000_000_000;
+// The note of a line of a script that the program does not have, with its number.
+const REFUSED = /:(\d+): B\d: /;
 // The script that tells a repository's program, and how long it may take.
 const TOP = path.join(EDITORS, ".."), PICKS = path.join(TOP, "release", "program"), MOST_MILLISECONDS = 10_000;
 
@@ -133,6 +135,8 @@ class Cool {
             };
             const note = (line) => {
                 if (done || notes.length === wanted) return;
+                const [, refused] = REFUSED.exec(line) ?? [];
+                if (refused) return fail(new LaunchFailed(`${this.command} is older than cool-dap: its debug has no line ${lines[refused - 1]}`));
                 notes.push(line);
                 done = seen(line) === true || (isOpen && notes.length === wanted);
                 if (!done) return;

@@ -313,6 +313,13 @@ def other_launches(room, words):
     told = client.answer("launch", program=str(EXAMPLES / "average.cl"))["message"]
     expect("no table", told, "/nowhere/cool_editor does not start: spawn /nowhere/cool_editor ENOENT")
     done(client, room)
+    older = room / "older"
+    older.write_text("#!/bin/sh\n[ $1 = debug ] || exec '%s' \"$@\"\necho 'script:1: B1: bad script line' >&2\nexit 12\n" % words.cool)
+    older.chmod(0o755)
+    client = DebugClient(str(older), TMPDIR=str(kept(room)))
+    expect("an older program", client.launch(EXAMPLES / "average.cl")["event"], "terminated")
+    expect("why", client.said, "cool-dap: %s is older than cool-dap: its debug has no line regs\n" % older)
+    done(client, room)
     client, stop, _ = begun(room, words, READING, noDebug=True, input="Eve\n1\n")
     expect("without debugging", (stop["event"], client.output[-37:]), ("terminated", "!2COOL program successfully executed\n"))
     done(client, room)
