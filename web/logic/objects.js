@@ -21,11 +21,10 @@ function described(word, view) {
 
 // Which of its class an object is: the first that was shown has the number 1, and each has one number in all states, for objects do not move.
 function ordinalOf(object, type, { numbers }) {
-    if (!numbers.has(object)) {
-        numbers.set(type, (numbers.get(type) ?? 0) + 1);
-        numbers.set(object, numbers.get(type));
-    }
-    return numbers.get(object);
+    if (!numbers.has(type)) numbers.set(type, new Map());
+    const shown = numbers.get(type);
+    if (!shown.has(object)) shown.set(object, shown.size + 1);
+    return shown.get(object);
 }
 
 function inText(address, listing) {

@@ -355,6 +355,19 @@ def slider(page):
     same(frames(page)[0][2][1:], [f"one = {one}", f"two = {two}"])
 
 
+@test("tells objects apart where another line was typed, and others stand in their places")
+def other_objects(page):
+    debugs(page, ("p.cl", "class A { };\nclass B { };\nclass Main inherits IO {\n  main() : Object {\n"
+                          "    let one : Object <- if in_int() = 1 then new A else new B fi,\n        two : B <- new B in\n"
+                          "      out_int(1)\n  };\n};\n"))
+    page.run("toggleBreak(7);")
+    for line, objects in ("1", ["one = A#1", "two = B#1"]), ("2", ["one = B#2", "two = B#1"]):
+        page.moved("restart")
+        page.moved("go-on")
+        page.type(f"{line}\n")
+        same([page.moved().split(",")[0], frames(page)[0][2][1:]], ["At line 7 of p.cl", objects])
+
+
 @test("leads from a line to its code, and from code to its line")
 def code_and_lines(page):
     sample(page)
