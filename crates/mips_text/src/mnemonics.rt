@@ -38,7 +38,7 @@ pub(crate) enum Mnemonic {
     Mul,
 }
 
-/// Those that begin with `a`.
+/// The mnemonics that begin with `a`.
 static WITH_A: [Mnemonic; 6] = [
     Mnemonic::Three(ThreeOp::Add),
     Mnemonic::Three(ThreeOp::Addu),
@@ -48,7 +48,7 @@ static WITH_A: [Mnemonic; 6] = [
     Mnemonic::Imm(ImmOp::Andi),
 ];
 
-/// Those that begin with `b`.
+/// The mnemonics that begin with `b`.
 static WITH_B: [Mnemonic; 13] = [
     Mnemonic::BranchTwo(TwoOp::Beq),
     Mnemonic::BranchTwo(TwoOp::Bne),
@@ -65,13 +65,13 @@ static WITH_B: [Mnemonic; 13] = [
     Mnemonic::BranchOrder(OrderOp::Ble),
 ];
 
-/// Those that begin with `d`.
+/// The mnemonics that begin with `d`.
 static WITH_D: [Mnemonic; 2] = [
     Mnemonic::MulDiv(MulDivOp::Div),
     Mnemonic::MulDiv(MulDivOp::Divu),
 ];
 
-/// Those that begin with `j`.
+/// The mnemonics that begin with `j`.
 static WITH_J: [Mnemonic; 4] = [
     Mnemonic::Jr,
     Mnemonic::Jalr,
@@ -79,7 +79,7 @@ static WITH_J: [Mnemonic; 4] = [
     Mnemonic::Jump(JumpOp::Jal),
 ];
 
-/// Those that begin with `l`.
+/// The mnemonics that begin with `l`.
 static WITH_L: [Mnemonic; 8] = [
     Mnemonic::Lui,
     Mnemonic::Mem(MemOp::Lb),
@@ -91,7 +91,7 @@ static WITH_L: [Mnemonic; 8] = [
     Mnemonic::Li,
 ];
 
-/// Those that begin with `m`.
+/// The mnemonics that begin with `m`.
 static WITH_M: [Mnemonic; 8] = [
     Mnemonic::MoveFrom(FromOp::Mfhi),
     Mnemonic::MoveFrom(FromOp::Mflo),
@@ -103,13 +103,13 @@ static WITH_M: [Mnemonic; 8] = [
     Mnemonic::Mul,
 ];
 
-/// Those that begin with `n`.
+/// The mnemonics that begin with `n`.
 static WITH_N: [Mnemonic; 3] = [Mnemonic::Three(ThreeOp::Nor), Mnemonic::Neg, Mnemonic::Nop];
 
-/// Those that begin with `o`.
+/// The mnemonics that begin with `o`.
 static WITH_O: [Mnemonic; 2] = [Mnemonic::Three(ThreeOp::Or), Mnemonic::Imm(ImmOp::Ori)];
 
-/// Those that begin with `s`.
+/// The mnemonics that begin with `s`.
 static WITH_S: [Mnemonic; 16] = [
     Mnemonic::Three(ThreeOp::Sub),
     Mnemonic::Three(ThreeOp::Subu),
@@ -129,7 +129,7 @@ static WITH_S: [Mnemonic; 16] = [
     Mnemonic::Mem(MemOp::Sw),
 ];
 
-/// Those that begin with `x`.
+/// The mnemonics that begin with `x`.
 static WITH_X: [Mnemonic; 2] = [Mnemonic::Three(ThreeOp::Xor), Mnemonic::Imm(ImmOp::Xori)];
 
 impl Mnemonic {

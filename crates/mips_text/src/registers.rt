@@ -6,6 +6,7 @@ ghost use Rattle.mips_text.specs.Names.{begins_with, register_text, register_tex
 ghost use Rattle.mips_text.specs.Operands.{place_from, register_named};
 
 use mips_isa::Reg;
+use mips_isa::register::SP;
 
 /// The names, without the `$`, in the order of the numbers.
 static NAMES: [&str; 32] = [
@@ -32,11 +33,14 @@ pub(crate) fn register_named(name: &[u8]) -> Option<Reg>
     Some(Reg::new(number as u32))
 }
 
-/// The place of a name in the table of names.
+/// The place of a name in the table of names. The stack pointer is told at once: code names it most, and it stands behind all others with its letter.
 fn place_of_name(name: &[u8]) -> Option<usize>
     ensures exact { result ≡ place_from 0 register_texts name.now }
     ensures below { IfSome result (λ place. place < 32) }
 {
+    if matches!(name, b"sp") {
+        return Some(SP as usize);
+    }
     match name {
         [letter, ..] => place_of(&NAMES, first_with(*letter), name),
         [] => None,
