@@ -5,6 +5,7 @@ mod GoodNodes
 mod GoodStates
 mod ParsingAFile
 mod NodesOfConcreteTrees
+mod OperatorsThatEnd
 mod ParsedTreesAreShaped
 pub mod ParsingIsTheGrammar
 mod PlacingANode

@@ -1,4 +1,5 @@
 pub mod Answers
+pub mod Endings
 pub mod Laws
 pub mod Levels
 pub mod Machine

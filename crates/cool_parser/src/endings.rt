@@ -44,14 +44,8 @@ impl Parser {
         ensures fewer { IfOk result (λ t. length self.new.nodes + length self.new.stack ≤ length self.old.nodes + length self.old.stack) }
     {
         let mut operand = operand;
-        while let Some(item) = self.stack.pop() {
-            match item.ended(level, operand) {
-                Ok(node) => operand = self.place(node)?,
-                Err(item) => {
-                    self.stack.push(item)?;
-                    return Ok(operand);
-                }
-            }
+        while let Some(node) = self.stack.end_operator(level, operand) {
+            operand = self.place(node)?;
         }
         Ok(operand)
     }

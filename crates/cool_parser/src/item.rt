@@ -1,6 +1,8 @@
 //! What waits on the stack: forms whose first part has been read.
 
-ghost use Rattle.std.specs.Prelude.{◌≡◌, IfOk, Some, None, MatchResult};
+ghost use Rattle.std.specs.Prelude.{◌≡◌, IfOk};
+ghost use Rattle.std.specs.Option.{is_some};
+ghost use Rattle.cool_syntax.specs.declared.node.NodeId.{NodeId};
 ghost use Rattle.cool_parser.specs.Machine as machine;
 
 use crate::operator::{Infix, Prefix};
@@ -185,26 +187,39 @@ impl OpenCase {
 }
 
 impl Item {
-    /// The node that an operator of at least this level makes of its operand. `Err` hands any other item back.
-    pub(crate) fn ended(self, level: u8, operand: NodeId) -> Result<Node, Item>
-        ensures { MatchResult result (λ node. machine.ended level self operand ≡ Some node) (λ item. (item ≡ self) × (machine.ended level self operand ≡ None)) }
+    /// Whether it is an operator of at least this level.
+    pub(crate) fn ends_at(&self, level: u8) -> bool
+        ensures { (operand : NodeId) → result ≡ is_some (machine.ended level self.now operand) }
     {
         match self {
-            Item::Left { at, op, left } if op.level() >= level => Ok(op.node(at, left, operand)),
-            Item::Front { at, op } if op.level() >= level => Ok(op.node(at, operand)),
-            Item::Assigning { at, name } if level <= 1 => Ok(Node::Assign {
+            Item::Left { op, .. } => op.level() >= level,
+            Item::Front { op, .. } => op.level() >= level,
+            Item::Assigning { .. } => level <= 1,
+            Item::Bound { .. } => level == 0,
+            _ => false,
+        }
+    }
+
+    /// The node that an operator makes of its operand, or `None` where it is none.
+    pub(crate) fn node(self, operand: NodeId) -> Option<Node>
+        ensures { result ≡ machine.ended 0 self operand }
+    {
+        match self {
+            Item::Left { at, op, left } => Some(op.node(at, left, operand)),
+            Item::Front { at, op } => Some(op.node(at, operand)),
+            Item::Assigning { at, name } => Some(Node::Assign {
                 at,
                 name,
                 value: operand,
             }),
-            Item::Bound { variable, init } if level == 0 => Ok(Node::Let {
+            Item::Bound { variable, init } => Some(Node::Let {
                 at: variable.at,
                 name: variable.name,
                 declared: variable.declared,
                 init,
                 body: operand,
             }),
-            item => Err(item),
+            _ => None,
         }
     }
 }

@@ -2,8 +2,10 @@
 
 ghost use Rattle.std.specs.Prelude.{◌≡◌, [], ◌∷◌, Some, None, MatchOption, if◌then◌else◌};
 ghost use Rattle.std.specs.Result.{is_ok};
+ghost use Rattle.cool_parser.specs.Endings.{NoneEnds, Ends};
 
 use crate::item::Item;
+use cool_syntax::{Node, NodeId};
 use std::alloc::{AllocError, Global};
 use std::marker::Model;
 
@@ -49,6 +51,17 @@ impl Stack {
         ensures { MatchOption result ((self.old ≡ []) × (self.new ≡ [])) (λ item. self.old ≡ item ∷ self.new) }
     {
         self.items.pop()
+    }
+
+    /// Takes an operator of at least this level from the top, and answers the node that it makes of its operand. `None` comes where
+    /// none is there.
+    pub(crate) fn end_operator(&mut self, level: u8, operand: NodeId) -> Option<Node>
+        ensures { MatchOption result ((self.new ≡ self.old) × NoneEnds level operand self.old) (Ends level operand self.old self.new) }
+    {
+        if !self.top()?.ends_at(level) {
+            return None;
+        }
+        self.pop()?.node(operand)
     }
 
     /// The top.

@@ -4,13 +4,13 @@ use Rattle.cool_parser.specs.Machine as machine
 use Rattle.cool_parser.specs.Waiting.{Good}
 use Rattle.cool_parser.proofs.parser.Parser.reduce.Given as goal
 
-abbrev pub invariant-loop-item : goal.invariant-loop-item
-invariant-loop-item l = record {
+abbrev pub invariant-loop-node : goal.invariant-loop-node
+invariant-loop-node l = record {
   same : machine.reduced l.level l.self.nodes l.self.stack l.operand ≡ machine.reduced l.fn.level l.fn.self.nodes l.fn.self.stack l.fn.operand;
   good : Good l.self (mode.Have l.operand);
   classes : l.self.classes ≡ l.fn.self.classes;
   fits : length l.self.nodes + length l.self.stack ≤ length l.fn.self.nodes + length l.fn.self.stack;
 }
 
-abbrev pub decreases-loop-item : goal.decreases-loop-item
-decreases-loop-item l = length l.self.stack
+abbrev pub decreases-loop-node : goal.decreases-loop-node
+decreases-loop-node l = length l.self.stack
