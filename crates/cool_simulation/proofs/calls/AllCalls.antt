@@ -17,7 +17,7 @@ use Rattle.cool_simulation.proofs.calls.Initializers.{initials_correct}
 use Rattle.cool_simulation.proofs.calls.Methods.{body_correct}
 
 module _ (l : Loading) (loaded : IsLoaded l) (written : IsWritten l.table) where
-  later_within : (n : ℕ) → CallsLater (calls_within l.table n)
+  pub later_within : (n : ℕ) → CallsLater (calls_within l.table n)
   later_within n = λ call. record { later = λ s k. after_of (more_calls_within l.table n n 0 (omega arith) call) s k }
 
   pub calls_correct : (n m : ℕ) → m < n → CallsCorrect l (calls_within l.table n) m

@@ -40,10 +40,10 @@ use Rattle.cool_simulation.proofs.calls.InitialValues.{initial_sound, initial_ru
 module _ (l : Loading) (loaded : IsLoaded l) (calls : Calls) (b : ℕ) (later : CallsLater calls) (sound : AllCallsSound l.table calls b) (IsGood : Tree → Type 0) (forms : (t : Tree) → IsGood t → Correct l calls b t)
     (c k : ClassId) (self : Value) (within : c.0 < length l.table) (below : Below l.table k c) (k_within : k.0 < length l.table) (plain : MayInherit k) (is : class_of self ≡ Some k)
     (goods : (j : ℕ) (a : AttributeDef) (t : Tree) → slice_get (features_of l.table c) j ≡ Some (Attribute a) → a.init ≡ Some t → IsGood t) where
-  abbrev own_code : ℕ → List Feature → List Line
+  abbrev pub own_code : ℕ → List Feature → List Line
   own_code j fs = flat_map (placed_code l.table l.files (constants l) c) (attributes_from j fs)
 
-  abbrev init_code : ℕ → Option Tree → List Line
+  abbrev pub init_code : ℕ → Option Tree → List Line
   init_code j o = initial_value_code (context l c j) (constants l) o
 
   -- what these features' initial values do, from any machine inside the frame
@@ -67,6 +67,40 @@ module _ (l : Loading) (loaded : IsLoaded l) (calls : Calls) (b : ℕ) (later : 
   done_at : (q : Pointers) (m : Bytes) (map : Map) (st : State) (words pc pc' : ℕ) (x : Value) (t : State) (u : Machine) → pc ≡ pc' → Done l (record q { pc = pc }) m map st words x t u → Done l (record q { pc = pc' }) m map st words x t u
   done_at q m map st words pc pc' x t u same d = subst (λ (y : ℕ). Done l (record q { pc = y }) m map st words x t u) same d
 
+  one_more : (xs : List AttributeRef) (y : AttributeRef) → length (xs ++ y ∷ []) ≡ length xs + 1
+  one_more [] y = omega arith
+  one_more (z ∷ xs) y = let h = one_more xs y in omega arith
+
+  -- an attribute and those after it, with the locations of all
+  module _ (j : ℕ) (a : AttributeDef) (fs : List Feature) (front : List AttributeRef) (i : ℕ) (ls : List ℕ) (there : slice_get (features_of l.table c) j ≡ Some (Attribute a))
+      (parts : attributes l.table c ≡ front ++ (record { owner = c; index = j }) ∷ own_attributes c (j + 1) fs) (made : fitting.World) (q : Pointers) (m : Bytes) (map : Map) (console : Console) (st : State) (s : Machine) (n : ℕ)
+      (le : n ≤ b) (inside : Inside l k self made q m map console st s) (made_i : slice_get made i ≡ Some (meant l.table k a.declared.name))
+      (homes : (x : ℕ) → x < length (i ∷ ls) → map.home (get_or (i ∷ ls) x 0) ≡ q.self + 12 + 4 * (length front + x)) where
+    home_first : map.home i ≡ q.self + 12 + 4 * length front
+    home_first = homes 0 (omega arith) ∙ omega arith
+
+    -- its initial value, where it has one
+    pub value_runs : (o : Option Tree) → a.init ≡ o → HasLines l.world q.pc (init_code j o ++ own_code (j + 1) fs) → Room l q 0 (run_initial l.table calls self i o st n)
+        → Runs l s n (64 * (run_initial l.table calls self i o st n).work) (λ x. Passed l k self q (q.pc + sizes (init_code j o)) m map st (run_initial l.table calls self i o st n).words) (run_initial l.table calls self i o st n).outcome
+    value_runs None init has room' =
+        run_gives l {A = Unit {0}} tt st s n 0 (64 * 0) (λ x. Passed l k self q (q.pc + 0) m map st 0) (omega arith) (done l.world 0 s (Passed l k self q (q.pc + 0) m map st 0 st) (here_passed made q m map console st s (q.pc + 0) 0 inside (omega arith)))
+    value_runs (Some t) init has room' =
+        initial_runs l loaded calls b later sound IsGood forms c k self within below k_within plain is j a t there init (goods j a t there init) front (own_attributes c (j + 1) fs) parts made q m map console st s n i le inside home_first
+        (has_front l.world (init_code j (Some t)) (own_code (j + 1) fs) q.pc has) room'
+
+    pub value_sound : (o : Option Tree) → a.init ≡ o → NotStuck l.table made n (Any {A = Unit {0}}) (run_initial l.table calls self i o st n).outcome
+    value_sound None init = (give_sound {p = l.table} {b = b} {w = made} {Q = Any} tt tt).sound st n le inside.fits
+    value_sound (Some t) init =
+        (initial_sound l loaded calls b later sound IsGood forms c k self within below k_within plain is j a t there init (goods j a t there init) front (own_attributes c (j + 1) fs) parts made q m map console st s i inside made_i).sound st n le inside.fits
+
+    -- the locations behind it stay at home
+    pub homes_next : (o : Option Tree) (words : ℕ) (x : Value) (t : State) (u : Machine) (y : ℕ) → y < length ls → (d : Done l (record q { pc = q.pc + sizes (init_code j o) }) m map st words x t u)
+        → d.map'.home (get_or ls y 0) ≡ q.self + 12 + 4 * (length (front ++ (record { owner = c; index = j }) ∷ []) + y)
+    homes_next o words x t u y less d =
+        let h : map.home (get_or ls y 0) ≡ q.self + 12 + 4 * (length front + suc y) = homes (suc y) (omega arith) in
+        let long = one_more front (record { owner = c; index = j }) in
+        d.grown.home (get_or ls y 0) (within_store l k self map.home (length st.store) (get_or ls y 0) inside.pictures.fresh (omega arith)) ∙ h ∙ omega arith
+
   -- one attribute, and those after it
   part_then : (j : ℕ) (a : AttributeDef) (fs : List Feature) (front more : List AttributeRef) (i : ℕ) (ls : List ℕ) → slice_get (features_of l.table c) j ≡ Some (Attribute a)
       → attributes l.table c ≡ front ++ (record { owner = c; index = j }) ∷ own_attributes c (j + 1) fs → PartsRun (j + 1) fs (front ++ (record { owner = c; index = j }) ∷ []) more ls → (o : Option Tree) → a.init ≡ o
@@ -83,25 +117,10 @@ module _ (l : Loading) (loaded : IsLoaded l) (calls : Calls) (b : ℕ) (later : 
       run_wider l whole.outcome s n (64 * whole.work + 0) (64 * whole.work) _ (omega arith)
       (bind_runs l r (λ _. run_initials l.table calls self (own_attributes c (j + 1) fs) ls) s n 0 q 0 (λ x. Passed l k self q (q.pc + sizes (init_code j o)) m map st r.words)
       (λ v. Passed l k self q (q.pc + sizes (init_code j o ++ own_code (j + 1) fs)) m map st whole.words)
-      (λ v t left. (initials_later l.table calls later self (own_attributes c (j + 1) fs) ls).later t left) room (first o init has)
-      (λ v t left u e passed same_words rest. onward v t left u e passed same_words rest (sound_by o init)))
+      (λ v t left. (initials_later l.table calls later self (own_attributes c (j + 1) fs) ls).later t left) room
+      (value_runs j a fs front i ls there parts made q m map console st s n le inside made_i homes o init has)
+      (λ v t left u e passed same_words rest. onward v t left u e passed same_words rest (value_sound j a fs front i ls there parts made q m map console st s n le inside made_i homes o init)))
     where
-      home_first : map.home i ≡ q.self + 12 + 4 * length front
-      home_first = homes 0 (omega arith) ∙ omega arith
-
-      first : (o : Option Tree) → a.init ≡ o → HasLines l.world q.pc (init_code j o ++ own_code (j + 1) fs) → Room l q 0 (run_initial l.table calls self i o st n)
-          → Runs l s n (64 * (run_initial l.table calls self i o st n).work) (λ x. Passed l k self q (q.pc + sizes (init_code j o)) m map st (run_initial l.table calls self i o st n).words) (run_initial l.table calls self i o st n).outcome
-      first None init has room' =
-          run_gives l {A = Unit {0}} tt st s n 0 (64 * 0) (λ x. Passed l k self q (q.pc + 0) m map st 0) (omega arith) (done l.world 0 s (Passed l k self q (q.pc + 0) m map st 0 st) (here_passed made q m map console st s (q.pc + 0) 0 inside (omega arith)))
-      first (Some t) init has room' =
-          initial_runs l loaded calls b later sound IsGood forms c k self within below k_within plain is j a t there init (goods j a t there init) front (own_attributes c (j + 1) fs) parts made q m map console st s n i le inside home_first
-          (has_front l.world (init_code j (Some t)) (own_code (j + 1) fs) q.pc has) room'
-
-      sound_by : (o : Option Tree) → a.init ≡ o → NotStuck l.table made n (Any {A = Unit {0}}) (run_initial l.table calls self i o st n).outcome
-      sound_by None init = (give_sound {p = l.table} {b = b} {w = made} {Q = Any} tt tt).sound st n le inside.fits
-      sound_by (Some t) init =
-          (initial_sound l loaded calls b later sound IsGood forms c k self within below k_within plain is j a t there init (goods j a t there init) front (own_attributes c (j + 1) fs) parts made q m map console st s i inside made_i).sound st n le inside.fits
-
       onward : (v : Unit {0}) (t : State) (left : ℕ) (u : Machine) → (run_initial l.table calls self i o st n).outcome ≡ Val v t left → Passed l k self q (q.pc + sizes (init_code j o)) m map st (run_initial l.table calls self i o st n).words t u
           → (seq (run_initial l.table calls self i o st n) (λ _. run_initials l.table calls self (own_attributes c (j + 1) fs) ls)).words
           ≡ (run_initial l.table calls self i o st n).words + (run_initials l.table calls self (own_attributes c (j + 1) fs) ls t left).words
@@ -129,19 +148,8 @@ module _ (l : Loading) (loaded : IsLoaded l) (calls : Calls) (b : ℕ) (later : 
                 (done_both l q m map st (run_initial l.table calls self i o st n).words next_words _ x passed.0 t t2 u u2 (q.pc + sizes (init_code j o)) (q.pc + sizes (init_code j o) + sizes (own_code (j + 1) fs)) d.acc d.ra numbers.sp_even d passed.1 (omega arith)),
           ))
           (rest_run fine.world q' d.memory d.map' d.console t u left (omega arith) inside' (still_all_made made fine.world fine.grown ls _ made_ls)
-          (λ y less. home_next y less d) (has_back l.world (init_code j o) (own_code (j + 1) fs) q.pc (q.pc + sizes (init_code j o)) refl has)
+          (λ y less. homes_next j a fs front i ls there parts made q m map console st s n le inside made_i homes o (run_initial l.table calls self i o st n).words x t u y less d) (has_back l.world (init_code j o) (own_code (j + 1) fs) q.pc (q.pc + sizes (init_code j o)) refl has)
           (record { heap = omega arith; stack = omega arith; way = rest.way })))
-        where
-          one_more : (xs : List AttributeRef) (y : AttributeRef) → length (xs ++ y ∷ []) ≡ length xs + 1
-          one_more [] y = omega arith
-          one_more (z ∷ xs) y = let h = one_more xs y in omega arith
-
-          home_next : (y : ℕ) → y < length ls → (d : Done l (record q { pc = q.pc + sizes (init_code j o) }) m map st (run_initial l.table calls self i o st n).words x t u)
-              → d.map'.home (get_or ls y 0) ≡ q.self + 12 + 4 * (length (front ++ (record { owner = c; index = j }) ∷ []) + y)
-          home_next y less d =
-              let h : map.home (get_or ls y 0) ≡ q.self + 12 + 4 * (length front + suc y) = homes (suc y) (omega arith) in
-              let long = one_more front (record { owner = c; index = j }) in
-              d.grown.home (get_or ls y 0) (within_store l k self map.home (length st.store) (get_or ls y 0) inside.pictures.fresh (omega arith)) ∙ h ∙ omega arith
 
   pub parts_run : (fs : List Feature) (j : ℕ) (front more : List AttributeRef) (ls : List ℕ) → ((i : ℕ) (x : Feature) → slice_get fs i ≡ Some x → slice_get (features_of l.table c) (j + i) ≡ Some x)
       → attributes l.table c ≡ front ++ own_attributes c j fs → PartsRun j fs front more ls

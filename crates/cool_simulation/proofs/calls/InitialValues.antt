@@ -63,10 +63,10 @@ module _ (l : Loading) (loaded : IsLoaded l) (calls : Calls) (b : ℕ) (later : 
     abbrev store_code : List Line
     store_code = store_lines (pos (offset l.table c (record { owner = c; index = j }))) 16
 
-    typed : FitsDeclared l.table c [] t a.declared.name
+    pub typed : FitsDeclared l.table c [] t a.declared.name
     typed = subst (IsTypedInit l.table c a.declared.name) init (loaded.buildable.typed.features c j (Attribute a) within there)
 
-    begins : (made : fitting.World) (q : Pointers) (m : Bytes) (map : Map) (console : Console) (st : State) (s : Machine) → Inside l k self made q m map console st s
+    pub begins : (made : fitting.World) (q : Pointers) (m : Bytes) (map : Map) (console : Console) (st : State) (s : Machine) → Inside l k self made q m map console st s
         → Begins l c k self (attributes_in_scope l.table (attributes_of l.table typed.chain)) (attributes_in l.table c) (environment_of l.table self) made 0 q m map console st s
     begins made q m map console st s inside =
         body_begins l loaded c k self [] within below k_within plain is tt (omega arith) typed.chain [] made q m map console st s typed.is_chain inside.fit inside.fits tt inside.at inside.shows inside.pictures inside.self_is
@@ -84,7 +84,7 @@ module _ (l : Loading) (loaded : IsLoaded l) (calls : Calls) (b : ℕ) (later : 
         (eval_sound p typed0 calls b sound c k self t made (attributes_in_scope p (attributes_of p typed.chain)) (environment_of p self) typed.type scene typed.has))
         (λ w1 v g1 fits. store_sound i v (meant p k a.declared.name) (still_made made w1 g1 i (meant p k a.declared.name) made_for) fits))
 
-    value_at : (pc : ℕ) → HasLines l.world pc (value_code ++ store_code) → CodeAt l c j (attributes_in l.table c) 0 0 pc t
+    pub value_at : (pc : ℕ) → HasLines l.world pc (value_code ++ store_code) → CodeAt l c j (attributes_in l.table c) 0 0 pc t
     value_at pc has =
         let bounded = bounded_here l.table l.files loaded.buildable c j (Attribute a) within there in
         let sized : tree_size t ≤ 8000 = small a.init init bounded in

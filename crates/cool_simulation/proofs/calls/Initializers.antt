@@ -1,5 +1,5 @@
 -- The code of an initializer does what the initial values of its class mean: those of the class above first, and then its own.
-use Rattle.std.proofs.Common.{◌≡◌, ◌⊎◌, inl, inr, ℕ, zero, suc, ◌+◌, ◌-◌, ◌*◌, ◌<◌, ◌≤◌, List, [], ◌∷◌, ◌++◌, flat_map, length, Option, Some, None, Bool as Truth, true, ap, sym, ◌∙◌, refl, subst, arith, append_assoc, append-nil}
+use Rattle.std.proofs.Common.{◌≡◌, ◌⊎◌, inl, inr, ℕ, zero, suc, ◌+◌, ◌-◌, ◌*◌, ◌<◌, ◌≤◌, List, [], ◌∷◌, ◌++◌, flat_map, get_or, length, Option, Some, None, Bool as Truth, true, ap, sym, ◌∙◌, refl, subst, arith, append_assoc, append-nil}
 use Rattle.std.specs.Prelude.{pos, drop, slice_get, nat_lt, if◌then◌else◌}
 use Rattle.std.proofs.lemmas.List.{get_or-drop}
 use Rattle.std.proofs.lemmas.Bool.{le-ltb}
@@ -72,17 +72,17 @@ few_drop (suc n) (l ∷ ls) i less = let h = few_drop n ls i less in omega arith
 
 module _ (l : Loading) (loaded : IsLoaded l) (calls : Calls) (b : ℕ) (later : CallsLater calls) (sound : AllCallsSound l.table calls b) (IsGood : Tree → Type 0) (forms : (t : Tree) → IsGood t → Correct l calls b t)
     (goods : (c : ClassId) (j : ℕ) (a : AttributeDef) (t : Tree) → c.0 < length l.table → slice_get (features_of l.table c) j ≡ Some (Attribute a) → a.init ≡ Some t → IsGood t) where
-  limits : Limits l.world
+  pub limits : Limits l.world
   limits = record { heap = loaded.routines routines.HeapLimit; stack = loaded.routines routines.StackLimit }
 
-  way_here : (st : State) (c : Console) → Shows st c → OnTheWay l.world st.output st.input → OnTheWay l.world c.output c.input
+  pub way_here : (st : State) (c : Console) → Shows st c → OnTheWay l.world st.output st.input → OnTheWay l.world c.output c.input
   way_here st c shows way = subst (λ (o : List ℕ). OnTheWay l.world o c.input) (sym shows.output) (subst (λ (i : List ℕ). OnTheWay l.world st.output i) (sym shows.input) way)
 
   -- the code of an initializer whose parent's code is given
-  abbrev own_lines : ClassId → List Line
+  abbrev pub own_lines : ClassId → List Line
   own_lines c = flat_map (placed_code l.table l.files (constants l) c) (attributes_from 0 (features_of l.table c))
 
-  abbrev end_lines : List Line
+  abbrev pub end_lines : List Line
   end_lines = take_self_lines ++ leave_lines (pos 12)
 
   abbrev high_lines : ClassId → List Line → List Line
@@ -125,29 +125,29 @@ module _ (l : Loading) (loaded : IsLoaded l) (calls : Calls) (b : ℕ) (later : 
         (subst (λ (t : Truth). HasLines l.world (l.world.place (initializer l.table c)) (if t then return_basic_lines (initializer l.table c) else high_lines c (parent_code l.table (parent_of l.table c)))) (le-ltb c.0 5 high)
         (loaded.initializers c within)))
 
-    behind_label : HasLines l.world q.pc (enter_lines ++ (call_init_lines (initializer l.table parent) ++ (own_lines c ++ end_lines)))
+    pub behind_label : HasLines l.world q.pc (enter_lines ++ (call_init_lines (initializer l.table parent) ++ (own_lines c ++ end_lines)))
     unfolding begin_init_lines
     behind_label = has_back l.world (begin_init_lines (initializer l.table c)) (enter_lines ++ (call_init_lines (initializer l.table parent) ++ (own_lines c ++ end_lines))) q.pc q.pc (omega arith) lines
 
     behind_enter : HasLines l.world (q.pc + 36) (call_init_lines (initializer l.table parent) ++ (own_lines c ++ end_lines))
     behind_enter = has_back l.world enter_lines (call_init_lines (initializer l.table parent) ++ (own_lines c ++ end_lines)) q.pc (q.pc + 36) refl behind_label
 
-    jump : HasLines l.world (q.pc + 36) (jal (initializer l.table parent) ∷ [])
+    pub jump : HasLines l.world (q.pc + 36) (jal (initializer l.table parent) ∷ [])
     unfolding call_init_lines
     jump = has_front l.world (jal (initializer l.table parent) ∷ []) (own_lines c ++ end_lines) (q.pc + 36) behind_enter
 
-    behind_call : HasLines l.world (q.pc + 36 + 4) (own_lines c ++ end_lines)
+    pub behind_call : HasLines l.world (q.pc + 36 + 4) (own_lines c ++ end_lines)
     unfolding call_init_lines
     behind_call = has_back l.world (jal (initializer l.table parent) ∷ []) (own_lines c ++ end_lines) (q.pc + 36) (q.pc + 36 + 4) refl behind_enter
 
     -- where the parent's initializer is called
-    abbrev q2 : Pointers
+    abbrev pub q2 : Pointers
     q2 = record (entry_of q) { pc = l.world.place (initializer l.table parent); ra = q.pc + 36 + 4 }
 
-    abbrev m1 : Bytes
+    abbrev pub m1 : Bytes
     m1 = with_frame m q
 
-    abbrev map1 : Map
+    abbrev pub map1 : Map
     map1 = entry_map map st [] q
 
     same_state : located_in st [] ≡ st
@@ -159,7 +159,7 @@ module _ (l : Loading) (loaded : IsLoaded l) (calls : Calls) (b : ℕ) (later : 
     self1 : Pic l.world m1 map1 st.drawn q.gp self q.acc
     self1 = entered_self l k self [] made q m map console st s called
 
-    called_parent : (s2 : Machine) → At l.world q2 m1 console s2 → Called l k self [] made q2 m1 map1 console st s2
+    pub called_parent : (s2 : Machine) → At l.world q2 m1 console s2 → Called l k self [] made q2 m1 map1 console st s2
     called_parent s2 at2 =
         let numbers = called.at.numbers in
         let room = called.room in
@@ -183,26 +183,26 @@ module _ (l : Loading) (loaded : IsLoaded l) (calls : Calls) (b : ℕ) (later : 
         nothing_at : (j : ℕ) (v : Value) → slice_get {X = Value} [] j ≡ Some v → (a : ℕ) → Pic l.world m1 map1 st.drawn q.gp v a
         nothing_at j v e a = absurd cc
 
-    chain_same : chain l.table c ≡ c ∷ chain l.table parent
+    pub chain_same : chain l.table c ≡ c ∷ chain l.table parent
     chain_same =
         chain_of l.table c (c ∷ chain l.table parent) (refl, subst (λ (o : Option ClassId). IsChain l.table o (chain l.table parent)) (sym above) (chain_is l.table parent loaded.buildable.typed.whole.table parent_within))
 
-    below_parent : Below l.table k parent
+    pub below_parent : Below l.table k parent
     below_parent =
         let (ds, is, (i, less, e)) = below_itself l.table loaded.buildable.typed.whole parent parent_within in
         below_trans l.table k c parent below (c ∷ ds, (refl, subst (λ (o : Option ClassId). IsChain l.table o ds) (sym above) is), (suc i, omega arith, e))
 
     -- what both parts come to
-    abbrev first : Metered Value
+    abbrev pub first : Metered Value
     first = run_initials l.table calls self (attributes l.table parent) (locations_of self) st n
 
-    abbrev rest_locations : List ℕ
+    abbrev pub rest_locations : List ℕ
     rest_locations = drop (length (attributes l.table parent)) (locations_of self)
 
-    abbrev whole : Metered Value
+    abbrev pub whole : Metered Value
     whole = seq first (λ v. run_initials l.table calls self (own_attributes c 0 (features_of l.table c)) rest_locations)
 
-    whole_is : run_initials l.table calls self (attributes l.table c) (locations_of self) st n ≡ whole
+    pub whole_is : run_initials l.table calls self (attributes l.table c) (locations_of self) st n ≡ whole
     whole_is =
         ap (λ (rs : List AttributeRef). run_initials l.table calls self rs (locations_of self) st n) (attributes_step l.table (rooted l.table loaded.buildable.typed.whole) c parent within above)
         ∙ split l.table calls self (attributes l.table parent) (own_attributes c 0 (features_of l.table c)) (locations_of self) st n
@@ -253,12 +253,12 @@ module _ (l : Loading) (loaded : IsLoaded l) (calls : Calls) (b : ℕ) (later : 
             subst (λ (y : ℕ). Done l (record q { pc = q.ra; sp = y }) m map st words self t u2) same
             (back inner (record { numbers = let end = at2.numbers in omega arith; memory_is = at2.memory_is; input_is = at2.input_is; ended_is = at2.ended_is; output_is = at2.output_is }))
 
-    -- behind the parent's initializer
-    own_runs : (t : State) (left : ℕ) (u : Machine) (v : Value) → first.outcome ≡ Val v t left → (d : Done l (record q2 { pc = q.pc + 36 + 4 }) m1 map1 st first.words self t u) → whole.words ≡ first.words + (run_initials l.table calls self (own_attributes c 0 (features_of l.table c)) rest_locations t left).words
-        → Rest l q2 (12 * length (chain l.table parent)) first.words (run_initials l.table calls self (own_attributes c 0 (features_of l.table c)) rest_locations t left)
-        → Runs l u left (64 * (run_initials l.table calls self (own_attributes c 0 (features_of l.table c)) rest_locations t left).work + 6) (λ v. Done l (record q { pc = q.ra }) m map st whole.words self)
-        (run_initials l.table calls self (own_attributes c 0 (features_of l.table c)) rest_locations t left).outcome
-    own_runs t left u v e d same_words rest =
+    -- Behind the parent's initializer the machine stands inside the frame, and the locations of the class's own attributes are at home.
+    pub own_part : (t : State) (left : ℕ) (u : Machine) (v : Value) → first.outcome ≡ Val v t left → (d : Done l (record q2 { pc = q.pc + 36 + 4 }) m1 map1 st first.words self t u)
+        → (fine : IsFine {A = Value} l.table made n Any v t left) × Inside l k self fine.world (record q2 { pc = q.pc + 36 + 4; gp = d.gp; acc = d.acc; ra = d.ra }) d.memory d.map' d.console t u
+        × ((more : List AttributeRef) × AreMade fine.world rest_locations (attribute_classes l.table k (own_attributes c 0 (features_of l.table c) ++ more)))
+        × ((i : ℕ) → i < length rest_locations → d.map'.home (get_or rest_locations i 0) ≡ q.acc + 12 + 4 * (length (attributes l.table parent) + i))
+    own_part t left u v e d =
         let p = l.table in
         let typed = loaded.buildable.typed in
         let laid = l.world.laid in
@@ -267,7 +267,6 @@ module _ (l : Loading) (loaded : IsLoaded l) (calls : Calls) (b : ℕ) (later : 
         let room = called.room in
         let fine : IsFine {A = Value} p made n Any v t left = subst (λ (y : Outcome Value). NotStuck p made n (Any {A = Value}) y) e
         ((initials_sound p typed calls b sound made parent self k parent_within called.class called.within called.plain below_parent called.self_fits).sound st n le called.fits) in
-        let fewer = fine.fewer in
         let fit = still_fits p made fine.world fine.grown self k called.self_fits in
         let self2 : Pic l.world d.memory d.map' t.drawn d.gp self q.acc = pic_gone l.world m1 d.memory map1 d.map' st t q.gp d.gp (q.sp - 12) first.words self q.acc (gone_of l _ m1 map1 st first.words self t u d) self1 in
         let inside : Inside l k self fine.world (record q2 { pc = q.pc + 36 + 4; gp = d.gp; acc = d.acc; ra = d.ra }) d.memory d.map' d.console t u = record {
@@ -288,7 +287,28 @@ module _ (l : Loading) (loaded : IsLoaded l) (calls : Calls) (b : ℕ) (later : 
         let parted : attributes p k ≡ attributes p parent ++ (own_attributes c 0 (features_of p c) ++ more) =
         split_k ∙ ap (λ (rs : List AttributeRef). rs ++ more) step ∙ append_assoc (attributes p parent) (own_attributes c 0 (features_of p c)) more in
         let made_rest = made_drop p fine.world k (attributes p parent) (own_attributes c 0 (features_of p c) ++ more) (locations_of self)
-        (subst (λ (rs : List AttributeRef). AreMade fine.world (locations_of self) (attribute_classes p k rs)) parted own.made_for) in
+        (subst (λ (rs : List AttributeRef). AreMade fine.world (locations_of self) (attribute_classes p k rs)) parted own.made_for) in (
+          fine,
+          inside,
+          (more, made_rest),
+          (λ i less. ap d.map'.home (get_or-drop (length (attributes p parent)) (locations_of self) i 0) ∙ own.homes (length (attributes p parent) + i) (few_drop (length (attributes p parent)) (locations_of self) i less) ∙ omega arith),
+        )
+
+    -- behind the parent's initializer
+    own_runs : (t : State) (left : ℕ) (u : Machine) (v : Value) → first.outcome ≡ Val v t left → (d : Done l (record q2 { pc = q.pc + 36 + 4 }) m1 map1 st first.words self t u) → whole.words ≡ first.words + (run_initials l.table calls self (own_attributes c 0 (features_of l.table c)) rest_locations t left).words
+        → Rest l q2 (12 * length (chain l.table parent)) first.words (run_initials l.table calls self (own_attributes c 0 (features_of l.table c)) rest_locations t left)
+        → Runs l u left (64 * (run_initials l.table calls self (own_attributes c 0 (features_of l.table c)) rest_locations t left).work + 6) (λ v. Done l (record q { pc = q.ra }) m map st whole.words self)
+        (run_initials l.table calls self (own_attributes c 0 (features_of l.table c)) rest_locations t left).outcome
+    own_runs t left u v e d same_words rest =
+        let p = l.table in
+        let typed = loaded.buildable.typed in
+        let laid = l.world.laid in
+        let numbers = called.at.numbers in
+        let limit = d.at.numbers in
+        let room = called.room in
+        let (fine, inside, (more, made_rest), homes) = own_part t left u v e d in
+        let fewer = fine.fewer in
+        let step = attributes_step p (rooted p typed.whole) c parent within above in
         let o = run_initials p calls self (own_attributes c 0 (features_of p c)) rest_locations t left in
         let to = d.gp_to in
         let heap = rest.heap in
@@ -297,7 +317,7 @@ module _ (l : Loading) (loaded : IsLoaded l) (calls : Calls) (b : ℕ) (later : 
         (parts_run l loaded calls b later sound IsGood forms c k self within below called.within called.plain called.class (λ j a x there init. goods c j a x within there init) (features_of p c) 0 (attributes p parent) more rest_locations
         (λ i x there. let same : i ≡ 0 + i = omega arith in subst (λ (y : ℕ). slice_get (features_of p c) y ≡ Some x) same there) step
         fine.world (record q2 { pc = q.pc + 36 + 4; gp = d.gp; acc = d.acc; ra = d.ra }) d.memory d.map' d.console t u left (omega arith) inside made_rest
-        (λ i less. ap d.map'.home (get_or-drop (length (attributes p parent)) (locations_of self) i 0) ∙ own.homes (length (attributes p parent) + i) (few_drop (length (attributes p parent)) (locations_of self) i less) ∙ omega arith)
+        homes
         (has_front l.world (own_lines c) end_lines (q.pc + 36 + 4) behind_call) (record { heap = omega arith; stack = omega arith; way = rest.way }))
         (λ w t2 u2 passed. leaving whole.words passed.0 t2 u2
         (done_both l q2 m1 map1 st first.words o.words whole.words self passed.0 t t2 u u2 (q.pc + 36 + 4) (q.pc + 36 + 4 + sizes (own_lines c)) d.acc d.ra limit.sp_even d passed.1 (omega arith)))

@@ -51,16 +51,16 @@ use Rattle.lists.proofs.AllItems.{all_get}
 use Rattle.cool_simulation.proofs.forms.Invoking.{each_length}
 
 module _ (l : Loading) (loaded : IsLoaded l) (calls : Calls) (b : ℕ) (later : CallsLater calls) (IsGood : Tree → Type 0) (forms : (t : Tree) → IsGood t → Correct l calls b t) where
-  limits : Limits l.world
+  pub limits : Limits l.world
   limits = record { heap = loaded.routines routines.HeapLimit; stack = loaded.routines routines.StackLimit }
 
-  way_here : (st : State) (c : Console) → Shows st c → OnTheWay l.world st.output st.input → OnTheWay l.world c.output c.input
+  pub way_here : (st : State) (c : Console) → Shows st c → OnTheWay l.world st.output st.input → OnTheWay l.world c.output c.input
   way_here st c shows way = subst (λ (o : List ℕ). OnTheWay l.world o c.input) (sym shows.output) (subst (λ (i : List ℕ). OnTheWay l.world st.output i) (sym shows.input) way)
 
   module _ (owner : ClassId) (i : ℕ) (def : MethodDef) (within : owner.0 < length l.table) (there : slice_get (features_of l.table owner) i ≡ Some (Method def)) (good : IsGood def.body) (k : ClassId) (self : Value) (vs : List Value)
       (made : fitting.World) (q : Pointers) (m : Bytes) (map : Map) (console : Console) (st : State) (s : Machine) (n : ℕ) (le : n ≤ b) (below : Below l.table k owner) (called : Called l k self vs made q m map console st s)
       (begins : q.pc ≡ l.world.place (method_label l.table (User owner i))) (args : AllFit l.table made vs (each (meant l.table k) (each (λ (f : Formal). f.declared.name) def.formals))) where
-    abbrev comes : Metered Value
+    abbrev pub comes : Metered Value
     comes = eval l.table calls self (located (formal_names def.formals) (numbers (length st.store) (length vs)) ++ environment_of l.table self) def.body (located_in st vs) n
 
     as_many : length def.formals ≡ length vs
@@ -69,12 +69,12 @@ module _ (l : Loading) (loaded : IsLoaded l) (calls : Calls) (b : ℕ) (later : 
     bounded : length def.formals + tree_size def.body + branches_in def.body ≤ 8000
     bounded = bounded_here l.table l.files loaded.buildable owner i (Method def) within there
 
-    fine : IsFine l.table made n (λ w xs. AreMade w xs (each (meant l.table k) (each (λ (f : Formal). f.declared.name) def.formals))) (numbers (length st.store) (length vs)) (located_in st vs) n
+    pub fine : IsFine l.table made n (λ w xs. AreMade w xs (each (meant l.table k) (each (λ (f : Formal). f.declared.name) def.formals))) (numbers (length st.store) (length vs)) (located_in st vs) n
     fine =
         subst (λ (x : Metered (List ℕ)). NotStuck l.table made n (λ w xs. AreMade w xs (each (meant l.table k) (each (λ (f : Formal). f.declared.name) def.formals))) x.outcome) (located_all vs st n)
         ((locate_all_sound {b = n} vs (each (meant l.table k) (each (λ (f : Formal). f.declared.name) def.formals)) args).sound st n (omega arith) called.fits)
 
-    typed : FitsDeclared l.table owner (formals_in_scope l.table def.formals) def.body def.result.name
+    pub typed : FitsDeclared l.table owner (formals_in_scope l.table def.formals) def.body def.result.name
     typed = loaded.buildable.typed.features owner i (Method def) within there
 
     lines : HasLines l.world q.pc (method_code (context l owner i) (constants l) def.formals def.body)
@@ -83,7 +83,7 @@ module _ (l : Loading) (loaded : IsLoaded l) (calls : Calls) (b : ℕ) (later : 
     abbrev rest_lines : List Line
     rest_lines = code (context l owner i) (constants l) (with_formals l.table def.formals (attributes_in l.table owner)) 0 0 def.body ++ leave_lines (pos (12 + 4 * length def.formals))
 
-    entered_at : (s1 : Machine) → At l.world (entry_of q) (with_frame m q) console s1
+    pub entered_at : (s1 : Machine) → At l.world (entry_of q) (with_frame m q) console s1
         → Begins l owner k self (formals_in_scope l.table def.formals ++ attributes_in_scope l.table (attributes_of l.table typed.chain)) (with_formals l.table def.formals (attributes_in l.table owner))
         (located (formal_names def.formals) (numbers (length st.store) (length vs)) ++ environment_of l.table self) fine.world 0 (entry_of q) (with_frame m q) (entry_map map st vs q) console (located_in st vs) s1
     entered_at s1 at1 =
@@ -105,11 +105,11 @@ module _ (l : Loading) (loaded : IsLoaded l) (calls : Calls) (b : ℕ) (later : 
     unfolding mark_lines
     after_enter = has_back l.world enter_lines rest_lines q.pc (q.pc + 36) refl (has_back l.world (mark_lines (method_label l.table (User owner i))) (enter_lines ++ rest_lines) q.pc q.pc (omega arith) lines)
 
-    enter_there : HasLines l.world q.pc enter_lines
+    pub enter_there : HasLines l.world q.pc enter_lines
     unfolding mark_lines
     enter_there = has_front l.world enter_lines rest_lines q.pc (has_back l.world (mark_lines (method_label l.table (User owner i))) (enter_lines ++ rest_lines) q.pc q.pc (omega arith) lines)
 
-    body_at : CodeAt l owner i (with_formals l.table def.formals (attributes_in l.table owner)) 0 0 (q.pc + 36) def.body
+    pub body_at : CodeAt l owner i (with_formals l.table def.formals (attributes_in l.table owner)) 0 0 (q.pc + 36) def.body
     body_at =
         let bound = bounded in
         record {
@@ -120,7 +120,7 @@ module _ (l : Loading) (loaded : IsLoaded l) (calls : Calls) (b : ℕ) (later : 
           small = omega arith;
         }
 
-    body_room : Room l q 12 (join 0 0 0 comes) → Room l (entry_of q) 0 comes
+    pub body_room : Room l q 12 (join 0 0 0 comes) → Room l (entry_of q) 0 comes
     body_room room = let heap = room.heap in let stack = room.stack in record { heap = omega arith; stack = omega arith; way = room.way }
 
     -- the return
@@ -161,7 +161,7 @@ module _ (l : Loading) (loaded : IsLoaded l) (calls : Calls) (b : ℕ) (later : 
             ((eval_later l.table calls later self (located (formal_names def.formals) (numbers (length st.store) (length vs)) ++ environment_of l.table self) def.body).later (located_in st vs) n)
 
     -- what the call comes to
-    called_is : run_method l.table calls self vs (Some def) st n ≡ join 0 0 0 comes
+    pub called_is : run_method l.table calls self vs (Some def) st n ≡ join 0 0 0 comes
     called_is =
         ap (λ (x : Metered (List ℕ)). seq x (λ xs. eval l.table calls self (located (formal_names def.formals) xs ++ environment_of l.table self) def.body)) (located_all vs st n)
 

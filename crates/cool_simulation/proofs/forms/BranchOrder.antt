@@ -70,7 +70,7 @@ branch p calls self env None = None
 branch p calls self env (Some e) = Some (does p calls self env e)
 
 -- the first of two
-abbrev or : Option Entry → Option Entry → Option Entry
+abbrev pub or : Option Entry → Option Entry → Option Entry
 or None o = o
 or (Some e) o = Some e
 
@@ -118,7 +118,7 @@ pub falling_all : (p : List Class) (before es : List Entry) → Falling p before
 falling_all p before [] h = h
 falling_all p before (e ∷ es) h = falling_all p (with_entry p before e) es (falling_with p before e h)
 
-same_class : (c d : ClassId) → nat_eq c.0 d.0 ≡ true → c ≡ d
+pub same_class : (c d : ClassId) → nat_eq c.0 d.0 ≡ true → c ≡ d
 same_class c d e = let n : c.0 ≡ d.0 = eqb-true c.0 d.0 e in ap (λ (k : ℕ). record { 0 = k }) n
 
 -- no branch of a deeper class
@@ -163,7 +163,7 @@ class_all p d before (e ∷ es) h =
     by false = refl
 
 -- each class of a chain is deeper than those above it
-abbrev Climbs : List Class → List ClassId → Type 0
+abbrev pub Climbs : List Class → List ClassId → Type 0
 Climbs p [] = Unit {0}
 Climbs p (d ∷ ds) = AllByRecursion (λ (e : ClassId). depth_of p e < depth_of p d) ds × Climbs p ds
 
@@ -176,7 +176,7 @@ among_all P (d ∷ ds) c h e = by (nat_eq c.0 d.0) refl e (λ f. among_all P ds 
     by false t e more = more e
 
 -- a class more in front: its branch is before all of classes above it
-first_step : (p : List Class) (d : ClassId) (ds : List ClassId) (es : List Entry) → AllByRecursion (λ (e : ClassId). depth_of p e < depth_of p d) ds → Falling p es
+pub first_step : (p : List Class) (d : ClassId) (ds : List ClassId) (es : List Entry) → AllByRecursion (λ (e : ClassId). depth_of p e < depth_of p d) ds → Falling p es
     → first_among (d ∷ ds) es ≡ or (of_class d es) (first_among ds es)
 first_step p d ds [] deep h = refl
 first_step p d ds (e ∷ es) deep h = by (nat_eq e.class.0 d.0) (among ds e.class) refl (first_step p d ds es deep h.1)
@@ -195,7 +195,7 @@ none_among (e ∷ es) = none_among es
 
 module _ (p : List Class) (table : IsTable p) where
   -- what a chain has is as deep as the classes above it are many
-  chain_deep : (o : Option ClassId) (ds : List ClassId) → IsChain p o ds → AllByRecursion (λ (d : ClassId). d.0 < length p) ds → AllByRecursion (λ (e : ClassId). depth_of p e < length ds) ds × Climbs p ds
+  pub chain_deep : (o : Option ClassId) (ds : List ClassId) → IsChain p o ds → AllByRecursion (λ (d : ClassId). d.0 < length p) ds → AllByRecursion (λ (e : ClassId). depth_of p e < length ds) ds × Climbs p ds
   unfolding chain
   chain_deep None [] h within = (tt, tt)
   chain_deep (Some c) [] h within = absurd h

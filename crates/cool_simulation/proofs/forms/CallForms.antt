@@ -48,7 +48,7 @@ use Rattle.cool_simulation.proofs.ground.ScenesLater.{begins_later, fine_value, 
 use Rattle.cool_simulation.proofs.forms.Received.{Received, receives, dispatch_done}
 
 -- there are as many types as arguments
-have_length : (p : List Class) (c : ClassId) (scope : List Binding) (ts : Trees) (types : List Ty) → HaveTypes p c scope ts types → length types ≡ trees_count ts
+pub have_length : (p : List Class) (c : ClassId) (scope : List Binding) (ts : Trees) (types : List Ty) → HaveTypes p c scope ts types → length types ≡ trees_count ts
 have_length p c scope Last [] h = refl
 have_length p c scope Last (t ∷ ts) h = absurd h
 have_length p c scope (More e es) [] h = absurd h
@@ -102,7 +102,7 @@ module _ (l : Loading) (loaded : IsLoaded l) where
     abbrev pub called : Place → Value → Environment → Tree → Trees → (List Value → Value → ClassId → Computation Value) → Computation Value
     called at self env t ts G = rule (eval_all l.table calls self env ts >>= λ args. holding (length args) (eval l.table calls self env t >>= λ v. class_or (DispatchVoid at) v >>= G args v))
 
-    behind_later : (at : Place) (self : Value) (env : Environment) (t : Tree) (G : List Value → Value → ClassId → Computation Value) → ((args : List Value) (v : Value) (c : ClassId) → ComesLater (G args v c))
+    pub behind_later : (at : Place) (self : Value) (env : Environment) (t : Tree) (G : List Value → Value → ClassId → Computation Value) → ((args : List Value) (v : Value) (c : ClassId) → ComesLater (G args v c))
         → (args : List Value) → ComesLater (holding (length args) (eval l.table calls self env t >>= λ v. class_or (DispatchVoid at) v >>= G args v))
     behind_later at self env t G h args = held_later (length args) (bind_later (eval_later l.table calls later self env t) (λ v. bind_later (class_later l.table calls later (DispatchVoid at) v) (λ c. h args v c)))
 

@@ -99,7 +99,7 @@ module _ (s : Context) (g : Constants) (vs : List Named) (d : ℕ) (end : Name) 
   unfolding turn_lines
   turn_sizes e = refl
 
-  next_placed : (w : World) (pc : ℕ) (e : Entry) → HasLines w pc (turn_lines end (next_of e)) → w.place (next_of e) ≡ pc + 4
+  pub next_placed : (w : World) (pc : ℕ) (e : Entry) → HasLines w pc (turn_lines end (next_of e)) → w.place (next_of e) ≡ pc + 4
   unfolding turn_lines
   next_placed w pc e has = has.1.0.labels.0
 

@@ -74,7 +74,7 @@ class_or_is e (Bool x) c h = let same : Rattle.cool_classes.specs.Chains.class_n
 class_or_is e (Str bytes) c h = let same : Rattle.cool_classes.specs.Chains.class_number 4 ≡ c = cc in ap (λ (x : ClassId). give x) same
 class_or_is e (Obj d i ls) c h = let same : d ≡ c = cc in ap (λ (x : ClassId). give x) same
 
-class_or_later : (e : Error) (v : Value) → ComesLater (class_or e v)
+pub class_or_later : (e : Error) (v : Value) → ComesLater (class_or e v)
 class_or_later e Void = record { later = λ s n. after_of (stop_alike {A = ClassId} e) s n }
 class_or_later e (Int n) = record { later = λ s i. after_of (give_alike (Rattle.cool_classes.specs.Chains.class_number 2)) s i }
 class_or_later e (Bool x) = record { later = λ s i. after_of (give_alike (Rattle.cool_classes.specs.Chains.class_number 3)) s i }
@@ -88,7 +88,7 @@ chain_some p c = omega arith
 times_more : (a n : ℕ) → 1 ≤ n → a ≤ a * n
 times_more a n some = grind arith
 
-begin_sizes : (file : Name) (line : ℕ) → sizes (case_begin_lines file line) ≡ 28
+pub begin_sizes : (file : Name) (line : ℕ) → sizes (case_begin_lines file line) ≡ 28
 unfolding case_begin_lines
 begin_sizes file line = refl
 
@@ -98,7 +98,7 @@ end_sizes end = refl
 
 module _ (l : Loading) (loaded : IsLoaded l) (calls : Calls) (b : ℕ) (sound : AllCallsSound l.table calls b) (later : CallsLater calls) where
   -- what follows the value of a case
-  abbrev rest_of : Value → Environment → Place → Cases → Value → ClassId → Computation Value
+  abbrev pub rest_of : Value → Environment → Place → Cases → Value → ClassId → Computation Value
   rest_of self env at cs v c = working (branch_count cs * length (chain l.table c)) (take_branch at c v (nearest l.table (branch_of l.table calls self env cs) (chain l.table c)))
 
   module _ (c : ClassId) (f : ℕ) (k : ClassId) (self : Value) (scope : List Binding) (vs : List Named) (env : Environment) (made : fitting.World) (d : ℕ) (end : Name)

@@ -10,7 +10,7 @@ use Rattle.cool_classes.specs.declared.class_id.ClassId.{ClassId}
 use Rattle.cool_classes.specs.ClimbedChains.{chain}
 use Rattle.cool_classes.proofs.ChainsOfTables.{chain_is}
 use Rattle.cool_rules.specs.Scopes.{Binding}
-use Rattle.cool_runtime.specs.Reaches.{OnTheWay}
+use Rattle.cool_runtime.specs.Reaches.{OnTheWay, Reaches, stands}
 use Rattle.cool_runtime.specs.Standing.{HasLines, sizes}
 use Rattle.cool_runtime.specs.Labels.{case_abort}
 use Rattle.cool_runtime.specs.Contents.{Same}
@@ -117,6 +117,32 @@ module _ (l : Loading) (is : IsLoaded l) (calls : Calls) (b : ℕ) (later : Call
     unfolding case_begin_lines
     begin_sizes pc = refl
 
+    -- where the tests lead: to the code of a branch, or behind all
+    abbrev pub Taken : Option Entry → Machine → Type 0
+    Taken =
+        Found (context l c f) (constants l) vs d end l.world is.buildable.typed.whole few_classes file at.line jc jc_in (bound_memory l is calls b c f k self scope vs env made d end q m map st t1 u words pc1 v j begins) j.console
+        (bound_at l is calls b c f k self scope vs env made d end q m map st t1 u words pc1 v j begins 0) (pc1 + 28 + 20 + sizes arms)
+
+    -- the tag, the push and the tests
+    pub finds : HasLines l.world pc1 tests → l.world.low + 4 ≤ q.sp → OnTheWay l.world j.console.output j.console.input → Reaches l.world u 0 (15 + 4 * length es) (stands (Taken (first_among (chain l.table jc) es)))
+    finds has high on_console =
+        let w = l.world in
+        let begin = case_begin_lines file at.line in
+        let ends = case_end_lines end in
+        let laid = w.laid in
+        let numbers = begins.at.numbers in
+        let q1 : Pointers = behind l is calls b c f k self scope vs env made d end q m map st t1 u words pc1 v j begins in
+        let m2 : Bytes = bound_memory l is calls b c f k self scope vs env made d end q m map st t1 u words pc1 v j begins in
+        let h1 : HasLines w pc1 begin = has_front w begin (push_lines ++ (arms ++ ends)) pc1 has in
+        let h2 : HasLines w (pc1 + 28) (push_lines ++ (arms ++ ends)) = has_back w begin (push_lines ++ (arms ++ ends)) pc1 (pc1 + 28) (begin_sizes pc1) has in
+        let h3 : HasLines w (pc1 + 28 + 20) (arms ++ ends) = has_back w push_lines (arms ++ ends) (pc1 + 28) (pc1 + 28 + 20) refl h2 in
+        let h4 : HasLines w (pc1 + 28 + 20) arms = has_front w arms ends (pc1 + 28 + 20) h3 in
+        let tagged = value_tagged l is j.memory j.map' t1 q1 numbers.gp_from j.pictures v jc j.acc class j.value in
+        next w u 7 (8 + 4 * length es) (15 + 4 * length es) _ _ (case_takes_tag w file at.line (tag l.table jc) q1 j.memory j.console u h1 j.at (omega arith) tagged.lies tagged.tag_is) (omega arith)
+        (λ u1 g1. next w u1 8 (4 * length es) (8 + 4 * length es) _ _ (case_pushes w file at.line (tag l.table jc) (record q1 { pc = pc1 + 28 }) j.memory j.console u1 (limits_of l is) (has_front w push_lines (arms ++ ends) (pc1 + 28) h2) g1 (omega arith) on_console) (omega arith)
+        (λ u2 g2. tries (context l c f) (constants l) vs d end w is.buildable.typed.whole few_classes file at.line jc jc_in m2 j.console
+        (bound_at l is calls b c f k self scope vs env made d end q m map st t1 u words pc1 v j begins 0) es (in_table es good) (pc1 + 28 + 20) h4 u2 g2))
+
     -- from the lines behind the value on
     pub taken_runs : (n nB whole : ℕ) → n ≤ b → length es ≤ nB → HasLines l.world pc1 tests → Rest l q 16 words (taken (first_among (chain l.table jc) es) n) → words + (taken (first_among (chain l.table jc) es) n).words ≤ whole
         → Runs l u n (64 * (nB + (taken (first_among (chain l.table jc) es) n).work) + 60) (Done l (record q { pc = final }) m map st whole) (taken (first_among (chain l.table jc) es) n).outcome
@@ -130,20 +156,12 @@ module _ (l : Loading) (is : IsLoaded l) (calls : Calls) (b : ℕ) (later : Call
         let numbers = begins.at.numbers in
         let stack = rest.stack in
         let shows = j.shows in
-        let q1 : Pointers = behind l is calls b c f k self scope vs env made d end q m map st t1 u words pc1 v j begins in
-        let m2 : Bytes = bound_memory l is calls b c f k self scope vs env made d end q m map st t1 u words pc1 v j begins in
-        let h1 : HasLines w pc1 begin = has_front w begin (push_lines ++ (arms ++ ends)) pc1 has in
         let h2 : HasLines w (pc1 + 28) (push_lines ++ (arms ++ ends)) = has_back w begin (push_lines ++ (arms ++ ends)) pc1 (pc1 + 28) (begin_sizes pc1) has in
         let h3 : HasLines w (pc1 + 28 + 20) (arms ++ ends) = has_back w push_lines (arms ++ ends) (pc1 + 28) (pc1 + 28 + 20) refl h2 in
-        let h4 : HasLines w (pc1 + 28 + 20) arms = has_front w arms ends (pc1 + 28 + 20) h3 in
         let h5 : HasLines w (pc1 + 28 + 20 + sizes arms) ends = has_back w arms ends (pc1 + 28 + 20) (pc1 + 28 + 20 + sizes arms) refl h3 in
-        let tagged = value_tagged l is j.memory j.map' t1 q1 numbers.gp_from j.pictures v jc j.acc class j.value in
         unless_stuck l D.outcome u n _ _ (λ some.
         let way : OnTheWay w t1.output t1.input = way_of l t1 D.outcome ((take_later at jc v _ (entry_later l.table calls later self env o)).later t1 n) some rest.way in
         let on_console : OnTheWay w j.console.output j.console.input = subst (λ (x : List ℕ). OnTheWay w x j.console.input) (sym shows.output) (subst (λ (i : List ℕ). OnTheWay w t1.output i) (sym shows.input) way) in
         run_after l D.outcome u n (15 + 4 * length es) (64 * D.work + 40) (64 * (nB + D.work) + 60) _ _ (omega arith)
-        (next w u 7 (8 + 4 * length es) (15 + 4 * length es) _ _ (case_takes_tag w file at.line (tag l.table jc) q1 j.memory j.console u h1 j.at (omega arith) tagged.lies tagged.tag_is) (omega arith)
-        (λ u1 g1. next w u1 8 (4 * length es) (8 + 4 * length es) _ _ (case_pushes w file at.line (tag l.table jc) (record q1 { pc = pc1 + 28 }) j.memory j.console u1 (limits_of l is) (has_front w push_lines (arms ++ ends) (pc1 + 28) h2) g1 (omega arith) on_console) (omega arith)
-        (λ u2 g2. tries (context l c f) (constants l) vs d end w is.buildable.typed.whole few_classes file at.line jc jc_in m2 j.console
-        (bound_at l is calls b c f k self scope vs env made d end q m map st t1 u words pc1 v j begins 0) es (in_table es good) (pc1 + 28 + 20) h4 u2 g2)))
+        (finds has (omega arith) on_console)
         (λ u2 found. found_runs n whole u2 o refl le h5 found rest sum))

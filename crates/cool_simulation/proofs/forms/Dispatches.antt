@@ -3,6 +3,8 @@ use Rattle.std.proofs.Common.{◌≡◌, ℕ, ◌+◌, ◌-◌, ◌*◌, ◌<◌
 use Rattle.std.specs.Prelude.{ℤ, Contains, pos, unwrap_or}
 use Rattle.std.proofs.lemmas.List.Elements.{Contains-append_left, Contains-append_right}
 use Rattle.mips_isa.specs.declared.address_map.TheConstants.{HEAP_START}
+use Rattle.mips_isa.specs.Bytes.{Bytes}
+use Rattle.mips_isa.specs.Calls.{State as Machine}
 use Rattle.mips_isa.specs.Lines.{Name, Line}
 use Rattle.cool_syntax.specs.declared.place.Place.{Place}
 use Rattle.cool_syntax.specs.Tree.{Tree, Trees, tree_size}
@@ -27,7 +29,7 @@ use Rattle.cool_runtime.specs.Reaches.{Reaches, stands}
 use Rattle.cool_runtime.specs.Standing.{HasLines, sizes}
 use Rattle.cool_runtime.specs.Instructions.{lw, jalr}
 use Rattle.cool_runtime.specs.CodeOfCalls.{dispatch_lines}
-use Rattle.cool_runtime.specs.Machines.{Pointers}
+use Rattle.cool_runtime.specs.Machines.{Pointers, Console}
 use Rattle.cool_runtime.proofs.Pieces.{has_front, has_back, sizes_append}
 use Rattle.cool_layout.specs.Members.{slot}
 use Rattle.cool_layout.specs.Labels.{dispatch_table, method_label}
@@ -37,7 +39,7 @@ use Rattle.cool_codegen.specs.Types.{trees_count}
 use Rattle.cool_codegen.specs.Code.{code, arguments_code, slot_code}
 use Rattle.cool_codegen.specs.Asked.{integers_in, integers_in_all, strings_in, strings_in_all}
 use Rattle.cool_codegen.specs.Asked as asked
-use Rattle.cool_meaning.specs.Values.{Value, Environment}
+use Rattle.cool_meaning.specs.Values.{Value, State, Environment, class_of}
 use Rattle.cool_meaning.specs.Evaluation.{Calls, dispatch}
 use Rattle.cool_meaning.proofs.FittingValues.{AllFit, meant}
 use Rattle.cool_meaning.proofs.FittingValues as fitting
@@ -45,6 +47,7 @@ use Rattle.cool_meaning.proofs.MethodsOfTables.{implementation_own, formals_are_
 use Rattle.cool_meaning.proofs.SoundParts.{AllCallsSound, arguments_fit}
 use Rattle.cool_meaning.proofs.SoundEvaluation.{Scene}
 use Rattle.cool_simulation.specs.Loadings.{Loading, IsLoaded, constants, context}
+use Rattle.cool_simulation.specs.Pictures.{Map}
 use Rattle.cool_simulation.specs.Simulation.{CodeAt, AllCodeAt, Correct, AllCorrect, AllCallsCorrect}
 use Rattle.cool_simulation.proofs.forms.NamesCovered.{covers}
 use Rattle.cool_simulation.proofs.forms.Slots.{slot_there, slot_kept, method_is}
@@ -54,20 +57,20 @@ use Rattle.cool_simulation.proofs.ground.DataHere.{string_pic, slot_here}
 use Rattle.cool_simulation.proofs.ground.EvaluationLater.{CallsLater}
 use Rattle.cool_simulation.proofs.ground.CallsLater.{dispatch_later}
 use Rattle.cool_simulation.proofs.ground.ScenesLater.{types_in_scope}
-use Rattle.cool_simulation.proofs.forms.Received.{BasicCorrect}
+use Rattle.cool_simulation.proofs.forms.Received.{BasicCorrect, Received}
 use Rattle.cool_simulation.proofs.forms.Invoking.{dispatched}
 use Rattle.cool_simulation.proofs.forms.CallForms.{file_of, CallRuns, form_runs}
 use Rattle.cool_emit.proofs.TextOfCode.{count_low}
 
 module _ (l : Loading) (loaded : IsLoaded l) (basics : BasicCorrect l) (calls : Calls) (b : ℕ) (later : CallsLater calls) (sound : AllCallsSound l.table calls b) (correct : AllCallsCorrect l calls b) where
   -- the class in which a receiver's method is looked for
-  receiver_below : (c k : ClassId) (self : Value) (scope : List Binding) (env : Environment) (made : fitting.World) → Scene l.table made c k self scope env → (receiver : Ty) (j : ClassId) → j.0 < length l.table
+  pub receiver_below : (c k : ClassId) (self : Value) (scope : List Binding) (env : Environment) (made : fitting.World) → Scene l.table made c k self scope env → (receiver : Ty) (j : ClassId) → j.0 < length l.table
       → Below l.table j (class_meant k receiver) → ((class_meant c receiver).0 < length l.table) × Below l.table j (class_meant c receiver)
   receiver_below c k self scope env made scene (IsClass x) j within below = (below_within l.table loaded.buildable.typed.whole j x within below, below)
   receiver_below c k self scope env made scene SelfType j within below = (scene.c_within, below_trans l.table j k c below scene.below)
 
   -- the arguments fit the formals of the method that a class below has
-  arguments_here : (c k j x : ClassId) (made : fitting.World) (args : List Value) (given' : List Ty) (name : List ℕ) (receiver type : Ty) → k.0 < length l.table → Below l.table k c → j.0 < length l.table → Below l.table j x
+  pub arguments_here : (c k j x : ClassId) (made : fitting.World) (args : List Value) (given' : List Ty) (name : List ℕ) (receiver type : Ty) → k.0 < length l.table → Below l.table k c → j.0 < length l.table → Below l.table j x
       → x.0 < length l.table → AllFit l.table made args (each (class_meant k) given') → IsCall l.table c x name receiver given' type → (method : MethodRef) → implementation l.table (chain l.table j) name ≡ Some method
       → AllFit l.table made args (each (meant l.table j) (formals_of l.table method))
   arguments_here c k j x made args given' name receiver type k_within below_c within below x_within fits call method found =
@@ -85,6 +88,30 @@ module _ (l : Loading) (loaded : IsLoaded l) (basics : BasicCorrect l) (calls : 
       some_is : (a b : MethodRef) → Some a ≡ Some b → a ≡ b
       some_is a b e = cc
 
+  -- the machine goes to the method that the receiver's table has
+  pub goes_dynamic : (at : Place) (name : List ℕ) (c k : ClassId) (self : Value) (scope : List Binding) (env : Environment) (q : Pointers) (pc2 pc3 kk : ℕ) (receiver : Ty) → at.line < 2147483648
+      → HasLines l.world pc2 (dispatch_lines (file_of l loaded at) at.line kk) → pc2 + 36 ≡ pc3 → slot l.table (class_meant c receiver) name ≡ Some kk → (args : List Value) (v : Value) (j : ClassId) (made : fitting.World) (gp acc ra : ℕ) (m : Bytes) (map : Map) (console : Console) (st : State) (s : Machine)
+      → class_of v ≡ Some j → j.0 < length l.table → Below l.table j (class_meant k receiver) → Scene l.table made c k self scope env
+      → Received l j v args made (record q { pc = pc2; gp = gp; sp = q.sp - 4 * length args; acc = acc; ra = ra }) m map console st s → (method : MethodRef) → implementation l.table (chain l.table j) name ≡ Some method
+      → Reaches l.world s 1 9 (stands (AtPlace l.world (record q { pc = l.world.place (method_label l.table method); gp = gp; sp = q.sp - 4 * length args; acc = acc; ra = pc3 }) m console (file_of l loaded at) at.line))
+  goes_dynamic at name c k self scope env q pc2 pc3 kk receiver small has pc3_is slot_is args v j made gp acc ra m map console st s is within below scene received method found =
+      let p = l.table in
+      let typed = loaded.buildable.typed in
+      let (x_within, below_x) = receiver_below c k self scope env made scene receiver j within below in
+      let q2 : Pointers = record q { pc = pc2; gp = gp; sp = q.sp - 4 * length args; acc = acc; ra = ra } in
+      let from : HEAP_START ≤ gp = let numbers = received.at.numbers in omega arith in
+      let slot_j : slot p j name ≡ Some kk = slot_kept p typed.whole j (class_meant c receiver) within below_x name kk slot_is in
+      let placed = loaded.slots_in j name kk within slot_j in
+      let head = has_head l loaded v j m map st gp (q.sp - 4 * length args) acc is received.pictures received.self_is in
+      let entry : SlotAt l.world m (l.world.place (dispatch_table p j)) kk (l.world.place (method_label p method)) = record {
+        even = placed.even;
+        from = placed.from;
+        to = (let to = placed.to in omega arith);
+        holds = slot_here l loaded m map st gp (q.sp - 4 * length args) from received.pictures j name kk within slot_j ∙ ap (λ (x : MethodRef). l.world.place (method_label p x)) (method_is p typed.whole j name method found);
+      } in
+      subst (λ (x : ℕ). Reaches l.world s 1 9 (stands (AtPlace l.world (record q2 { pc = l.world.place (method_label p method); ra = x }) m console (file_of l loaded at) at.line))) pc3_is
+      (goes_by_table l.world (file_of l loaded at) at.line kk q2 m console s (l.world.place (dispatch_table p j)) (l.world.place (method_label p method)) has received.at (omega arith) head.lies head.table_is entry)
+
   -- the call through the receiver's table
   dynamic_call : (at : Place) (name : List ℕ) (c k : ClassId) (self : Value) (scope : List Binding) (env : Environment) (q : Pointers) (pc2 pc3 kk : ℕ) (receiver : Ty) (given' : List Ty) (type : Ty)
       → HasLines l.world pc2 (dispatch_lines (file_of l loaded at) at.line kk) → pc2 + 36 ≡ pc3 → slot l.table (class_meant c receiver) name ≡ Some kk → IsCall l.table c (class_meant c receiver) name receiver given' type
@@ -97,25 +124,14 @@ module _ (l : Loading) (loaded : IsLoaded l) (basics : BasicCorrect l) (calls : 
       let (x_within, below_x) = receiver_below c k self scope env made scene receiver j within below in
       let q2 : Pointers = record q { pc = pc2; gp = gp; sp = q.sp - 4 * length args; acc = acc; ra = ra } in
       let from : HEAP_START ≤ gp = let numbers = received.at.numbers in omega arith in
-      let slot_j : slot p j name ≡ Some kk = slot_kept p typed.whole j (class_meant c receiver) within below_x name kk slot_is in
-      let placed = loaded.slots_in j name kk within slot_j in
-      let head = has_head l loaded v j m map st gp (q.sp - 4 * length args) acc is received.pictures received.self_is in
       dispatched l loaded basics calls b correct at v j j args made q2 m map console st s n pc3 name (file_of l loaded at) (implementation p (chain p j) name) refl le (let low = has.0.words.0.low in omega arith) within (below_itself p typed.whole j within)
       (λ method found. arguments_here c k j (class_meant c receiver) made args given' name receiver type scene.k_within scene.below within below_x x_within fits call method found) received
-      (λ method found.
-      let entry : SlotAt l.world m (l.world.place (dispatch_table p j)) kk (l.world.place (method_label p method)) = record {
-        even = placed.even;
-        from = placed.from;
-        to = (let to = placed.to in omega arith);
-        holds = slot_here l loaded m map st gp (q.sp - 4 * length args) from received.pictures j name kk within slot_j ∙ ap (λ (x : MethodRef). l.world.place (method_label p x)) (method_is p typed.whole j name method found);
-      } in
-      subst (λ (x : ℕ). Reaches l.world s 1 9 (stands (AtPlace l.world (record q2 { pc = l.world.place (method_label p method); ra = x }) m console (file_of l loaded at) at.line))) pc3_is
-      (goes_by_table l.world (file_of l loaded at) at.line kk q2 m console s (l.world.place (dispatch_table p j)) (l.world.place (method_label p method)) has received.at (omega arith) head.lies head.table_is entry))
+      (λ method found. goes_dynamic at name c k self scope env q pc2 pc3 kk receiver small has pc3_is slot_is args v j made gp acc ra m map console st s is within below scene received method found)
       (string_pic l loaded m map st gp (q.sp - 4 * length args) from received.pictures (get_or l.files at.file []) among).0 small heap stack way
 
   -- the parts of a dispatch's code
 
-  as_dispatch : (pc : ℕ) (file : Name) (line kk : ℕ) → HasLines l.world pc (call_lines file line (pos (4 * kk))) → HasLines l.world pc (dispatch_lines file line kk)
+  pub as_dispatch : (pc : ℕ) (file : Name) (line kk : ℕ) → HasLines l.world pc (call_lines file line (pos (4 * kk))) → HasLines l.world pc (dispatch_lines file line kk)
   unfolding call_lines
   as_dispatch pc file line kk has = has
 
@@ -123,7 +139,7 @@ module _ (l : Loading) (loaded : IsLoaded l) (basics : BasicCorrect l) (calls : 
   unfolding call_lines
   call_sizes file line offset = refl
 
-  arguments_code_at : (at : Place) (c : ClassId) (f : ℕ) (vs : List Named) (d first pc : ℕ) (name : List ℕ) (t : Tree) (ts : Trees) → CodeAt l c f vs d first pc (trees.Dispatch at t name ts) → AllCodeAt l c f vs d (first + tree_size t) pc ts
+  pub arguments_code_at : (at : Place) (c : ClassId) (f : ℕ) (vs : List Named) (d first pc : ℕ) (name : List ℕ) (t : Tree) (ts : Trees) → CodeAt l c f vs d first pc (trees.Dispatch at t name ts) → AllCodeAt l c f vs d (first + tree_size t) pc ts
   arguments_code_at at c f vs d first pc name t ts code_at = record {
     lines = has_front l.world (arguments_code (context l c f) (constants l) vs d (first + tree_size t) ts) _ pc code_at.lines;
     integers = λ n there. code_at.integers n (Contains-append_left (integers_in_all ts) (integers_in t) n there);

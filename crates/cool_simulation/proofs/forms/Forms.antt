@@ -58,14 +58,14 @@ module _ (l : Loading) (loaded : IsLoaded l) (calls : Calls) (b : ℕ) (later : 
     form_correct (trees.Compare at Equal t u) h = equal_correct l loaded calls b sound later at t u (form_correct t h.0) (form_correct u h.1)
     form_correct (trees.Not at t) h = not_correct l loaded calls b sound later at t (form_correct t h)
 
-    all_forms_correct : (ts : Trees) → AreWritable ts → AllCorrect l calls b ts
+    pub all_forms_correct : (ts : Trees) → AreWritable ts → AllCorrect l calls b ts
     all_forms_correct Last h = none_correct l loaded calls b later sound
     all_forms_correct (More t ts) h = more_correct l loaded calls b later sound t ts (form_correct t h.0) (all_forms_correct ts h.1)
 
-    each_form_correct : (ts : Trees) → AreWritable ts → EachCorrect l calls b ts
+    pub each_form_correct : (ts : Trees) → AreWritable ts → EachCorrect l calls b ts
     each_form_correct Last h = tt
     each_form_correct (More t ts) h = (form_correct t h.0, each_form_correct ts h.1)
 
-    bodies_correct : (cs : Cases) → AreCasesWritable cs → BodiesCorrect l loaded calls b cs
+    pub bodies_correct : (cs : Cases) → AreCasesWritable cs → BodiesCorrect l loaded calls b cs
     bodies_correct NoCase h = tt
     bodies_correct (CaseOf at name declared t cs) h = (form_correct t h.0, bodies_correct cs h.1)

@@ -38,6 +38,20 @@ pub each_length : {A B : Type 0} (f : A → B) (xs : List A) → length (each f 
 each_length f [] = refl
 each_length f (x ∷ xs) = let rest = each_length f xs in omega arith
 
+-- a method of the program that a class has: its owner has it, and stands above each class below that one
+pub callee : (l : Loading) → IsLoaded l → (j x owner : ClassId) (i : ℕ) (name : List ℕ) → implementation l.table (chain l.table x) name ≡ Some (User owner i) → x.0 < length l.table → Below l.table j x
+    → HasMethod l.table (User owner i) × Below l.table j owner × MayInherit j
+callee l loaded j x owner i name found within below =
+    let p = l.table in
+    let typed = loaded.buildable.typed in
+    let (d, there, own) = implementation_own p (chain p x) name (User owner i) found in
+    let d_within : d.0 < length p = chain_within p typed.whole x within (chain p x) (chain_is p x typed.whole.table within) d there in
+    let (same, high) = user_own p d owner i name own in
+    let below_owner : Below p j owner = subst (λ (y : ClassId). Below p j y) (sym same) (below_trans p j x d below (chain p x, chain_is p x typed.whole.table within, there)) in
+    let has : HasMethod p (User owner i) = found_has p d name (User owner i) d_within own in
+    let plain : MayInherit j = high_inherits p typed j owner below_owner (subst (λ (y : ClassId). 5 ≤ y.0) (sym same) high) in
+    (has, below_owner, plain)
+
 module _ (l : Loading) (loaded : IsLoaded l) (basics : BasicCorrect l) (calls : Calls) (b : ℕ) (correct : AllCallsCorrect l calls b) where
   -- the method runs
   invoked : (at : Place) (self : Value) (j x : ClassId) (vs : List Value) (made : fitting.World) (q : Pointers) (m : Bytes) (map : Map) (console : Console) (st : State) (s : Machine) (n : ℕ) (name : List ℕ) (file : Name) (method : MethodRef)
@@ -53,14 +67,7 @@ module _ (l : Loading) (loaded : IsLoaded l) (basics : BasicCorrect l) (calls : 
       (fit_length l.table made vs (each (meant l.table j) (basic_formals method)) args ∙ each_length (meant l.table j) (basic_formals method))
       (record { heap = heap; stack = omega arith; way = way })
   invoked at self j x vs made q m map console st s n name file (User owner i) less small_ra found within below args received begins placed string small heap stack way =
-      let p = l.table in
-      let typed = loaded.buildable.typed in
-      let (d, there, own) = implementation_own p (chain p x) name (User owner i) found in
-      let d_within : d.0 < length p = chain_within p typed.whole x within (chain p x) (chain_is p x typed.whole.table within) d there in
-      let (same, high) = user_own p d owner i name own in
-      let below_owner : Below p j owner = subst (λ (y : ClassId). Below p j y) (sym same) (below_trans p j x d below (chain p x, chain_is p x typed.whole.table within, there)) in
-      let has : HasMethod p (User owner i) = found_has p d name (User owner i) d_within own in
-      let plain : MayInherit j = high_inherits p typed j owner below_owner (subst (λ (y : ClassId). 5 ≤ y.0) (sym same) high) in
+      let (has, below_owner, plain) = callee l loaded j x owner i name found within below in
       run_wider l (calls (Body owner i self vs) st n).outcome s n (64 * (calls (Body owner i self vs) st n).work + 17) (64 * (length vs + (calls (Body owner i self vs) st n).work) + 51) _ (omega arith)
       ((correct n less).body owner i self j vs made q m map console st s n (omega arith) has below_owner (called_of l j self vs made q m map console st s plain small_ra received) begins args
       (record { heap = heap; stack = omega arith; way = way }))

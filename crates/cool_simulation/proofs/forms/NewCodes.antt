@@ -36,11 +36,11 @@ use Rattle.cool_simulation.proofs.forms.BasicNews.{value_runs}
 use Rattle.std.proofs.lemmas.Bool.{eqb-true}
 
 -- code stands low
-create_low : (w : World) (pc : ℕ) (proto init : Name) → HasLines w pc (create_lines proto init) → pc + 4 < 268435456
+pub create_low : (w : World) (pc : ℕ) (proto init : Name) → HasLines w pc (create_lines proto init) → pc + 4 < 268435456
 unfolding create_lines
 create_low w pc proto init has = has.0.words.0.low
 
-own_low : (w : World) (pc : ℕ) → HasLines w pc create_self_lines → pc + 4 < 268435456
+pub own_low : (w : World) (pc : ℕ) → HasLines w pc create_self_lines → pc + 4 < 268435456
 unfolding create_self_lines
 own_low w pc has = has.0.words.0.low
 
@@ -60,7 +60,7 @@ module _ (l : Loading) (is : IsLoaded l) where
   module _ (calls : Calls) (b : ℕ) (correct : AllCallsCorrect l calls b) (later : CallsLater calls)
       (made : fitting.World) (q : Pointers) (m : Bytes) (map : Map) (console : Console) (st : State) (s : Machine) (making : Making l is made q m map console st s) where
     -- the code for a class whose name is written
-    created : (c : ClassId) → c.0 < length l.table → HasLines l.world q.pc (create_lines (prototype l.table c) (initializer l.table c)) → q.gp + 4 * size_of l is c + 4 ≤ l.world.top → OnTheWay l.world console.output console.input
+    pub created : (c : ClassId) → c.0 < length l.table → HasLines l.world q.pc (create_lines (prototype l.table c) (initializer l.table c)) → q.gp + 4 * size_of l is c + 4 ≤ l.world.top → OnTheWay l.world console.output console.input
         → Reaches l.world s 1 (7 * size_of l is c + 20) (stands (At l.world (entry l is q c (q.pc + 16)) (copy_of l is m q c) console))
     created c within has room way =
         let proto = prototype_here l is m map st q.gp q.sp making.at.numbers.gp_from making.pictures c within in
@@ -118,14 +118,15 @@ module _ (l : Loading) (is : IsLoaded l) where
         by false false true ex ey ez = to 4 (eqb-true c.0 4 ez) (string_comes n)
         by false false false ex ey ez = plain_comes c within (record { no_int = is_other c.0 2 ex; no_bool = is_other c.0 3 ey; no_string = is_other c.0 4 ez }) n le has
 
-    -- the class of self
-    pub own_comes : (k : ClassId) (self : Value) → k.0 < length l.table → MayInherit k → class_of self ≡ Some k → Pic l.world m map st.drawn q.gp self q.self → (n : ℕ) → n ≤ b → HasLines l.world q.pc create_self_lines
-        → Comes k (q.pc + 28 + 28) n
-    own_comes k Void within plain e pic n le has = absurd (cc)
-    own_comes k (Int i) within plain e pic n le has = absurd (let same : class_number 2 ≡ k = cc in plain.no_int (sym (ap (λ (x : ClassId). x.0) same)))
-    own_comes k (Bool i) within plain e pic n le has = absurd (let same : class_number 3 ≡ k = cc in plain.no_bool (sym (ap (λ (x : ClassId). x.0) same)))
-    own_comes k (Str i) within plain e pic n le has = absurd (let same : class_number 4 ≡ k = cc in plain.no_string (sym (ap (λ (x : ClassId). x.0) same)))
-    own_comes k (Obj c i ls) within plain e pic n le has =
+    -- the code for the class of self
+    pub created_own : (k : ClassId) (self : Value) → k.0 < length l.table → MayInherit k → class_of self ≡ Some k → Pic l.world m map st.drawn q.gp self q.self → HasLines l.world q.pc create_self_lines
+        → q.gp + 4 * size_of l is k + 4 ≤ l.world.top → OnTheWay l.world console.output console.input
+        → Reaches l.world s 1 (7 * size_of l is k + 30) (stands (At l.world (entry l is q k (q.pc + 28 + 28)) (copy_of l is m q k) console))
+    created_own k Void within plain e pic has room way = absurd (cc)
+    created_own k (Int i) within plain e pic has room way = absurd (let same : class_number 2 ≡ k = cc in plain.no_int (sym (ap (λ (x : ClassId). x.0) same)))
+    created_own k (Bool i) within plain e pic has room way = absurd (let same : class_number 3 ≡ k = cc in plain.no_bool (sym (ap (λ (x : ClassId). x.0) same)))
+    created_own k (Str i) within plain e pic has room way = absurd (let same : class_number 4 ≡ k = cc in plain.no_string (sym (ap (λ (x : ClassId). x.0) same)))
+    created_own k (Obj c i ls) within plain e pic has room way =
         let w = l.world in
         let same : c ≡ k = cc in
         let numbers' = making.at.numbers in
@@ -149,6 +150,12 @@ module _ (l : Loading) (is : IsLoaded l) where
         let proto_fits : w.place (prototype l.table k) < 4294967296 = omega (arith, proto.lies.to) in
         let row_at : RowAt w m (tag l.table k) (w.place (prototype l.table k)) (w.place (initializer l.table k)) =
         record { even = omega arith; from = row_in.from; to = row_to; small = low; prototype_is = row.0; initializer_is = row.1; prototype_fits = proto_fits } in
+        creates_own w (size_of l is k) (tag l.table k) (w.place (prototype l.table k)) (w.place (initializer l.table k)) q m console s (limits_of l is) (is.routines routines.Copy) has making.at
+        (omega arith) tag_is row_at proto.lies (omega arith) proto.head.size_is room way
+
+    -- the class of self
+    pub own_comes : (k : ClassId) (self : Value) → k.0 < length l.table → MayInherit k → class_of self ≡ Some k → Pic l.world m map st.drawn q.gp self q.self → (n : ℕ) → n ≤ b → HasLines l.world q.pc create_self_lines
+        → Comes k (q.pc + 28 + 28) n
+    own_comes k self within plain e pic n le has =
         makes l is calls b correct later k within plain made q m map console st s making (q.pc + 28 + 28) 30 n (let lowest = own_low l.world q.pc has in omega arith) le (omega arith)
-        (λ room way. creates_own w (size_of l is k) (tag l.table k) (w.place (prototype l.table k)) (w.place (initializer l.table k)) q m console s (limits_of l is) (is.routines routines.Copy) has making.at
-        (omega arith) tag_is row_at proto.lies (omega arith) proto.head.size_is room way)
+        (λ room way. created_own k self within plain e pic has room way)

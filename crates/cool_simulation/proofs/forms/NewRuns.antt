@@ -1,5 +1,5 @@
 -- The code of `new` for a class of the program, for Object and IO: the prototype's copy is the new object, and its initializer runs.
-use Rattle.std.proofs.Common.{◌≡◌, ℕ, ◌+◌, ◌*◌, ◌%◌, ◌<◌, ◌≤◌, List, ◌++◌, map as each, length, get_or, Some, ap, sym, ◌∙◌, refl, subst, arith, length-append}
+use Rattle.std.proofs.Common.{◌≡◌, ℕ, ◌+◌, ◌*◌, ◌%◌, ◌<◌, ◌≤◌, List, [], ◌++◌, map as each, length, get_or, Some, ap, sym, ◌∙◌, refl, subst, arith, length-append}
 use Rattle.std.specs.Prelude.{slice_get}
 use Rattle.std.proofs.lemmas.List.{length-map}
 use Rattle.std.proofs.lemmas.Option.{slice_get_within}
@@ -25,7 +25,7 @@ use Rattle.cool_meaning.proofs.FittingValues.{AllFit}
 use Rattle.cool_meaning.proofs.FittingValues as fitting
 use Rattle.cool_simulation.specs.Loadings.{Loading, IsLoaded, item_word}
 use Rattle.cool_simulation.specs.Pictures.{Map, Pic, Pictures, Kept, Grown, Shows}
-use Rattle.cool_simulation.specs.Simulation.{Runs, Room, Done, CallsCorrect}
+use Rattle.cool_simulation.specs.Simulation.{Runs, Room, Called, Done, CallsCorrect}
 use Rattle.cool_simulation.proofs.ground.PicturesStay.{kept_then, grown_then}
 use Rattle.cool_simulation.proofs.ground.PartsOfRuns.{run_as}
 use Rattle.cool_simulation.proofs.ground.DataHere.{fields_pic, fields_count, prototype_here}
@@ -64,10 +64,10 @@ module _ (l : Loading) (is : IsLoaded l) where
     values_many : length (made_values l.table c) ≡ length (attributes l.table c)
     values_many = length-map (attributes l.table c) _
 
-    abbrev map1 : Map
+    abbrev pub map1 : Map
     map1 = with_object map c st (length (made_values l.table c)) q.gp
 
-    abbrev st1 : State
+    abbrev pub st1 : State
     st1 = with_values st (made_values l.table c)
 
     -- what the copy pictures
@@ -136,6 +136,33 @@ module _ (l : Loading) (is : IsLoaded l) where
           gp_to = omega arith;
         }
 
+    -- the initializer is called on the copy
+    pub initializer_called : (ra : ℕ) (u : Machine) → ra < 4294967296 → At l.world (entry q c ra) (copy_of m q c) console u
+        → Called l c (made_object l.table c st) [] (object_stored l.table is.buildable.typed made c st within plain making.fits).world (entry q c ra) (copy_of m q c) map1 console st1 u
+    initializer_called ra u low at =
+        let laid = l.world.laid in
+        let numbers' = at.numbers in
+        let before = making.at.numbers in
+        let copy = copied (omega arith) in
+        let stored = object_stored l.table is.buildable.typed made c st within plain making.fits in
+        let frame = making.frame in
+        let shows = making.shows in
+        record {
+          at = at;
+          shows = record { input = shows.input; output = shows.output; ended = shows.ended; bytes = shows.bytes };
+          pictures = copy.pictures;
+          self_is = copy.value;
+          room = omega arith;
+          saved = (low, making.saved.0, making.saved.1);
+          values = λ j v e. absurd (cc);
+          unmarked = λ i low high. absurd (omega arith);
+          class = refl;
+          within = within;
+          plain = plain;
+          self_fits = stored.object;
+          fits = stored.store;
+        }
+
     module _ (calls : Calls) (n : ℕ) (correct : CallsCorrect l calls n) where
       -- the initializer runs on the copy
       pub initializes : (ra : ℕ) (u : Machine) → ra < 4294967296 → At l.world (entry q c ra) (copy_of m q c) console u → Room l (entry q c ra) (12 * length (chain l.table c)) (made_call l.table calls c st n)
@@ -149,22 +176,6 @@ module _ (l : Loading) (is : IsLoaded l) where
           let many = attributes_many in
           let copy = copied (omega arith) in
           let stored = object_stored l.table typed made c st within plain making.fits in
-          let frame = making.frame in
-          let shows = making.shows in
           run_as l (made_call l.table calls c st n).outcome u n _ _ _
           (λ v t z d. initialized (copy_of m q c) (q.gp + 4 * size_of c + 4) ra (made_call l.table calls c st n).words t z (omega arith) before.sp_even copy d)
-          (correct.initials c (made_object l.table c st) c stored.world (entry q c ra) (copy_of m q c) map1 console st1 u n (omega arith) within (below_itself l.table typed.whole c within) (record {
-            at = at;
-            shows = record { input = shows.input; output = shows.output; ended = shows.ended; bytes = shows.bytes };
-            pictures = copy.pictures;
-            self_is = copy.value;
-            room = omega arith;
-            saved = (low, making.saved.0, making.saved.1);
-            values = λ j v e. absurd (cc);
-            unmarked = λ i low high. absurd (omega arith);
-            class = refl;
-            within = within;
-            plain = plain;
-            self_fits = stored.object;
-            fits = stored.store;
-          }) refl room)
+          (correct.initials c (made_object l.table c st) c stored.world (entry q c ra) (copy_of m q c) map1 console st1 u n (omega arith) within (below_itself l.table typed.whole c within) (initializer_called ra u low at) refl room)

@@ -30,7 +30,7 @@ module _ (l : Loading) where
   run_with (On t) v s n a K h = h
   run_with Stuck v s n a K h = h
 
-  way_with : (r : Outcome Value) (v : Value) → Way l (outcome_with v r) → Way l r
+  pub way_with : (r : Outcome Value) (v : Value) → Way l (outcome_with v r) → Way l r
   unfolding outcome_with
   way_with (Val x t left) v h = h
   way_with (Stop e t) v h = h
@@ -41,7 +41,7 @@ module _ (l : Loading) (is : IsLoaded l) (calls : Calls) (b : ℕ) (correct : Al
     (c : ClassId) (within : c.0 < length l.table) (plain : MayInherit c) (made : fitting.World) (q : Pointers) (m : Bytes) (map : Map) (console : Console) (st : State) (s : Machine)
     (making : Making l is made q m map console st s)
   where
-    abbrev computed : Computation Value
+    abbrev pub computed : Computation Value
     computed = working 1 (holding (length (chain l.table c)) (spend (new_object l.table calls c)))
 
     -- from the code that copies the prototype and calls the initializer

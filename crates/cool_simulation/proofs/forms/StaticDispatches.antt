@@ -3,6 +3,8 @@ use Rattle.std.proofs.Common.{◌≡◌, ℕ, ◌+◌, ◌-◌, ◌*◌, ◌<◌
 use Rattle.std.specs.Prelude.{Contains}
 use Rattle.std.proofs.lemmas.List.Elements.{Contains-append_left, Contains-append_right}
 use Rattle.mips_isa.specs.declared.address_map.TheConstants.{HEAP_START}
+use Rattle.mips_isa.specs.Bytes.{Bytes}
+use Rattle.mips_isa.specs.Calls.{State as Machine}
 use Rattle.mips_isa.specs.Lines.{Name, Line}
 use Rattle.cool_syntax.specs.declared.place.Place.{Place}
 use Rattle.cool_syntax.specs.declared.type_ref.TypeRef.{TypeRef}
@@ -27,7 +29,7 @@ use Rattle.cool_runtime.specs.Reaches.{Reaches, stands}
 use Rattle.cool_runtime.specs.Standing.{HasLines, sizes}
 use Rattle.cool_runtime.specs.Instructions.{la, li, bne, j, jal}
 use Rattle.cool_runtime.specs.Labels.{dispatch_abort}
-use Rattle.cool_runtime.specs.Machines.{Pointers}
+use Rattle.cool_runtime.specs.Machines.{Pointers, Console}
 use Rattle.cool_runtime.proofs.Runs.{wider}
 use Rattle.cool_runtime.proofs.Pieces.{has_front, has_back, sizes_append}
 use Rattle.cool_layout.specs.Labels.{method_label}
@@ -39,7 +41,7 @@ use Rattle.cool_codegen.specs.Types as types
 use Rattle.cool_codegen.specs.Code.{code, arguments_code}
 use Rattle.cool_codegen.specs.Asked.{integers_in, integers_in_all, strings_in, strings_in_all}
 use Rattle.cool_codegen.specs.Asked as asked
-use Rattle.cool_meaning.specs.Values.{Value, Environment}
+use Rattle.cool_meaning.specs.Values.{Value, State, Environment, class_of}
 use Rattle.cool_meaning.specs.Meters.{◌>>=◌, given}
 use Rattle.cool_meaning.specs.Evaluation.{Calls, dispatch}
 use Rattle.cool_meaning.proofs.FittingValues.{AllFit, meant, below_conforming}
@@ -47,6 +49,7 @@ use Rattle.cool_meaning.proofs.FittingValues as fitting
 use Rattle.cool_meaning.proofs.MethodsOfTables.{implementation_own, formals_are_classes}
 use Rattle.cool_meaning.proofs.SoundParts.{AllCallsSound, arguments_fit}
 use Rattle.cool_simulation.specs.Loadings.{Loading, IsLoaded, constants, context}
+use Rattle.cool_simulation.specs.Pictures.{Map}
 use Rattle.cool_simulation.specs.Simulation.{Done, Runs, CodeAt, AllCodeAt, Correct, AllCorrect, AllCallsCorrect}
 use Rattle.cool_rules.proofs.StaticTypesAreGiven.{method_found, class_is, method_is as method_named}
 use Rattle.cool_simulation.proofs.forms.CallLines.{AtPlace, goes_static}
@@ -54,7 +57,7 @@ use Rattle.cool_simulation.proofs.forms.ReceiverHeads.{has_head}
 use Rattle.cool_simulation.proofs.ground.DataHere.{string_pic}
 use Rattle.cool_simulation.proofs.ground.EvaluationLater.{CallsLater, bind_later, given_later}
 use Rattle.cool_simulation.proofs.ground.CallsLater.{dispatch_later}
-use Rattle.cool_simulation.proofs.forms.Received.{BasicCorrect}
+use Rattle.cool_simulation.proofs.forms.Received.{BasicCorrect, Received}
 use Rattle.cool_simulation.proofs.ground.PartsOfRuns.{run_wider}
 use Rattle.cool_simulation.proofs.forms.Invoking.{dispatched}
 use Rattle.cool_simulation.proofs.forms.CallForms.{file_of, CallRuns, form_runs}
@@ -69,7 +72,7 @@ module _ (l : Loading) (loaded : IsLoaded l) (basics : BasicCorrect l) (calls : 
       some_is : (a b : MethodRef) → Some a ≡ Some b → a ≡ b
       some_is a b e = cc
 
-  arguments_here : (c k j x : ClassId) (made : fitting.World) (args : List Value) (given' : List Ty) (name : List ℕ) (receiver type : Ty) → k.0 < length l.table → Below l.table k c
+  pub arguments_here : (c k j x : ClassId) (made : fitting.World) (args : List Value) (given' : List Ty) (name : List ℕ) (receiver type : Ty) → k.0 < length l.table → Below l.table k c
       → x.0 < length l.table → AllFit l.table made args (each (class_meant k) given') → IsCall l.table c x name receiver given' type → (method : MethodRef) → implementation l.table (chain l.table x) name ≡ Some method
       → AllFit l.table made args (each (meant l.table j) (formals_of l.table method))
   arguments_here c k j x made args given' name receiver type k_within below_c x_within fits call method found =
@@ -81,6 +84,23 @@ module _ (l : Loading) (loaded : IsLoaded l) (basics : BasicCorrect l) (calls : 
       let has : HasMethod p method = found_has p d name method (chain_within p typed.whole x x_within (chain p x) (chain_is p x typed.whole.table x_within) d there) own in
       subst (λ (y : MethodRef). HasMethod p y → AllFit p made args (each (meant p j) (formals_of p y))) one
       (λ has. arguments_fit p typed c k j k_within below_c made given' (formals_of p n) args fits call.arguments (formals_are_classes p typed n has)) has
+
+  -- the machine goes to the label's method
+  pub goes_by_label : (at : Place) (name : List ℕ) (c x : ClassId) (q : Pointers) (pc2 pc3 : ℕ) (label : Name) (receiver : Ty) (given' : List Ty) (type : Ty) → c.0 < length l.table → x.0 < length l.table → at.line < 2147483648
+      → HasLines l.world pc2 (la 24 (file_of l loaded at) ∷ li 25 at.line ∷ bne 4 0 ∷ j dispatch_abort ∷ jal label ∷ []) → pc2 + 28 ≡ pc3 → (call : IsCall l.table c x name receiver given' type) → label ≡ method_label l.table call.method
+      → (args : List Value) (v : Value) (j : ClassId) (made : fitting.World) (gp acc ra : ℕ) (m : Bytes) (map : Map) (console : Console) (st : State) (s : Machine) → class_of v ≡ Some j
+      → Received l j v args made (record q { pc = pc2; gp = gp; sp = q.sp - 4 * length args; acc = acc; ra = ra }) m map console st s → (method : MethodRef) → implementation l.table (chain l.table x) name ≡ Some method
+      → Reaches l.world s 1 9 (stands (AtPlace l.world (record q { pc = l.world.place (method_label l.table method); gp = gp; sp = q.sp - 4 * length args; acc = acc; ra = pc3 }) m console (file_of l loaded at) at.line))
+  goes_by_label at name c x q pc2 pc3 label receiver given' type c_within x_within small has pc3_is call label_is args v class made gp acc ra m map console st s is received method found =
+      let p = l.table in
+      let q2 : Pointers = record q { pc = pc2; gp = gp; sp = q.sp - 4 * length args; acc = acc; ra = ra } in
+      let head = has_head l loaded v class m map st gp (q.sp - 4 * length args) acc is received.pictures received.self_is in
+      let lies = head.lies in
+      let place_is : l.world.place label ≡ l.world.place (method_label p method) =
+      ap l.world.place label_is ∙ ap (λ (y : MethodRef). l.world.place (method_label p y)) (one_method c x c_within x_within name receiver type given' call method found) in
+      subst (λ (y : ℕ). Reaches l.world s 1 9 (stands (AtPlace l.world (record q2 { pc = y; ra = pc3 }) m console (file_of l loaded at) at.line))) place_is
+      (subst (λ (y : ℕ). Reaches l.world s 1 9 (stands (AtPlace l.world (record q2 { pc = l.world.place label; ra = y }) m console (file_of l loaded at) at.line))) pc3_is
+      (wider l.world s 1 1 7 9 _ (omega arith) (omega arith) (goes_static l.world (file_of l loaded at) at.line label q2 m console s has received.at (omega arith) (omega arith))))
 
   -- the call by a label
   static_call : (at : Place) (name : List ℕ) (c k x : ClassId) (self : Value) (scope : List Binding) (env : Environment) (q : Pointers) (pc2 pc3 : ℕ) (label : Name) (receiver : Ty) (given' : List Ty) (type : Ty)
@@ -95,25 +115,18 @@ module _ (l : Loading) (loaded : IsLoaded l) (basics : BasicCorrect l) (calls : 
       let below_x : Below p j x = below_trans p j (class_meant k receiver) x below (below_conforming p typed c k scene.k_within scene.below receiver (IsClass x) conforms) in
       let q2 : Pointers = record q { pc = pc2; gp = gp; sp = q.sp - 4 * length args; acc = acc; ra = ra } in
       let from : HEAP_START ≤ gp = let numbers = received.at.numbers in omega arith in
-      let head = has_head l loaded v j m map st gp (q.sp - 4 * length args) acc is received.pictures received.self_is in
-      let lies = head.lies in
       let r = dispatch p calls at x name v args st n in
       let none : r.words ≡ 0 + r.words = omega arith in
       run_wider l r.outcome s n (64 * r.work + 60) (64 * (0 + r.work) + 60) _ (omega arith)
       (subst (λ (w : ℕ). Runs l s n (64 * r.work + 60) (Done l (record q { pc = pc3; gp = gp; sp = q.sp - 4 * length args + 4 * length args; acc = acc; ra = pc3 }) m map st w) r.outcome) none
       (dispatched l loaded basics calls b correct at v j x args made q2 m map console st s n pc3 name (file_of l loaded at) (implementation p (chain p x) name) refl le (let low = has.0.words.0.low in omega arith) x_within below_x
       (λ method found. arguments_here c k j x made args given' name receiver type scene.k_within scene.below x_within fits call method found) received
-      (λ method found.
-      let place_is : l.world.place label ≡ l.world.place (method_label p method) =
-      ap l.world.place label_is ∙ ap (λ (y : MethodRef). l.world.place (method_label p y)) (one_method c x c_within x_within name receiver type given' call method found) in
-      subst (λ (y : ℕ). Reaches l.world s 1 9 (stands (AtPlace l.world (record q2 { pc = y; ra = pc3 }) m console (file_of l loaded at) at.line))) place_is
-      (subst (λ (y : ℕ). Reaches l.world s 1 9 (stands (AtPlace l.world (record q2 { pc = l.world.place label; ra = y }) m console (file_of l loaded at) at.line))) pc3_is
-      (wider l.world s 1 1 7 9 _ (omega arith) (omega arith) (goes_static l.world (file_of l loaded at) at.line label q2 m console s has received.at (omega arith) (omega arith)))))
+      (λ method found. goes_by_label at name c x q pc2 pc3 label receiver given' type c_within x_within small has pc3_is call label_is args v j made gp acc ra m map console st s is received method found)
       (string_pic l loaded m map st gp (q.sp - 4 * length args) from received.pictures (get_or l.files at.file []) among).0 small (omega arith) (omega arith) way))
 
   -- the parts of its code
 
-  arguments_code_at : (at : Place) (c : ClassId) (f : ℕ) (vs : List Named) (d first pc : ℕ) (name : List ℕ) (class : TypeRef) (t : Tree) (ts : Trees) → CodeAt l c f vs d first pc (trees.StaticDispatch at t class name ts)
+  pub arguments_code_at : (at : Place) (c : ClassId) (f : ℕ) (vs : List Named) (d first pc : ℕ) (name : List ℕ) (class : TypeRef) (t : Tree) (ts : Trees) → CodeAt l c f vs d first pc (trees.StaticDispatch at t class name ts)
       → AllCodeAt l c f vs d (first + tree_size t) pc ts
   arguments_code_at at c f vs d first pc name class t ts code_at = record {
     lines = has_front l.world (arguments_code (context l c f) (constants l) vs d (first + tree_size t) ts) _ pc code_at.lines;
@@ -142,7 +155,7 @@ module _ (l : Loading) (loaded : IsLoaded l) (basics : BasicCorrect l) (calls : 
       code_at.strings (get_or l.files at.file []) (Contains-append_right (strings_in_all l.files ts) (strings_in l.files t ++ asked.file_of l.files at) _
       (Contains-append_right (strings_in l.files t) (asked.file_of l.files at) _ (0, omega arith, refl)))
 
-  as_lines : (pc : ℕ) (file : Name) (line : ℕ) (label : Name) → HasLines l.world pc (call_static_lines file line label) → HasLines l.world pc (la 24 file ∷ li 25 line ∷ bne 4 0 ∷ j dispatch_abort ∷ jal label ∷ [])
+  pub as_lines : (pc : ℕ) (file : Name) (line : ℕ) (label : Name) → HasLines l.world pc (call_static_lines file line label) → HasLines l.world pc (la 24 file ∷ li 25 line ∷ bne 4 0 ∷ j dispatch_abort ∷ jal label ∷ [])
   unfolding call_static_lines
   as_lines pc file line label has = has
 

@@ -102,7 +102,7 @@ module _ (l : Loading) where
     pub stack : l.world.low ≤ q.sp - (besides + 16 * r.peak)
     pub way : Way l r.outcome
 
-  part_room : {A B : Type 0} (o : Outcome A) (wk ws pk : ℕ) (F : A → Computation B) (q : Pointers) (besides : ℕ) → ((v : A) (t : State) (left : ℕ) → After t (F v t left).outcome)
+  pub part_room : {A B : Type 0} (o : Outcome A) (wk ws pk : ℕ) (F : A → Computation B) (q : Pointers) (besides : ℕ) → ((v : A) (t : State) (left : ℕ) → After t (F v t left).outcome)
       → ((seq_of o wk ws pk F).outcome ≡ Stuck → ⊥) → Room l q besides (seq_of o wk ws pk F) → Room l q besides (record { outcome = o; work = wk; words = ws; peak = pk })
   part_room (Val v t left) wk ws pk F q besides later some room =
       let heap = room.heap in let stack = room.stack in
@@ -111,7 +111,7 @@ module _ (l : Loading) where
   part_room (On t) wk ws pk F q besides later some room = record { heap = room.heap; stack = room.stack; way = room.way }
   part_room Stuck wk ws pk F q besides later some room = absurd (some refl)
 
-  rest_room : {A B : Type 0} (o : Outcome A) (wk ws pk : ℕ) (F : A → Computation B) (q : Pointers) (besides : ℕ) (v : A) (t : State) (left : ℕ) → o ≡ Val v t left → Room l q besides (seq_of o wk ws pk F)
+  pub rest_room : {A B : Type 0} (o : Outcome A) (wk ws pk : ℕ) (F : A → Computation B) (q : Pointers) (besides : ℕ) (v : A) (t : State) (left : ℕ) → o ≡ Val v t left → Room l q besides (seq_of o wk ws pk F)
       → Rest q besides ws (F v t left)
   rest_room o wk ws pk F q besides v t left e room = by (subst (λ x. Room l q besides (seq_of x wk ws pk F)) e room)
     where

@@ -48,7 +48,7 @@ module _ (p : List Class) (files : List (List ℕ)) (b : IsBuildable p files) (l
     abbrev w : World
     w = (loading top low output left).world
 
-    has_image : HasImage (program_text p files) (program_data p files) (loading top low output left).world
+    pub has_image : HasImage (program_text p files) (program_data p files) (loading top low output left).world
     has_image = record { sound = programs_sound p files b; text_is = refl; place_is = refl; text_end = refl; data_end = refl }
 
     -- where the strings are texts, which a zero can end

@@ -39,7 +39,7 @@ takes_text target known [] all = tt
 takes_text target known (line ∷ rest) all = (needs_text target known line.statement all.0, takes_text target known rest all.1)
 
 module _ (text items : List Line) (w : World) (g : HasImage text items w) where
-  whole_text : HasLines w (TEXT_START + 4 * 0) text
+  pub whole_text : HasLines w (TEXT_START + 4 * 0) text
   whole_text =
       has_lines w (joined_lines text items) (is_image text items g.sound w g.text_is g.place_is g.text_end) [] text (directive_line ToData ∷ items) refl
       (takes_text (Contains (labels_of text)) (Contains (labels_of (joined_lines text items))) text g.sound.text_lines) refl

@@ -53,7 +53,7 @@ use Rattle.cool_simulation.proofs.theorem.MainNames.{main_class, main_plain, mai
 use Rattle.cool_simulation.proofs.theorem.MainLines.{StartAt, start_at, start_creates, calls_main, writes_end}
 
 -- calls with so many steps come later
-within_later : (p : List Class) (n : ℕ) → CallsLater (calls_within p n)
+pub within_later : (p : List Class) (n : ℕ) → CallsLater (calls_within p n)
 within_later p n call = record { later = λ s k. after_of (more_calls_within p n n 0 (omega arith) call) s k }
 
 -- the value of a new object is the object
@@ -64,7 +64,7 @@ value_made v w (Stop x s) t left e = absurd (cc)
 value_made v w (On s) t left e = absurd (cc)
 value_made v w Stuck t left e = absurd (cc)
 
-object_given : (p : List Class) (calls : Calls) (c : ClassId) (st : State) (n : ℕ) (v : Value) (t : State) (left : ℕ) → MayInherit c → (make p calls (Some c) st n).outcome ≡ Val v t left → made_object p c st ≡ v
+pub object_given : (p : List Class) (calls : Calls) (c : ClassId) (st : State) (n : ℕ) (v : Value) (t : State) (left : ℕ) → MayInherit c → (make p calls (Some c) st n).outcome ≡ Val v t left → made_object p c st ≡ v
 object_given p calls c st n v t left plain e = by n (sym (ap (λ (d : Computation Value). (d st n).outcome) (make_plain p calls c plain)) ∙ e)
   where
     by : (k : ℕ) → (working 1 (holding (length (chain p c)) (spend (new_object p calls c))) st k).outcome ≡ Val v t left → made_object p c st ≡ v
@@ -72,7 +72,7 @@ object_given p calls c st n v t left plain e = by n (sym (ap (λ (d : Computatio
     by (suc k) e = value_made (made_object p c st) v (made_call p calls c st k).outcome t left (sym (object_made p calls c st k).outcome_is ∙ e)
 
 -- the meters of a run are those of its evaluation
-run_meters : (p : List Class) (names : List (List ℕ)) (o : Outcome Value) (w g k : ℕ) → ((run_of p names o w g k).work ≡ 1 + w) × ((run_of p names o w g k).words ≡ g) × ((run_of p names o w g k).peak ≡ k)
+pub run_meters : (p : List Class) (names : List (List ℕ)) (o : Outcome Value) (w g k : ℕ) → ((run_of p names o w g k).work ≡ 1 + w) × ((run_of p names o w g k).words ≡ g) × ((run_of p names o w g k).peak ≡ k)
 run_meters p names (Val v t left) w g k = (refl, refl, refl)
 run_meters p names (Stop e t) w g k = (refl, refl, refl)
 run_meters p names (On t) w g k = (refl, refl, refl)
@@ -82,7 +82,7 @@ before_text : (w : World) (output text input : List ℕ) → OnTheWay w (output 
 before_text w output text input way = record { written = (text ++ way.written.0, way.written.1 ∙ append_assoc output text way.written.0); taken = way.taken }
 
 -- what a run writes and takes is on the way, and so what its evaluation does
-run_way : (l : Loading) (o : Outcome Value) (w g k : ℕ) → OnTheWay l.world (run_of l.table l.files o w g k).output (run_of l.table l.files o w g k).left → Way l o
+pub run_way : (l : Loading) (o : Outcome Value) (w g k : ℕ) → OnTheWay l.world (run_of l.table l.files o w g k).output (run_of l.table l.files o w g k).left → Way l o
 run_way l (Val v t left) w g k way = before_text l.world t.output done_text t.input way
 run_way l (Stop e t) w g k way = way
 run_way l (On t) w g k way = subst (λ (xs : List ℕ). OnTheWay l.world xs t.input) (append-nil t.output) way
@@ -102,7 +102,7 @@ module _ (l : Loading) (is : IsLoaded l) (n : ℕ) (correct : AllCallsCorrect l 
   method = User main (main_class p is.buildable.typed).index
 
   -- the call of main on a value
-  abbrev after_new : Value → Computation Value
+  abbrev pub after_new : Value → Computation Value
   after_new v = class_or (DispatchVoid nowhere) v >>= λ d. dispatch p calls nowhere d (codes "main") v []
 
   -- where main ended: at the lines of the end
@@ -123,7 +123,7 @@ module _ (l : Loading) (is : IsLoaded l) (n : ℕ) (correct : AllCallsCorrect l 
     abbrev m : Bytes
     m = l.memory
 
-    making : Making l is [] q m map console st s
+    pub making : Making l is [] q m map console st s
     making = record { at = starts.at; shows = starts.shows; pictures = starts.pictures; frame = (let e = starts.sp in omega arith); saved = (starts.fp_fits, starts.own_fits); fits = tt }
 
     start_lines : StartAt l.world q.pc
@@ -135,7 +135,7 @@ module _ (l : Loading) (is : IsLoaded l) (n : ℕ) (correct : AllCallsCorrect l 
         → Reaches l.world s 1 (7 * size_of l is main + 20)
         (stands (At l.world (record q { pc = l.world.place init; gp = q.gp + 4 * size_of l is main + 4; acc = q.gp + 4; ra = q.pc + 16 }) (with_copy m q.gp (l.world.place proto) (size_of l is main)) console))
 
-    creates : Creates (prototype p main) (initializer p main)
+    pub creates : Creates (prototype p main) (initializer p main)
     creates =
         subst (λ (x : Name). Creates x (initializer p main)) (sym (main_prototype_is p is.buildable.typed))
         (subst (λ (x : Name). Creates main_prototype x) (sym (main_init_is p is.buildable.typed))
@@ -144,13 +144,13 @@ module _ (l : Loading) (is : IsLoaded l) (n : ℕ) (correct : AllCallsCorrect l 
     start_low : q.pc + 4 < DATA_START
     start_low = start_lines.first.0.words.0.low
 
-    ra_fits : q.pc + 16 < 4294967296
+    pub ra_fits : q.pc + 16 < 4294967296
     ra_fits = let low = start_low in omega arith
 
     ra_fits' : q.pc + 20 < 4294967296
     ra_fits' = let low = start_low in omega arith
 
-    made : Room l q 0 (make p calls (Some main) st n) → Runs l s n (64 * (make p calls (Some main) st n).work) (Done l (record q { pc = q.pc + 16 }) m map st (make p calls (Some main) st n).words) (make p calls (Some main) st n).outcome
+    pub made : Room l q 0 (make p calls (Some main) st n) → Runs l s n (64 * (make p calls (Some main) st n).work) (Done l (record q { pc = q.pc + 16 }) m map st (make p calls (Some main) st n).words) (make p calls (Some main) st n).outcome
     made room =
         let within = is.buildable.typed.lawful.main.within in
         let proto = prototype_here l is m map st q.gp q.sp starts.at.numbers.gp_from starts.pictures main within in
@@ -159,7 +159,7 @@ module _ (l : Loading) (is : IsLoaded l) (n : ℕ) (correct : AllCallsCorrect l 
 
     -- what main does on the new object
 
-    abbrev object : Value
+    abbrev pub object : Value
     object = made_object p main st
 
     abbrev ended : Value → State → Machine → Type 0
@@ -167,10 +167,10 @@ module _ (l : Loading) (is : IsLoaded l) (n : ℕ) (correct : AllCallsCorrect l 
 
     module _ (t : State) (left : ℕ) (u : Machine) (d : Done l (record q { pc = q.pc + 16 }) m map st (make p calls (Some main) st n).words object t u)
         (fine : IsFine p [] n (λ w x. Fits p w x main) object t left) where
-      abbrev q1 : Pointers
+      abbrev pub q1 : Pointers
       q1 = record q { pc = l.world.place main_main; gp = d.gp; acc = d.acc; ra = q.pc + 20 }
 
-      called : (u1 : Machine) → At l.world q1 d.memory d.console u1 → Called l main object [] fine.world q1 d.memory d.map' d.console t u1
+      pub called : (u1 : Machine) → At l.world q1 d.memory d.console u1 → Called l main object [] fine.world q1 d.memory d.map' d.console t u1
       called u1 at = record {
         at = at;
         shows = d.shows;
@@ -187,7 +187,7 @@ module _ (l : Loading) (is : IsLoaded l) (n : ℕ) (correct : AllCallsCorrect l 
         fits = fine.store;
       }
 
-      no_formals : AllFit p fine.world [] (each (fitting.meant p main) (formals_of p method))
+      pub no_formals : AllFit p fine.world [] (each (fitting.meant p main) (formals_of p method))
       no_formals =
           let none : formals_of p method ≡ [] = ap (formals_of p) (sym (main_class p is.buildable.typed).is) ∙ is.buildable.typed.lawful.main.formals in
           subst (λ (fs : List (List ℕ)). AllFit p fine.world [] (each (fitting.meant p main) fs)) (sym none) tt
@@ -197,6 +197,12 @@ module _ (l : Loading) (is : IsLoaded l) (n : ℕ) (correct : AllCallsCorrect l 
 
       abbrev G : Option MethodRef → ℕ → Metered Value
       G o k = spend (working (length {A = Value} []) (invoke p calls nowhere object [] o)) t k
+
+      -- the machine goes to main
+      pub jumps : Reaches l.world u 1 1 (stands (At l.world q1 d.memory d.console))
+      jumps =
+          let e : q.pc + 16 + 4 ≡ q.pc + 20 = omega arith in
+          subst (λ ra. Reaches l.world u 1 1 (stands (At l.world (record q1 { ra = ra }) d.memory d.console))) e (calls_main l.world _ d.memory d.console u start_lines.third d.at)
 
       body_runs : (k : ℕ) → k < n → Rest l q 12 (make p calls (Some main) st n).words (join 0 0 0 (G (Some method) (suc k))) → (u1 : Machine) → At l.world q1 d.memory d.console u1
           → Runs l u1 k (64 * (calls (Body main (main_class p is.buildable.typed).index object []) t k).work + 17) ended (calls (Body main (main_class p is.buildable.typed).index object []) t k).outcome
@@ -214,10 +220,8 @@ module _ (l : Loading) (is : IsLoaded l) (n : ℕ) (correct : AllCallsCorrect l 
       main_runs zero le rest = done l.world 18 u _ (record { output = d.at.output_is ∙ d.shows.output; input = d.at.input_is ∙ d.shows.input })
       main_runs (suc k) le rest =
           let r = calls (Body main (main_class p is.buildable.typed).index object []) t k in
-          let e : q.pc + 16 + 4 ≡ q.pc + 20 = omega arith in
           run_behind l r.outcome u (suc k) k 1 (64 * r.work + 17) (64 * (0 + (0 + r.work)) + 18) (At l.world q1 d.memory d.console) ended (omega arith)
-          (wider l.world u 1 (suc k - k) 1 1 _ (omega arith) (omega arith)
-          (subst (λ ra. Reaches l.world u 1 1 (stands (At l.world (record q1 { ra = ra }) d.memory d.console))) e (calls_main l.world _ d.memory d.console u start_lines.third d.at)))
+          (wider l.world u 1 (suc k - k) 1 1 _ (omega arith) (omega arith) jumps)
           (λ u1 at. body_runs k (omega arith) rest u1 at)
 
       after_runs : Rest l q 12 (make p calls (Some main) st n).words (after_new object t left) → Runs l u left (64 * (after_new object t left).work + 18) ended (after_new object t left).outcome
@@ -225,10 +229,10 @@ module _ (l : Loading) (is : IsLoaded l) (n : ℕ) (correct : AllCallsCorrect l 
           subst (λ (o : Option MethodRef). Rest l q 12 (make p calls (Some main) st n).words (join 0 0 0 (G o left)) → Runs l u left (64 * (join 0 0 0 (G o left)).work + 18) ended (join 0 0 0 (G o left)).outcome)
           (sym (main_found p is.buildable.typed)) (main_runs left fine.fewer)
 
-    abbrev X : Option ClassId → Metered Value
+    abbrev pub X : Option ClassId → Metered Value
     X o = (make p calls o >>= after_new) st n
 
-    after_later : (v : Value) (t : State) (left : ℕ) → After t (after_new v t left).outcome
+    pub after_later : (v : Value) (t : State) (left : ℕ) → After t (after_new v t left).outcome
     after_later v t left =
         let later = within_later p n in
         (bind_later (class_later p calls later (DispatchVoid nowhere) v) (λ c. dispatch_later p calls later nowhere c (codes "main") v [])).later t left
@@ -263,7 +267,7 @@ module _ (l : Loading) (is : IsLoaded l) (n : ℕ) (correct : AllCallsCorrect l 
         (weaker l.world s n (64 * w + 18) _ _ (stands_as (Paused t) (Leaves (t.output ++ []) t.input) (λ z r. record { wrote = r.output ∙ sym (append-nil t.output); leaves = r.input })) h)
     ends Stuck w g k h = tt
 
-    abbrev run_x : Option ClassId → Run
+    abbrev pub run_x : Option ClassId → Run
     run_x o = run_of p l.files (X o).outcome (1 + (0 + (X o).work)) (0 + (X o).words) (1 + max 0 (0 + (X o).peak))
 
     whole : RunRoom l.world (run_x (Some main)) → ComesTo l.world s n (64 * (run_x (Some main)).work) (run_x (Some main)).output (run_x (Some main)).left (run_x (Some main)).end
@@ -280,7 +284,7 @@ module _ (l : Loading) (is : IsLoaded l) (n : ℕ) (correct : AllCallsCorrect l 
         (ends x.outcome x.work (0 + x.words) (1 + max 0 (0 + x.peak))
         (x_runs (record { heap = omega arith; stack = omega arith; way = run_way l x.outcome (1 + (0 + x.work)) (0 + x.words) (1 + max 0 (0 + x.peak)) room.way })))
 
-    run_is : run p l.files input n ≡ run_x (class_made p Void (codes "Main"))
+    pub run_is : run p l.files input n ≡ run_x (class_made p Void (codes "Main"))
     unfolding run
     run_is = refl
 
