@@ -6,4 +6,5 @@ pub mod Pictures
 pub mod Simulation
 pub mod SpansLoaded
 pub mod Theorem
+pub mod Visits
 pub mod WrittenPrograms
