@@ -2,4 +2,5 @@ mod ground
 mod forms
 mod calls
 mod loading
+mod shown
 pub mod theorem

@@ -8,5 +8,6 @@
 mod laws;
 
 pub use laws::{
-    law_always_runs, law_calls_mean, law_folded_means, law_means, law_spans_stand, law_typed_means,
+    law_always_runs, law_calls_mean, law_folded_means, law_means, law_shown, law_spans_stand,
+    law_typed_means,
 };

@@ -1,0 +1,23 @@
+-- What is shown on the way: from where an expression begins, the machine comes to where each expression that it begins does.
+pub mod AllCalls
+pub mod Arguments
+pub mod Blocks
+pub mod Bodies
+pub mod CallsBegun
+pub mod CaseChoice
+pub mod Cases
+pub mod Comings
+pub mod Conditionals
+pub mod Dispatches
+pub mod Forms
+pub mod Images
+pub mod InitialValues
+pub mod Initializers
+pub mod Lets
+pub mod Loops
+pub mod Mains
+pub mod News
+pub mod OnePart
+pub mod PartsShown
+pub mod SpansInTables
+pub mod TwoOperands

@@ -1,0 +1,125 @@
+-- That a debugger shows what the rules say: the machine comes to the first word of the code of each expression that is begun, and there each
+-- name in scope is at home in the word that its span tells, which pictures the name's value.
+use Rattle.std.specs.Prelude.{◌≡◌, ℕ, ◌+◌, ◌*◌, ◌<◌, ◌≤◌, ◌⊎◌, List, [], length, map as each, slice_get, Some, Contains}
+use Rattle.mips_isa.specs.declared.address_map.TheConstants.{TEXT_START}
+use Rattle.mips_isa.specs.Assembly.{image_of}
+use Rattle.mips_isa.specs.Bytes.{Bytes}
+use Rattle.mips_isa.specs.Calls.{State as Machine, Running}
+use Rattle.mips_isa.specs.ImageBounds.{ImageParts}
+use Rattle.mips_isa.specs.Run.{run_image}
+use Rattle.cool_syntax.specs.declared.file_tree.Feature.TheVariants.{Method}
+use Rattle.cool_syntax.specs.declared.file_tree.MethodDef.{MethodDef}
+use Rattle.cool_classes.specs.declared.class_id.ClassId.{ClassId}
+use Rattle.cool_classes.specs.declared.method.MethodRef.TheVariants.{User}
+use Rattle.cool_classes.specs.Chains.{Below, Class, features_of}
+use Rattle.cool_classes.specs.ClimbedChains.{chain}
+use Rattle.cool_classes.specs.Features.{HasMethod, formals_of}
+use Rattle.cool_rules.specs.Scopes.{Binding}
+use Rattle.cool_rules.specs.Typing.{HasType}
+use Rattle.cool_runtime.specs.Reaches.{World, Reaches, stands}
+use Rattle.cool_runtime.specs.Standing.{sizes}
+use Rattle.cool_runtime.specs.Machines.{Pointers, Console}
+use Rattle.cool_layout.specs.Labels.{initializer, method_label}
+use Rattle.cool_codegen.specs.Spans.{Span, method_spans, spans}
+use Rattle.cool_emit.specs.Programs.{program_lines}
+use Rattle.cool_emit.specs.SpansOfPrograms.{initializer_spans, program_spans}
+use Rattle.cool_codegen.specs.Variables.{Named}
+use Rattle.cool_classes.specs.declared.class_id.Ty.{Ty}
+use Rattle.cool_syntax.specs.Tree.{Tree}
+use Rattle.cool_meaning.specs.Values.{Value, State, Environment}
+use Rattle.cool_meaning.specs.Meters.{Stuck}
+use Rattle.cool_meaning.specs.Evaluation.{Call, Calls, Body, Initials, eval}
+use Rattle.cool_meaning.specs.SourceRun.{run}
+use Rattle.cool_meaning.proofs.FittingValues.{AllFit, meant}
+use Rattle.cool_meaning.proofs.FittingValues as fitting
+use Rattle.cool_simulation.specs.Accord.{AreLimits, Limits}
+use Rattle.cool_simulation.specs.Loadings.{IsLoaded, Loading, constants, context}
+use Rattle.cool_simulation.specs.MainRun.{RunRoom, Starts}
+use Rattle.cool_simulation.specs.Pictures.{Map}
+use Rattle.cool_simulation.specs.Simulation.{Begins, Called, CodeAt, Room}
+use Rattle.cool_simulation.specs.Theorem.{IsCompilable}
+use Rattle.cool_simulation.specs.Visits.{Visit, Visits, begun, program_begun}
+use Rattle.cool_simulation.specs.WrittenPrograms.{IsWritten}
+use Rattle.lists.specs.Bytes.{AreBytes}
+
+-- a span of a feature of the program, where the program is loaded
+abbrev pub IsSpan : Loading → ClassId → ℕ → Span → Type 0
+IsSpan l c f span =
+    ((m : MethodDef) × (slice_get (features_of l.table c) f ≡ Some (Method m)) × Contains (method_spans sizes (context l c f) (constants l) m.formals (l.world.place (method_label l.table (User c f))) m.body) span)
+    ⊎ Contains (initializer_spans sizes l.table l.files (constants l) (l.world.place (initializer l.table c)) c) (record { class = c; feature = f; span = span })
+
+-- The machine stands at the first word of the span of a visited expression, and pictures the visit: the names in the span's scope are those
+-- of its environment, each at home in its word, and the words picture the values in its state.
+pub record Shown (l : Loading) (x : Visit) (s : Machine) : Type 0 where
+  pub span : Span
+  pub there : IsSpan l x.class x.feature span
+  pub tree_is : span.tree ≡ x.tree
+  pub first_is : span.first ≡ x.first
+  pub own : ClassId
+  pub scope : List Binding
+  pub made : fitting.World
+  pub pointers : Pointers
+  pub memory : Bytes
+  pub map : Map
+  pub console : Console
+  pub from : pointers.pc ≡ span.from
+  pub begins : Begins l x.class own x.self scope span.scope x.environment made span.depth pointers memory map console x.state s
+
+-- from s the machine comes to such a state after some number of instructions, where heap and stack hold what the run is to reach
+abbrev pub Comes : World → Machine → (Machine → Type 0) → Type 0
+Comes w s P = (most : ℕ) × Reaches w s 0 most (stands P)
+
+-- The expressions that evaluation begins are shown, where those are that calls with at most b steps begin.
+pub record AllShown (l : Loading) (calls : Calls) (begun_in : Call → Visits) (b : ℕ) (t : Tree) : Type 0 where
+  pub shown : (c : ClassId) (f : ℕ) (k : ClassId) (self : Value) (scope : List Binding) (vs : List Named) (env : Environment) (made : fitting.World) (d first : ℕ) (q : Pointers) (m : Bytes) (map : Map) (console : Console)
+      (st : State) (s : Machine) (n : ℕ) (type : Ty) (x : Visit) → n ≤ b → Begins l c k self scope vs env made d q m map console st s → HasType l.table c scope t type → CodeAt l c f vs d first q.pc t
+      → Room l q 0 (eval l.table calls self env t st n)
+      → ((span : Span) → Contains (spans sizes (context l c f) (constants l) vs d first q.pc t) span → IsSpan l c f span)
+      → begun l.table calls begun_in c f self env first t st n x → Comes l.world s (Shown l x)
+
+-- What calls with at most b steps begin is shown.
+pub record CallsShown (l : Loading) (calls : Calls) (begun_in : Call → Visits) (b : ℕ) : Type 0 where
+  pub body : (owner : ClassId) (i : ℕ) (self : Value) (k : ClassId) (vs : List Value) (made : fitting.World) (q : Pointers) (m : Bytes) (map : Map) (console : Console) (st : State) (s : Machine) (n : ℕ) (x : Visit) → n ≤ b
+      → HasMethod l.table (User owner i) → Below l.table k owner → Called l k self vs made q m map console st s → q.pc ≡ l.world.place (method_label l.table (User owner i))
+      → AllFit l.table made vs (each (meant l.table k) (formals_of l.table (User owner i))) → Room l q 12 (calls (Body owner i self vs) st n) → ((calls (Body owner i self vs) st n).outcome ≡ Stuck → ⊥)
+      → begun_in (Body owner i self vs) st n x → Comes l.world s (Shown l x)
+  pub initials : (c : ClassId) (self : Value) (k : ClassId) (made : fitting.World) (q : Pointers) (m : Bytes) (map : Map) (console : Console) (st : State) (s : Machine) (n : ℕ) (x : Visit) → n ≤ b
+      → c.0 < length l.table → Below l.table k c → Called l k self [] made q m map console st s → q.pc ≡ l.world.place (initializer l.table c)
+      → Room l q (12 * length (chain l.table c)) (calls (Initials c self) st n) → ((calls (Initials c self) st n).outcome ≡ Stuck → ⊥) → begun_in (Initials c self) st n x
+      → Comes l.world s (Shown l x)
+
+-- what expressions may count on: calls with fewer steps
+abbrev pub AllCallsShown : Loading → Calls → (Call → Visits) → ℕ → Type 0
+AllCallsShown l calls begun_in b = (m : ℕ) → m < b → CallsShown l calls begun_in m
+
+-- What the run of a loaded program begins is shown, for any number of steps, as far as heap and stack hold what the run needs.
+abbrev pub ProgramShown : Loading → Type 0
+ProgramShown l =
+    (input : List ℕ) (q : Pointers) (map : Map) (console : Console) (s : Machine) (n : ℕ) (x : Visit) → Starts l input q map console s → RunRoom l.world (run l.table l.files input n) → program_begun l.table input n x
+    → Comes l.world s (Shown l x)
+
+-- So it is wherever a program is loaded.
+abbrev pub ProgramsShown : Type 0
+ProgramsShown =
+    (p : List Class) (names : List (List ℕ)) → IsWritten p → (w : World) (m : Bytes) → IsLoaded (record { table = p; files = names; world = w; memory = m })
+    → ProgramShown (record { table = p; files = names; world = w; memory = m })
+
+-- The machine of an image comes to a visit: after some number of instructions it stands, with the program loaded, at the first word of a span
+-- that the table of code has for the visited expression, and pictures the visit.
+pub record ComesTo (p : List Class) (names : List (List ℕ)) (image : ImageParts) (limits : Limits) (input : List ℕ) (x : Visit) : Type 0 where
+  pub loading : Loading
+  pub table_is : loading.table ≡ p
+  pub files_are : loading.files ≡ names
+  pub text_is : loading.world.text ≡ image.text
+  pub loaded : IsLoaded loading
+  pub count : ℕ
+  pub machine : Machine
+  pub reached : run_image image limits.heap limits.stack input count ≡ Running machine
+  pub shown : Shown loading x machine
+  pub told : Contains (program_spans sizes p names TEXT_START) (record { class = x.class; feature = x.feature; span = shown.span })
+
+-- What a run of the source begins is shown by the machine of the program's image, where heap and stack hold the run's words and its nesting.
+abbrev pub VisitsShown : Type 0
+VisitsShown =
+    (p : List Class) (names : List (List ℕ)) (input : List ℕ) (limits : Limits) (n : ℕ) (x : Visit) → IsCompilable p names → AreBytes input → AreLimits limits → program_begun p input n x
+    → 4 * (run p names input n).words + 64 ≤ limits.heap → 16 * (run p names input n).peak + 256 ≤ limits.stack → ComesTo p names (image_of (program_lines p names)) limits input x
