@@ -1,6 +1,6 @@
 //! The code of methods, and of the initial values of attributes.
 
-ghost use Rattle.std.specs.Prelude.{◌≡◌, ◌^◌, ◌<◌, ◌++◌, length, map, slice_get, string_bytes, Contains, IfOk, OnOk, Some};
+ghost use Rattle.std.specs.Prelude.{◌≡◌, ◌^◌, ◌<◌, ◌+◌, ◌*◌, ◌++◌, [], length, map, slice_get, string_bytes, vec_capacity, Contains, IfOk, OnOk, Some};
 ghost use Rattle.mips_isa.specs.Lines.{lines_of};
 ghost use Rattle.cool_syntax.specs.declared.file_tree.Feature as syntax;
 ghost use Rattle.cool_syntax.specs.Tree.{tree_size};
@@ -36,7 +36,7 @@ use cool_layout::{Layout, method_label};
 use cool_rules::{TypedProgram, type_meant};
 use cool_runtime::draft::write;
 use cool_runtime::piece::enter;
-use cool_syntax::{Feature, Formal};
+use cool_syntax::{Body, Feature, Formal};
 use mips_isa::Line;
 use mips_isa::register::{FP, S0};
 use std::alloc::{AllocError, Global};
@@ -239,6 +239,16 @@ fn formal_variables<'a>(
     Ok(())
 }
 
+/// No lines, with room for those of a feature of this expression: for eight of each node, since most features have some seven, and for the begin
+/// and the end. A feature has at most `MOST_TOKENS` nodes, so that is never more than 3.6 MB; one of more lines takes more room as it grows.
+/// `Err` comes only for want of memory.
+fn room_for_lines(alloc: Global, body: &Body) -> Result<Vec<Line>, AllocError>
+    ensures none { IfOk result (λ lines. lines.items ≡ []) }
+    ensures room { IfOk result (λ lines. vec_capacity lines ≡ 8 * tree_size body.now + 16) }
+{
+    Vec::with_capacity(alloc, 8 * body.len() as usize + 16)
+}
+
 /// The code of the method of these formals, whose body the setting has. `Err` comes only for want of memory.
 fn method_code<'a>(
     setting: &Setting<'a>,
@@ -261,7 +271,7 @@ fn method_code<'a>(
     let label = method_label(alloc, setting.table, method)?;
     let mut variables = attribute_variables(alloc, setting.table, setting.layout, setting.class)?;
     formal_variables(setting, &mut variables, formals)?;
-    let mut lines = Vec::new(alloc);
+    let mut lines = room_for_lines(alloc, setting.body)?;
     write(alloc, &mut lines, &mark(&label))?;
     write(alloc, &mut lines, &enter())?;
     let mut code = body_code(setting, variables, consts, lines)?;
@@ -288,7 +298,8 @@ fn initial_value_code<'a>(
         index: setting.feature,
     };
     let variables = attribute_variables(alloc, setting.table, setting.layout, setting.class)?;
-    let mut code = body_code(setting, variables, consts, Vec::new(alloc))?;
+    let lines = room_for_lines(alloc, setting.body)?;
+    let mut code = body_code(setting, variables, consts, lines)?;
     let offset = setting.offset(attribute);
     write(alloc, &mut code.lines, &store(offset, S0))?;
     Ok(code)

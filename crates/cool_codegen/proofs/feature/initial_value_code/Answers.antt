@@ -14,7 +14,7 @@ returns c =
     record {
       made = record {
         lines = search (rules, made);
-        spans = λ g. made.spans g ∙ (λ i. map (shown s g) (spans length s g (scope i) 0 0 (length (lines_of (c.new.ensures.items i))) c.args.setting.now.body.now));
+        spans = λ g. made.spans g ∙ (λ i. map (shown s g) (spans length s g (scope i) 0 0 (length (lines_of (c.in_ok-lines.ensures.none i))) c.args.setting.now.body.now));
         names = made.names ∙ scope;
         integers = made.integers;
         strings = made.strings;
