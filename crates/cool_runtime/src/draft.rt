@@ -57,6 +57,9 @@ fn add_lines(alloc: Global, lines: &mut Vec<Line>, drafts: &[Draft<'_>]) -> Resu
 }
 
 /// The line of a draft. `Err` comes only for want of memory.
+///
+/// It is compiled into its caller, so that a line is made where it is to stand.
+#[inline(always)]
 pub(crate) fn full_line(alloc: Global, draft: &Draft<'_>) -> Result<Line, AllocError>
     ensures { IfOk result (λ line. line_of line ≡ drafted draft.now) }
 {
