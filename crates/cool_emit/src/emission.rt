@@ -103,16 +103,13 @@ impl<'a> Emission<'a> {
     }
 }
 
-/// Adds lines. `Err` comes only for want of memory.
-pub(crate) fn add_lines(lines: &mut Vec<Line>, more: Vec<Line>) -> Result<(), AllocError>
+/// Adds lines, in one move, or none where there were no lines. `Err` comes only for want of memory.
+pub(crate) fn add_lines(lines: &mut Vec<Line>, mut more: Vec<Line>) -> Result<(), AllocError>
     ensures { OnOk result (lines_of lines.new.items ≡ lines_of lines.old.items ++ lines_of more.items) }
 {
     if lines.is_empty() {
         *lines = more;
         return Ok(());
     }
-    for line in more {
-        lines.push(line)?;
-    }
-    Ok(())
+    lines.append(&mut more)
 }
