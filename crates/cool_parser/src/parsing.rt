@@ -47,7 +47,7 @@ pub fn parse(alloc: Global, file: u32, tokens: &[Token], end: Place) -> Result<F
     for i in 0..tokens.len() {
         let token = &tokens[i];
         parser.make_room(&mode, &tokens[i..])?;
-        match parser.step(mode, token)? {
+        match parser.take(mode, token)? {
             Some(next) => mode = next,
             None => return Err(ParseError::Fault(ParseFault { at: token.at })),
         }

@@ -29,7 +29,7 @@ refused c =
     let made = c.in_ok-next.ensures in
     let room = c.in_ok-make_room.ensures in
     let stepped : step c.loop-i.parser c.loop-i.mode t.kind t.at ≡ None =
-    ap (λ x. step x c.loop-i.mode t.kind t.at) (sym room.same) ∙ sym made.same ∙ ap (moved c.step.new.self) c.in-None.is in
+    ap (λ x. step x c.loop-i.mode t.kind t.at) (sym room.same) ∙ sym made.same ∙ ap (moved c.take.new.self) c.in-None.is in
     sym (c.loop-i.invariant.same t.at)
     ∙ more c.args.tokens.now c.loop-i.i t c.loop-i.parser c.loop-i.mode None t.at c.args.end c.loop-i-test.true
     (ap (λ x. step c.loop-i.parser c.loop-i.mode x.kind x.at) (sym c.index-tokens-i.is) ∙ stepped)
@@ -49,10 +49,10 @@ loop-i-preserved c =
     let t = c.index-tokens-i.result in
     let made = c.in_ok-next.ensures in
     let room = c.in_ok-make_room.ensures in
-    let next : State = record { context = c.step.new.self; mode = c.in-Some.next } in
+    let next : State = record { context = c.take.new.self; mode = c.in-Some.next } in
     let stepped : step c.loop-i.parser c.loop-i.mode t.kind t.at ≡ Some next =
-    ap (λ x. step x c.loop-i.mode t.kind t.at) (sym room.same) ∙ sym made.same ∙ ap (moved c.step.new.self) c.in-Some.is in
-    let light : weight c.step.new.self ≤ weight c.loop-i.parser + 2 =
+    ap (λ x. step x c.loop-i.mode t.kind t.at) (sym room.same) ∙ sym made.same ∙ ap (moved c.take.new.self) c.in-Some.is in
+    let light : weight c.take.new.self ≤ weight c.loop-i.parser + 2 =
     subst (λ o. IfSome o (IsLight (weight c.loop-i.parser + 2))) stepped (step_light c.loop-i.parser c.loop-i.mode t.kind t.at) in
     record {
       same = λ at.
